@@ -1,0 +1,6 @@
+pub mod Counts
+pub mod Limits
+pub mod Names
+pub mod Reads
+pub mod Taps
+pub mod Writes

@@ -1,0 +1,42 @@
+//! Names, shapes, operations, events and limits of frames, and what the program reads from, writes to and tells.
+#![tactic(auto)]
+
+mod count_tap;
+mod event;
+mod gate;
+mod limit;
+mod list;
+mod memory_sink;
+mod memory_source;
+mod name;
+mod no_memory;
+mod op;
+mod path;
+mod read_source;
+mod shape;
+mod sink;
+mod source;
+mod steady_sink;
+mod steady_source;
+mod tap;
+mod write_sink;
+
+pub use count_tap::CountTap;
+pub use event::Event;
+pub use gate::{Gate, IdleGate};
+pub use limit::Limit;
+pub use list::{List, Text};
+pub use memory_sink::MemorySink;
+pub use memory_source::MemorySource;
+pub use name::Name;
+pub use no_memory::NoMemory;
+pub use op::{Fun, Mix, Op, Rect};
+pub use path::{Leg, Path};
+pub use read_source::ReadSource;
+pub use shape::{Family, Shape, Texel};
+pub use sink::{Put, Sink};
+pub use source::{Source, Taken};
+pub use steady_sink::SteadySink;
+pub use steady_source::SteadySource;
+pub use tap::{Tap, Tell};
+pub use write_sink::WriteSink;

@@ -1,0 +1,73 @@
+//! Bytes in memory, handed out a few at a time, with reads that fail.
+
+ghost use Rattle.std.specs.Prelude.{◌≡◌, ◌≤◌, ◌<◌, ◌+◌, ◌-◌, ◌^◌, length, take, drop, Some};
+
+use crate::{List, Source, Taken};
+
+/// A source over bytes. Which reads fail and how many bytes a read gives are in no clause: tests show them.
+#[derive(Drop)]
+pub struct MemorySource {
+    bytes: List<u8>,
+    at: usize,
+    most: u32,
+    failing: List<u32>,
+    calls: u32,
+    faults: u64,
+    ghost inside: { at ≤ length bytes },
+    ghost some: { 0 < most },
+}
+
+impl MemorySource {
+    /// A source of these bytes that gives at most `most` of them in a read. The reads listed in `failing`, counted
+    /// from 1, fail.
+    pub fn new(bytes: List<u8>, most: u32, failing: List<u32>) -> Self
+        requires { 0 < most }
+        ensures left { ⟦<MemorySource as Source>⟧.left result ≡ Some bytes }
+        ensures faults { ⟦<MemorySource as Source>⟧.faults result ≡ 0 }
+    {
+        MemorySource {
+            bytes,
+            at: 0,
+            most,
+            failing,
+            calls: 0,
+            faults: 0,
+        }
+    }
+}
+
+impl Source for MemorySource {
+    ghost left = { λ s. Some (drop s.at s.bytes) };
+
+    ghost faults = { λ s. s.faults };
+
+    fn read(&mut self, into: &mut [u8]) -> Taken {
+        self.calls = self.calls.saturating_add(1);
+        if self.failing.as_slice().contains(&self.calls) {
+            self.faults = self.faults.saturating_add(1);
+            return Taken::Failed;
+        }
+        let rest = &self.bytes.as_slice()[self.at..];
+        if rest.is_empty() {
+            return Taken::End;
+        }
+        let count = fill_front(into, rest, self.most);
+        self.at += count;
+        Taken::Got(count)
+    }
+}
+
+/// Copies the first bytes of `rest`, as many as there is room for and at most `most`.
+pub(crate) fn fill_front(into: &mut [u8], rest: &[u8], most: u32) -> usize
+    requires into { 0 < length into.old }
+    requires rest { 0 < length rest.now }
+    requires most { 0 < most }
+    ensures some { 0 < result }
+    ensures within { result ≤ length into.new }
+    ensures there { result ≤ length rest.now }
+    ensures front { take result into.new ≡ take result rest.now }
+{
+    let count = into.len().min(rest.len()).min(most as usize);
+    into[..count].copy_from_slice(&rest[..count]);
+    count
+}

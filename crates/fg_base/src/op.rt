@@ -1,0 +1,140 @@
+//! Operations, over any way to name what they work on.
+
+use crate::List;
+
+/// A function of two texels, modulo 2^8 or 2^32. `Sub` is the first minus the second; a shift moves the first by the
+/// second modulo the texel's number of bits and fills with zeros.
+#[derive(Clone, Copy, Debug, PartialEq, Eq)]
+pub enum Fun {
+    Add,
+    Sub,
+    Mul,
+    And,
+    Or,
+    Xor,
+    Min,
+    Max,
+    Shl,
+    Shr,
+}
+
+/// How a rectangle changes the texels under it.
+#[derive(Clone, Copy, Debug, PartialEq, Eq)]
+pub enum Mix {
+    Set,
+    And,
+    Or,
+    Xor,
+}
+
+/// A rectangle of a draw, in texels from the upper left corner.
+#[derive(Clone, Copy, Debug, PartialEq, Eq)]
+pub struct Rect {
+    pub x: u32,
+    pub y: u32,
+    pub width: u32,
+    pub height: u32,
+    pub mix: Mix,
+    pub value: u32,
+}
+
+/// One operation. `R` names a resource: a spot of a frame file, a piece of a submission, or a number. The sources stand
+/// before the destination `dst`. Offsets and sizes are in bytes, coordinates in texels.
+#[derive(Debug, Drop)]
+pub enum Op<R> {
+    /// Bytes `offset` to `offset + size` become the little-endian word again and again.
+    FillBuffer {
+        dst: R,
+        offset: u32,
+        size: u32,
+        word: u32,
+    },
+    /// Each texel becomes `value`.
+    ClearImage {
+        dst: R,
+        value: u32,
+    },
+    CopyBuffer {
+        src: R,
+        dst: R,
+        src_offset: u32,
+        dst_offset: u32,
+        size: u32,
+    },
+    CopyImage {
+        src: R,
+        dst: R,
+        src_x: u32,
+        src_y: u32,
+        dst_x: u32,
+        dst_y: u32,
+        width: u32,
+        height: u32,
+    },
+    /// The image's bytes become those of the buffer from `offset` on.
+    BufferToImage {
+        src: R,
+        dst: R,
+        offset: u32,
+    },
+    /// The buffer's bytes from `offset` on become those of the image.
+    ImageToBuffer {
+        src: R,
+        dst: R,
+        offset: u32,
+    },
+    /// Texel (x, y) becomes `base + x * dx + y * dy`.
+    Ramp {
+        dst: R,
+        base: u32,
+        dx: u32,
+        dy: u32,
+    },
+    /// Each texel becomes `fun` of the source's and `value`.
+    Map {
+        src: R,
+        dst: R,
+        fun: Fun,
+        value: u32,
+    },
+    /// Each texel becomes `fun` of those of `a` and `b`.
+    Combine {
+        a: R,
+        b: R,
+        dst: R,
+        fun: Fun,
+    },
+    /// Each texel becomes that of `a` where the mask's is not 0, else that of `b`.
+    Select {
+        mask: R,
+        a: R,
+        b: R,
+        dst: R,
+    },
+    /// From 8 to 32 bits the number stays, from 32 to 8 its low byte.
+    Convert {
+        src: R,
+        dst: R,
+    },
+    /// The mean of the nine texels round each place, held to the image and rounded down.
+    Box3 {
+        src: R,
+        dst: R,
+    },
+    /// The mean of four texels, rounded down, at half the width and height.
+    Halve {
+        src: R,
+        dst: R,
+    },
+    /// Word v becomes the number of texels with value v, modulo 2^32.
+    Histogram {
+        src: R,
+        dst: R,
+    },
+    /// With `clear` each texel is first that value; then each rectangle changes its texels, in order.
+    Draw {
+        dst: R,
+        clear: Option<u32>,
+        rects: List<Rect>,
+    },
+}

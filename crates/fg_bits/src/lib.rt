@@ -1,0 +1,6 @@
+//! The words of queue submissions that frames and programs share.
+#![tactic(auto)]
+
+mod sharing;
+
+pub use sharing::Sharing;

@@ -1,0 +1,25 @@
+//! Reading and writing JSON by cases: what the two file formats share.
+//!
+//! A *form* is an empty type that says how values of another type stand in a file. A reader of an object takes its
+//! members in the order of examination, one line each, and answers the value or the path of the first fault.
+#![tactic(auto)]
+
+mod json;
+mod list;
+mod members;
+mod number;
+mod place;
+mod read_end;
+mod reader;
+mod text;
+mod writer;
+
+pub use json::{JsonEnd, read_json};
+pub use list::ListForm;
+pub use members::{object, optional, others, required};
+pub use number::{NumberForm, RangeForm};
+pub use place::Place;
+pub use read_end::ReadEnd;
+pub use reader::Reader;
+pub use text::{NameForm, NameWord, TextForm, Word};
+pub use writer::Writer;

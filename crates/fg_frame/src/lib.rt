@@ -1,0 +1,10 @@
+//! Frames: what passes declare, and what can be wrong with a frame.
+#![tactic(auto)]
+
+mod fault;
+mod frame;
+
+pub use fault::FrameFault;
+pub use fg_base::{Limit, Path};
+pub use fg_bits::Sharing;
+pub use frame::{Frame, Pass, QueueDecl, Resource, Spot, Write};
