@@ -40,3 +40,6 @@ pub use steady_sink::SteadySink;
 pub use steady_source::SteadySource;
 pub use tap::{Tap, Tell};
 pub use write_sink::WriteSink;
+
+#[cfg(test)]
+mod tests;
