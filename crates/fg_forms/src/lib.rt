@@ -23,3 +23,6 @@ pub use read_end::ReadEnd;
 pub use reader::Reader;
 pub use text::{NameForm, NameWord, TextForm, Word};
 pub use writer::Writer;
+
+#[cfg(test)]
+mod tests;
