@@ -1,5 +1,6 @@
 pub mod Counts
 pub mod Limits
+pub mod Memory
 pub mod Names
 pub mod Reads
 pub mod Taps

@@ -38,7 +38,10 @@ impl Tap for CountTap {
 
     ghost finished = { λ _. ⊥ };
 
-    fn told(&mut self, _event: &Event) -> Tell {
+    fn told(&mut self, _event: &Event) -> Tell
+        ensures more { result ≡ Tell.More }
+        ensures count { self.new ≡ min (self.old + 1) (2 ^ 64 - 1) }
+    {
         self.count = self.count.saturating_add(1);
         Tell::More
     }

@@ -1,11 +1,14 @@
 //! A sink that keeps what it took, with writes that fail.
 
 ghost use Rattle.std.specs.Prelude.{◌≡◌, ◌≤◌, ◌<◌, ◌+◌, ◌-◌, ◌++◌, [], ◌^◌, length, take, drop, Some, IfOk, vec_capacity, vec_len};
+ghost use Rattle.fg_base.specs.Memory.{next_write, after_write};
+ghost use Rattle.fg_base.specs.Writes.{IsWithin, CountsFault};
 
 use crate::{List, NoMemory, Put, Sink};
 use std::alloc::Global;
+use std::marker::Model;
 
-/// A sink into memory. Which writes fail and how many bytes a write takes are in no clause: tests show them.
+/// A sink into memory. A clause sees what it took and which writes fail.
 #[derive(Drop)]
 pub struct MemorySink {
     bytes: Vec<u8>,
@@ -14,9 +17,17 @@ pub struct MemorySink {
     failing: List<u32>,
     calls: u32,
     faults: u64,
-    ghost fits: { room ≤ vec_capacity bytes },
-    ghost inside: { vec_len bytes ≤ room },
-    ghost some: { 0 < most },
+}
+
+impl Model for MemorySink {
+    ghost use Rattle.std.specs.Prelude.{◌≤◌, ◌<◌, vec_capacity, vec_len};
+    ghost use Rattle.fg_base.specs.Memory.{Store};
+
+    ghost Value = { Store };
+
+    ghost view = { λ s. record { taken = s.bytes.items; room = s.room; most = s.most; failing = s.failing; calls = s.calls; faults = s.faults } };
+
+    ghost invariant = { λ s. (s.room ≤ vec_capacity s.bytes) × (vec_len s.bytes ≤ s.room) × (0 < s.most) };
 }
 
 impl MemorySink {
@@ -26,6 +37,7 @@ impl MemorySink {
         requires { 0 < most }
         ensures taken { IfOk result (λ sink. ⟦<MemorySink as Sink>⟧.taken sink ≡ Some []) }
         ensures faults { IfOk result (λ sink. ⟦<MemorySink as Sink>⟧.faults sink ≡ 0) }
+        ensures whole { IfOk result (λ sink. sink ≡ record { taken = []; room = room; most = most; failing = failing; calls = 0; faults = 0 }) }
     {
         Ok(MemorySink {
             bytes: Vec::with_capacity(alloc, room as usize)?,
@@ -46,11 +58,17 @@ impl MemorySink {
 }
 
 impl Sink for MemorySink {
-    ghost taken = { λ s. Some s.bytes.items };
+    ghost taken = { λ s. Some s.taken };
 
     ghost faults = { λ s. s.faults };
 
-    fn write(&mut self, bytes: &[u8]) -> Put {
+    fn write(&mut self, bytes: &[u8]) -> Put
+        requires { 0 < length bytes.now }
+        ensures within { IsWithin result (length bytes.now) }
+        ensures count { CountsFault self.old.faults self.new.faults result }
+        ensures result { result ≡ next_write self.old (length bytes.now) }
+        ensures after { self.new ≡ after_write self.old bytes.now result }
+    {
         self.calls = self.calls.saturating_add(1);
         let full = self.bytes.len() == self.room;
         if full || self.failing.as_slice().contains(&self.calls) {

@@ -1,10 +1,13 @@
 //! Bytes in memory, handed out a few at a time, with reads that fail.
 
-ghost use Rattle.std.specs.Prelude.{◌≡◌, ◌≤◌, ◌<◌, ◌+◌, ◌-◌, ◌^◌, length, take, drop, Some};
+ghost use Rattle.std.specs.Prelude.{◌≡◌, ◌≤◌, ◌<◌, ◌+◌, ◌-◌, ◌^◌, min, length, take, drop, Some};
+ghost use Rattle.fg_base.specs.Memory.{next_read, after_read};
+ghost use Rattle.fg_base.specs.Reads.{IsWithin, TakesBytes, CountsFault};
 
 use crate::{List, Source, Taken};
+use std::marker::Model;
 
-/// A source over bytes. Which reads fail and how many bytes a read gives are in no clause: tests show them.
+/// A source over bytes. A clause sees what is left and which reads fail.
 #[derive(Drop)]
 pub struct MemorySource {
     bytes: List<u8>,
@@ -13,8 +16,17 @@ pub struct MemorySource {
     failing: List<u32>,
     calls: u32,
     faults: u64,
-    ghost inside: { at ≤ length bytes },
-    ghost some: { 0 < most },
+}
+
+impl Model for MemorySource {
+    ghost use Rattle.std.specs.Prelude.{◌≤◌, ◌<◌, length, drop};
+    ghost use Rattle.fg_base.specs.Memory.{Supply};
+
+    ghost Value = { Supply };
+
+    ghost view = { λ s. record { left = drop s.at s.bytes; most = s.most; failing = s.failing; calls = s.calls; faults = s.faults } };
+
+    ghost invariant = { λ s. (s.at ≤ length s.bytes) × (0 < s.most) };
 }
 
 impl MemorySource {
@@ -24,6 +36,7 @@ impl MemorySource {
         requires { 0 < most }
         ensures left { ⟦<MemorySource as Source>⟧.left result ≡ Some bytes }
         ensures faults { ⟦<MemorySource as Source>⟧.faults result ≡ 0 }
+        ensures whole { result ≡ record { left = bytes; most = most; failing = failing; calls = 0; faults = 0 } }
     {
         MemorySource {
             bytes,
@@ -37,11 +50,18 @@ impl MemorySource {
 }
 
 impl Source for MemorySource {
-    ghost left = { λ s. Some (drop s.at s.bytes) };
+    ghost left = { λ s. Some s.left };
 
     ghost faults = { λ s. s.faults };
 
-    fn read(&mut self, into: &mut [u8]) -> Taken {
+    fn read(&mut self, into: &mut [u8]) -> Taken
+        requires { 0 < length into.old }
+        ensures within { IsWithin result (length into.new) }
+        ensures bytes { TakesBytes (Some self.old.left) (Some self.new.left) result into.new }
+        ensures count { CountsFault self.old.faults self.new.faults result }
+        ensures result { result ≡ next_read self.old (length into.new) }
+        ensures after { self.new ≡ after_read self.old result }
+    {
         self.calls = self.calls.saturating_add(1);
         if self.failing.as_slice().contains(&self.calls) {
             self.faults = self.faults.saturating_add(1);
@@ -63,8 +83,7 @@ pub(crate) fn fill_front(into: &mut [u8], rest: &[u8], most: u32) -> usize
     requires rest { 0 < length rest.now }
     requires most { 0 < most }
     ensures some { 0 < result }
-    ensures within { result ≤ length into.new }
-    ensures there { result ≤ length rest.now }
+    ensures count { result ≡ min (min (length into.new) (length rest.now)) most }
     ensures front { take result into.new ≡ take result rest.now }
 {
     let count = into.len().min(rest.len()).min(most as usize);

@@ -1,6 +1,6 @@
 //! A sink that takes everything and keeps nothing.
 
-ghost use Rattle.std.specs.Prelude.{◌≡◌, ◌<◌, ◌≤◌, None};
+ghost use Rattle.std.specs.Prelude.{◌≡◌, ◌<◌, ◌≤◌, length, None};
 
 use crate::{Put, Sink};
 
@@ -19,7 +19,9 @@ impl Sink for SteadySink {
 
     ghost faults = { λ _. 0 };
 
-    fn write(&mut self, bytes: &[u8]) -> Put {
+    fn write(&mut self, bytes: &[u8]) -> Put
+        ensures { result ≡ Put.Took (length bytes.now) }
+    {
         Put::Took(bytes.len())
     }
 }
