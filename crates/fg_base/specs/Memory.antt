@@ -20,7 +20,8 @@ pub record SteadySupply : Type 0 where
   pub left : List ℕ
   pub most : ℕ
 
--- a sink: the bytes that it took, how many it has room for, the most that a write takes, and its writes
+-- a sink: the bytes that it took, how many it has room for, the most that a write takes, which writes are to fail, and
+-- how many were made and failed
 pub record Store : Type 0 where
   pub taken : List ℕ
   pub room : ℕ
