@@ -21,16 +21,13 @@ rect_at at d = do
   end ← others_at (codes "x" ∷ codes "y" ∷ codes "width" ∷ codes "height" ∷ codes "mix" ∷ codes "value" ∷ []) at d
   Ok (record { x = x; y = y; width = width; height = height; mix = unwrap_or mix mixes.Set; value = value })
 
-abbrev named : List (List ℕ × Data) → Members
-named [] = no_members
-named (m ∷ ms) = member m.0 m.1 (named ms)
-
--- an object with these members, which stand in the byte order of their names
-abbrev pub object_of : List (List ℕ × Data) → Data
-object_of ms = object (named ms)
+-- members, which stand in the byte order of their names
+abbrev pub members_in : List (List ℕ × Data) → Members
+members_in [] = no_members
+members_in (m ∷ ms) = member m.0 m.1 (members_in ms)
 
 abbrev pub rect_data : Rect → Data
-rect_data r = object_of ((codes "height", number_data r.height) ∷ (codes "mix", text_data mix_text r.mix) ∷ (codes "value", number_data r.value) ∷ (codes "width", number_data r.width) ∷ (codes "x", number_data r.x) ∷ (codes "y", number_data r.y) ∷ [])
+rect_data r = object (members_in ((codes "height", number_data r.height) ∷ (codes "mix", text_data mix_text r.mix) ∷ (codes "value", number_data r.value) ∷ (codes "width", number_data r.width) ∷ (codes "x", number_data r.x) ∷ (codes "y", number_data r.y) ∷ []))
 
 pub record FitsRect (r : Rect) : Type 0 where
   pub x : FitsWhole r.x

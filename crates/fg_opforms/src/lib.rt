@@ -18,3 +18,6 @@ pub use mix::{MixForm, MixWord};
 pub use op::OpForm;
 pub use reading::parts;
 pub use rect::RectForm;
+
+#[cfg(test)]
+mod tests;

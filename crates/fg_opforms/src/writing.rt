@@ -1,7 +1,8 @@
 //! Writing operations.
 
 ghost use Rattle.std.specs.Prelude.{◌≡◌, IfOk};
-ghost use Rattle.fg_opforms.specs.OpWriting.{op_data, fill_buffer_data, clear_image_data, copy_buffer_data, copy_image_data, buffer_to_image_data, image_to_buffer_data, ramp_data, map_data, combine_data, select_data, convert_data, box3_data, halve_data, histogram_data, draw_data};
+ghost use Rattle.fg_opforms.specs.OpWriting.{op_data, fill_buffer_members, clear_image_members, copy_buffer_members, copy_image_members, buffer_to_image_members, image_to_buffer_members, ramp_members, map_members, combine_members, select_members, convert_members, box3_members, halve_members, histogram_members, draw_members};
+ghost use Rattle.serde_json.specs.Data.{object};
 ghost use Rattle.serde_json.specs.View.{view};
 
 use crate::{FunForm, RectForm};
@@ -34,21 +35,21 @@ pub fn op_value<F: Writer>(alloc: Global, op: &Op<F::In>) -> Result<Value, Alloc
 }
 
 fn fill_buffer<F: Writer>(alloc: Global, dst: &F::In, offset: u32, size: u32, word: u32) -> Result<Value, AllocError>
-    ensures { IfOk result (λ json. view json ≡ fill_buffer_data F.writes dst.now offset size word) }
+    ensures { IfOk result (λ json. view json ≡ object (fill_buffer_members F.writes dst.now offset size word)) }
 {
     let dst = F::write(alloc, dst)?;
     json!(in alloc; {"dst": dst, "offset": offset, "op": "fill_buffer", "size": size, "word": word})
 }
 
 fn clear_image<F: Writer>(alloc: Global, dst: &F::In, value: u32) -> Result<Value, AllocError>
-    ensures { IfOk result (λ json. view json ≡ clear_image_data F.writes dst.now value) }
+    ensures { IfOk result (λ json. view json ≡ object (clear_image_members F.writes dst.now value)) }
 {
     let dst = F::write(alloc, dst)?;
     json!(in alloc; {"dst": dst, "op": "clear_image", "value": value})
 }
 
 fn copy_buffer<F: Writer>(alloc: Global, src: &F::In, dst: &F::In, src_offset: u32, dst_offset: u32, size: u32) -> Result<Value, AllocError>
-    ensures { IfOk result (λ json. view json ≡ copy_buffer_data F.writes src.now dst.now src_offset dst_offset size) }
+    ensures { IfOk result (λ json. view json ≡ object (copy_buffer_members F.writes src.now dst.now src_offset dst_offset size)) }
 {
     let src = F::write(alloc, src)?;
     let dst = F::write(alloc, dst)?;
@@ -56,7 +57,7 @@ fn copy_buffer<F: Writer>(alloc: Global, src: &F::In, dst: &F::In, src_offset: u
 }
 
 fn copy_image<F: Writer>(alloc: Global, src: &F::In, dst: &F::In, src_x: u32, src_y: u32, dst_x: u32, dst_y: u32, width: u32, height: u32) -> Result<Value, AllocError>
-    ensures { IfOk result (λ json. view json ≡ copy_image_data F.writes src.now dst.now src_x src_y dst_x dst_y width height) }
+    ensures { IfOk result (λ json. view json ≡ object (copy_image_members F.writes src.now dst.now src_x src_y dst_x dst_y width height)) }
 {
     let src = F::write(alloc, src)?;
     let dst = F::write(alloc, dst)?;
@@ -64,7 +65,7 @@ fn copy_image<F: Writer>(alloc: Global, src: &F::In, dst: &F::In, src_x: u32, sr
 }
 
 fn buffer_to_image<F: Writer>(alloc: Global, src: &F::In, dst: &F::In, offset: u32) -> Result<Value, AllocError>
-    ensures { IfOk result (λ json. view json ≡ buffer_to_image_data F.writes src.now dst.now offset) }
+    ensures { IfOk result (λ json. view json ≡ object (buffer_to_image_members F.writes src.now dst.now offset)) }
 {
     let src = F::write(alloc, src)?;
     let dst = F::write(alloc, dst)?;
@@ -72,7 +73,7 @@ fn buffer_to_image<F: Writer>(alloc: Global, src: &F::In, dst: &F::In, offset: u
 }
 
 fn image_to_buffer<F: Writer>(alloc: Global, src: &F::In, dst: &F::In, offset: u32) -> Result<Value, AllocError>
-    ensures { IfOk result (λ json. view json ≡ image_to_buffer_data F.writes src.now dst.now offset) }
+    ensures { IfOk result (λ json. view json ≡ object (image_to_buffer_members F.writes src.now dst.now offset)) }
 {
     let src = F::write(alloc, src)?;
     let dst = F::write(alloc, dst)?;
@@ -80,14 +81,14 @@ fn image_to_buffer<F: Writer>(alloc: Global, src: &F::In, dst: &F::In, offset: u
 }
 
 fn ramp<F: Writer>(alloc: Global, dst: &F::In, base: u32, dx: u32, dy: u32) -> Result<Value, AllocError>
-    ensures { IfOk result (λ json. view json ≡ ramp_data F.writes dst.now base dx dy) }
+    ensures { IfOk result (λ json. view json ≡ object (ramp_members F.writes dst.now base dx dy)) }
 {
     let dst = F::write(alloc, dst)?;
     json!(in alloc; {"base": base, "dst": dst, "dx": dx, "dy": dy, "op": "ramp"})
 }
 
 fn map<F: Writer>(alloc: Global, src: &F::In, dst: &F::In, fun: Fun, value: u32) -> Result<Value, AllocError>
-    ensures { IfOk result (λ json. view json ≡ map_data F.writes src.now dst.now fun value) }
+    ensures { IfOk result (λ json. view json ≡ object (map_members F.writes src.now dst.now fun value)) }
 {
     let src = F::write(alloc, src)?;
     let dst = F::write(alloc, dst)?;
@@ -96,7 +97,7 @@ fn map<F: Writer>(alloc: Global, src: &F::In, dst: &F::In, fun: Fun, value: u32)
 }
 
 fn combine<F: Writer>(alloc: Global, a: &F::In, b: &F::In, dst: &F::In, fun: Fun) -> Result<Value, AllocError>
-    ensures { IfOk result (λ json. view json ≡ combine_data F.writes a.now b.now dst.now fun) }
+    ensures { IfOk result (λ json. view json ≡ object (combine_members F.writes a.now b.now dst.now fun)) }
 {
     let a = F::write(alloc, a)?;
     let b = F::write(alloc, b)?;
@@ -106,7 +107,7 @@ fn combine<F: Writer>(alloc: Global, a: &F::In, b: &F::In, dst: &F::In, fun: Fun
 }
 
 fn select<F: Writer>(alloc: Global, mask: &F::In, a: &F::In, b: &F::In, dst: &F::In) -> Result<Value, AllocError>
-    ensures { IfOk result (λ json. view json ≡ select_data F.writes mask.now a.now b.now dst.now) }
+    ensures { IfOk result (λ json. view json ≡ object (select_members F.writes mask.now a.now b.now dst.now)) }
 {
     let mask = F::write(alloc, mask)?;
     let a = F::write(alloc, a)?;
@@ -116,7 +117,7 @@ fn select<F: Writer>(alloc: Global, mask: &F::In, a: &F::In, b: &F::In, dst: &F:
 }
 
 fn convert<F: Writer>(alloc: Global, src: &F::In, dst: &F::In) -> Result<Value, AllocError>
-    ensures { IfOk result (λ json. view json ≡ convert_data F.writes src.now dst.now) }
+    ensures { IfOk result (λ json. view json ≡ object (convert_members F.writes src.now dst.now)) }
 {
     let src = F::write(alloc, src)?;
     let dst = F::write(alloc, dst)?;
@@ -124,7 +125,7 @@ fn convert<F: Writer>(alloc: Global, src: &F::In, dst: &F::In) -> Result<Value, 
 }
 
 fn box3<F: Writer>(alloc: Global, src: &F::In, dst: &F::In) -> Result<Value, AllocError>
-    ensures { IfOk result (λ json. view json ≡ box3_data F.writes src.now dst.now) }
+    ensures { IfOk result (λ json. view json ≡ object (box3_members F.writes src.now dst.now)) }
 {
     let src = F::write(alloc, src)?;
     let dst = F::write(alloc, dst)?;
@@ -132,7 +133,7 @@ fn box3<F: Writer>(alloc: Global, src: &F::In, dst: &F::In) -> Result<Value, All
 }
 
 fn halve<F: Writer>(alloc: Global, src: &F::In, dst: &F::In) -> Result<Value, AllocError>
-    ensures { IfOk result (λ json. view json ≡ halve_data F.writes src.now dst.now) }
+    ensures { IfOk result (λ json. view json ≡ object (halve_members F.writes src.now dst.now)) }
 {
     let src = F::write(alloc, src)?;
     let dst = F::write(alloc, dst)?;
@@ -140,7 +141,7 @@ fn halve<F: Writer>(alloc: Global, src: &F::In, dst: &F::In) -> Result<Value, Al
 }
 
 fn histogram<F: Writer>(alloc: Global, src: &F::In, dst: &F::In) -> Result<Value, AllocError>
-    ensures { IfOk result (λ json. view json ≡ histogram_data F.writes src.now dst.now) }
+    ensures { IfOk result (λ json. view json ≡ object (histogram_members F.writes src.now dst.now)) }
 {
     let src = F::write(alloc, src)?;
     let dst = F::write(alloc, dst)?;
@@ -148,7 +149,7 @@ fn histogram<F: Writer>(alloc: Global, src: &F::In, dst: &F::In) -> Result<Value
 }
 
 fn draw<F: Writer>(alloc: Global, dst: &F::In, clear: Option<u32>, rects: &List<Rect>) -> Result<Value, AllocError>
-    ensures { IfOk result (λ json. view json ≡ draw_data F.writes dst.now clear rects.now) }
+    ensures { IfOk result (λ json. view json ≡ object (draw_members F.writes dst.now clear rects.now)) }
 {
     let dst = F::write(alloc, dst)?;
     let rects = ListForm::<RectForm>::write(alloc, rects)?;
