@@ -4,7 +4,7 @@ use Rattle.fg_base.specs.declared.op.Mix.TheVariants as mixes
 use Rattle.fg_base.specs.declared.op.Rect.{Rect}
 use Rattle.fg_forms.specs.Leaves.{number_data, text_at, text_data}
 use Rattle.fg_forms.specs.Parts.{Reader, object_at, member_at, optional_at, others_at}
-use Rattle.fg_forms.specs.Reading.{Reading, ◌>>=◌}
+use Rattle.fg_forms.specs.Reading.{◌>>=◌}
 use Rattle.fg_opforms.specs.Mixes.{mix_of, mix_text}
 use Rattle.fg_opforms.specs.Numbers.{whole_at, FitsWhole}
 use Rattle.serde_json.specs.Data.{Data, object, Members, no_members, member}
@@ -27,7 +27,14 @@ members_in [] = no_members
 members_in (m ∷ ms) = member m.0 m.1 (members_in ms)
 
 abbrev pub rect_data : Rect → Data
-rect_data r = object (members_in ((codes "height", number_data r.height) ∷ (codes "mix", text_data mix_text r.mix) ∷ (codes "value", number_data r.value) ∷ (codes "width", number_data r.width) ∷ (codes "x", number_data r.x) ∷ (codes "y", number_data r.y) ∷ []))
+rect_data r = object (members_in (
+    (codes "height", number_data r.height) ∷
+    (codes "mix", text_data mix_text r.mix) ∷
+    (codes "value", number_data r.value) ∷
+    (codes "width", number_data r.width) ∷
+    (codes "x", number_data r.x) ∷
+    (codes "y", number_data r.y) ∷
+    []))
 
 pub record FitsRect (r : Rect) : Type 0 where
   pub x : FitsWhole r.x

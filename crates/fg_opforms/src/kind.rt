@@ -137,7 +137,9 @@ pub fn members(kind: Kind) -> &'static [&'static str]
         Kind::FillBuffer => &["op", "dst", "offset", "size", "word"],
         Kind::ClearImage => &["op", "dst", "value"],
         Kind::CopyBuffer => &["op", "src", "dst", "src_offset", "dst_offset", "size"],
-        Kind::CopyImage => &["op", "src", "dst", "src_x", "src_y", "dst_x", "dst_y", "width", "height"],
+        Kind::CopyImage => &[
+            "op", "src", "dst", "src_x", "src_y", "dst_x", "dst_y", "width", "height",
+        ],
         Kind::BufferToImage => &["op", "src", "dst", "offset"],
         Kind::ImageToBuffer => &["op", "src", "dst", "offset"],
         Kind::Ramp => &["op", "dst", "base", "dx", "dy"],

@@ -25,7 +25,12 @@ pub fn parts<F: Reader>(alloc: Global, at: &Place<'_>, json: &Value) -> Result<O
 }
 
 #[tactic(auto, unfolding(crate::specs::OpReading::variant_at))]
-fn variant<F: Reader>(alloc: Global, at: &Place<'_>, kind: Kind, json: &Value) -> Result<Op<F::Out>, ReadEnd>
+fn variant<F: Reader>(
+    alloc: Global,
+    at: &Place<'_>,
+    kind: Kind,
+    json: &Value,
+) -> Result<Op<F::Out>, ReadEnd>
     ensures gives { Gives result (variant_at F.reads kind (legs at.now) (view json.now)) }
     ensures fits { IfOk result (FitsOp F.Fits) }
 {
@@ -49,7 +54,11 @@ fn variant<F: Reader>(alloc: Global, at: &Place<'_>, kind: Kind, json: &Value) -
 }
 
 #[tactic(auto, unfolding(crate::specs::OpReading::fill_buffer_at))]
-fn fill_buffer<F: Reader>(alloc: Global, at: &Place<'_>, json: &Value) -> Result<Op<F::Out>, ReadEnd>
+fn fill_buffer<F: Reader>(
+    alloc: Global,
+    at: &Place<'_>,
+    json: &Value,
+) -> Result<Op<F::Out>, ReadEnd>
     ensures gives { Gives result (fill_buffer_at F.reads (legs at.now) (view json.now)) }
     ensures fits { IfOk result (FitsOp F.Fits) }
 {
@@ -57,11 +66,20 @@ fn fill_buffer<F: Reader>(alloc: Global, at: &Place<'_>, json: &Value) -> Result
     let offset = required::<NumberForm>(alloc, at, "offset", json)?;
     let size = required::<NumberForm>(alloc, at, "size", json)?;
     let word = required::<NumberForm>(alloc, at, "word", json)?;
-    Ok(Op::FillBuffer { dst, offset, size, word })
+    Ok(Op::FillBuffer {
+        dst,
+        offset,
+        size,
+        word,
+    })
 }
 
 #[tactic(auto, unfolding(crate::specs::OpReading::clear_image_at))]
-fn clear_image<F: Reader>(alloc: Global, at: &Place<'_>, json: &Value) -> Result<Op<F::Out>, ReadEnd>
+fn clear_image<F: Reader>(
+    alloc: Global,
+    at: &Place<'_>,
+    json: &Value,
+) -> Result<Op<F::Out>, ReadEnd>
     ensures gives { Gives result (clear_image_at F.reads (legs at.now) (view json.now)) }
     ensures fits { IfOk result (FitsOp F.Fits) }
 {
@@ -71,7 +89,11 @@ fn clear_image<F: Reader>(alloc: Global, at: &Place<'_>, json: &Value) -> Result
 }
 
 #[tactic(auto, unfolding(crate::specs::OpReading::copy_buffer_at))]
-fn copy_buffer<F: Reader>(alloc: Global, at: &Place<'_>, json: &Value) -> Result<Op<F::Out>, ReadEnd>
+fn copy_buffer<F: Reader>(
+    alloc: Global,
+    at: &Place<'_>,
+    json: &Value,
+) -> Result<Op<F::Out>, ReadEnd>
     ensures gives { Gives result (copy_buffer_at F.reads (legs at.now) (view json.now)) }
     ensures fits { IfOk result (FitsOp F.Fits) }
 {
@@ -80,7 +102,13 @@ fn copy_buffer<F: Reader>(alloc: Global, at: &Place<'_>, json: &Value) -> Result
     let src_offset = required::<NumberForm>(alloc, at, "src_offset", json)?;
     let dst_offset = required::<NumberForm>(alloc, at, "dst_offset", json)?;
     let size = required::<NumberForm>(alloc, at, "size", json)?;
-    Ok(Op::CopyBuffer { src, dst, src_offset, dst_offset, size })
+    Ok(Op::CopyBuffer {
+        src,
+        dst,
+        src_offset,
+        dst_offset,
+        size,
+    })
 }
 
 #[tactic(auto, unfolding(crate::specs::OpReading::copy_image_at))]
@@ -96,11 +124,24 @@ fn copy_image<F: Reader>(alloc: Global, at: &Place<'_>, json: &Value) -> Result<
     let dst_y = required::<NumberForm>(alloc, at, "dst_y", json)?;
     let width = required::<NumberForm>(alloc, at, "width", json)?;
     let height = required::<NumberForm>(alloc, at, "height", json)?;
-    Ok(Op::CopyImage { src, dst, src_x, src_y, dst_x, dst_y, width, height })
+    Ok(Op::CopyImage {
+        src,
+        dst,
+        src_x,
+        src_y,
+        dst_x,
+        dst_y,
+        width,
+        height,
+    })
 }
 
 #[tactic(auto, unfolding(crate::specs::OpReading::buffer_to_image_at))]
-fn buffer_to_image<F: Reader>(alloc: Global, at: &Place<'_>, json: &Value) -> Result<Op<F::Out>, ReadEnd>
+fn buffer_to_image<F: Reader>(
+    alloc: Global,
+    at: &Place<'_>,
+    json: &Value,
+) -> Result<Op<F::Out>, ReadEnd>
     ensures gives { Gives result (buffer_to_image_at F.reads (legs at.now) (view json.now)) }
     ensures fits { IfOk result (FitsOp F.Fits) }
 {
@@ -111,7 +152,11 @@ fn buffer_to_image<F: Reader>(alloc: Global, at: &Place<'_>, json: &Value) -> Re
 }
 
 #[tactic(auto, unfolding(crate::specs::OpReading::image_to_buffer_at))]
-fn image_to_buffer<F: Reader>(alloc: Global, at: &Place<'_>, json: &Value) -> Result<Op<F::Out>, ReadEnd>
+fn image_to_buffer<F: Reader>(
+    alloc: Global,
+    at: &Place<'_>,
+    json: &Value,
+) -> Result<Op<F::Out>, ReadEnd>
     ensures gives { Gives result (image_to_buffer_at F.reads (legs at.now) (view json.now)) }
     ensures fits { IfOk result (FitsOp F.Fits) }
 {
@@ -142,7 +187,12 @@ fn map<F: Reader>(alloc: Global, at: &Place<'_>, json: &Value) -> Result<Op<F::O
     let dst = required::<F>(alloc, at, "dst", json)?;
     let fun = required::<FunForm>(alloc, at, "fun", json)?;
     let value = required::<NumberForm>(alloc, at, "value", json)?;
-    Ok(Op::Map { src, dst, fun, value })
+    Ok(Op::Map {
+        src,
+        dst,
+        fun,
+        value,
+    })
 }
 
 #[tactic(auto, unfolding(crate::specs::OpReading::combine_at))]

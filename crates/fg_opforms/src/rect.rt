@@ -28,8 +28,20 @@ impl Reader for RectForm {
         let height = required::<NumberForm>(alloc, at, "height", json)?;
         let mix = optional::<MixForm>(alloc, at, "mix", json)?.unwrap_or(Mix::Set);
         let value = required::<NumberForm>(alloc, at, "value", json)?;
-        others(alloc, at, &["x", "y", "width", "height", "mix", "value"], json)?;
-        Ok(Rect { x, y, width, height, mix, value })
+        others(
+            alloc,
+            at,
+            &["x", "y", "width", "height", "mix", "value"],
+            json,
+        )?;
+        Ok(Rect {
+            x,
+            y,
+            width,
+            height,
+            mix,
+            value,
+        })
     }
 }
 

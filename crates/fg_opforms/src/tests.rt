@@ -16,7 +16,10 @@ fn each_operation_is_read_and_written(rt: HostRuntime) -> Result<(), Fail> {
             r#"{"op": "fill_buffer", "dst": "a", "offset": 4, "size": 8, "word": 4294967295}"#,
             r#"{"dst":"a","offset":4,"op":"fill_buffer","size":8,"word":4294967295}"#,
         ),
-        (r#"{"op": "clear_image", "dst": "a", "value": 7}"#, r#"{"dst":"a","op":"clear_image","value":7}"#),
+        (
+            r#"{"op": "clear_image", "dst": "a", "value": 7}"#,
+            r#"{"dst":"a","op":"clear_image","value":7}"#,
+        ),
         (
             r#"{"op": "copy_buffer", "src": "a", "dst": "b", "src_offset": 4, "dst_offset": 8, "size": 12}"#,
             r#"{"dst":"b","dst_offset":8,"op":"copy_buffer","size":12,"src":"a","src_offset":4}"#,
@@ -49,9 +52,18 @@ fn each_operation_is_read_and_written(rt: HostRuntime) -> Result<(), Fail> {
             r#"{"op": "select", "mask": "m", "a": "x", "b": "y", "dst": "z"}"#,
             r#"{"a":"x","b":"y","dst":"z","mask":"m","op":"select"}"#,
         ),
-        (r#"{"op": "convert", "src": "a", "dst": "b"}"#, r#"{"dst":"b","op":"convert","src":"a"}"#),
-        (r#"{"op": "box3", "src": "a", "dst": "b"}"#, r#"{"dst":"b","op":"box3","src":"a"}"#),
-        (r#"{"op": "halve", "src": "a", "dst": "b"}"#, r#"{"dst":"b","op":"halve","src":"a"}"#),
+        (
+            r#"{"op": "convert", "src": "a", "dst": "b"}"#,
+            r#"{"dst":"b","op":"convert","src":"a"}"#,
+        ),
+        (
+            r#"{"op": "box3", "src": "a", "dst": "b"}"#,
+            r#"{"dst":"b","op":"box3","src":"a"}"#,
+        ),
+        (
+            r#"{"op": "halve", "src": "a", "dst": "b"}"#,
+            r#"{"dst":"b","op":"halve","src":"a"}"#,
+        ),
         (
             r#"{"op": "histogram", "src": "a", "dst": "b"}"#,
             r#"{"dst":"b","op":"histogram","src":"a"}"#,
@@ -82,10 +94,22 @@ fn the_first_fault_is_told(rt: HostRuntime) -> Result<(), Fail> {
         (r#"{"op": "Box3", "src": "a", "dst": "b"}"#, "$.op"),
         (r#"{"op": "copy_buffer", "dst": "", "src": ""}"#, "$.src"),
         (r#"{"op": "clear_image", "dst": "a"}"#, "$.value"),
-        (r#"{"op": "clear_image", "dst": "a", "value": 4294967296}"#, "$.value"),
-        (r#"{"op": "clear_image", "dst": "a", "value": 7, "size": 8, "item": "command"}"#, "$.item"),
-        (r#"{"op": "map", "src": "a", "dst": "b", "fun": "set", "value": 3}"#, "$.fun"),
-        (r#"{"op": "draw", "dst": "a", "clear": null, "rects": 0}"#, "$.clear"),
+        (
+            r#"{"op": "clear_image", "dst": "a", "value": 4294967296}"#,
+            "$.value",
+        ),
+        (
+            r#"{"op": "clear_image", "dst": "a", "value": 7, "size": 8, "item": "command"}"#,
+            "$.item",
+        ),
+        (
+            r#"{"op": "map", "src": "a", "dst": "b", "fun": "set", "value": 3}"#,
+            "$.fun",
+        ),
+        (
+            r#"{"op": "draw", "dst": "a", "clear": null, "rects": 0}"#,
+            "$.clear",
+        ),
         (r#"{"op": "draw", "dst": "a"}"#, "$.rects"),
         (
             r#"{"op": "draw", "dst": "a", "rects": [{"x": 1, "y": 2, "width": 3, "height": 4, "value": 5}, {"x": 1, "y": 2, "width": 3, "height": 4}]}"#,
@@ -97,7 +121,8 @@ fn the_first_fault_is_told(rt: HostRuntime) -> Result<(), Fail> {
         ),
     ] {
         let json = Value::from_str(alloc, text)?;
-        let Err(ReadEnd::Refused(found)) = OpForm::<NameForm>::read(alloc, &Place::Top, &json) else {
+        let Err(ReadEnd::Refused(found)) = OpForm::<NameForm>::read(alloc, &Place::Top, &json)
+        else {
             return Err(Fail::new("no fault"));
         };
         let written = written_path(alloc, &found)?;
