@@ -1,7 +1,6 @@
 -- An operation in an object with one more member is read again.
-use Rattle.std.proofs.Common.{◌≡◌, ℕ, Bool, true, false, Ordering, Less, Equal, Greater, List, [], ◌∷◌, Ok, Err, if◌then◌else◌, refl}
+use Rattle.std.proofs.Common.{◌≡◌, ℕ, Bool, true, false, Ordering, Less, Equal, Greater, List, [], ◌∷◌, Ok, Err, if◌then◌else◌, refl, sym, ap, ◌∙◌, true≢false}
 use Rattle.std.specs.Prelude.{◌||◌}
-use Rattle.std.specs.List.{AllByRecursion, list_any}
 use Rattle.std.specs.Ordering.{nat_cmp, match_ordering}
 use Rattle.std.specs.Cmp.Lexicographic.{slice_cmp}
 use Rattle.std.specs.Str.{bytes_eq}
@@ -10,18 +9,11 @@ use Rattle.fg_base.specs.declared.op.Op.{Op}
 use Rattle.fg_base.specs.declared.path.Leg.{Leg}
 use Rattle.fg_forms.specs.Parts.{below, others_at, unknown_in}
 use Rattle.fg_opforms.proofs.OpAgain.{Holds, op_others}
-use Rattle.fg_opforms.specs.Kinds.{members_of, op_kind}
+use Rattle.fg_opforms.specs.Kinds.{is_in, members_of, op_kind}
 use Rattle.fg_opforms.specs.OpWriting.{op_members}
 use Rattle.serde_json.specs.Data.{Data, object, Members, no_members, member, put}
 use Rattle.serde_json.specs.Find.{get}
 use Rattle.serde_json.proofs.Views.{get_member-put_other}
-
-abbrev is_in : List (List ℕ) → List ℕ → Bool
-is_in names k = list_any (λ name. bytes_eq name k) names
-
-neither : (a b : Bool) → (a || b) ≡ false → (a ≡ false) × (b ≡ false)
-neither true b e = absurd cc
-neither false b e = (refl, e)
 
 or_true : (b : Bool) → (b || true) ≡ true
 or_true true = refl
@@ -30,16 +22,7 @@ or_true false = refl
 same_bytes : (k : List ℕ) → bytes_eq k k ≡ true
 same_bytes k = (bytes_eq-Decides k k).1 refl
 
-differ : (name k : List ℕ) → bytes_eq name k ≡ false → name ≡ k → ⊥
-differ name k e h = let same = (bytes_eq-Decides name k).1 h in absurd cc
-
 module _ (k : List ℕ) (v : Data) where
-  others_kept : (ms : Members) (names : List (List ℕ)) → is_in names k ≡ false → AllByRecursion (λ name. get name (object (put k v ms)) ≡ get name (object ms)) names
-  others_kept ms [] e = tt
-  others_kept ms (name ∷ names) e =
-      let parts = neither (bytes_eq name k) (is_in names k) e in
-      (get_member-put_other name k v ms (differ name k parts.0), others_kept ms names parts.1)
-
   module _ (known : List (List ℕ)) (at : List Leg) where
     passes : (b : Bool) (name : List ℕ) (ms : Members) → (if b then unknown_in known at ms else Err (below at name)) ≡ Ok tt → (b ≡ true) × (unknown_in known at ms ≡ Ok tt)
     passes true name ms e = (refl, e)
@@ -62,7 +45,7 @@ module _ (k : List ℕ) (v : Data) where
 
   module _ {R : Type 0} (writes : R → Data) (o : Op R) where
     pub holds_beside : is_in (members_of (op_kind o)) k ≡ false → Holds writes o (object (put k v (op_members writes o)))
-    holds_beside e = others_kept (op_members writes o) (members_of (op_kind o)) e
+    holds_beside new name known = get_member-put_other name k v (op_members writes o) (λ same. true≢false (sym known ∙ ap (is_in (members_of (op_kind o))) same ∙ new))
 
     pub others_beside : (at : List Leg) → others_at (k ∷ members_of (op_kind o)) at (object (put k v (op_members writes o))) ≡ Ok tt
     others_beside at = unknown_in-put (members_of (op_kind o)) at (op_members writes o) (op_others writes at o)

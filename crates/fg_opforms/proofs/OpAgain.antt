@@ -1,6 +1,6 @@
 -- An operation that was written is read again.
-use Rattle.std.proofs.Common.{◌≡◌, ℕ, List, [], ◌∷◌, Some, None, Ok, refl, codes}
-use Rattle.std.specs.List.{AllByRecursion}
+use Rattle.std.proofs.Common.{◌≡◌, ℕ, List, Some, None, Ok, refl, codes}
+use Rattle.std.specs.Prelude.{IsTrue}
 use Rattle.fg_base.specs.declared.op.Fun.{Fun}
 use Rattle.fg_base.specs.declared.op.Mix.{Mix}
 use Rattle.fg_base.specs.declared.op.Op.{Op}
@@ -11,7 +11,7 @@ use Rattle.fg_forms.proofs.Again.{number_again, list_again, text_again}
 use Rattle.fg_forms.specs.Leaves.{number_data, text_at, text_data}
 use Rattle.fg_forms.specs.Parts.{Reader, below, unknown_in}
 use Rattle.fg_opforms.specs.Funs.{fun_of, fun_text, fun_again}
-use Rattle.fg_opforms.specs.Kinds.{members_of, op_kind}
+use Rattle.fg_opforms.specs.Kinds.{is_in, members_of, op_kind}
 use Rattle.fg_opforms.specs.Mixes.{mix_of, mix_text, mix_again}
 use Rattle.fg_opforms.specs.Numbers.{whole_at, greatest, FitsWhole}
 use Rattle.fg_opforms.specs.OpFits.{FitsOp}
@@ -46,11 +46,7 @@ rect_again at r fits =
 
 -- the members of an operation stand in an object as they are written
 abbrev pub Holds : {R : Type 0} → (R → Data) → Op R → Data → Type 0
-Holds writes o d = AllByRecursion (λ name. get name d ≡ get name (op_data writes o)) (members_of (op_kind o))
-
-all_same : (d : Data) (names : List (List ℕ)) → AllByRecursion (λ name. get name d ≡ get name d) names
-all_same d [] = tt
-all_same d (name ∷ names) = (refl, all_same d names)
+Holds writes o d = (name : List ℕ) → IsTrue (is_in (members_of (op_kind o)) name) → get name d ≡ get name (op_data writes o)
 
 module _ {R : Type 0} (writes : R → Data) where
   pub op_others : (at : List Leg) (o : Op R) → unknown_in (members_of (op_kind o)) at (op_members writes o) ≡ Ok tt
@@ -76,11 +72,11 @@ module _ {R : Type 0} (reads : Reader R) (writes : R → Data) (Fits : R → Typ
   unfolding parts_at variant_at fill_buffer_at clear_image_at copy_buffer_at copy_image_at buffer_to_image_at image_to_buffer_at ramp_at map_at combine_at select_at convert_at box3_at halve_at histogram_at draw_at
   parts_again at (op.FillBuffer dst offset size word) d h fits =
       rw (
-        h.0,
-        h.1.0,
-        h.1.1.0,
-        h.1.1.1.0,
-        h.1.1.1.1.0,
+        h (codes "op") refl,
+        h (codes "dst") refl,
+        h (codes "offset") refl,
+        h (codes "size") refl,
+        h (codes "word") refl,
         again (below at (codes "dst")) dst fits.0,
         whole_again at (codes "offset") offset fits.1,
         whole_again at (codes "size") size fits.2,
@@ -88,20 +84,20 @@ module _ {R : Type 0} (reads : Reader R) (writes : R → Data) (Fits : R → Typ
       ) refl
   parts_again at (op.ClearImage dst value) d h fits =
       rw (
-        h.0,
-        h.1.0,
-        h.1.1.0,
+        h (codes "op") refl,
+        h (codes "dst") refl,
+        h (codes "value") refl,
         again (below at (codes "dst")) dst fits.0,
         whole_again at (codes "value") value fits.1,
       ) refl
   parts_again at (op.CopyBuffer src dst src_offset dst_offset size) d h fits =
       rw (
-        h.0,
-        h.1.0,
-        h.1.1.0,
-        h.1.1.1.0,
-        h.1.1.1.1.0,
-        h.1.1.1.1.1.0,
+        h (codes "op") refl,
+        h (codes "src") refl,
+        h (codes "dst") refl,
+        h (codes "src_offset") refl,
+        h (codes "dst_offset") refl,
+        h (codes "size") refl,
         again (below at (codes "src")) src fits.0,
         again (below at (codes "dst")) dst fits.1,
         whole_again at (codes "src_offset") src_offset fits.2,
@@ -110,15 +106,15 @@ module _ {R : Type 0} (reads : Reader R) (writes : R → Data) (Fits : R → Typ
       ) refl
   parts_again at (op.CopyImage src dst src_x src_y dst_x dst_y width height) d h fits =
       rw (
-        h.0,
-        h.1.0,
-        h.1.1.0,
-        h.1.1.1.0,
-        h.1.1.1.1.0,
-        h.1.1.1.1.1.0,
-        h.1.1.1.1.1.1.0,
-        h.1.1.1.1.1.1.1.0,
-        h.1.1.1.1.1.1.1.1.0,
+        h (codes "op") refl,
+        h (codes "src") refl,
+        h (codes "dst") refl,
+        h (codes "src_x") refl,
+        h (codes "src_y") refl,
+        h (codes "dst_x") refl,
+        h (codes "dst_y") refl,
+        h (codes "width") refl,
+        h (codes "height") refl,
         again (below at (codes "src")) src fits.0,
         again (below at (codes "dst")) dst fits.1,
         whole_again at (codes "src_x") src_x fits.2,
@@ -130,31 +126,31 @@ module _ {R : Type 0} (reads : Reader R) (writes : R → Data) (Fits : R → Typ
       ) refl
   parts_again at (op.BufferToImage src dst offset) d h fits =
       rw (
-        h.0,
-        h.1.0,
-        h.1.1.0,
-        h.1.1.1.0,
+        h (codes "op") refl,
+        h (codes "src") refl,
+        h (codes "dst") refl,
+        h (codes "offset") refl,
         again (below at (codes "src")) src fits.0,
         again (below at (codes "dst")) dst fits.1,
         whole_again at (codes "offset") offset fits.2,
       ) refl
   parts_again at (op.ImageToBuffer src dst offset) d h fits =
       rw (
-        h.0,
-        h.1.0,
-        h.1.1.0,
-        h.1.1.1.0,
+        h (codes "op") refl,
+        h (codes "src") refl,
+        h (codes "dst") refl,
+        h (codes "offset") refl,
         again (below at (codes "src")) src fits.0,
         again (below at (codes "dst")) dst fits.1,
         whole_again at (codes "offset") offset fits.2,
       ) refl
   parts_again at (op.Ramp dst base dx dy) d h fits =
       rw (
-        h.0,
-        h.1.0,
-        h.1.1.0,
-        h.1.1.1.0,
-        h.1.1.1.1.0,
+        h (codes "op") refl,
+        h (codes "dst") refl,
+        h (codes "base") refl,
+        h (codes "dx") refl,
+        h (codes "dy") refl,
         again (below at (codes "dst")) dst fits.0,
         whole_again at (codes "base") base fits.1,
         whole_again at (codes "dx") dx fits.2,
@@ -162,11 +158,11 @@ module _ {R : Type 0} (reads : Reader R) (writes : R → Data) (Fits : R → Typ
       ) refl
   parts_again at (op.Map src dst fun value) d h fits =
       rw (
-        h.0,
-        h.1.0,
-        h.1.1.0,
-        h.1.1.1.0,
-        h.1.1.1.1.0,
+        h (codes "op") refl,
+        h (codes "src") refl,
+        h (codes "dst") refl,
+        h (codes "fun") refl,
+        h (codes "value") refl,
         again (below at (codes "src")) src fits.0,
         again (below at (codes "dst")) dst fits.1,
         fun_again_at at fun,
@@ -174,11 +170,11 @@ module _ {R : Type 0} (reads : Reader R) (writes : R → Data) (Fits : R → Typ
       ) refl
   parts_again at (op.Combine a b dst fun) d h fits =
       rw (
-        h.0,
-        h.1.0,
-        h.1.1.0,
-        h.1.1.1.0,
-        h.1.1.1.1.0,
+        h (codes "op") refl,
+        h (codes "a") refl,
+        h (codes "b") refl,
+        h (codes "dst") refl,
+        h (codes "fun") refl,
         again (below at (codes "a")) a fits.0,
         again (below at (codes "b")) b fits.1,
         again (below at (codes "dst")) dst fits.2,
@@ -186,11 +182,11 @@ module _ {R : Type 0} (reads : Reader R) (writes : R → Data) (Fits : R → Typ
       ) refl
   parts_again at (op.Select mask a b dst) d h fits =
       rw (
-        h.0,
-        h.1.0,
-        h.1.1.0,
-        h.1.1.1.0,
-        h.1.1.1.1.0,
+        h (codes "op") refl,
+        h (codes "mask") refl,
+        h (codes "a") refl,
+        h (codes "b") refl,
+        h (codes "dst") refl,
         again (below at (codes "mask")) mask fits.0,
         again (below at (codes "a")) a fits.1,
         again (below at (codes "b")) b fits.2,
@@ -198,51 +194,51 @@ module _ {R : Type 0} (reads : Reader R) (writes : R → Data) (Fits : R → Typ
       ) refl
   parts_again at (op.Convert src dst) d h fits =
       rw (
-        h.0,
-        h.1.0,
-        h.1.1.0,
+        h (codes "op") refl,
+        h (codes "src") refl,
+        h (codes "dst") refl,
         again (below at (codes "src")) src fits.0,
         again (below at (codes "dst")) dst fits.1,
       ) refl
   parts_again at (op.Box3 src dst) d h fits =
       rw (
-        h.0,
-        h.1.0,
-        h.1.1.0,
+        h (codes "op") refl,
+        h (codes "src") refl,
+        h (codes "dst") refl,
         again (below at (codes "src")) src fits.0,
         again (below at (codes "dst")) dst fits.1,
       ) refl
   parts_again at (op.Halve src dst) d h fits =
       rw (
-        h.0,
-        h.1.0,
-        h.1.1.0,
+        h (codes "op") refl,
+        h (codes "src") refl,
+        h (codes "dst") refl,
         again (below at (codes "src")) src fits.0,
         again (below at (codes "dst")) dst fits.1,
       ) refl
   parts_again at (op.Histogram src dst) d h fits =
       rw (
-        h.0,
-        h.1.0,
-        h.1.1.0,
+        h (codes "op") refl,
+        h (codes "src") refl,
+        h (codes "dst") refl,
         again (below at (codes "src")) src fits.0,
         again (below at (codes "dst")) dst fits.1,
       ) refl
   parts_again at (op.Draw dst None rects) d h fits =
       rw (
-        h.0,
-        h.1.0,
-        h.1.1.0,
-        h.1.1.1.0,
+        h (codes "op") refl,
+        h (codes "dst") refl,
+        h (codes "clear") refl,
+        h (codes "rects") refl,
         again (below at (codes "dst")) dst fits.0,
         list_again rect_at rect_data FitsRect rect_again (below at (codes "rects")) rects fits.2,
       ) refl
   parts_again at (op.Draw dst (Some clear) rects) d h fits =
       rw (
-        h.0,
-        h.1.0,
-        h.1.1.0,
-        h.1.1.1.0,
+        h (codes "op") refl,
+        h (codes "dst") refl,
+        h (codes "clear") refl,
+        h (codes "rects") refl,
         again (below at (codes "dst")) dst fits.0,
         whole_again at (codes "clear") clear fits.1,
         list_again rect_at rect_data FitsRect rect_again (below at (codes "rects")) rects fits.2,
@@ -250,4 +246,4 @@ module _ {R : Type 0} (reads : Reader R) (writes : R → Data) (Fits : R → Typ
 
   pub op_again : (at : List Leg) (o : Op R) → FitsOp Fits o → op_at reads at (op_data writes o) ≡ Ok o
   unfolding op_at
-  op_again at o fits = rw (parts_again at o (op_data writes o) (all_same (op_data writes o) (members_of (op_kind o))) fits, op_others writes at o) refl
+  op_again at o fits = rw (parts_again at o (op_data writes o) (λ name known. refl) fits, op_others writes at o) refl

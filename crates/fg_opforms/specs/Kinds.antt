@@ -1,5 +1,6 @@
 -- Which operation it is: the words of the kinds, and the members of each.
-use Rattle.std.specs.Prelude.{◌≡◌, refl, ℕ, List, [], ◌∷◌, Option, Some, None, if◌then◌else◌, codes, ⊤}
+use Rattle.std.specs.Prelude.{◌≡◌, refl, ℕ, Bool, List, [], ◌∷◌, Option, Some, None, if◌then◌else◌, codes, ⊤}
+use Rattle.std.specs.List.{list_any}
 use Rattle.std.specs.Str.{bytes_eq}
 use Rattle.fg_base.specs.declared.op.Op.{Op}
 use Rattle.fg_base.specs.declared.op.Op.TheVariants as op
@@ -58,6 +59,9 @@ kind_again kinds.Box3 fits = refl
 kind_again kinds.Halve fits = refl
 kind_again kinds.Histogram fits = refl
 kind_again kinds.Draw fits = refl
+
+abbrev pub is_in : List (List ℕ) → List ℕ → Bool
+is_in names text = list_any (λ name. bytes_eq name text) names
 
 -- the members that an operation of a kind may have, in the order of examination
 abbrev pub members_of : Kind → List (List ℕ)
