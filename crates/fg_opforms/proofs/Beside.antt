@@ -1,5 +1,5 @@
 -- An operation in an object with one more member is read again.
-use Rattle.std.proofs.Common.{◌≡◌, ℕ, Bool, true, false, Ordering, Less, Equal, Greater, List, [], ◌∷◌, Ok, Err, if◌then◌else◌, refl, sym, ap, ◌∙◌, true≢false}
+use Rattle.std.proofs.Common.{◌≡◌, ℕ, Bool, true, false, Ordering, Less, Equal, Greater, List, ◌∷◌, Ok, Err, if◌then◌else◌, refl, sym, ap, ◌∙◌, true≢false}
 use Rattle.std.specs.Prelude.{◌||◌}
 use Rattle.std.specs.Ordering.{nat_cmp, match_ordering}
 use Rattle.std.specs.Cmp.Lexicographic.{slice_cmp}
@@ -12,7 +12,6 @@ use Rattle.fg_opforms.proofs.OpAgain.{Holds, op_others}
 use Rattle.fg_opforms.specs.Kinds.{is_in, members_of, op_kind}
 use Rattle.fg_opforms.specs.OpWriting.{op_members}
 use Rattle.serde_json.specs.Data.{Data, object, Members, no_members, member, put}
-use Rattle.serde_json.specs.Find.{get}
 use Rattle.serde_json.proofs.Views.{get_member-put_other}
 
 or_true : (b : Bool) → (b || true) ≡ true
