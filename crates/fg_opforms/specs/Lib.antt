@@ -1,0 +1,8 @@
+pub mod Funs
+pub mod Kinds
+pub mod Mixes
+pub mod Numbers
+pub mod OpFits
+pub mod OpReading
+pub mod OpWriting
+pub mod Rects

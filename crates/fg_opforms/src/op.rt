@@ -1,0 +1,46 @@
+//! The form of an operation.
+
+ghost use Rattle.std.specs.Prelude.{◌≡◌};
+ghost use Rattle.fg_opforms.specs.OpFits.{FitsOp};
+ghost use Rattle.fg_opforms.specs.OpReading.{op_at};
+ghost use Rattle.fg_opforms.specs.OpWriting.{op_data};
+
+use crate::reading::parts;
+use crate::writing::op_value;
+use crate::{members, op_kind};
+use fg_base::Op;
+use fg_forms::{Place, ReadEnd, Reader, Writer, object, others};
+use serde_json::Value;
+use std::alloc::{AllocError, Global};
+use std::marker::PhantomData;
+
+/// An operation as an object, over operands of the form `F`.
+pub struct OpForm<F> {
+    form: PhantomData<F>,
+}
+
+impl<F: Reader> Reader for OpForm<F> {
+    type Out = Op<F::Out>;
+
+    ghost reads = { op_at F.reads };
+
+    ghost Fits = { FitsOp F.Fits };
+
+    #[tactic(auto, unfolding(crate::specs::OpReading::op_at))]
+    fn read(alloc: Global, at: &Place<'_>, json: &Value) -> Result<Op<F::Out>, ReadEnd> {
+        object(alloc, at, json)?;
+        let op = parts::<F>(alloc, at, json)?;
+        others(alloc, at, members(op_kind(&op)), json)?;
+        Ok(op)
+    }
+}
+
+impl<F: Writer> Writer for OpForm<F> {
+    type In = Op<F::In>;
+
+    ghost writes = { op_data F.writes };
+
+    fn write(alloc: Global, op: &Op<F::In>) -> Result<Value, AllocError> {
+        op_value::<F>(alloc, op)
+    }
+}
