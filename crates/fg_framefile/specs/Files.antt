@@ -1,0 +1,34 @@
+-- The frame that bytes are, or the first fault.
+use Rattle.std.specs.Prelude.{◌≡◌, ℕ, List, [], Option, Some, None, Result, Ok, Err}
+use Rattle.fg_base.specs.declared.path.Leg.{Leg}
+use Rattle.fg_forms.specs.Json.{json_of}
+use Rattle.fg_forms.specs.Reading.{Reading}
+use Rattle.fg_frame.specs.Faults.{not_json, misshapen}
+use Rattle.fg_frame.specs.declared.fault.FrameFault.{FrameFault}
+use Rattle.fg_frame.specs.declared.frame.Frame.{Frame}
+use Rattle.fg_framefile.specs.Frames.{frame_at}
+use Rattle.fg_framefile.specs.declared.file.FrameReadEnd.{FrameReadEnd}
+use Rattle.fg_framefile.specs.declared.file.FrameReadEnd.TheVariants as ends
+use Rattle.serde_json.specs.Data.{Data}
+
+-- a first fault of form is F2 at its path
+abbrev pub shaped : Reading Frame → Result Frame FrameFault
+shaped (Ok frame) = Ok frame
+shaped (Err path) = Err (misshapen path)
+
+-- the frame that a JSON value is
+abbrev pub frame_in : Data → Result Frame FrameFault
+frame_in d = shaped (frame_at [] d)
+
+abbrev pub file_of : Option Data → Result Frame FrameFault
+file_of None = Err not_json
+file_of (Some d) = frame_in d
+
+abbrev pub frame_of : List ℕ → Result Frame FrameFault
+frame_of bytes = file_of (json_of bytes)
+
+-- what a function returned is this frame or fault, unless memory ran out
+abbrev pub FrameGives : Result Frame FrameReadEnd → Result Frame FrameFault → Type 0
+FrameGives (Ok frame) found = found ≡ Ok frame
+FrameGives (Err ends.NoMemory) found = Unit {0}
+FrameGives (Err (ends.Refused fault)) found = found ≡ Err fault

@@ -1,0 +1,40 @@
+-- Passes: `name`, `queue`, `writes` (each `new`), `ops`.
+use Rattle.std.specs.Prelude.{ℕ, List, [], ◌∷◌, true, false, Result, Ok, Err, codes}
+use Rattle.std.specs.List.{AllByRecursion}
+use Rattle.fg_base.specs.Names.{IsName, name_of}
+use Rattle.fg_forms.specs.Leaves.{text_at}
+use Rattle.fg_forms.specs.Parts.{Reader, object_at, member_at, list_at, others_at}
+use Rattle.fg_forms.specs.Reading.{◌>>=◌}
+use Rattle.fg_frame.specs.declared.frame.Pass.{Pass}
+use Rattle.fg_frame.specs.declared.frame.Spot.{Spot}
+use Rattle.fg_frame.specs.declared.frame.Write.{Write}
+use Rattle.fg_opforms.specs.OpFits.{FitsOp}
+use Rattle.fg_opforms.specs.OpReading.{op_at}
+use Rattle.fg_framefile.specs.Spots.{spot_at, FitsSpot}
+
+unfoldable pub write_at : Reader (Write Spot)
+write_at at d = do
+  start ← object_at at d
+  what ← member_at spot_at (codes "new") at d
+  end ← others_at (codes "new" ∷ []) at d
+  Ok (record { what = what; fresh = true })
+
+unfoldable pub pass_at : Reader Pass
+pass_at at d = do
+  start ← object_at at d
+  name ← member_at (text_at name_of) (codes "name") at d
+  queue ← member_at (text_at name_of) (codes "queue") at d
+  writes ← member_at (list_at write_at) (codes "writes") at d
+  ops ← member_at (list_at (op_at spot_at)) (codes "ops") at d
+  end ← others_at (codes "name" ∷ codes "queue" ∷ codes "writes" ∷ codes "ops" ∷ []) at d
+  Ok (record { name = name; queue = queue; reads = []; writes = writes; ops = ops; side_effect = false })
+
+abbrev pub FitsWrite : Write Spot → Type 0
+FitsWrite write = FitsSpot write.what
+
+pub record FitsPass (pass : Pass) : Type 0 where
+  pub name : IsName pass.name
+  pub queue : IsName pass.queue
+  pub reads : AllByRecursion FitsSpot pass.reads
+  pub writes : AllByRecursion FitsWrite pass.writes
+  pub ops : AllByRecursion (FitsOp FitsSpot) pass.ops

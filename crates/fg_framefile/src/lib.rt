@@ -1,0 +1,11 @@
+//! Frame files: the frame that bytes are, or the first fault.
+#![tactic(auto)]
+
+mod family;
+mod file;
+mod frame;
+mod pass;
+mod resource;
+mod spot;
+
+pub use file::{FrameReadEnd, read_frame};

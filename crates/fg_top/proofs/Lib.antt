@@ -1,0 +1,5 @@
+pub mod AnswerLemmas
+pub mod Known
+pub mod LineLemmas
+mod Rows
+pub mod SmallLemmas

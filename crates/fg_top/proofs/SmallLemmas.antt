@@ -1,0 +1,187 @@
+-- The test for a small frame finds exactly the small frames, and a small frame's meaning is its buffer full of the word.
+use Rattle.std.proofs.Common.{◌≡◌, ℕ, ◌+◌, ◌/◌, ◌%◌, ◌≤◌, Bool, true, false, List, [], ◌∷◌, ◌++◌, take, drop, length, Some, None, refl, sym, ap, ap₂, ◌∙◌, append-nil, arith}
+use Rattle.std.specs.Prelude.{◌==◌, ◌&&◌, not, nat_le, option_and_then, is_none, IfSome, IfNone, if◌then◌else◌}
+use Rattle.std.specs.declared.option.Option.{Option}
+use Rattle.std.specs.Str.{bytes_eq}
+use Rattle.std.proofs.Math.Seq.{drop-nil}
+use Rattle.std.proofs.lemmas.List.{nil_from_length}
+use Rattle.std.proofs.lemmas.Slice.Eq.{bytes_eq-Decides}
+use Rattle.std.proofs.lemmas.Bool.Decides.{nat_tests}
+use Rattle.fg_base.specs.declared.op.Op.{Op}
+use Rattle.fg_base.specs.declared.op.Op.TheVariants as op
+use Rattle.fg_base.specs.declared.shape.Shape.{Shape}
+use Rattle.fg_base.specs.declared.shape.Shape.TheVariants.{Buffer, Image}
+use Rattle.fg_bits.specs.declared.sharing.Sharing.{Sharing}
+use Rattle.fg_bits.specs.declared.sharing.Sharing.TheVariants.{Exclusive, Concurrent}
+use Rattle.fg_frame.specs.declared.frame.Frame.{Frame}
+use Rattle.fg_frame.specs.declared.frame.Pass.{Pass}
+use Rattle.fg_frame.specs.declared.frame.QueueDecl.{QueueDecl}
+use Rattle.fg_frame.specs.declared.frame.Resource.{Resource}
+use Rattle.fg_frame.specs.declared.frame.Spot.{Spot}
+use Rattle.fg_frame.specs.declared.frame.Write.{Write}
+use Rattle.fg_top.specs.Answers.{meant, small_answer}
+use Rattle.fg_top.specs.Meaning.{Pictures, imports, words, filled, with_bytes, meaning}
+use Rattle.fg_top.specs.Small.{whole, small_frame, IsSmall}
+use Rattle.fg_top.specs.SmallTest.{only, whole_words, unshared, plain_buffer, is_whole, filling_word, filling_pass, small_of}
+use Rattle.fg_top.specs.Texts.{kept_line, export_text, exports_text, run_text}
+use Rattle.fg_top.specs.declared.answer.Answer.{Answer}
+use Rattle.fg_top.specs.declared.ended.Status.TheVariants.{Done}
+use Rattle.fg_top.specs.declared.small.Small.{Small}
+
+-- what a choice or a chain that gave something went through
+bind_some : {A B : Type 0} (f : A → Option B) (o : Option A) (y : B) → option_and_then f o ≡ Some y → (x : A) × (o ≡ Some x) × (f x ≡ Some y)
+bind_some f None y e = absurd cc
+bind_some f (Some x) y e = (x, refl, e)
+
+only_some : {X : Type 0} (xs : List X) (x : X) → only xs ≡ Some x → xs ≡ x ∷ []
+only_some [] x e = absurd cc
+only_some (y ∷ []) x e = cc
+only_some (y ∷ z ∷ xs) x e = absurd cc
+
+if_some : {A : Type 0} (b : Bool) (o : Option A) (y : A) → (if b then o else None) ≡ Some y → (b ≡ true) × (o ≡ Some y)
+if_some true o y e = (refl, e)
+if_some false o y e = absurd cc
+
+both : (a b : Bool) → (a && b) ≡ true → (a ≡ true) × (b ≡ true)
+both true true e = (refl, refl)
+both true false e = absurd cc
+both false b e = absurd cc
+
+none : {A : Type 0} (o : Option A) → is_none o ≡ true → o ≡ None
+none None e = refl
+none (Some x) e = absurd cc
+
+equal : (m n : ℕ) → (m == n) ≡ true → m ≡ n
+equal m n e = grind (arith, nat_tests)
+
+same_name : (xs ys : List ℕ) → bytes_eq xs ys ≡ true → xs ≡ ys
+same_name xs ys = (bytes_eq-Decides xs ys).0
+
+bytes_eq-same : (xs : List ℕ) → bytes_eq xs xs ≡ true
+bytes_eq-same xs = (bytes_eq-Decides xs xs).1 refl
+
+same_some : {A : Type 0} (x y : A) → Some x ≡ Some y → x ≡ y
+same_some x y e = cc
+
+untrue : (b : Bool) → not b ≡ true → b ≡ false
+untrue true e = absurd cc
+untrue false e = refl
+
+-- ---- what the test finds is a small frame
+
+whole_is : (name : List ℕ) (spot : Spot) → is_whole name spot ≡ true → spot ≡ whole name
+whole_is name spot e =
+    let parts = both (bytes_eq spot.name name) (is_none spot.layer) e in
+    ap₂ (λ (n : List ℕ) (l : Option ℕ). record { name = n; layer = l }) (same_name spot.name name parts.0) (none spot.layer parts.1)
+
+whole_words_is : (shape : Shape) (size : ℕ) → whole_words shape ≡ Some size → (shape ≡ Buffer size) × (size % 4 ≡ 0) × (size ≤ 16777216)
+whole_words_is (Buffer bytes) size e =
+    let chosen = if_some ((bytes % 4 == 0) && nat_le bytes 16777216) (Some bytes) size e in
+    let tests = both (bytes % 4 == 0) (nat_le bytes 16777216) chosen.0 in
+    let same : bytes ≡ size = cc in
+    let words : bytes % 4 ≡ 0 = equal (bytes % 4) 0 tests.0 in
+    let within : bytes ≤ 16777216 = grind (arith, nat_tests, tests.1) in
+    rw (← same) (refl, words, within)
+whole_words_is (Image width height texel) size e = absurd cc
+
+unshared_is : (sharing : Sharing) (shape : Shape) (size : ℕ) → unshared sharing shape ≡ Some size → (sharing ≡ Exclusive) × (whole_words shape ≡ Some size)
+unshared_is Exclusive shape size e = (refl, e)
+unshared_is Concurrent shape size e = absurd cc
+
+plain_buffer_is : (r : Resource) (size : ℕ) → plain_buffer r ≡ Some size → (r ≡ record { name = r.name; shape = Buffer size; layers = 1; import = None; sharing = Exclusive }) × (size % 4 ≡ 0) × (size ≤ 16777216)
+plain_buffer_is r size e =
+    let chosen = if_some ((r.layers == 1) && is_none r.import) _ size e in
+    let tests = both (r.layers == 1) (is_none r.import) chosen.0 in
+    let free = unshared_is r.sharing r.shape size chosen.1 in
+    let buffer = whole_words_is r.shape size free.1 in
+    let layers = equal r.layers 1 tests.0 in
+    let import = none r.import tests.1 in
+    (ap₂ (λ (s : Shape) (l : ℕ). record { name = r.name; shape = s; layers = l; import = r.import; sharing = r.sharing }) buffer.0 layers ∙ ap₂ (λ (i : Option (List ℕ)) (s : Sharing). record { name = r.name; shape = Buffer size; layers = 1; import = i; sharing = s }) import free.0, buffer.1, buffer.2)
+
+filling_word_is : (name : List ℕ) (size : ℕ) (o : Op Spot) (word : ℕ) → filling_word name size o ≡ Some word → o ≡ op.FillBuffer (whole name) 0 size word
+filling_word_is name size (op.FillBuffer dst offset length w) word e =
+    let chosen = if_some (is_whole name dst && (offset == 0) && (length == size)) (Some w) word e in
+    let sizes = both (is_whole name dst && (offset == 0)) (length == size) chosen.0 in
+    let places = both (is_whole name dst) (offset == 0) sizes.0 in
+    let here = whole_is name dst places.0 in
+    let at_start = equal offset 0 places.1 in
+    let all = equal length size sizes.1 in
+    let same : w ≡ word = cc in
+    rw (here, at_start, all, same) refl
+filling_word_is name size o word e = absurd cc
+
+filling_pass_is : (queue name : List ℕ) (size : ℕ) (p : Pass) (word : ℕ) → filling_pass queue name size p ≡ Some word
+    → p ≡ record { name = p.name; queue = queue; reads = []; writes = record { what = whole name; fresh = true } ∷ []; ops = op.FillBuffer (whole name) 0 size word ∷ []; side_effect = false }
+filling_pass_is queue name size p word e =
+    let outer = if_some (bytes_eq p.queue queue && (length p.reads == 0) && not p.side_effect) _ word e in
+    let ends = both (bytes_eq p.queue queue && (length p.reads == 0)) (not p.side_effect) outer.0 in
+    let fronts = both (bytes_eq p.queue queue) (length p.reads == 0) ends.0 in
+    let write = bind_some _ (only p.writes) word outer.1 in
+    let inner = if_some (write.0.fresh && is_whole name write.0.what) _ word write.2 in
+    let news = both write.0.fresh (is_whole name write.0.what) inner.0 in
+    let found = bind_some (filling_word name size) (only p.ops) word inner.1 in
+    let queue_is = same_name p.queue queue fronts.0 in
+    let reads = nil_from_length p.reads (equal (length p.reads) 0 fronts.1) in
+    let written : write.0 ≡ record { what = whole name; fresh = true } = ap₂ (λ (w : Spot) (f : Bool). record { what = w; fresh = f }) (whole_is name write.0.what news.1) news.0 in
+    let writes = only_some p.writes write.0 write.1 ∙ ap (λ (w : Write Spot). w ∷ []) written in
+    let ops = only_some p.ops found.0 found.1 ∙ ap (λ (o : Op Spot). o ∷ []) (filling_word_is name size found.0 word found.2) in
+    let effect = untrue p.side_effect ends.1 in
+    ap₂ (λ (q : List ℕ) (r : List Spot). record { name = p.name; queue = q; reads = r; writes = p.writes; ops = p.ops; side_effect = p.side_effect }) queue_is reads
+    ∙ ap₂ (λ (w : List (Write Spot)) (o : List (Op Spot)). record { name = p.name; queue = queue; reads = []; writes = w; ops = o; side_effect = p.side_effect }) writes ops
+    ∙ ap (λ (s : Bool). record { name = p.name; queue = queue; reads = []; writes = record { what = whole name; fresh = true } ∷ []; ops = op.FillBuffer (whole name) 0 size word ∷ []; side_effect = s }) effect
+
+small_of_finds : (frame : Frame) (small : Small) → small_of frame ≡ Some small → IsSmall frame small
+small_of_finds frame small e =
+    let queue = bind_some _ (only frame.queues) small e in
+    let resource = bind_some _ (only frame.resources) small queue.2 in
+    let pass = bind_some _ (only frame.passes) small resource.2 in
+    let export = bind_some _ (only frame.exports) small pass.2 in
+    let size = bind_some _ (plain_buffer resource.0) small export.2 in
+    let word = bind_some _ (filling_pass queue.0.name resource.0.name size.0 pass.0) small size.2 in
+    let end = if_some (is_whole resource.0.name export.0) _ small word.2 in
+    let buffer = plain_buffer_is resource.0 size.0 size.1 in
+    let parts : Small = record { queue = queue.0.name; family = queue.0.family; buffer = resource.0.name; size = size.0; pass = pass.0.name; word = word.0 } in
+    let is = same_some parts small end.1 in
+    let queues = only_some frame.queues queue.0 queue.1 in
+    let resources = only_some frame.resources resource.0 resource.1 ∙ ap (λ (r : Resource). r ∷ []) buffer.0 in
+    let passes = only_some frame.passes pass.0 pass.1 ∙ ap (λ (p : Pass). p ∷ []) (filling_pass_is queue.0.name resource.0.name size.0 pass.0 word.0 word.1) in
+    let exports = only_some frame.exports export.0 export.1 ∙ ap (λ (s : Spot). s ∷ []) (whole_is resource.0.name export.0 end.0) in
+    let found : frame ≡ small_frame parts =
+    ap₂ (λ (q : List QueueDecl) (r : List Resource). record { queues = q; resources = r; passes = frame.passes; exports = frame.exports }) queues resources
+    ∙ ap₂ (λ (p : List Pass) (x : List Spot). record { queues = queue.0 ∷ []; resources = record { name = resource.0.name; shape = Buffer size.0; layers = 1; import = None; sharing = Exclusive } ∷ []; passes = p; exports = x }) passes exports in
+    rw (← is) (record { parts = found; words = buffer.1; within = buffer.2 })
+
+-- ---- the test finds each small frame
+
+small_of-small_frame : (s : Small) → s.size % 4 ≡ 0 → s.size ≤ 16777216 → small_of (small_frame s) ≡ Some s
+small_of-small_frame s words within =
+    let all_words : (s.size % 4 == 0) ≡ true = grind (arith, nat_tests, words) in
+    let fits : nat_le s.size 16777216 ≡ true = grind (arith, nat_tests, within) in
+    let same_size : (s.size == s.size) ≡ true = grind (arith, nat_tests) in
+    rw (all_words, fits, bytes_eq-same s.queue, bytes_eq-same s.buffer, same_size) refl
+
+small_of_misses : (frame : Frame) → small_of frame ≡ None → (small : Small) → ¬ IsSmall frame small
+small_of_misses frame e small is =
+    let found : small_of frame ≡ Some small = rw is.parts (small_of-small_frame small is.words is.within) in
+    absurd cc
+
+pub found_is : (frame : Frame) (found : Option Small) → found ≡ small_of frame → IfSome found (IsSmall frame)
+found_is frame None e = tt
+found_is frame (Some small) e = small_of_finds frame small (sym e)
+
+pub none_is : (frame : Frame) (found : Option Small) → found ≡ small_of frame → IfNone found ((small : Small) → ¬ IsSmall frame small)
+none_is frame None e = small_of_misses frame (sym e)
+none_is frame (Some small) e = tt
+
+-- ---- the meaning of a small frame
+
+filled-whole : (size word : ℕ) → filled 0 size word [] ≡ words word (size / 4)
+filled-whole size word = rw (drop-nil (0 + size), append-nil (words word (size / 4))) refl
+
+pub meant-small_frame : (s : Small) → meant (small_frame s) (meaning (small_frame s)) ≡ small_answer s
+meant-small_frame s =
+    let start : Pictures = imports (small_frame s).resources in
+    let P : Pictures = with_bytes start s.buffer (filled 0 s.size s.word (start s.buffer)) in
+    let bytes : P s.buffer ≡ words s.word (s.size / 4) = rw (bytes_eq-same s.buffer) (filled-whole s.size s.word) in
+    let exported : export_text s.buffer (P s.buffer) ++ [] ≡ export_text s.buffer (words s.word (s.size / 4)) = append-nil (export_text s.buffer (P s.buffer)) ∙ ap (export_text s.buffer) bytes in
+    ap (λ (t : List ℕ). record { status = Done; text = kept_line 1 0 ++ t }) exported

@@ -1,0 +1,9 @@
+use Rattle.std.proofs.Common.{◌∙◌, sym}
+use Rattle.fg_top.proofs.SmallLemmas.{found_is, none_is}
+use Rattle.fg_top.proofs.small.small_of.Goals as goal
+
+pub returns-clause-small : goal.returns-clause-small
+returns-clause-small c = found_is c.args.frame.now c.tested.result c.tested.ensures
+
+pub returns-clause-other : goal.returns-clause-other
+returns-clause-other c = none_is c.args.frame.now c.tested.result c.tested.ensures

@@ -1,0 +1,12 @@
+pub mod Answers
+pub mod Causes
+pub mod Commands
+pub mod Intakes
+pub mod Lines
+pub mod Meaning
+pub mod Outcomes
+pub mod Small
+pub mod SmallTest
+pub mod Statuses
+pub mod Texts
+pub mod Told

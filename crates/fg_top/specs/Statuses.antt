@@ -1,0 +1,13 @@
+-- The exit statuses.
+use Rattle.std.specs.Prelude.{ℕ}
+use Rattle.fg_top.specs.declared.ended.Status.{Status}
+use Rattle.fg_top.specs.declared.ended.Status.TheVariants.{Done, Rejected, Refused, Words, ReadFault, WriteFault, NoMemory}
+
+abbrev pub number_of : Status → ℕ
+number_of Done = 0
+number_of Rejected = 1
+number_of Refused = 2
+number_of Words = 3
+number_of ReadFault = 4
+number_of WriteFault = 5
+number_of NoMemory = 6

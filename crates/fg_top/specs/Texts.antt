@@ -1,0 +1,32 @@
+-- The printed texts.
+use Rattle.std.specs.Prelude.{ℕ, List, [], ◌∷◌, ◌++◌, length, Option, Some, None, codes}
+use Rattle.std.specs.Fmt.{decimal}
+use Rattle.fg_base.specs.Limits.{limit_name}
+use Rattle.fg_base.specs.declared.limit.Limit.{Limit}
+use Rattle.fg_frame.specs.declared.frame.Frame.{Frame}
+use Rattle.fg_frame.specs.declared.frame.Spot.{Spot}
+use Rattle.fg_top.specs.Lines.{hex_lines}
+use Rattle.fg_top.specs.Meaning.{Pictures}
+
+abbrev pub kept_line : ℕ → ℕ → List ℕ
+kept_line kept culled = codes "kept " ++ decimal kept ++ codes " culled " ++ decimal culled ++ 10 ∷ []
+
+-- the name of an exported resource, the number of its bytes, and the bytes
+abbrev pub export_text : List ℕ → List ℕ → List ℕ
+export_text name bytes = codes "export " ++ name ++ codes " " ++ decimal (length bytes) ++ 10 ∷ [] ++ hex_lines bytes
+
+abbrev pub exports_text : Pictures → List Spot → List ℕ
+exports_text pictures [] = []
+exports_text pictures (spot ∷ spots) = export_text spot.name (pictures spot.name) ++ exports_text pictures spots
+
+-- all passes are kept, since the one pass of a small frame writes its export
+abbrev pub run_text : Frame → Pictures → List ℕ
+run_text frame pictures = kept_line (length frame.passes) 0 ++ exports_text pictures frame.exports
+
+abbrev pub limit_part : Option Limit → List ℕ
+limit_part None = []
+limit_part (Some limit) = codes " " ++ limit_name limit
+
+-- so far each place is printed as the root of the file
+abbrev pub fault_line : ℕ → Option Limit → List ℕ
+fault_line fault limit = codes "fault F" ++ decimal fault ++ limit_part limit ++ codes " $" ++ 10 ∷ []

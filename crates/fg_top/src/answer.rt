@@ -1,0 +1,29 @@
+//! What a command answers, before it is written.
+
+ghost use Rattle.std.specs.Prelude.{◌≡◌, IfOk};
+ghost use Rattle.fg_top.specs.Answers.{refusal};
+
+use crate::Status;
+use crate::texts::fault_line;
+use fg_base::{List, NoMemory, Text};
+use fg_frame::FrameFault;
+use std::alloc::Global;
+
+/// A status and the whole text that goes with it.
+#[derive(Drop)]
+pub struct Answer {
+    pub status: Status,
+    pub text: Text,
+}
+
+/// The answer to a frame file with a fault.
+pub fn refusal(alloc: Global, fault: &FrameFault) -> Result<Answer, NoMemory>
+    ensures { IfOk result (λ answer. answer ≡ refusal fault.now) }
+{
+    let mut text = List::new(alloc);
+    fault_line(alloc, &mut text, fault.number, fault.limit)?;
+    Ok(Answer {
+        status: Status::Refused,
+        text,
+    })
+}

@@ -1,0 +1,58 @@
+//! How a call ended.
+
+ghost use Rattle.std.specs.Prelude.{◌≡◌};
+ghost use Rattle.fg_top.specs.Statuses.{number_of};
+ghost use Rattle.fg_top.specs.declared.ended.Status.TheVariants as ended;
+
+use fg_base::{NoMemory, Tap};
+
+#[derive(Clone, Copy, Debug, PartialEq, Eq)]
+pub enum Status {
+    /// The command did its work and its text was written whole.
+    Done,
+    /// The program that was read is not sound.
+    Rejected,
+    /// The file that was read has a fault.
+    Refused,
+    /// The words are no command line.
+    Words,
+    /// A read failed, and nothing was written.
+    ReadFault,
+    /// A write failed.
+    WriteFault,
+    /// Memory ran out, and nothing was written.
+    NoMemory,
+}
+
+impl Status {
+    /// The exit status of the program.
+    pub fn number(self) -> u8
+        ensures { result ≡ number_of self }
+    {
+        match self {
+            Status::Done => 0,
+            Status::Rejected => 1,
+            Status::Refused => 2,
+            Status::Words => 3,
+            Status::ReadFault => 4,
+            Status::WriteFault => 5,
+            Status::NoMemory => 6,
+        }
+    }
+}
+
+impl From<NoMemory> for Status {
+    ghost from_gives = { λ _ status. status ≡ ended.NoMemory };
+
+    fn from(_e: NoMemory) -> Self {
+        Status::NoMemory
+    }
+}
+
+/// A status, and the taps that finished with their places in the list that was lent.
+#[derive(Drop)]
+pub struct Ended {
+    pub status: Status,
+    pub spent: Vec<Box<dyn Tap>>,
+    pub places: Vec<usize>,
+}

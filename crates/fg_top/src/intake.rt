@@ -1,0 +1,70 @@
+//! Input is read to its end, or to one byte over a limit.
+
+ghost use Rattle.std.specs.Prelude.{◌≡◌, ◌<◌, ◌≤◌, ◌+◌, ◌^◌, length, vec_len, IfOk};
+ghost use Rattle.fg_top.specs.Intakes.{IsIntake, IsStep};
+
+use fg_base::{NoMemory, Source, Taken};
+use std::alloc::Global;
+
+const BUFFER: usize = 65536;
+
+/// What was read.
+#[derive(Drop)]
+pub enum Intake {
+    Whole(Vec<u8>),
+    /// More bytes than the limit were there.
+    Over,
+    Fault,
+    NoMemory,
+}
+
+#[derive(Clone, Copy)]
+enum Step {
+    More,
+    End,
+    Fault,
+    NoMemory,
+}
+
+/// Reads with a buffer of 65,536 bytes.
+pub fn read_input<I: Source>(alloc: Global, input: &mut I, limit: usize) -> Intake
+    requires { limit < 2 ^ 32 }
+    ensures { IsIntake limit (I.left input.old) (I.faults input.old) (I.faults input.new) result }
+{
+    let Ok(mut buffer) = zeros(alloc, BUFFER) else {
+        return Intake::NoMemory;
+    };
+    let mut bytes = Vec::new(alloc);
+    while bytes.len() <= limit {
+        let want = BUFFER.min(limit + 1 - bytes.len());
+        match read_some(input, &mut buffer[..want], &mut bytes) {
+            Step::More => {}
+            Step::End => return Intake::Whole(bytes),
+            Step::Fault => return Intake::Fault,
+            Step::NoMemory => return Intake::NoMemory,
+        }
+    }
+    Intake::Over
+}
+
+fn read_some<I: Source>(input: &mut I, buffer: &mut [u8], bytes: &mut Vec<u8>) -> Step
+    requires { 0 < length buffer.old }
+    ensures { IsStep (I.left input.old) (I.left input.new) (I.faults input.old) (I.faults input.new) bytes.old.items bytes.new.items result }
+{
+    match input.read(buffer) {
+        Taken::Got(count) => {
+            if bytes.extend_from_slice(&buffer[..count]).is_err() {
+                return Step::NoMemory;
+            }
+            Step::More
+        }
+        Taken::End => Step::End,
+        Taken::Failed => Step::Fault,
+    }
+}
+
+fn zeros(alloc: Global, count: usize) -> Result<Vec<u8>, NoMemory>
+    ensures { IfOk result (λ bytes. vec_len bytes ≡ count) }
+{
+    Ok(vec![in alloc; 0u8; count]?)
+}
