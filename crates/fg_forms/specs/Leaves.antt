@@ -1,6 +1,6 @@
 -- Numbers and texts as JSON.
-use Rattle.std.specs.Prelude.{◌≡◌, refl, ℕ, ◌≤◌, ◌&&◌, List, Option, Some, None, option_and_then, if◌then◌else◌, nat_le, IsTrue}
-use Rattle.fg_base.specs.Names.{is_name, name_of, IsName}
+use Rattle.std.specs.Prelude.{◌≡◌, refl, ℕ, ◌≤◌, ◌&&◌, List, Option, Some, None, option_and_then, if◌then◌else◌, nat_le}
+use Rattle.fg_base.specs.Names.{name_of, IsName}
 use Rattle.fg_forms.specs.Parts.{Reader, or_at}
 use Rattle.serde_json.specs.Data.{Data, number, string, unsigned}
 use Rattle.serde_json.specs.Find.{as_number, as_u64, as_str}

@@ -1,5 +1,5 @@
 -- Reading the parts of a JSON value by cases, with the path of the first fault.
-use Rattle.std.specs.Prelude.{ℕ, suc, List, [], ◌∷◌, ◌++◌, Option, Some, None, Result, Ok, Err, ⊤, if◌then◌else◌, map}
+use Rattle.std.specs.Prelude.{ℕ, suc, List, [], ◌∷◌, ◌++◌, Option, Some, None, Ok, Err, ⊤, if◌then◌else◌, map}
 use Rattle.std.specs.List.{list_any}
 use Rattle.std.specs.Str.{bytes_eq}
 use Rattle.fg_base.specs.declared.path.Leg.{Leg}
