@@ -1,5 +1,5 @@
 -- What was written is read again.
-use Rattle.std.proofs.Common.{◌≡◌, ℕ, suc, ◌≤◌, true, arith, List, [], ◌∷◌, ◌++◌, map, Option, Some, Ok, refl}
+use Rattle.std.proofs.Common.{◌≡◌, ℕ, suc, true, arith, List, [], ◌∷◌, ◌++◌, map, Option, Some, Ok, refl}
 use Rattle.std.specs.Prelude.{nat_le, ◌&&◌}
 use Rattle.std.specs.List.{AllByRecursion}
 use Rattle.std.proofs.lemmas.Bool.Decides.{nat_tests}

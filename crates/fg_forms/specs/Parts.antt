@@ -1,5 +1,5 @@
 -- Reading the parts of a JSON value by cases, with the path of the first fault.
-use Rattle.std.specs.Prelude.{ℕ, suc, List, [], ◌∷◌, ◌++◌, Option, Some, None, Result, Ok, Err, ⊤, if◌then◌else◌, map}
+use Rattle.std.specs.Prelude.{ℕ, suc, List, [], ◌∷◌, ◌++◌, Option, Some, None, Ok, Err, ⊤, if◌then◌else◌, map}
 use Rattle.std.specs.List.{list_any}
 use Rattle.std.specs.Str.{bytes_eq}
 use Rattle.fg_base.specs.declared.path.Leg.{Leg}
@@ -76,3 +76,8 @@ others_at known at (object ms) = unknown_in known at ms
 -- a list as it is written, from how its entries are
 abbrev pub array_of : {X : Type 0} → (X → Data) → List X → Data
 array_of writes xs = array (items_of (map writes xs))
+
+-- members, which stand in the byte order of their names
+abbrev pub members_in : List (List ℕ × Data) → Members
+members_in [] = no_members
+members_in (m ∷ ms) = member m.0 m.1 (members_in ms)

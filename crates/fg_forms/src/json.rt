@@ -10,6 +10,8 @@ use std::str;
 #[derive(Clone, Copy, Debug, PartialEq, Eq)]
 pub enum JsonEnd {
     NoMemory,
+    /// The bytes are not UTF-8, are no JSON text, nest deeper than 127 levels, or have a number that no finite float is
+    /// near.
     NotJson,
 }
 

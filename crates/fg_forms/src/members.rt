@@ -22,7 +22,7 @@ pub fn object(alloc: Global, at: &Place<'_>, value: &Value) -> Result<(), ReadEn
     }
 }
 
-/// A member that must be there.
+/// A member that must be there. An absent one is refused at its own path.
 pub fn required<F: Reader>(
     alloc: Global,
     at: &Place<'_>,
@@ -55,7 +55,8 @@ pub fn optional<F: Reader>(
     }
 }
 
-/// Tests that an object has no members but those that are known.
+/// Tests that an object has no members but those that are known. The first unknown one in byte order is refused at its
+/// path. A value that is no object passes: `object` tests that.
 pub fn others(alloc: Global, at: &Place<'_>, known: &[&str], value: &Value) -> Result<(), ReadEnd>
     ensures { Gives result (others_at (map (λ name. name.now) known.now) (legs at.now) (view value.now)) }
 {

@@ -1,12 +1,14 @@
-//! Why a value was not read.
+//! How reading ends without a value.
 
 ghost use Rattle.std.specs.Prelude.{◌≡◌};
 ghost use Rattle.fg_forms.specs.declared.read_end.ReadEnd.TheVariants as ends;
 
 use fg_base::{NoMemory, Path};
 
+/// Why a value was not read.
 #[derive(Debug, Drop)]
 pub enum ReadEnd {
+    /// Memory ran out, or a list has more entries than a path can name: a position is at most 2^32 - 1.
     NoMemory,
     /// The first fault is at this path.
     Refused(Path),

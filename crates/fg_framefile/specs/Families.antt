@@ -1,10 +1,10 @@
 -- Queues: `name`, `family`.
 use Rattle.std.specs.Prelude.{◌≡◌, refl, ℕ, List, [], ◌∷◌, Option, Some, None, Result, Ok, Err, if◌then◌else◌, codes}
 use Rattle.std.specs.Str.{bytes_eq}
-use Rattle.fg_base.specs.Names.{IsName, name_of}
+use Rattle.fg_base.specs.Names.{IsName}
 use Rattle.fg_base.specs.declared.shape.Family.{Family}
 use Rattle.fg_base.specs.declared.shape.Family.TheVariants.{Graphics, Compute, Transfer}
-use Rattle.fg_forms.specs.Leaves.{text_at}
+use Rattle.fg_forms.specs.Leaves.{name_at, text_at}
 use Rattle.fg_forms.specs.Parts.{Reader, object_at, member_at, others_at}
 use Rattle.fg_forms.specs.Reading.{◌>>=◌}
 use Rattle.fg_frame.specs.declared.frame.QueueDecl.{QueueDecl}
@@ -25,7 +25,7 @@ family_again Transfer = refl
 unfoldable pub queue_at : Reader QueueDecl
 queue_at at d = do
   start ← object_at at d
-  name ← member_at (text_at name_of) (codes "name") at d
+  name ← member_at name_at (codes "name") at d
   family ← member_at (text_at family_of) (codes "family") at d
   end ← others_at (codes "name" ∷ codes "family" ∷ []) at d
   Ok (record { name = name; family = family })

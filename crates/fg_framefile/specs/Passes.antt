@@ -1,8 +1,8 @@
 -- Passes: `name`, `queue`, `writes` (each `new`), `ops`.
 use Rattle.std.specs.Prelude.{ℕ, List, [], ◌∷◌, true, false, Result, Ok, Err, codes}
 use Rattle.std.specs.List.{AllByRecursion}
-use Rattle.fg_base.specs.Names.{IsName, name_of}
-use Rattle.fg_forms.specs.Leaves.{text_at}
+use Rattle.fg_base.specs.Names.{IsName}
+use Rattle.fg_forms.specs.Leaves.{name_at}
 use Rattle.fg_forms.specs.Parts.{Reader, object_at, member_at, list_at, others_at}
 use Rattle.fg_forms.specs.Reading.{◌>>=◌}
 use Rattle.fg_frame.specs.declared.frame.Pass.{Pass}
@@ -22,8 +22,8 @@ write_at at d = do
 unfoldable pub pass_at : Reader Pass
 pass_at at d = do
   start ← object_at at d
-  name ← member_at (text_at name_of) (codes "name") at d
-  queue ← member_at (text_at name_of) (codes "queue") at d
+  name ← member_at name_at (codes "name") at d
+  queue ← member_at name_at (codes "queue") at d
   writes ← member_at (list_at write_at) (codes "writes") at d
   ops ← member_at (list_at (op_at spot_at)) (codes "ops") at d
   end ← others_at (codes "name" ∷ codes "queue" ∷ codes "writes" ∷ codes "ops" ∷ []) at d

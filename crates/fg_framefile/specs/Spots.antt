@@ -1,13 +1,13 @@
 -- Spots: in format 1 the name of a resource.
 use Rattle.std.specs.Prelude.{ℕ, ◌≤◌, Some, None, IfSome, Result, Ok, Err}
-use Rattle.fg_base.specs.Names.{IsName, name_of}
-use Rattle.fg_forms.specs.Leaves.{text_at}
+use Rattle.fg_base.specs.Names.{IsName}
+use Rattle.fg_forms.specs.Leaves.{name_at}
 use Rattle.fg_forms.specs.Parts.{Reader}
 use Rattle.fg_forms.specs.Reading.{◌>>=◌}
 use Rattle.fg_frame.specs.declared.frame.Spot.{Spot}
 
 abbrev pub spot_at : Reader Spot
-spot_at at d = text_at name_of at d >>= λ name. Ok (record { name = name; layer = None })
+spot_at at d = name_at at d >>= λ name. Ok (record { name = name; layer = None })
 
 pub record FitsSpot (spot : Spot) : Type 0 where
   pub name : IsName spot.name

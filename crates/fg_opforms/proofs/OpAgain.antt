@@ -8,12 +8,11 @@ use Rattle.fg_base.specs.declared.op.Op.TheVariants as op
 use Rattle.fg_base.specs.declared.op.Rect.{Rect}
 use Rattle.fg_base.specs.declared.path.Leg.{Leg}
 use Rattle.fg_forms.proofs.Again.{number_again, list_again, text_again}
-use Rattle.fg_forms.specs.Leaves.{number_data, text_at, text_data}
+use Rattle.fg_forms.specs.Leaves.{whole_at, greatest, number_data, text_at, text_data, FitsWhole}
 use Rattle.fg_forms.specs.Parts.{Reader, below, unknown_in}
 use Rattle.fg_opforms.specs.Funs.{fun_of, fun_text, fun_again}
 use Rattle.fg_opforms.specs.Kinds.{is_in, members_of, op_kind}
 use Rattle.fg_opforms.specs.Mixes.{mix_of, mix_text, mix_again}
-use Rattle.fg_opforms.specs.Numbers.{whole_at, greatest, FitsWhole}
 use Rattle.fg_opforms.specs.OpFits.{FitsOp}
 use Rattle.fg_opforms.specs.OpReading.{op_at, parts_at, variant_at, fill_buffer_at, clear_image_at, copy_buffer_at, copy_image_at, buffer_to_image_at, image_to_buffer_at, ramp_at, map_at, combine_at, select_at, convert_at, box3_at, halve_at, histogram_at, draw_at}
 use Rattle.fg_opforms.specs.OpWriting.{op_members, op_data}

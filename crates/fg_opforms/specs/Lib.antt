@@ -1,7 +1,6 @@
 pub mod Funs
 pub mod Kinds
 pub mod Mixes
-pub mod Numbers
 pub mod OpFits
 pub mod OpReading
 pub mod OpWriting

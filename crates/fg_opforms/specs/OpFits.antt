@@ -3,7 +3,7 @@ use Rattle.std.specs.Prelude.{IfSome}
 use Rattle.std.specs.List.{AllByRecursion}
 use Rattle.fg_base.specs.declared.op.Op.{Op}
 use Rattle.fg_base.specs.declared.op.Op.TheVariants as op
-use Rattle.fg_opforms.specs.Numbers.{FitsWhole}
+use Rattle.fg_forms.specs.Leaves.{FitsWhole}
 use Rattle.fg_opforms.specs.Rects.{FitsRect}
 
 -- from what it says of an operand

@@ -2,12 +2,11 @@
 use Rattle.std.specs.Prelude.{Ok, codes}
 use Rattle.fg_base.specs.declared.op.Op.{Op}
 use Rattle.fg_base.specs.declared.op.Op.TheVariants as op
-use Rattle.fg_forms.specs.Leaves.{text_at}
+use Rattle.fg_forms.specs.Leaves.{whole_at, text_at}
 use Rattle.fg_forms.specs.Parts.{Reader, object_at, member_at, optional_at, list_at, others_at}
 use Rattle.fg_forms.specs.Reading.{◌>>=◌}
 use Rattle.fg_opforms.specs.Funs.{fun_of}
 use Rattle.fg_opforms.specs.Kinds.{kind_of, members_of, op_kind}
-use Rattle.fg_opforms.specs.Numbers.{whole_at}
 use Rattle.fg_opforms.specs.Rects.{rect_at}
 use Rattle.fg_opforms.specs.declared.kind.Kind.{Kind}
 use Rattle.fg_opforms.specs.declared.kind.Kind.TheVariants as kinds

@@ -5,9 +5,9 @@ use Rattle.fg_base.specs.declared.op.Op.{Op}
 use Rattle.fg_base.specs.declared.op.Op.TheVariants as op
 use Rattle.fg_base.specs.declared.op.Rect.{Rect}
 use Rattle.fg_forms.specs.Leaves.{number_data, text_data}
-use Rattle.fg_forms.specs.Parts.{array_of}
+use Rattle.fg_forms.specs.Parts.{array_of, members_in}
 use Rattle.fg_opforms.specs.Funs.{fun_text}
-use Rattle.fg_opforms.specs.Rects.{members_in, rect_data}
+use Rattle.fg_opforms.specs.Rects.{rect_data}
 use Rattle.serde_json.specs.Data.{Data, string, object, Members}
 
 module _ {R : Type 0} (writes : R → Data) where

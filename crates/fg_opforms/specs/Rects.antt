@@ -1,13 +1,12 @@
 -- Rectangles as JSON.
-use Rattle.std.specs.Prelude.{ℕ, List, [], ◌∷◌, unwrap_or, Ok, codes}
+use Rattle.std.specs.Prelude.{[], ◌∷◌, unwrap_or, Ok, codes}
 use Rattle.fg_base.specs.declared.op.Mix.TheVariants as mixes
 use Rattle.fg_base.specs.declared.op.Rect.{Rect}
-use Rattle.fg_forms.specs.Leaves.{number_data, text_at, text_data}
-use Rattle.fg_forms.specs.Parts.{Reader, object_at, member_at, optional_at, others_at}
+use Rattle.fg_forms.specs.Leaves.{whole_at, number_data, text_at, text_data, FitsWhole}
+use Rattle.fg_forms.specs.Parts.{Reader, object_at, member_at, optional_at, others_at, members_in}
 use Rattle.fg_forms.specs.Reading.{◌>>=◌}
 use Rattle.fg_opforms.specs.Mixes.{mix_of, mix_text}
-use Rattle.fg_opforms.specs.Numbers.{whole_at, FitsWhole}
-use Rattle.serde_json.specs.Data.{Data, object, Members, no_members, member}
+use Rattle.serde_json.specs.Data.{Data, object}
 
 unfoldable pub rect_at : Reader Rect
 rect_at at d = do
@@ -20,11 +19,6 @@ rect_at at d = do
   value ← member_at whole_at (codes "value") at d
   end ← others_at (codes "x" ∷ codes "y" ∷ codes "width" ∷ codes "height" ∷ codes "mix" ∷ codes "value" ∷ []) at d
   Ok (record { x = x; y = y; width = width; height = height; mix = unwrap_or mix mixes.Set; value = value })
-
--- members, which stand in the byte order of their names
-abbrev pub members_in : List (List ℕ × Data) → Members
-members_in [] = no_members
-members_in (m ∷ ms) = member m.0 m.1 (members_in ms)
 
 abbrev pub rect_data : Rect → Data
 rect_data r = object (members_in (
