@@ -1,6 +1,5 @@
 -- The frame that bytes are, or the first fault.
 use Rattle.std.specs.Prelude.{◌≡◌, ℕ, List, [], Option, Some, None, Result, Ok, Err}
-use Rattle.fg_base.specs.declared.path.Leg.{Leg}
 use Rattle.fg_forms.specs.Json.{json_of}
 use Rattle.fg_forms.specs.Reading.{Reading}
 use Rattle.fg_frame.specs.Faults.{not_json, misshapen}

@@ -1,5 +1,5 @@
 -- Frames: `format` (1), `queues`, `resources`, `passes`, `exports`.
-use Rattle.std.specs.Prelude.{ℕ, List, [], ◌∷◌, Result, Ok, Err, codes}
+use Rattle.std.specs.Prelude.{[], ◌∷◌, Ok, codes}
 use Rattle.std.specs.List.{AllByRecursion}
 use Rattle.fg_forms.specs.Leaves.{number_at}
 use Rattle.fg_forms.specs.Parts.{Reader, object_at, member_at, list_at, others_at}

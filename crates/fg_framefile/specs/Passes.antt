@@ -1,5 +1,5 @@
 -- Passes: `name`, `queue`, `writes` (each `new`), `ops`.
-use Rattle.std.specs.Prelude.{ℕ, List, [], ◌∷◌, true, false, Result, Ok, Err, codes}
+use Rattle.std.specs.Prelude.{[], ◌∷◌, true, false, Ok, codes}
 use Rattle.std.specs.List.{AllByRecursion}
 use Rattle.fg_base.specs.Names.{IsName}
 use Rattle.fg_forms.specs.Leaves.{name_at}

@@ -1,5 +1,5 @@
 -- Resources: `name`, `buffer`.
-use Rattle.std.specs.Prelude.{ℕ, ◌-◌, ◌^◌, List, [], ◌∷◌, Option, Some, None, IfSome, Result, Ok, Err, codes}
+use Rattle.std.specs.Prelude.{[], ◌∷◌, None, Ok, codes}
 use Rattle.fg_base.specs.Names.{IsName}
 use Rattle.fg_base.specs.declared.shape.Shape.{Shape}
 use Rattle.fg_base.specs.declared.shape.Shape.TheVariants.{Buffer, Image}

@@ -1,5 +1,5 @@
 -- Spots: in format 1 the name of a resource.
-use Rattle.std.specs.Prelude.{ℕ, ◌≤◌, Some, None, IfSome, Result, Ok, Err}
+use Rattle.std.specs.Prelude.{◌≤◌, None, IfSome, Ok}
 use Rattle.fg_base.specs.Names.{IsName}
 use Rattle.fg_forms.specs.Leaves.{name_at}
 use Rattle.fg_forms.specs.Parts.{Reader}

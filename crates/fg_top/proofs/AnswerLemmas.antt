@@ -1,5 +1,5 @@
 -- What a call answers to a frame, and where it has no answer.
-use Rattle.std.proofs.Common.{◌≡◌, ℕ, List, [], Some, None, Ok, Err, refl, sym, ap, ap₂, ◌∙◌, inl, inr}
+use Rattle.std.proofs.Common.{◌≡◌, ℕ, List, [], Some, None, Ok, Err, refl, sym, ap₂, ◌∙◌, inl, inr}
 use Rattle.std.specs.Prelude.{◌⊎◌, IfOk, Result}
 use Rattle.std.specs.declared.option.Option.{Option}
 use Rattle.std.specs.Io.KnownBytes.{Keeps}
@@ -8,7 +8,7 @@ use Rattle.fg_frame.specs.declared.frame.Frame.{Frame}
 use Rattle.fg_top.specs.Answers.{refusal, meant, small_answer, AnswersFrame, AnswersLeft, IsAnswered}
 use Rattle.fg_top.specs.Meaning.{meaning}
 use Rattle.fg_top.specs.Outcomes.{EndsAs}
-use Rattle.fg_top.specs.Small.{small_frame, IsSmall}
+use Rattle.fg_top.specs.Small.{IsSmall}
 use Rattle.fg_top.specs.declared.answer.Answer.{Answer}
 use Rattle.fg_top.specs.declared.ended.Status.{Status}
 use Rattle.fg_top.specs.declared.ended.Status.TheVariants.{Done, Rejected, Refused, Words, ReadFault, WriteFault, NoMemory}

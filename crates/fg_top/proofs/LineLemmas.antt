@@ -1,7 +1,7 @@
 -- One line or one word more.
-use Rattle.std.proofs.Common.{◌≡◌, ℕ, zero, suc, ◌+◌, ◌-◌, ◌*◌, List, [], ◌++◌, length, take, drop, min, refl, sym, ap, ◌∙◌, append_assoc, append-nil, add-one}
+use Rattle.std.proofs.Common.{◌≡◌, ℕ, zero, suc, ◌+◌, ◌*◌, List, ◌++◌, length, take, drop, min, refl, sym, ap, ◌∙◌, append_assoc, append-nil, add-one}
 use Rattle.std.proofs.Math.Nat.{min_comm}
-use Rattle.std.proofs.lemmas.List.{take_rest, take_min}
+use Rattle.std.proofs.lemmas.List.{take_min}
 use Rattle.std.specs.Int.{to_le_bytes, w32}
 use Rattle.fg_top.specs.Lines.{hex_line, first_lines}
 use Rattle.fg_top.specs.Meaning.{words}

@@ -1,5 +1,5 @@
 -- The test for a small frame finds exactly the small frames, and a small frame's meaning is its buffer full of the word.
-use Rattle.std.proofs.Common.{◌≡◌, ℕ, ◌+◌, ◌/◌, ◌%◌, ◌≤◌, Bool, true, false, List, [], ◌∷◌, ◌++◌, take, drop, length, Some, None, refl, sym, ap, ap₂, ◌∙◌, append-nil, arith}
+use Rattle.std.proofs.Common.{◌≡◌, ℕ, ◌+◌, ◌/◌, ◌%◌, ◌≤◌, Bool, true, false, List, [], ◌∷◌, ◌++◌, length, Some, None, refl, sym, ap, ap₂, ◌∙◌, append-nil, arith}
 use Rattle.std.specs.Prelude.{◌==◌, ◌&&◌, not, nat_le, option_and_then, is_none, IfSome, IfNone, if◌then◌else◌}
 use Rattle.std.specs.declared.option.Option.{Option}
 use Rattle.std.specs.Str.{bytes_eq}
@@ -23,8 +23,7 @@ use Rattle.fg_top.specs.Answers.{meant, small_answer}
 use Rattle.fg_top.specs.Meaning.{Pictures, imports, words, filled, with_bytes, meaning}
 use Rattle.fg_top.specs.Small.{whole, small_frame, IsSmall}
 use Rattle.fg_top.specs.SmallTest.{only, whole_words, unshared, plain_buffer, is_whole, filling_word, filling_pass, small_of}
-use Rattle.fg_top.specs.Texts.{kept_line, export_text, exports_text, run_text}
-use Rattle.fg_top.specs.declared.answer.Answer.{Answer}
+use Rattle.fg_top.specs.Texts.{kept_line, export_text}
 use Rattle.fg_top.specs.declared.ended.Status.TheVariants.{Done}
 use Rattle.fg_top.specs.declared.small.Small.{Small}
 

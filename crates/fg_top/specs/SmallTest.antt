@@ -1,5 +1,5 @@
 -- The test for a small frame, as the function for it goes. It finds exactly the small frames, with their parts.
-use Rattle.std.specs.Prelude.{ℕ, ◌==◌, ◌%◌, ◌&&◌, not, Bool, true, false, List, [], ◌∷◌, Option, Some, None, is_some, is_none, option_and_then, nat_le, length, if◌then◌else◌}
+use Rattle.std.specs.Prelude.{ℕ, ◌==◌, ◌%◌, ◌&&◌, not, Bool, List, [], ◌∷◌, Option, Some, None, is_none, option_and_then, nat_le, length, if◌then◌else◌}
 use Rattle.std.specs.Str.{bytes_eq}
 use Rattle.fg_base.specs.declared.op.Op.{Op}
 use Rattle.fg_base.specs.declared.op.Op.TheVariants.{FillBuffer}
@@ -9,10 +9,8 @@ use Rattle.fg_bits.specs.declared.sharing.Sharing.{Sharing}
 use Rattle.fg_bits.specs.declared.sharing.Sharing.TheVariants.{Exclusive, Concurrent}
 use Rattle.fg_frame.specs.declared.frame.Frame.{Frame}
 use Rattle.fg_frame.specs.declared.frame.Pass.{Pass}
-use Rattle.fg_frame.specs.declared.frame.QueueDecl.{QueueDecl}
 use Rattle.fg_frame.specs.declared.frame.Resource.{Resource}
 use Rattle.fg_frame.specs.declared.frame.Spot.{Spot}
-use Rattle.fg_frame.specs.declared.frame.Write.{Write}
 use Rattle.fg_top.specs.declared.small.Small.{Small}
 
 infixl 10 ◌>>=◌

@@ -1,5 +1,3 @@
-use Rattle.std.proofs.Common.{◌≡◌}
-use Rattle.std.specs.Result.{IfOk}
 use Rattle.fg_top.specs.declared.answer.Answer.{Answer}
 use Rattle.fg_top.proofs.AnswerLemmas.{answers_small, if_ok}
 use Rattle.fg_top.proofs.run.run_frame.Goals as goal

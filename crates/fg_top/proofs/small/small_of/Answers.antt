@@ -1,4 +1,3 @@
-use Rattle.std.proofs.Common.{◌∙◌, sym}
 use Rattle.fg_top.proofs.SmallLemmas.{found_is, none_is}
 use Rattle.fg_top.proofs.small.small_of.Goals as goal
 
