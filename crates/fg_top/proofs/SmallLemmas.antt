@@ -3,7 +3,9 @@ use Rattle.std.proofs.Common.{◌≡◌, ℕ, ◌+◌, ◌/◌, ◌%◌, ◌≤�
 use Rattle.std.specs.Prelude.{◌==◌, ◌&&◌, not, nat_le, option_and_then, is_none, IfSome, IfNone, if◌then◌else◌}
 use Rattle.std.specs.declared.option.Option.{Option}
 use Rattle.std.specs.Str.{bytes_eq}
+use Rattle.std.proofs.Math.Bool.{and-eq-true_iff}
 use Rattle.std.proofs.Math.Seq.{drop-nil}
+use Rattle.std.proofs.lemmas.Bool.{eqb-true, leb-true}
 use Rattle.std.proofs.lemmas.List.{nil_from_length}
 use Rattle.std.proofs.lemmas.Slice.Eq.{bytes_eq-Decides}
 use Rattle.std.proofs.lemmas.Bool.Decides.{nat_tests}
@@ -22,7 +24,7 @@ use Rattle.fg_frame.specs.declared.frame.Write.{Write}
 use Rattle.fg_top.specs.Answers.{meant, small_answer}
 use Rattle.fg_top.specs.Meaning.{Pictures, imports, words, filled, with_bytes, meaning}
 use Rattle.fg_top.specs.Small.{whole, small_frame, IsSmall}
-use Rattle.fg_top.specs.SmallTest.{only, whole_words, unshared, plain_buffer, is_whole, filling_word, filling_pass, small_of}
+use Rattle.fg_top.specs.SmallTest.{only, whole_words, unshared, plain_buffer, is_whole, filling_word, filling_pass, parts_of}
 use Rattle.fg_top.specs.Texts.{kept_line, export_text}
 use Rattle.fg_top.specs.declared.ended.Status.TheVariants.{Done}
 use Rattle.fg_top.specs.declared.small.Small.{Small}
@@ -41,17 +43,12 @@ if_some : {A : Type 0} (b : Bool) (o : Option A) (y : A) → (if b then o else N
 if_some true o y e = (refl, e)
 if_some false o y e = absurd cc
 
-both : (a b : Bool) → (a && b) ≡ true → (a ≡ true) × (b ≡ true)
-both true true e = (refl, refl)
-both true false e = absurd cc
-both false b e = absurd cc
+and_true : (a b : Bool) → (a && b) ≡ true → (a ≡ true) × (b ≡ true)
+and_true a b e = (and-eq-true_iff a b).0 e
 
 none : {A : Type 0} (o : Option A) → is_none o ≡ true → o ≡ None
 none None e = refl
 none (Some x) e = absurd cc
-
-equal : (m n : ℕ) → (m == n) ≡ true → m ≡ n
-equal m n e = grind (arith, nat_tests)
 
 same_name : (xs ys : List ℕ) → bytes_eq xs ys ≡ true → xs ≡ ys
 same_name xs ys = (bytes_eq-Decides xs ys).0
@@ -70,16 +67,16 @@ untrue false e = refl
 
 whole_is : (name : List ℕ) (spot : Spot) → is_whole name spot ≡ true → spot ≡ whole name
 whole_is name spot e =
-    let parts = both (bytes_eq spot.name name) (is_none spot.layer) e in
+    let parts = and_true (bytes_eq spot.name name) (is_none spot.layer) e in
     ap₂ (λ (n : List ℕ) (l : Option ℕ). record { name = n; layer = l }) (same_name spot.name name parts.0) (none spot.layer parts.1)
 
 whole_words_is : (shape : Shape) (size : ℕ) → whole_words shape ≡ Some size → (shape ≡ Buffer size) × (size % 4 ≡ 0) × (size ≤ 16777216)
 whole_words_is (Buffer bytes) size e =
     let chosen = if_some ((bytes % 4 == 0) && nat_le bytes 16777216) (Some bytes) size e in
-    let tests = both (bytes % 4 == 0) (nat_le bytes 16777216) chosen.0 in
+    let tests = and_true (bytes % 4 == 0) (nat_le bytes 16777216) chosen.0 in
     let same : bytes ≡ size = cc in
-    let words : bytes % 4 ≡ 0 = equal (bytes % 4) 0 tests.0 in
-    let within : bytes ≤ 16777216 = grind (arith, nat_tests, tests.1) in
+    let words : bytes % 4 ≡ 0 = eqb-true (bytes % 4) 0 tests.0 in
+    let within : bytes ≤ 16777216 = leb-true bytes 16777216 tests.1 in
     rw (← same) (refl, words, within)
 whole_words_is (Image width height texel) size e = absurd cc
 
@@ -87,50 +84,57 @@ unshared_is : (sharing : Sharing) (shape : Shape) (size : ℕ) → unshared shar
 unshared_is Exclusive shape size e = (refl, e)
 unshared_is Concurrent shape size e = absurd cc
 
+resource_of : (r : Resource) (shape : Shape) (layers : ℕ) (import : Option (List ℕ)) (sharing : Sharing) → r.shape ≡ shape → r.layers ≡ layers → r.import ≡ import → r.sharing ≡ sharing → r ≡ record { name = r.name; shape = shape; layers = layers; import = import; sharing = sharing }
+resource_of r shape layers import sharing s l i h = rw (← s, ← l, ← i, ← h) refl
+
 plain_buffer_is : (r : Resource) (size : ℕ) → plain_buffer r ≡ Some size → (r ≡ record { name = r.name; shape = Buffer size; layers = 1; import = None; sharing = Exclusive }) × (size % 4 ≡ 0) × (size ≤ 16777216)
 plain_buffer_is r size e =
     let chosen = if_some ((r.layers == 1) && is_none r.import) _ size e in
-    let tests = both (r.layers == 1) (is_none r.import) chosen.0 in
+    let tests = and_true (r.layers == 1) (is_none r.import) chosen.0 in
     let free = unshared_is r.sharing r.shape size chosen.1 in
     let buffer = whole_words_is r.shape size free.1 in
-    let layers = equal r.layers 1 tests.0 in
+    let layers = eqb-true r.layers 1 tests.0 in
     let import = none r.import tests.1 in
-    (ap₂ (λ (s : Shape) (l : ℕ). record { name = r.name; shape = s; layers = l; import = r.import; sharing = r.sharing }) buffer.0 layers ∙ ap₂ (λ (i : Option (List ℕ)) (s : Sharing). record { name = r.name; shape = Buffer size; layers = 1; import = i; sharing = s }) import free.0, buffer.1, buffer.2)
+    (resource_of r (Buffer size) 1 None Exclusive buffer.0 layers import free.0, buffer.1, buffer.2)
 
 filling_word_is : (name : List ℕ) (size : ℕ) (o : Op Spot) (word : ℕ) → filling_word name size o ≡ Some word → o ≡ op.FillBuffer (whole name) 0 size word
 filling_word_is name size (op.FillBuffer dst offset length w) word e =
     let chosen = if_some (is_whole name dst && (offset == 0) && (length == size)) (Some w) word e in
-    let sizes = both (is_whole name dst && (offset == 0)) (length == size) chosen.0 in
-    let places = both (is_whole name dst) (offset == 0) sizes.0 in
+    let sizes = and_true (is_whole name dst && (offset == 0)) (length == size) chosen.0 in
+    let places = and_true (is_whole name dst) (offset == 0) sizes.0 in
     let here = whole_is name dst places.0 in
-    let at_start = equal offset 0 places.1 in
-    let all = equal length size sizes.1 in
+    let at_start = eqb-true offset 0 places.1 in
+    let all = eqb-true length size sizes.1 in
     let same : w ≡ word = cc in
     rw (here, at_start, all, same) refl
 filling_word_is name size o word e = absurd cc
+
+pass_of : (p : Pass) (queue : List ℕ) (reads : List Spot) (writes : List (Write Spot)) (ops : List (Op Spot)) (effect : Bool) → p.queue ≡ queue → p.reads ≡ reads → p.writes ≡ writes → p.ops ≡ ops → p.side_effect ≡ effect → p ≡ record { name = p.name; queue = queue; reads = reads; writes = writes; ops = ops; side_effect = effect }
+pass_of p queue reads writes ops effect q r w o e = rw (← q, ← r, ← w, ← o, ← e) refl
 
 filling_pass_is : (queue name : List ℕ) (size : ℕ) (p : Pass) (word : ℕ) → filling_pass queue name size p ≡ Some word
     → p ≡ record { name = p.name; queue = queue; reads = []; writes = record { what = whole name; fresh = true } ∷ []; ops = op.FillBuffer (whole name) 0 size word ∷ []; side_effect = false }
 filling_pass_is queue name size p word e =
     let outer = if_some (bytes_eq p.queue queue && (length p.reads == 0) && not p.side_effect) _ word e in
-    let ends = both (bytes_eq p.queue queue && (length p.reads == 0)) (not p.side_effect) outer.0 in
-    let fronts = both (bytes_eq p.queue queue) (length p.reads == 0) ends.0 in
+    let ends = and_true (bytes_eq p.queue queue && (length p.reads == 0)) (not p.side_effect) outer.0 in
+    let fronts = and_true (bytes_eq p.queue queue) (length p.reads == 0) ends.0 in
     let write = bind_some _ (only p.writes) word outer.1 in
     let inner = if_some (write.0.fresh && is_whole name write.0.what) _ word write.2 in
-    let news = both write.0.fresh (is_whole name write.0.what) inner.0 in
+    let news = and_true write.0.fresh (is_whole name write.0.what) inner.0 in
     let found = bind_some (filling_word name size) (only p.ops) word inner.1 in
     let queue_is = same_name p.queue queue fronts.0 in
-    let reads = nil_from_length p.reads (equal (length p.reads) 0 fronts.1) in
+    let reads = nil_from_length p.reads (eqb-true (length p.reads) 0 fronts.1) in
     let written : write.0 ≡ record { what = whole name; fresh = true } = ap₂ (λ (w : Spot) (f : Bool). record { what = w; fresh = f }) (whole_is name write.0.what news.1) news.0 in
     let writes = only_some p.writes write.0 write.1 ∙ ap (λ (w : Write Spot). w ∷ []) written in
     let ops = only_some p.ops found.0 found.1 ∙ ap (λ (o : Op Spot). o ∷ []) (filling_word_is name size found.0 word found.2) in
     let effect = untrue p.side_effect ends.1 in
-    ap₂ (λ (q : List ℕ) (r : List Spot). record { name = p.name; queue = q; reads = r; writes = p.writes; ops = p.ops; side_effect = p.side_effect }) queue_is reads
-    ∙ ap₂ (λ (w : List (Write Spot)) (o : List (Op Spot)). record { name = p.name; queue = queue; reads = []; writes = w; ops = o; side_effect = p.side_effect }) writes ops
-    ∙ ap (λ (s : Bool). record { name = p.name; queue = queue; reads = []; writes = record { what = whole name; fresh = true } ∷ []; ops = op.FillBuffer (whole name) 0 size word ∷ []; side_effect = s }) effect
+    pass_of p queue [] (record { what = whole name; fresh = true } ∷ []) (op.FillBuffer (whole name) 0 size word ∷ []) false queue_is reads writes ops effect
 
-small_of_finds : (frame : Frame) (small : Small) → small_of frame ≡ Some small → IsSmall frame small
-small_of_finds frame small e =
+frame_of : (f : Frame) (queues : List QueueDecl) (resources : List Resource) (passes : List Pass) (exports : List Spot) → f.queues ≡ queues → f.resources ≡ resources → f.passes ≡ passes → f.exports ≡ exports → f ≡ record { queues = queues; resources = resources; passes = passes; exports = exports }
+frame_of f queues resources passes exports q r p e = rw (← q, ← r, ← p, ← e) refl
+
+parts_of_finds : (frame : Frame) (small : Small) → parts_of frame ≡ Some small → IsSmall frame small
+parts_of_finds frame small e =
     let queue = bind_some _ (only frame.queues) small e in
     let resource = bind_some _ (only frame.resources) small queue.2 in
     let pass = bind_some _ (only frame.passes) small resource.2 in
@@ -145,31 +149,29 @@ small_of_finds frame small e =
     let resources = only_some frame.resources resource.0 resource.1 ∙ ap (λ (r : Resource). r ∷ []) buffer.0 in
     let passes = only_some frame.passes pass.0 pass.1 ∙ ap (λ (p : Pass). p ∷ []) (filling_pass_is queue.0.name resource.0.name size.0 pass.0 word.0 word.1) in
     let exports = only_some frame.exports export.0 export.1 ∙ ap (λ (s : Spot). s ∷ []) (whole_is resource.0.name export.0 end.0) in
-    let found : frame ≡ small_frame parts =
-    ap₂ (λ (q : List QueueDecl) (r : List Resource). record { queues = q; resources = r; passes = frame.passes; exports = frame.exports }) queues resources
-    ∙ ap₂ (λ (p : List Pass) (x : List Spot). record { queues = queue.0 ∷ []; resources = record { name = resource.0.name; shape = Buffer size.0; layers = 1; import = None; sharing = Exclusive } ∷ []; passes = p; exports = x }) passes exports in
+    let found : frame ≡ small_frame parts = frame_of frame (small_frame parts).queues (small_frame parts).resources (small_frame parts).passes (small_frame parts).exports queues resources passes exports in
     rw (← is) (record { parts = found; words = buffer.1; within = buffer.2 })
 
 -- ---- the test finds each small frame
 
-small_of-small_frame : (s : Small) → s.size % 4 ≡ 0 → s.size ≤ 16777216 → small_of (small_frame s) ≡ Some s
-small_of-small_frame s words within =
+parts_of-small_frame : (s : Small) → s.size % 4 ≡ 0 → s.size ≤ 16777216 → parts_of (small_frame s) ≡ Some s
+parts_of-small_frame s words within =
     let all_words : (s.size % 4 == 0) ≡ true = grind (arith, nat_tests, words) in
     let fits : nat_le s.size 16777216 ≡ true = grind (arith, nat_tests, within) in
     let same_size : (s.size == s.size) ≡ true = grind (arith, nat_tests) in
     rw (all_words, fits, bytes_eq-same s.queue, bytes_eq-same s.buffer, same_size) refl
 
-small_of_misses : (frame : Frame) → small_of frame ≡ None → (small : Small) → ¬ IsSmall frame small
-small_of_misses frame e small is =
-    let found : small_of frame ≡ Some small = rw is.parts (small_of-small_frame small is.words is.within) in
+parts_of_misses : (frame : Frame) → parts_of frame ≡ None → (small : Small) → ¬ IsSmall frame small
+parts_of_misses frame e small is =
+    let found : parts_of frame ≡ Some small = rw is.parts (parts_of-small_frame small is.words is.within) in
     absurd cc
 
-pub found_is : (frame : Frame) (found : Option Small) → found ≡ small_of frame → IfSome found (IsSmall frame)
+pub found_is : (frame : Frame) (found : Option Small) → found ≡ parts_of frame → IfSome found (IsSmall frame)
 found_is frame None e = tt
-found_is frame (Some small) e = small_of_finds frame small (sym e)
+found_is frame (Some small) e = parts_of_finds frame small (sym e)
 
-pub none_is : (frame : Frame) (found : Option Small) → found ≡ small_of frame → IfNone found ((small : Small) → ¬ IsSmall frame small)
-none_is frame None e = small_of_misses frame (sym e)
+pub none_is : (frame : Frame) (found : Option Small) → found ≡ parts_of frame → IfNone found ((small : Small) → ¬ IsSmall frame small)
+none_is frame None e = parts_of_misses frame (sym e)
 none_is frame (Some small) e = tt
 
 -- ---- the meaning of a small frame

@@ -50,8 +50,8 @@ abbrev pub filling_pass : List ℕ → List ℕ → ℕ → Pass → Option ℕ
 filling_pass queue name size pass =
     if bytes_eq pass.queue queue && length pass.reads == 0 && not pass.side_effect then (only pass.writes >>= λ write. if write.fresh && is_whole name write.what then only pass.ops >>= filling_word name size else None) else None
 
-abbrev pub small_of : Frame → Option Small
-small_of frame = do
+abbrev pub parts_of : Frame → Option Small
+parts_of frame = do
   queue ← only frame.queues
   resource ← only frame.resources
   pass ← only frame.passes

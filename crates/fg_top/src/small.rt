@@ -2,7 +2,7 @@
 
 ghost use Rattle.std.specs.Prelude.{◌≡◌, option_map, IfSome, IfNone};
 ghost use Rattle.fg_top.specs.Small.{IsSmall};
-ghost use Rattle.fg_top.specs.SmallTest.{small_of, only, plain_buffer, whole_words, is_whole, filling_pass, filling_word};
+ghost use Rattle.fg_top.specs.SmallTest.{parts_of, only, plain_buffer, whole_words, is_whole, filling_pass, filling_word};
 ghost use Rattle.fg_top.specs.declared.small.Small.{Small};
 
 use fg_base::{Family, Name, Op, Shape};
@@ -24,11 +24,11 @@ pub fn small_of(frame: &Frame) -> Option<Small>
     ensures small { IfSome result (IsSmall frame.now) }
     ensures other { IfNone result ((small : Small) → ¬ IsSmall frame.now small) }
 {
-    tested(frame)
+    parts_of(frame)
 }
 
-fn tested(frame: &Frame) -> Option<Small>
-    ensures { result ≡ small_of frame.now }
+fn parts_of(frame: &Frame) -> Option<Small>
+    ensures { result ≡ parts_of frame.now }
 {
     let queue = only(frame.queues.as_slice())?;
     let resource = only(frame.resources.as_slice())?;
