@@ -1,10 +1,12 @@
 //! What stands round each computation of a command.
 
-/// Is called before and after each computation of a command, while no lock is held. It carries no content: a program
-/// does the same with every gate.
+/// Two calls round each computation of a command. Neither changes what the program does; a gate can hold a thread up, so
+/// that a test sees which commands run side by side.
 pub trait Gate {
+    /// The command of this node is about to be computed.
     fn enter(&self, node: u32);
 
+    /// The command of this node was computed.
     fn leave(&self, node: u32);
 }
 

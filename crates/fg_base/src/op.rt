@@ -2,8 +2,8 @@
 
 use crate::List;
 
-/// A function of two texels, modulo 2^8 or 2^32. `Sub` is the first minus the second; a shift moves the first by the
-/// second modulo the texel's number of bits and fills with zeros.
+/// What a kernel makes of two texels of one size; results wrap. `Sub` takes the second from the first. `Shl` and `Shr`
+/// shift the first, by the second reduced to less than the texel's bits.
 #[derive(Clone, Copy, Debug, PartialEq, Eq)]
 pub enum Fun {
     Add,
@@ -42,7 +42,7 @@ pub struct Rect {
 /// before the destination `dst`. Offsets and sizes are in bytes, coordinates in texels.
 #[derive(Debug, Drop)]
 pub enum Op<R> {
-    /// Bytes `offset` to `offset + size` become the little-endian word again and again.
+    /// The word, lowest byte first, fills `size` bytes from `offset` on.
     FillBuffer {
         dst: R,
         offset: u32,
@@ -54,6 +54,7 @@ pub enum Op<R> {
         dst: R,
         value: u32,
     },
+    /// So many bytes go from one offset to the other.
     CopyBuffer {
         src: R,
         dst: R,
@@ -61,6 +62,7 @@ pub enum Op<R> {
         dst_offset: u32,
         size: u32,
     },
+    /// A rectangle of texels goes from one place to the other.
     CopyImage {
         src: R,
         dst: R,

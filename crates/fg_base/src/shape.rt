@@ -1,7 +1,7 @@
 //! What resources are, and where commands run.
 
-/// A kind of queue. Copies and fills of buffers run on every family, kernels and clears of images on graphics and
-/// compute, draws on graphics.
+/// A queue family, by what its queues can do: graphics queues everything, compute queues all but draws, transfer queues
+/// only copies and fills of buffers.
 #[derive(Clone, Copy, Debug, PartialEq, Eq)]
 pub enum Family {
     Graphics,

@@ -11,6 +11,8 @@ pub enum Put {
     Failed,
 }
 
+/// A place for bytes, which stand in the order in which they are written. A write may take fewer than it is given, and
+/// may fail and be tried again.
 pub trait Sink {
     ghost use Rattle.std.specs.declared.option.Option.{Option};
     ghost use Rattle.fg_base.specs.Writes.{IsWithin, PutsBytes, CountsFault};

@@ -13,6 +13,7 @@ pub enum Taken {
     Failed,
 }
 
+/// Bytes to be read, from front to back. A read may give fewer than are asked for, and may fail and be tried again.
 pub trait Source {
     ghost use Rattle.std.specs.declared.option.Option.{Option};
     ghost use Rattle.fg_base.specs.Reads.{IsWithin, TakesBytes, CountsFault};

@@ -11,6 +11,7 @@ pub enum Tell {
     Finished,
 }
 
+/// Listens to a history, event by event, until it has heard enough.
 pub trait Tap: Drop {
     ghost use Rattle.std.specs.declared.option.Option.{Option};
     ghost use Rattle.fg_base.specs.declared.event.Event.{Event};

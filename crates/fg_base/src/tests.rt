@@ -34,7 +34,7 @@ fn names(rt: &impl Abort) {
                 assert!(rt; is_name, "{bytes:?}");
                 assert_eq!(rt; name.as_bytes(), bytes);
                 assert_eq!(rt; name.as_str().as_bytes(), bytes);
-                assert!(rt; name.is_same(&name));
+                assert!(rt; name == name);
             }
             None => assert!(rt; !is_name, "{bytes:?}"),
         }
@@ -46,6 +46,7 @@ fn lists(rt: &impl Abort, alloc: Global) -> Result<(), NoMemory> {
     list.push(3)?;
     list.extend_from_slice(&[4, 5])?;
     assert_eq!(rt; list.len(), 5);
+    assert!(rt; !list.is_empty());
     list.set(1, 9);
     assert_eq!(rt; list[1], 9);
     assert_eq!(rt; list.pop(), Some(5));
@@ -157,6 +158,10 @@ fn each_call(rt: HostRuntime) -> Result<(), Fail> {
         &mut WriteSink::new(FailsFirst { calls: 0 }),
         &[Put::Failed, Put::Failed, Put::Took(4)],
     );
+    let gate = IdleGate::new();
+    gate.enter(0);
+    gate.leave(0);
+    assert_eq!(rt; Limit::Input.name(), "Input");
     let mut tap = CountTap::new();
     for node in 0..3 {
         assert_eq!(rt; tap.told(&Event::Begin { node }), Tell::More);

@@ -1,4 +1,4 @@
--- Reading by cases, with the path of the first fault, and what it means that a function reads so.
+-- What reading comes to, a value or the path of a fault, and what it means that a function reads so.
 use Rattle.std.specs.Prelude.{◌≡◌, List, Result, Ok, Err}
 use Rattle.fg_base.specs.declared.path.Leg.{Leg}
 use Rattle.fg_forms.specs.declared.read_end.ReadEnd.{ReadEnd}

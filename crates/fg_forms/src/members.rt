@@ -82,7 +82,7 @@ fn unknown(
 {
     for (name, _) in members {
         if !is_known(known, name.as_str()) {
-            return Err(at.refused_member(alloc, name.as_str()));
+            return Err((&*at).member(name.as_str()).refused(alloc));
         }
     }
     Ok(())

@@ -9,7 +9,7 @@ use crate::ReadEnd;
 use fg_base::{Leg, List, NoMemory, Path};
 use std::alloc::Global;
 
-/// A place as the steps that led to it, the last one first. It owns nothing, so a path is made only at a fault.
+/// A place in a file, linked to the place round it. It owns nothing: reading makes no path until there is a fault.
 #[derive(Drop)]
 pub enum Place<'a> {
     Top,
@@ -40,24 +40,6 @@ impl<'a> Place<'a> {
             Ok(path) => ReadEnd::Refused(path),
             Err(NoMemory) => ReadEnd::NoMemory,
         }
-    }
-
-    /// The fault at a member.
-    pub fn refused_member(&self, alloc: Global, name: &str) -> ReadEnd
-        ensures { Refuses result (legs self.now ++ leg.Member name.now ∷ []) }
-    {
-        match self.member_path(alloc, name) {
-            Ok(path) => ReadEnd::Refused(path),
-            Err(NoMemory) => ReadEnd::NoMemory,
-        }
-    }
-
-    fn member_path(&self, alloc: Global, name: &str) -> Result<Path, NoMemory>
-        ensures { IfOk result (λ path. path ≡ legs self.now ++ leg.Member name.now ∷ []) }
-    {
-        let mut path = self.path(alloc)?;
-        path.push(Leg::Member(List::from_slice(alloc, name.as_bytes())?))?;
-        Ok(path)
     }
 
     /// The path from the root of the file.

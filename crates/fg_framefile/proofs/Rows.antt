@@ -4,7 +4,7 @@ use Rattle.std.specs.Str.{is_utf8, chars}
 use Rattle.serde_json.proofs.OnLiterals.{serde_json_on_literals}
 use Rattle.fg_base.specs.declared.path.Leg.TheVariants.{Member, Position}
 use Rattle.fg_frame.specs.Faults.{not_json, misshapen}
-use Rattle.fg_framefile.specs.Families.{queue_at}
+use Rattle.fg_framefile.specs.Queues.{queue_at}
 use Rattle.fg_framefile.specs.Files.{frame_of}
 use Rattle.fg_framefile.specs.Frames.{frame_at}
 

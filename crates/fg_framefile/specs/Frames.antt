@@ -5,7 +5,7 @@ use Rattle.fg_forms.specs.Leaves.{number_at}
 use Rattle.fg_forms.specs.Parts.{Reader, object_at, member_at, list_at, others_at}
 use Rattle.fg_forms.specs.Reading.{◌>>=◌}
 use Rattle.fg_frame.specs.declared.frame.Frame.{Frame}
-use Rattle.fg_framefile.specs.Families.{queue_at, FitsQueue}
+use Rattle.fg_framefile.specs.Queues.{queue_at, FitsQueue}
 use Rattle.fg_framefile.specs.Passes.{pass_at, FitsPass}
 use Rattle.fg_framefile.specs.Resources.{resource_at, FitsResource}
 use Rattle.fg_framefile.specs.Spots.{spot_at, FitsSpot}

@@ -1,9 +1,9 @@
--- Passes: `name`, `queue`, `writes` (each `new`), `ops`.
-use Rattle.std.specs.Prelude.{[], ◌∷◌, true, false, Ok, codes}
+-- Passes: `name`, `queue`, optional `writes` (each `new`), optional `ops`.
+use Rattle.std.specs.Prelude.{[], ◌∷◌, true, false, Ok, unwrap_or, codes}
 use Rattle.std.specs.List.{AllByRecursion}
 use Rattle.fg_base.specs.Names.{IsName}
 use Rattle.fg_forms.specs.Leaves.{name_at}
-use Rattle.fg_forms.specs.Parts.{Reader, object_at, member_at, list_at, others_at}
+use Rattle.fg_forms.specs.Parts.{Reader, object_at, member_at, optional_at, list_at, others_at}
 use Rattle.fg_forms.specs.Reading.{◌>>=◌}
 use Rattle.fg_frame.specs.declared.frame.Pass.{Pass}
 use Rattle.fg_frame.specs.declared.frame.Spot.{Spot}
@@ -24,10 +24,10 @@ pass_at at d = do
   start ← object_at at d
   name ← member_at name_at (codes "name") at d
   queue ← member_at name_at (codes "queue") at d
-  writes ← member_at (list_at write_at) (codes "writes") at d
-  ops ← member_at (list_at (op_at spot_at)) (codes "ops") at d
+  writes ← optional_at (list_at write_at) (codes "writes") at d
+  ops ← optional_at (list_at (op_at spot_at)) (codes "ops") at d
   end ← others_at (codes "name" ∷ codes "queue" ∷ codes "writes" ∷ codes "ops" ∷ []) at d
-  Ok (record { name = name; queue = queue; reads = []; writes = writes; ops = ops; side_effect = false })
+  Ok (record { name = name; queue = queue; reads = []; writes = unwrap_or writes []; ops = unwrap_or ops []; side_effect = false })
 
 abbrev pub FitsWrite : Write Spot → Type 0
 FitsWrite write = FitsSpot write.what

@@ -3,7 +3,7 @@
 ghost use Rattle.std.specs.Prelude.{◌≡◌};
 ghost use Rattle.fg_framefile.specs.Frames.{frame_at, FitsFrame};
 
-use crate::family::QueueForm;
+use crate::queue::QueueForm;
 use crate::pass::PassForm;
 use crate::resource::ResourceForm;
 use crate::spot::SpotForm;

@@ -1,10 +1,10 @@
 //! Frame files: the frame that bytes are, or the first fault.
 #![tactic(auto)]
 
-mod family;
 mod file;
 mod frame;
 mod pass;
+mod queue;
 mod resource;
 mod spot;
 

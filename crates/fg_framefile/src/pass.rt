@@ -5,7 +5,7 @@ ghost use Rattle.fg_framefile.specs.Passes.{write_at, pass_at, FitsWrite, FitsPa
 
 use crate::spot::SpotForm;
 use fg_base::List;
-use fg_forms::{ListForm, NameForm, Place, ReadEnd, Reader, object, others, required};
+use fg_forms::{ListForm, NameForm, Place, ReadEnd, Reader, object, optional, others, required};
 use fg_frame::{Pass, Spot, Write};
 use fg_opforms::OpForm;
 use serde_json::Value;
@@ -45,15 +45,15 @@ impl Reader for PassForm {
         object(alloc, at, value)?;
         let name = required::<NameForm>(alloc, at, "name", value)?;
         let queue = required::<NameForm>(alloc, at, "queue", value)?;
-        let writes = required::<ListForm<WriteForm>>(alloc, at, "writes", value)?;
-        let ops = required::<ListForm<OpForm<SpotForm>>>(alloc, at, "ops", value)?;
+        let writes = optional::<ListForm<WriteForm>>(alloc, at, "writes", value)?;
+        let ops = optional::<ListForm<OpForm<SpotForm>>>(alloc, at, "ops", value)?;
         others(alloc, at, &["name", "queue", "writes", "ops"], value)?;
         Ok(Pass {
             name,
             queue,
             reads: List::new(alloc),
-            writes,
-            ops,
+            writes: writes.unwrap_or(List::new(alloc)),
+            ops: ops.unwrap_or(List::new(alloc)),
             side_effect: false,
         })
     }

@@ -1,23 +1,24 @@
 -- What a call answers to a frame, and where it has no answer.
-use Rattle.std.proofs.Common.{◌≡◌, ℕ, List, [], Some, None, Ok, Err, refl, sym, ap₂, ◌∙◌, inl, inr}
+use Rattle.std.proofs.Common.{◌≡◌, ℕ, List, [], Some, None, Ok, Err, refl, sym, ap, ◌∙◌, inl, inr}
 use Rattle.std.specs.Prelude.{◌⊎◌, IfOk, Result}
 use Rattle.std.specs.declared.option.Option.{Option}
 use Rattle.std.specs.Io.KnownBytes.{Keeps}
 use Rattle.fg_frame.specs.Faults.{misshapen}
 use Rattle.fg_frame.specs.declared.frame.Frame.{Frame}
-use Rattle.fg_top.specs.Answers.{refusal, meant, small_answer, AnswersFrame, AnswersLeft, IsAnswered}
-use Rattle.fg_top.specs.Meaning.{meaning}
+use Rattle.fg_top.specs.Answers.{refusal, AnswersFrame, AnswersLeft, IsAnswered}
 use Rattle.fg_top.specs.Outcomes.{EndsAs}
 use Rattle.fg_top.specs.Small.{IsSmall}
+use Rattle.fg_top.specs.SmallTest.{small_answer}
+use Rattle.fg_top.specs.Texts.{printed}
 use Rattle.fg_top.specs.declared.answer.Answer.{Answer}
 use Rattle.fg_top.specs.declared.ended.Status.{Status}
 use Rattle.fg_top.specs.declared.ended.Status.TheVariants.{Done, Rejected, Refused, Words, ReadFault, WriteFault, NoMemory}
 use Rattle.fg_top.specs.declared.small.Small.{Small}
-use Rattle.fg_top.proofs.SmallLemmas.{meant-small_frame}
+use Rattle.fg_top.proofs.SmallLemmas.{printed-small_frame}
 
 pub answers_small : (frame : Frame) (small : Small) (answer : Answer) → IsSmall frame small → answer ≡ small_answer small → AnswersFrame frame answer
 answers_small frame small answer is e = record {
-  small = λ _ _. e ∙ sym (meant-small_frame small) ∙ sym (ap₂ (λ (f g : Frame). meant f (meaning g)) is.parts is.parts);
+  small = λ _ _. (ap (λ (a : Answer). a.status) e, ap printed is.parts ∙ printed-small_frame small ∙ ap (λ (a : Answer). Some a.text) (sym e));
   other = λ none. absurd (none small is);
 }
 

@@ -7,24 +7,25 @@ use Rattle.serde_json.proofs.OnLiterals.{serde_json_on_literals}
 use Rattle.fg_base.specs.declared.limit.Limit.TheVariants.{Input}
 use Rattle.fg_base.specs.declared.shape.Family.TheVariants.{Graphics}
 use Rattle.fg_frame.specs.Faults.{not_json}
-use Rattle.fg_framefile.specs.Families.{queue_at}
+use Rattle.fg_framefile.specs.Queues.{queue_at}
 use Rattle.fg_framefile.specs.Files.{frame_of}
 use Rattle.fg_framefile.specs.Frames.{frame_at}
 use Rattle.fg_framefile.specs.Passes.{write_at, pass_at}
 use Rattle.fg_framefile.specs.Resources.{resource_at}
 use Rattle.fg_opforms.specs.OpReading.{op_at, parts_at, variant_at, fill_buffer_at}
-use Rattle.fg_top.specs.Answers.{refusal, small_answer}
+use Rattle.fg_top.specs.Answers.{refusal}
 use Rattle.fg_top.specs.Lines.{hex_lines}
-use Rattle.fg_top.specs.Meaning.{words, filled}
+use Rattle.fg_top.specs.Meaning.{repeated, filled}
 use Rattle.fg_top.specs.Small.{small_frame}
-use Rattle.fg_top.specs.Texts.{fault_line}
+use Rattle.fg_top.specs.SmallTest.{small_answer}
+use Rattle.fg_top.specs.Texts.{fault_line, printed}
 use Rattle.fg_top.specs.declared.ended.Status.TheVariants.{Done}
 use Rattle.fg_top.specs.declared.small.Small.{Small}
 
-words_lowest_first : words 305419896 2 ≡ 120 ∷ 86 ∷ 52 ∷ 18 ∷ 120 ∷ 86 ∷ 52 ∷ 18 ∷ []
-words_lowest_first = refl
+lowest_byte_first : repeated 305419896 2 ≡ 120 ∷ 86 ∷ 52 ∷ 18 ∷ 120 ∷ 86 ∷ 52 ∷ 18 ∷ []
+lowest_byte_first = refl
 
-filled_inside : filled 4 4 1 (9 ∷ 9 ∷ 9 ∷ 9 ∷ 9 ∷ 9 ∷ 9 ∷ 9 ∷ 8 ∷ []) ≡ 9 ∷ 9 ∷ 9 ∷ 9 ∷ 1 ∷ 0 ∷ 0 ∷ 0 ∷ 8 ∷ []
+filled_inside : filled 4 4 1 (Some (9 ∷ 9 ∷ 9 ∷ 9 ∷ 9 ∷ 9 ∷ 9 ∷ 9 ∷ 8 ∷ [])) ≡ Some (9 ∷ 9 ∷ 9 ∷ 9 ∷ 1 ∷ 0 ∷ 0 ∷ 0 ∷ 8 ∷ [])
 filled_inside = refl
 
 one_line : hex_lines (1 ∷ 255 ∷ []) ≡ codes "01ff\n"
@@ -34,7 +35,7 @@ one_line = refl
 no_line : hex_lines [] ≡ []
 no_line = refl
 
-two_lines : hex_lines (words 0 9) ≡ codes "0000000000000000000000000000000000000000000000000000000000000000\n00000000\n"
+two_lines : hex_lines (repeated 0 9) ≡ codes "0000000000000000000000000000000000000000000000000000000000000000\n00000000\n"
 unfolding hex_on_literals
 two_lines = refl
 
@@ -52,6 +53,10 @@ one_fill = record { queue = codes "g"; family = Graphics; buffer = codes "b"; si
 one_fill_answer : small_answer one_fill ≡ record { status = Done; text = codes "kept 1 culled 0\nexport b 16\n07000000070000000700000007000000\n" }
 unfolding one_fill hex_on_literals digits
 one_fill_answer = refl
+
+one_fill_printed : printed (small_frame one_fill) ≡ Some (codes "kept 1 culled 0\nexport b 16\n07000000070000000700000007000000\n")
+unfolding one_fill hex_on_literals digits
+one_fill_printed = refl
 
 one_fill_read : frame_of (codes "{\"format\":1,\"queues\":[{\"name\":\"g\",\"family\":\"graphics\"}],\"resources\":[{\"name\":\"b\",\"buffer\":16}],\"passes\":[{\"name\":\"p\",\"queue\":\"g\",\"writes\":[{\"new\":\"b\"}],\"ops\":[{\"op\":\"fill_buffer\",\"dst\":\"b\",\"offset\":0,\"size\":16,\"word\":7}]}],\"exports\":[\"b\"]}") ≡ Ok (small_frame one_fill)
 unfolding one_fill serde_json_on_literals is_utf8 chars frame_at queue_at resource_at pass_at write_at op_at parts_at variant_at fill_buffer_at

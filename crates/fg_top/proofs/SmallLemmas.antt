@@ -1,6 +1,6 @@
 -- The test for a small frame finds exactly the small frames, and a small frame's meaning is its buffer full of the word.
 use Rattle.std.proofs.Common.{◌≡◌, ℕ, ◌+◌, ◌/◌, ◌%◌, ◌≤◌, Bool, true, false, List, [], ◌∷◌, ◌++◌, length, Some, None, refl, sym, ap, ap₂, ◌∙◌, append-nil, arith}
-use Rattle.std.specs.Prelude.{◌==◌, ◌&&◌, not, nat_le, option_and_then, is_none, IfSome, IfNone, if◌then◌else◌}
+use Rattle.std.specs.Prelude.{◌==◌, ◌&&◌, not, nat_le, option_and_then, option_map, is_none, IfSome, IfNone, if◌then◌else◌}
 use Rattle.std.specs.declared.option.Option.{Option}
 use Rattle.std.specs.Str.{bytes_eq}
 use Rattle.std.proofs.Math.Bool.{and-eq-true_iff}
@@ -21,12 +21,10 @@ use Rattle.fg_frame.specs.declared.frame.QueueDecl.{QueueDecl}
 use Rattle.fg_frame.specs.declared.frame.Resource.{Resource}
 use Rattle.fg_frame.specs.declared.frame.Spot.{Spot}
 use Rattle.fg_frame.specs.declared.frame.Write.{Write}
-use Rattle.fg_top.specs.Answers.{meant, small_answer}
-use Rattle.fg_top.specs.Meaning.{Pictures, imports, words, filled, with_bytes, meaning}
-use Rattle.fg_top.specs.Small.{whole, small_frame, IsSmall}
-use Rattle.fg_top.specs.SmallTest.{only, whole_words, unshared, plain_buffer, is_whole, filling_word, filling_pass, parts_of}
-use Rattle.fg_top.specs.Texts.{kept_line, export_text}
-use Rattle.fg_top.specs.declared.ended.Status.TheVariants.{Done}
+use Rattle.fg_top.specs.Meaning.{Pictures, imports, repeated, with_bytes, meaning}
+use Rattle.fg_top.specs.Small.{greatest_size, whole, small_frame, IsSmall}
+use Rattle.fg_top.specs.SmallTest.{only, whole_words, unshared, plain_buffer, is_whole, filling_word, filling_pass, parts_of, small_text}
+use Rattle.fg_top.specs.Texts.{kept_line, export_text, exports_text, run_text, printed}
 use Rattle.fg_top.specs.declared.small.Small.{Small}
 
 -- what a choice or a chain that gave something went through
@@ -70,13 +68,13 @@ whole_is name spot e =
     let parts = and_true (bytes_eq spot.name name) (is_none spot.layer) e in
     ap₂ (λ (n : List ℕ) (l : Option ℕ). record { name = n; layer = l }) (same_name spot.name name parts.0) (none spot.layer parts.1)
 
-whole_words_is : (shape : Shape) (size : ℕ) → whole_words shape ≡ Some size → (shape ≡ Buffer size) × (size % 4 ≡ 0) × (size ≤ 16777216)
+whole_words_is : (shape : Shape) (size : ℕ) → whole_words shape ≡ Some size → (shape ≡ Buffer size) × (size % 4 ≡ 0) × (size ≤ greatest_size)
 whole_words_is (Buffer bytes) size e =
-    let chosen = if_some ((bytes % 4 == 0) && nat_le bytes 16777216) (Some bytes) size e in
-    let tests = and_true (bytes % 4 == 0) (nat_le bytes 16777216) chosen.0 in
+    let chosen = if_some ((bytes % 4 == 0) && nat_le bytes greatest_size) (Some bytes) size e in
+    let tests = and_true (bytes % 4 == 0) (nat_le bytes greatest_size) chosen.0 in
     let same : bytes ≡ size = cc in
     let words : bytes % 4 ≡ 0 = eqb-true (bytes % 4) 0 tests.0 in
-    let within : bytes ≤ 16777216 = leb-true bytes 16777216 tests.1 in
+    let within : bytes ≤ greatest_size = leb-true bytes greatest_size tests.1 in
     rw (← same) (refl, words, within)
 whole_words_is (Image width height texel) size e = absurd cc
 
@@ -87,7 +85,7 @@ unshared_is Concurrent shape size e = absurd cc
 resource_of : (r : Resource) (shape : Shape) (layers : ℕ) (import : Option (List ℕ)) (sharing : Sharing) → r.shape ≡ shape → r.layers ≡ layers → r.import ≡ import → r.sharing ≡ sharing → r ≡ record { name = r.name; shape = shape; layers = layers; import = import; sharing = sharing }
 resource_of r shape layers import sharing s l i h = rw (← s, ← l, ← i, ← h) refl
 
-plain_buffer_is : (r : Resource) (size : ℕ) → plain_buffer r ≡ Some size → (r ≡ record { name = r.name; shape = Buffer size; layers = 1; import = None; sharing = Exclusive }) × (size % 4 ≡ 0) × (size ≤ 16777216)
+plain_buffer_is : (r : Resource) (size : ℕ) → plain_buffer r ≡ Some size → (r ≡ record { name = r.name; shape = Buffer size; layers = 1; import = None; sharing = Exclusive }) × (size % 4 ≡ 0) × (size ≤ greatest_size)
 plain_buffer_is r size e =
     let chosen = if_some ((r.layers == 1) && is_none r.import) _ size e in
     let tests = and_true (r.layers == 1) (is_none r.import) chosen.0 in
@@ -154,10 +152,10 @@ parts_of_finds frame small e =
 
 -- ---- the test finds each small frame
 
-parts_of-small_frame : (s : Small) → s.size % 4 ≡ 0 → s.size ≤ 16777216 → parts_of (small_frame s) ≡ Some s
+parts_of-small_frame : (s : Small) → s.size % 4 ≡ 0 → s.size ≤ greatest_size → parts_of (small_frame s) ≡ Some s
 parts_of-small_frame s words within =
     let all_words : (s.size % 4 == 0) ≡ true = grind (arith, nat_tests, words) in
-    let fits : nat_le s.size 16777216 ≡ true = grind (arith, nat_tests, within) in
+    let fits : nat_le s.size greatest_size ≡ true = grind (arith, nat_tests, within) in
     let same_size : (s.size == s.size) ≡ true = grind (arith, nat_tests) in
     rw (all_words, fits, bytes_eq-same s.queue, bytes_eq-same s.buffer, same_size) refl
 
@@ -176,13 +174,11 @@ none_is frame (Some small) e = tt
 
 -- ---- the meaning of a small frame
 
-filled-whole : (size word : ℕ) → filled 0 size word [] ≡ words word (size / 4)
-filled-whole size word = rw (drop-nil (0 + size), append-nil (words word (size / 4))) refl
-
-pub meant-small_frame : (s : Small) → meant (small_frame s) (meaning (small_frame s)) ≡ small_answer s
-meant-small_frame s =
-    let start : Pictures = imports (small_frame s).resources in
-    let P : Pictures = with_bytes start s.buffer (filled 0 s.size s.word (start s.buffer)) in
-    let bytes : P s.buffer ≡ words s.word (s.size / 4) = rw (bytes_eq-same s.buffer) (filled-whole s.size s.word) in
-    let exported : export_text s.buffer (P s.buffer) ++ [] ≡ export_text s.buffer (words s.word (s.size / 4)) = append-nil (export_text s.buffer (P s.buffer)) ∙ ap (export_text s.buffer) bytes in
-    ap (λ (t : List ℕ). record { status = Done; text = kept_line 1 0 ++ t }) exported
+pub printed-small_frame : (s : Small) → printed (small_frame s) ≡ Some (small_text s)
+printed-small_frame s =
+    let bytes : List ℕ = repeated s.word (s.size / 4) in
+    let P : Pictures = with_bytes (imports (small_frame s).resources) s.buffer bytes in
+    let meant : meaning (small_frame s) ≡ Some P = rw (bytes_eq-same s.buffer) refl in
+    let here : P s.buffer ≡ Some bytes = rw (bytes_eq-same s.buffer) refl in
+    let exported : exports_text P (small_frame s).exports ≡ Some (export_text s.buffer bytes) = rw here (ap Some (append-nil (export_text s.buffer bytes))) in
+    ap (option_and_then (run_text (small_frame s))) meant ∙ ap (option_map (λ (t : List ℕ). kept_line 1 0 ++ t)) exported

@@ -1,17 +1,13 @@
--- What was read.
-use Rattle.std.specs.Prelude.{ℕ, List, ◌++◌, ◌<◌, ◌≤◌, ◌≡◌, length, Some, None}
+-- For the code alone, and cited by no public clause: what reading the input came to.
+use Rattle.std.specs.Prelude.{ℕ, List, ◌++◌, ◌<◌, ◌≤◌, ◌≡◌, length}
 use Rattle.std.specs.declared.option.Option.{Option}
 use Rattle.std.specs.Io.KnownBytes.{Consumes, IsAtEnd}
 use Rattle.fg_base.specs.Counts.{Rose}
+use Rattle.fg_top.specs.Outcomes.{Tells}
 use Rattle.fg_top.specs.declared.intake.Intake.{Intake}
 use Rattle.fg_top.specs.declared.intake.Intake.TheVariants.{Whole, Over, Fault, NoMemory}
 use Rattle.fg_top.specs.declared.intake.Step.{Step}
 use Rattle.fg_top.specs.declared.intake.Step.TheVariants.{More, End, Fault as Fails, NoMemory as Lacks}
-
--- these are the bytes that were left, where the source tells them
-abbrev pub Tells : Option (List ℕ) → List ℕ → Type 0
-Tells None bytes = Unit {0}
-Tells (Some left) bytes = left ≡ bytes
 
 -- all the bytes that were left; more than the limit; a read that failed; no memory
 abbrev pub IsIntake : ℕ → Option (List ℕ) → ℕ → ℕ → Intake → Type 0

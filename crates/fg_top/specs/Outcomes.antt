@@ -1,10 +1,15 @@
--- What was written.
-use Rattle.std.specs.Prelude.{ℕ, List, ◌++◌, ◌≡◌, Bool, true, false}
+-- What was read and written.
+use Rattle.std.specs.Prelude.{ℕ, List, ◌++◌, ◌≡◌, Bool, true, false, Some, None}
 use Rattle.std.specs.declared.option.Option.{Option}
 use Rattle.std.specs.Io.KnownBytes.{Appends, Keeps}
 use Rattle.fg_base.specs.Counts.{Rose}
 use Rattle.fg_top.specs.declared.ended.Status.{Status}
 use Rattle.fg_top.specs.declared.ended.Status.TheVariants.{ReadFault, WriteFault, NoMemory}
+
+-- these are the bytes that were left, where the source tells them
+abbrev pub Tells : Option (List ℕ) → List ℕ → Type 0
+Tells None bytes = Unit {0}
+Tells (Some left) bytes = left ≡ bytes
 
 -- a front of the text was taken
 abbrev pub TakesFront : List ℕ → Option (List ℕ) → Option (List ℕ) → Type 0

@@ -21,8 +21,12 @@ small_frame s = record {
   exports = whole s.buffer ∷ [];
 }
 
--- a frame is the small frame with these parts, and its buffer has whole words and at most 16 MiB
+-- 16 MiB
+abbrev pub greatest_size : ℕ
+greatest_size = 16777216
+
+-- a frame is the small frame with these parts, and its buffer has whole words and no more bytes than the limit
 pub record IsSmall (frame : Frame) (small : Small) : Type 0 where
   pub parts : frame ≡ small_frame small
   pub words : small.size % 4 ≡ 0
-  pub within : small.size ≤ 16777216
+  pub within : small.size ≤ greatest_size

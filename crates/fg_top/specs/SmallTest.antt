@@ -1,5 +1,6 @@
--- The test for a small frame, as the function for it goes. It finds exactly the small frames, with their parts.
-use Rattle.std.specs.Prelude.{ℕ, ◌==◌, ◌%◌, ◌&&◌, not, Bool, List, [], ◌∷◌, Option, Some, None, is_none, option_and_then, nat_le, length, if◌then◌else◌}
+-- For the code alone, and cited by no public clause: the test for a small frame, as the functions for it go, and the
+-- answer that a small frame comes to. The test finds exactly the small frames, with their parts.
+use Rattle.std.specs.Prelude.{ℕ, ◌==◌, ◌%◌, ◌/◌, ◌++◌, ◌&&◌, not, Bool, List, [], ◌∷◌, Option, Some, None, is_none, option_and_then, nat_le, length, if◌then◌else◌}
 use Rattle.std.specs.Str.{bytes_eq}
 use Rattle.fg_base.specs.declared.op.Op.{Op}
 use Rattle.fg_base.specs.declared.op.Op.TheVariants.{FillBuffer}
@@ -11,6 +12,11 @@ use Rattle.fg_frame.specs.declared.frame.Frame.{Frame}
 use Rattle.fg_frame.specs.declared.frame.Pass.{Pass}
 use Rattle.fg_frame.specs.declared.frame.Resource.{Resource}
 use Rattle.fg_frame.specs.declared.frame.Spot.{Spot}
+use Rattle.fg_top.specs.Meaning.{repeated}
+use Rattle.fg_top.specs.Small.{greatest_size}
+use Rattle.fg_top.specs.Texts.{kept_line, export_text}
+use Rattle.fg_top.specs.declared.answer.Answer.{Answer}
+use Rattle.fg_top.specs.declared.ended.Status.TheVariants.{Done}
 use Rattle.fg_top.specs.declared.small.Small.{Small}
 
 infixl 10 ◌>>=◌
@@ -25,7 +31,7 @@ only (x ∷ y ∷ xs) = None
 
 -- the size of a buffer of whole words, at most 16 MiB
 abbrev pub whole_words : Shape → Option ℕ
-whole_words (Buffer size) = if size % 4 == 0 && nat_le size 16777216 then Some size else None
+whole_words (Buffer size) = if size % 4 == 0 && nat_le size greatest_size then Some size else None
 whole_words (Image width height texel) = None
 
 abbrev pub unshared : Sharing → Shape → Option ℕ
@@ -59,3 +65,10 @@ parts_of frame = do
   size ← plain_buffer resource
   word ← filling_pass queue.name resource.name size pass
   if is_whole resource.name export then Some (record { queue = queue.name; family = queue.family; buffer = resource.name; size = size; pass = pass.name; word = word }) else None
+
+-- the one export, full of the word
+abbrev pub small_text : Small → List ℕ
+small_text small = kept_line 1 0 ++ export_text small.buffer (repeated small.word (small.size / 4))
+
+abbrev pub small_answer : Small → Answer
+small_answer small = record { status = Done; text = small_text small }

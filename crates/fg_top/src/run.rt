@@ -2,12 +2,13 @@
 
 ghost use Rattle.std.specs.Prelude.{◌≡◌, List, IfOk, IfErr, ◌⊎◌};
 ghost use Rattle.fg_framefile.specs.Files.{frame_of};
-ghost use Rattle.fg_top.specs.Answers.{small_answer, AnswersFrame, AnswersFile, AnswersLeft, IsAnswered};
+ghost use Rattle.fg_top.specs.Answers.{AnswersFrame, AnswersFile, AnswersLeft, IsAnswered};
+ghost use Rattle.fg_top.specs.SmallTest.{small_answer};
 ghost use Rattle.fg_top.specs.Causes.{ReadCause, WriteCause, ReadsAnswer};
 
 use crate::Status;
 use crate::answer::{Answer, refusal};
-use crate::fill::filled;
+use crate::fill::repeated;
 use crate::intake::{Intake, read_input};
 use crate::output::put;
 use crate::small::{Small, small_of};
@@ -72,7 +73,7 @@ fn run_small(alloc: Global, small: Small) -> Result<Answer, NoMemory>
 {
     let mut text = List::new(alloc);
     kept_line(alloc, &mut text, 1, 0)?;
-    let bytes = filled(alloc, small.word, small.size / 4)?;
+    let bytes = repeated(alloc, small.word, small.size / 4)?;
     export_text(alloc, &mut text, &small.buffer, bytes.as_slice())?;
     Ok(Answer {
         status: Status::Done,

@@ -8,6 +8,9 @@ ghost use Rattle.fg_top.specs.declared.small.Small.{Small};
 use fg_base::{Family, Name, Op, Shape};
 use fg_frame::{Frame, Pass, Resource, Sharing, Spot};
 
+/// 16 MiB.
+const GREATEST_SIZE: u32 = 16_777_216;
+
 /// The parts of a small frame: a pass on a queue that fills a buffer of so many bytes with a word.
 #[derive(Clone, Copy, Debug)]
 pub struct Small {
@@ -74,7 +77,7 @@ fn whole_words(shape: Shape) -> Option<u32>
     ensures { result ≡ whole_words shape }
 {
     match shape {
-        Shape::Buffer { size } => if size % 4 == 0 && size <= 16_777_216 {
+        Shape::Buffer { size } => if size % 4 == 0 && size <= GREATEST_SIZE {
             Some(size)
         } else {
             None

@@ -2,7 +2,7 @@
 
 ghost use Rattle.std.specs.Prelude.{◌≡◌};
 ghost use Rattle.fg_base.specs.Names.{IsName};
-ghost use Rattle.fg_framefile.specs.Families.{family_of, family_text, family_again, queue_at, FitsQueue};
+ghost use Rattle.fg_framefile.specs.Queues.{family_of, family_text, family_again, queue_at, FitsQueue};
 
 use fg_base::Family;
 use fg_forms::{NameForm, Place, ReadEnd, Reader, TextForm, Word, object, others, required};
@@ -57,7 +57,7 @@ impl Reader for QueueForm {
 
     ghost Fits = { FitsQueue };
 
-    #[tactic(auto, unfolding(crate::specs::Families::queue_at))]
+    #[tactic(auto, unfolding(crate::specs::Queues::queue_at))]
     fn read(alloc: Global, at: &Place<'_>, value: &Value) -> Result<QueueDecl, ReadEnd> {
         object(alloc, at, value)?;
         let name = required::<NameForm>(alloc, at, "name", value)?;

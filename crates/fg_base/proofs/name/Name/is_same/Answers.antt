@@ -1,5 +1,0 @@
-use Rattle.std.proofs.lemmas.Slice.Eq.{bytes_eq-Decides}
-use Rattle.fg_base.proofs.name.Name.is_same.Goals as goal
-
-pub returns : goal.returns
-returns c = rw c.eq.ensures (bytes_eq-Decides c.args.self.now c.args.other.now)
