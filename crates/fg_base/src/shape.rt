@@ -1,5 +1,11 @@
 //! What resources are, and where commands run.
 
+ghost use Rattle.std.specs.Prelude.{◌≡◌};
+ghost use Rattle.fg_base.specs.Shapes.{bytes_of, texel_bytes, grid_of, is_buffer, is_image};
+ghost use Rattle.fg_base.specs.declared.shape.Shape.TheVariants.{Buffer};
+
+use crate::Grid;
+
 /// A kind of queue. Copies and fills of buffers run on every family, kernels and clears of images on graphics and
 /// compute, draws on graphics.
 #[derive(Clone, Copy, Debug, PartialEq, Eq)]
@@ -27,4 +33,78 @@ pub enum Shape {
         height: u32,
         texel: Texel,
     },
+}
+
+impl Texel {
+    /// The number of bytes of a texel.
+    pub fn bytes(self) -> u32
+        ensures { result ≡ texel_bytes self }
+    {
+        match self {
+            Texel::R8 => 1,
+            Texel::R32 => 4,
+        }
+    }
+}
+
+impl Shape {
+    /// The number of bytes. Sides of any size are allowed, so it can go over 64 bits.
+    pub fn bytes(self) -> u128
+        ensures { result ≡ bytes_of self }
+    {
+        match self {
+            Shape::Buffer { size } => size as u128,
+            Shape::Image {
+                width,
+                height,
+                texel,
+            } => width as u128 * height as u128 * texel.bytes() as u128,
+        }
+    }
+
+    /// The texels that kernels see: an image's own, or the words of a buffer of whole words in one row.
+    pub fn grid(self) -> Option<Grid>
+        ensures { result ≡ grid_of self }
+    {
+        match self {
+            Shape::Buffer { size } => words(size),
+            Shape::Image {
+                width,
+                height,
+                texel,
+            } => Some(Grid {
+                width,
+                height,
+                texel,
+            }),
+        }
+    }
+
+    pub fn is_buffer(self) -> bool
+        ensures { result ≡ is_buffer self }
+    {
+        match self {
+            Shape::Buffer { .. } => true,
+            Shape::Image { .. } => false,
+        }
+    }
+
+    pub fn is_image(self) -> bool
+        ensures { result ≡ is_image self }
+    {
+        !self.is_buffer()
+    }
+}
+
+fn words(size: u32) -> Option<Grid>
+    ensures { result ≡ grid_of (Buffer size) }
+{
+    if size % 4 != 0 {
+        return None;
+    }
+    Some(Grid {
+        width: size / 4,
+        height: 1,
+        texel: Texel::R32,
+    })
 }
