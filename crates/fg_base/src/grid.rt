@@ -1,5 +1,8 @@
 //! Rows of texels.
 
+ghost use Rattle.std.specs.Prelude.{◌≡◌};
+ghost use Rattle.fg_base.specs.Shapes.{grid_eq};
+
 use crate::Texel;
 
 /// What kernels see of a resource: texels in rows.
@@ -8,4 +11,12 @@ pub struct Grid {
     pub width: u32,
     pub height: u32,
     pub texel: Texel,
+}
+
+impl Grid {
+    pub(crate) fn is_same(self, other: Grid) -> bool
+        ensures { result ≡ grid_eq self other }
+    {
+        self.width == other.width && self.height == other.height && self.texel == other.texel
+    }
 }

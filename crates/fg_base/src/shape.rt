@@ -1,7 +1,7 @@
 //! What resources are, and where commands run.
 
-ghost use Rattle.std.specs.Prelude.{◌≡◌};
-ghost use Rattle.fg_base.specs.Shapes.{bytes_of, texel_bytes, grid_of, is_buffer, is_image};
+ghost use Rattle.std.specs.Prelude.{◌≡◌, ◌<◌, length};
+ghost use Rattle.fg_base.specs.Shapes.{bytes_of, texel_bytes, grid_of, is_buffer, is_image, has_texel, has_sides, same_texel, same_sides, twice_the_sides, same_grid, shape_at};
 ghost use Rattle.fg_base.specs.declared.shape.Shape.TheVariants.{Buffer};
 
 use crate::Grid;
@@ -94,6 +94,81 @@ impl Shape {
     {
         !self.is_buffer()
     }
+
+    // An image with such texels.
+    pub(crate) fn has_texel(self, texel: Texel) -> bool
+        ensures { result ≡ has_texel texel self }
+    {
+        match self {
+            Shape::Buffer { .. } => false,
+            Shape::Image { texel: own, .. } => texel == own,
+        }
+    }
+
+    // An image with these sides.
+    pub(crate) fn has_sides(self, width: u64, height: u64) -> bool
+        ensures { result ≡ has_sides width height self }
+    {
+        match self {
+            Shape::Buffer { .. } => false,
+            Shape::Image {
+                width: w,
+                height: h,
+                ..
+            } => width == w as u64 && height == h as u64,
+        }
+    }
+
+    // Both are images, with one texel.
+    pub(crate) fn same_texel(self, other: Shape) -> bool
+        ensures { result ≡ same_texel self other }
+    {
+        match self {
+            Shape::Buffer { .. } => false,
+            Shape::Image { texel, .. } => other.has_texel(texel),
+        }
+    }
+
+    // Both are images, with equal sides.
+    pub(crate) fn same_sides(self, other: Shape) -> bool
+        ensures { result ≡ same_sides self other }
+    {
+        match self {
+            Shape::Buffer { .. } => false,
+            Shape::Image { width, height, .. } => other.has_sides(width as u64, height as u64),
+        }
+    }
+
+    // Both are images, and the other's sides are half of the own.
+    pub(crate) fn twice_the_sides(self, other: Shape) -> bool
+        ensures { result ≡ twice_the_sides self other }
+    {
+        match other {
+            Shape::Buffer { .. } => false,
+            Shape::Image { width, height, .. } => self.has_sides(
+                2 * width as u64,
+                2 * height as u64,
+            ),
+        }
+    }
+
+    // Both have a grid, and it is one.
+    pub(crate) fn same_grid(self, other: Shape) -> bool
+        ensures { result ≡ same_grid self other }
+    {
+        match (self.grid(), other.grid()) {
+            (Some(a), Some(b)) => a.is_same(b),
+            _ => false,
+        }
+    }
+}
+
+// The shape of the resource with this number.
+pub(crate) fn shape_at(shapes: &[Shape], n: u32) -> Shape
+    requires { n < length shapes.now }
+    ensures { result ≡ shape_at shapes.now n }
+{
+    shapes[n as usize]
 }
 
 fn words(size: u32) -> Option<Grid>
