@@ -26,6 +26,7 @@ mod steady_source;
 mod tap;
 mod touch;
 mod whole;
+mod within;
 mod write_sink;
 
 pub use count_tap::CountTap;
@@ -52,6 +53,7 @@ pub use steady_sink::SteadySink;
 pub use steady_source::SteadySource;
 pub use tap::{Tap, Tell};
 pub use touch::Touch;
+pub use within::op_within;
 pub use write_sink::WriteSink;
 
 #[cfg(test)]
