@@ -57,4 +57,6 @@ pub use within::op_within;
 pub use write_sink::WriteSink;
 
 #[cfg(test)]
+mod op_tests;
+#[cfg(test)]
 mod tests;
