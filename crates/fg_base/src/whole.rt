@@ -25,11 +25,10 @@ pub(crate) fn is_whole(op: &Op<u32>, shapes: &[Shape]) -> bool
             size,
             ..
         } => covers(shape_at(shapes, *dst), *dst_offset, *size as u128),
-        Op::ImageToBuffer { src, dst, offset } => covers(
-            shape_at(shapes, *dst),
-            *offset,
-            shape_at(shapes, *src).bytes(),
-        ),
+        Op::ImageToBuffer { src, dst, offset } => {
+            let bytes = shape_at(shapes, *src).bytes();
+            covers(shape_at(shapes, *dst), *offset, bytes)
+        }
         Op::CopyImage {
             dst,
             dst_x,
