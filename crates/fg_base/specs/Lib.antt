@@ -1,7 +1,14 @@
 pub mod Counts
+pub mod Fits
+pub mod InPlace
 pub mod Limits
 pub mod Memory
 pub mod Names
+pub mod Operands
 pub mod Reads
+pub mod Runs
+pub mod Shapes
 pub mod Taps
+pub mod Touches
+pub mod Wholes
 pub mod Writes

@@ -3,7 +3,10 @@
 
 mod count_tap;
 mod event;
+mod fits;
 mod gate;
+mod grid;
+mod in_place;
 mod limit;
 mod list;
 mod memory_sink;
@@ -13,17 +16,25 @@ mod no_memory;
 mod op;
 mod path;
 mod read_source;
+mod role;
+mod runs;
 mod shape;
 mod sink;
 mod source;
 mod steady_sink;
 mod steady_source;
 mod tap;
+mod touch;
+mod whole;
+mod within;
 mod write_sink;
 
 pub use count_tap::CountTap;
 pub use event::Event;
+pub use fits::op_fits;
 pub use gate::{Gate, IdleGate};
+pub use grid::Grid;
+pub use in_place::op_in_place;
 pub use limit::Limit;
 pub use list::{List, Text};
 pub use memory_sink::MemorySink;
@@ -33,13 +44,19 @@ pub use no_memory::NoMemory;
 pub use op::{Fun, Mix, Op, Rect};
 pub use path::{Leg, Path};
 pub use read_source::ReadSource;
+pub use role::Role;
+pub use runs::op_runs;
 pub use shape::{Family, Shape, Texel};
 pub use sink::{Put, Sink};
 pub use source::{Source, Taken};
 pub use steady_sink::SteadySink;
 pub use steady_source::SteadySource;
 pub use tap::{Tap, Tell};
+pub use touch::Touch;
+pub use within::op_within;
 pub use write_sink::WriteSink;
 
+#[cfg(test)]
+mod op_tests;
 #[cfg(test)]
 mod tests;

@@ -1,6 +1,10 @@
 //! Operations, over any way to name what they work on.
 
-use crate::List;
+ghost use Rattle.std.specs.Prelude.{◌≡◌, ◌<◌, [], ◌∷◌, length, slice_get, IfOk, Some};
+ghost use Rattle.fg_base.specs.Operands.{operands_of};
+
+use crate::{List, NoMemory};
+use std::alloc::Global;
 
 /// What a kernel makes of two texels of one size; results wrap. `Sub` takes the second from the first. `Shl` and `Shr`
 /// shift the first, by the second reduced to less than the texel's bits.
@@ -139,4 +143,172 @@ pub enum Op<R> {
         clear: Option<u32>,
         rects: List<Rect>,
     },
+}
+
+impl<R: Copy> Op<R> {
+    /// The number of operands.
+    pub fn touch_count(&self) -> u32
+        ensures { result ≡ length (operands_of self.now) }
+    {
+        match self {
+            Op::FillBuffer { .. } | Op::ClearImage { .. } | Op::Ramp { .. } | Op::Draw { .. } => 1,
+            Op::CopyBuffer { .. } | Op::CopyImage { .. } => 2,
+            Op::BufferToImage { .. } | Op::ImageToBuffer { .. } => 2,
+            Op::Map { .. } | Op::Convert { .. } | Op::Box3 { .. } => 2,
+            Op::Halve { .. } | Op::Histogram { .. } => 2,
+            Op::Combine { .. } => 3,
+            Op::Select { .. } => 4,
+        }
+    }
+
+    /// The operand with the number `k`. The destination is the last.
+    pub fn operand(&self, k: u32) -> R
+        requires { k < length (operands_of self.now) }
+        ensures { slice_get (operands_of self.now) k ≡ Some result }
+    {
+        match self {
+            Op::FillBuffer { dst, .. } | Op::ClearImage { dst, .. } => *dst,
+            Op::Ramp { dst, .. } | Op::Draw { dst, .. } => *dst,
+            Op::CopyBuffer { src, dst, .. } | Op::CopyImage { src, dst, .. } => either(
+                k, *src, *dst,
+            ),
+            Op::BufferToImage { src, dst, .. } | Op::ImageToBuffer { src, dst, .. } => either(
+                k, *src, *dst,
+            ),
+            Op::Map { src, dst, .. } | Op::Convert { src, dst } => either(k, *src, *dst),
+            Op::Box3 { src, dst } | Op::Halve { src, dst } | Op::Histogram { src, dst } => either(
+                k, *src, *dst,
+            ),
+            Op::Combine { a, b, dst, .. } => { if k == 0 { *a } else { either(k - 1, *b, *dst) } }
+            Op::Select { mask, a, b, dst } => {
+                if k < 2 {
+                    either(k, *mask, *a)
+                } else {
+                    either(k - 2, *b, *dst)
+                }
+            }
+        }
+    }
+
+    /// An equal operation.
+    pub fn copy(&self, alloc: Global) -> Result<Op<R>, NoMemory>
+        ensures { IfOk result (λ op. op ≡ self.now) }
+    {
+        Ok(match self {
+            Op::FillBuffer {
+                dst,
+                offset,
+                size,
+                word,
+            } => Op::FillBuffer {
+                dst: *dst,
+                offset: *offset,
+                size: *size,
+                word: *word,
+            },
+            Op::ClearImage { dst, value } => Op::ClearImage {
+                dst: *dst,
+                value: *value,
+            },
+            Op::CopyBuffer {
+                src,
+                dst,
+                src_offset,
+                dst_offset,
+                size,
+            } => Op::CopyBuffer {
+                src: *src,
+                dst: *dst,
+                src_offset: *src_offset,
+                dst_offset: *dst_offset,
+                size: *size,
+            },
+            Op::CopyImage {
+                src,
+                dst,
+                src_x,
+                src_y,
+                dst_x,
+                dst_y,
+                width,
+                height,
+            } => Op::CopyImage {
+                src: *src,
+                dst: *dst,
+                src_x: *src_x,
+                src_y: *src_y,
+                dst_x: *dst_x,
+                dst_y: *dst_y,
+                width: *width,
+                height: *height,
+            },
+            Op::BufferToImage { src, dst, offset } => Op::BufferToImage {
+                src: *src,
+                dst: *dst,
+                offset: *offset,
+            },
+            Op::ImageToBuffer { src, dst, offset } => Op::ImageToBuffer {
+                src: *src,
+                dst: *dst,
+                offset: *offset,
+            },
+            Op::Ramp { dst, base, dx, dy } => Op::Ramp {
+                dst: *dst,
+                base: *base,
+                dx: *dx,
+                dy: *dy,
+            },
+            Op::Map {
+                src,
+                dst,
+                fun,
+                value,
+            } => Op::Map {
+                src: *src,
+                dst: *dst,
+                fun: *fun,
+                value: *value,
+            },
+            Op::Combine { a, b, dst, fun } => Op::Combine {
+                a: *a,
+                b: *b,
+                dst: *dst,
+                fun: *fun,
+            },
+            Op::Select { mask, a, b, dst } => Op::Select {
+                mask: *mask,
+                a: *a,
+                b: *b,
+                dst: *dst,
+            },
+            Op::Convert { src, dst } => Op::Convert {
+                src: *src,
+                dst: *dst,
+            },
+            Op::Box3 { src, dst } => Op::Box3 {
+                src: *src,
+                dst: *dst,
+            },
+            Op::Halve { src, dst } => Op::Halve {
+                src: *src,
+                dst: *dst,
+            },
+            Op::Histogram { src, dst } => Op::Histogram {
+                src: *src,
+                dst: *dst,
+            },
+            Op::Draw { dst, clear, rects } => Op::Draw {
+                dst: *dst,
+                clear: *clear,
+                rects: rects.copy(alloc)?,
+            },
+        })
+    }
+}
+
+fn either<R: Copy>(k: u32, first: R, second: R) -> R
+    requires { k < 2 }
+    ensures { slice_get (first ∷ second ∷ []) k ≡ Some result }
+{
+    if k == 0 { first } else { second }
 }

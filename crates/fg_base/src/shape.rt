@@ -1,5 +1,11 @@
 //! What resources are, and where commands run.
 
+ghost use Rattle.std.specs.Prelude.{◌≡◌, ◌<◌, length};
+ghost use Rattle.fg_base.specs.Shapes.{bytes_of, texel_bytes, grid_of, is_buffer, is_image, has_texel, has_sides, same_texel, same_sides, twice_the_sides, same_grid, shape_at};
+ghost use Rattle.fg_base.specs.declared.shape.Shape.TheVariants.{Buffer};
+
+use crate::Grid;
+
 /// A queue family, by what its queues can do: graphics queues everything, compute queues all but draws, transfer queues
 /// only copies and fills of buffers.
 #[derive(Clone, Copy, Debug, PartialEq, Eq)]
@@ -27,4 +33,153 @@ pub enum Shape {
         height: u32,
         texel: Texel,
     },
+}
+
+impl Texel {
+    /// The number of bytes of a texel.
+    pub fn bytes(self) -> u32
+        ensures { result ≡ texel_bytes self }
+    {
+        match self {
+            Texel::R8 => 1,
+            Texel::R32 => 4,
+        }
+    }
+}
+
+impl Shape {
+    /// The number of bytes. Sides of any size are allowed, so it can go over 64 bits.
+    pub fn bytes(self) -> u128
+        ensures { result ≡ bytes_of self }
+    {
+        match self {
+            Shape::Buffer { size } => size as u128,
+            Shape::Image {
+                width,
+                height,
+                texel,
+            } => width as u128 * height as u128 * texel.bytes() as u128,
+        }
+    }
+
+    /// The texels that kernels see: an image's own, or the words of a buffer of whole words in one row.
+    pub fn grid(self) -> Option<Grid>
+        ensures { result ≡ grid_of self }
+    {
+        match self {
+            Shape::Buffer { size } => words(size),
+            Shape::Image {
+                width,
+                height,
+                texel,
+            } => Some(Grid {
+                width,
+                height,
+                texel,
+            }),
+        }
+    }
+
+    pub fn is_buffer(self) -> bool
+        ensures { result ≡ is_buffer self }
+    {
+        match self {
+            Shape::Buffer { .. } => true,
+            Shape::Image { .. } => false,
+        }
+    }
+
+    pub fn is_image(self) -> bool
+        ensures { result ≡ is_image self }
+    {
+        !self.is_buffer()
+    }
+
+    // An image with such texels.
+    pub(crate) fn has_texel(self, texel: Texel) -> bool
+        ensures { result ≡ has_texel texel self }
+    {
+        match self {
+            Shape::Buffer { .. } => false,
+            Shape::Image { texel: own, .. } => texel == own,
+        }
+    }
+
+    // An image with these sides.
+    pub(crate) fn has_sides(self, width: u64, height: u64) -> bool
+        ensures { result ≡ has_sides width height self }
+    {
+        match self {
+            Shape::Buffer { .. } => false,
+            Shape::Image {
+                width: w,
+                height: h,
+                ..
+            } => width == w as u64 && height == h as u64,
+        }
+    }
+
+    // Both are images, with one texel.
+    pub(crate) fn same_texel(self, other: Shape) -> bool
+        ensures { result ≡ same_texel self other }
+    {
+        match self {
+            Shape::Buffer { .. } => false,
+            Shape::Image { texel, .. } => other.has_texel(texel),
+        }
+    }
+
+    // Both are images, with equal sides.
+    pub(crate) fn same_sides(self, other: Shape) -> bool
+        ensures { result ≡ same_sides self other }
+    {
+        match self {
+            Shape::Buffer { .. } => false,
+            Shape::Image { width, height, .. } => other.has_sides(width as u64, height as u64),
+        }
+    }
+
+    // Both are images, and the other's sides are half of the own.
+    pub(crate) fn twice_the_sides(self, other: Shape) -> bool
+        ensures { result ≡ twice_the_sides self other }
+    {
+        match other {
+            Shape::Buffer { .. } => false,
+            Shape::Image { width, height, .. } => self.has_sides(
+                2 * width as u64,
+                2 * height as u64,
+            ),
+        }
+    }
+
+    // Both have a grid, and it is one.
+    pub(crate) fn same_grid(self, other: Shape) -> bool
+        ensures { result ≡ same_grid self other }
+    {
+        match (self.grid(), other.grid()) {
+            (Some(a), Some(b)) => a.is_same(b),
+            _ => false,
+        }
+    }
+}
+
+// The shape of the resource with this number.
+pub(crate) fn shape_at(shapes: &[Shape], n: u32) -> Shape
+    requires { n < length shapes.now }
+    ensures { result ≡ shape_at shapes.now n }
+{
+    shapes[n as usize]
+}
+
+fn words(size: u32) -> Option<Grid>
+    ensures { result ≡ grid_of (Buffer size) }
+{
+    if size % 4 != 0 {
+        return None;
+    }
+    Some(Grid {
+        width: size / 4,
+        height: 1,
+        texel: Texel::R32,
+    })
 }
