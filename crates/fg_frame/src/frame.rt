@@ -11,6 +11,7 @@ pub struct Spot {
     pub layer: Option<u32>,
 }
 
+/// A queue by its name.
 #[derive(Clone, Copy, Debug)]
 pub struct QueueDecl {
     pub name: Name,
@@ -49,6 +50,8 @@ pub struct Pass {
     pub side_effect: bool,
 }
 
+/// All that is declared for one picture: passes in the order in which they are meant, what they work on and where they
+/// run, and which resources come out.
 #[derive(Debug, Drop)]
 pub struct Frame {
     pub queues: List<QueueDecl>,

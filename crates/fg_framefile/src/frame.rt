@@ -3,8 +3,8 @@
 ghost use Rattle.std.specs.Prelude.{◌≡◌};
 ghost use Rattle.fg_framefile.specs.Frames.{frame_at, FitsFrame};
 
-use crate::queue::QueueForm;
 use crate::pass::PassForm;
+use crate::queue::QueueForm;
 use crate::resource::ResourceForm;
 use crate::spot::SpotForm;
 use fg_forms::{ListForm, Place, RangeForm, ReadEnd, Reader, object, others, required};

@@ -6,9 +6,10 @@ ghost use Rattle.fg_top.specs.declared.ended.Status.TheVariants as ended;
 
 use fg_base::{NoMemory, Tap};
 
+/// How a call ended; `number` is the exit status of the program.
 #[derive(Clone, Copy, Debug, PartialEq, Eq)]
 pub enum Status {
-    /// The command did its work and its text was written whole.
+    /// All went well, and the text was written.
     Done,
     /// The program that was read is not sound.
     Rejected,

@@ -7,7 +7,7 @@ ghost use Rattle.fg_top.specs.Lines.{hex_line, hex_lines, first_lines};
 use fg_base::{NoMemory, Text};
 use std::alloc::Global;
 
-/// Decimal digits without leading zeros.
+/// The number in decimal.
 pub fn number(alloc: Global, text: &mut Text, n: u64) -> Result<(), NoMemory>
     ensures { OnOk result (text.new ≡ text.old ++ decimal n) }
 {
@@ -15,7 +15,7 @@ pub fn number(alloc: Global, text: &mut Text, n: u64) -> Result<(), NoMemory>
     text.extend_from_slice(digits.as_bytes())
 }
 
-/// Lower-case hexadecimal in lines of 32 bytes, the last one shorter; nothing for no bytes.
+/// Two lower-case hexadecimal digits a byte, 32 bytes a line.
 pub fn hex_lines(text: &mut Text, bytes: &[u8]) -> Result<(), NoMemory>
     ensures { OnOk result (text.new ≡ text.old ++ hex_lines bytes.now) }
 {
@@ -39,7 +39,7 @@ fn hex_line(text: &mut Text, bytes: &[u8]) -> Result<(), NoMemory>
     end_line(text)
 }
 
-/// One line feed.
+/// The end of a line.
 pub fn end_line(text: &mut Text) -> Result<(), NoMemory>
     ensures { OnOk result (text.new ≡ text.old ++ 10 ∷ []) }
 {

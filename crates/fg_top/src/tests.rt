@@ -2,8 +2,8 @@
 
 use crate::{Ended, Status, framec};
 use fg_base::{
-    CountTap, IdleGate, List, MemorySink, MemorySource, Sink, Source, SteadySink, SteadySource,
-    Tap, Text,
+    CountTap, IdleGate, List, MemorySink, MemorySource, Put, Sink, Source, SteadySink,
+    SteadySource, Taken, Tap, Text,
 };
 use std::alloc::{AllocError, Global};
 use std::sync::Wait;
@@ -29,6 +29,12 @@ fn bytes_of(alloc: Global, text: &str) -> Result<List<u8>, AllocError> {
 
 fn calls(alloc: Global, list: &[u32]) -> Result<List<u32>, AllocError> {
     Ok(List::from_vec(list.to_vec(alloc)?))
+}
+
+fn brackets(alloc: Global, opened: usize, closed: usize) -> Result<List<u8>, AllocError> {
+    let mut text = vec![in alloc; b'['; opened]?;
+    text.extend_from_slice(vec![in alloc; b']'; closed]?.as_slice())?;
+    Ok(List::from_vec(text))
 }
 
 fn spaces(alloc: Global, count: usize) -> Result<List<u8>, AllocError> {
@@ -198,17 +204,45 @@ fn words_and_limits(rt: HostRuntime) -> Result<(), Fail> {
         assert_eq!(rt; status, Some(Status::Words), "status of {words:?}");
         assert_eq!(rt; text.as_slice(), b"words\n".as_slice(), "text of {words:?}");
     }
-    for (count, text) in [
-        (16_777_216, "fault F1 $\n"),
-        (16_777_217, "fault F4 Input $\n"),
+    // Each file, its text, and how much is left unread: no more than one byte over the limit is taken.
+    for (file, text, rest) in [
+        (brackets(alloc, 200, 0)?, "fault F1 $\n", Taken::End),
+        (brackets(alloc, 100, 100)?, "fault F2 $\n", Taken::End),
+        (spaces(alloc, 16_777_216)?, "fault F1 $\n", Taken::End),
+        (spaces(alloc, 16_777_217)?, "fault F4 Input $\n", Taken::End),
+        (
+            spaces(alloc, 16_777_220)?,
+            "fault F4 Input $\n",
+            Taken::Got(3),
+        ),
     ] {
-        let mut source = SteadySource::new(spaces(alloc, count)?, u32::MAX);
+        let mut source = SteadySource::new(file, u32::MAX);
         let mut sink = MemorySink::new(alloc, 100, 100, List::new(alloc))?;
         let status = status_of(&rt, alloc, &["run"], &mut source, &mut sink)?;
-        assert_eq!(rt; status, Some(Status::Refused), "status of {count} spaces");
-        assert_eq!(rt; sink.bytes(), text.as_bytes(), "text of {count} spaces");
+        assert_eq!(rt; status, Some(Status::Refused), "status with {text}");
+        assert_eq!(rt; sink.bytes(), text.as_bytes());
+        assert_eq!(rt; source.read(&mut [0u8; 8]), rest, "rest with {text}");
     }
     Ok(())
+}
+
+// Takes four bytes of each write, and keeps how many were offered.
+#[derive(Drop)]
+struct Offers {
+    lengths: Vec<usize>,
+}
+
+impl Sink for Offers {
+    ghost use Rattle.std.specs.Prelude.{None};
+
+    ghost taken = { λ _. None };
+
+    ghost faults = { λ _. 0 };
+
+    fn write(&mut self, bytes: &[u8]) -> Put {
+        let _ = self.lengths.push(bytes.len());
+        Put::Took(bytes.len().min(4))
+    }
 }
 
 #[test]
@@ -232,5 +266,12 @@ fn failing_ends(rt: HostRuntime) -> Result<(), Fail> {
     let mut source = SteadySource::new(bytes_of(alloc, FILL)?, 1);
     let status = status_of(&rt, alloc, &["run"], &mut source, &mut SteadySink::new())?;
     assert_eq!(rt; status, Some(Status::Done));
+    // Each write is offered the whole rest of the text.
+    let mut offers = Offers {
+        lengths: Vec::new(alloc),
+    };
+    let status = status_of(&rt, alloc, &["run", "run"], &mut source, &mut offers)?;
+    assert_eq!(rt; status, Some(Status::Words));
+    assert_eq!(rt; offers.lengths.as_slice(), [6, 2].as_slice());
     Ok(())
 }
