@@ -1,12 +1,19 @@
 -- Worked rows: the first fault of written-out files.
-use Rattle.std.proofs.Common.{◌≡◌, [], ◌∷◌, Err, codes, refl}
+use Rattle.std.proofs.Common.{◌≡◌, [], ◌∷◌, None, Ok, Err, true, false, codes, refl}
 use Rattle.std.specs.Str.{is_utf8, chars}
 use Rattle.serde_json.proofs.OnLiterals.{serde_json_on_literals}
+use Rattle.fg_base.specs.declared.op.Op.TheVariants.{FillBuffer}
 use Rattle.fg_base.specs.declared.path.Leg.TheVariants.{Member, Position}
+use Rattle.fg_base.specs.declared.shape.Family.TheVariants.{Graphics}
+use Rattle.fg_base.specs.declared.shape.Shape.TheVariants.{Buffer}
+use Rattle.fg_bits.specs.declared.sharing.Sharing.TheVariants.{Exclusive}
 use Rattle.fg_frame.specs.Faults.{not_json, misshapen}
 use Rattle.fg_framefile.specs.Queues.{queue_at}
 use Rattle.fg_framefile.specs.Files.{frame_of}
 use Rattle.fg_framefile.specs.Frames.{frame_at}
+use Rattle.fg_framefile.specs.Passes.{write_at, pass_at}
+use Rattle.fg_framefile.specs.Resources.{resource_at}
+use Rattle.fg_opforms.specs.OpReading.{op_at, parts_at, variant_at, fill_buffer_at}
 
 nothing : frame_of [] ≡ Err not_json
 unfolding serde_json_on_literals is_utf8 chars
@@ -41,3 +48,12 @@ unknown_members = refl
 later_member : frame_of (codes "{\"format\":1,\"format\":3}") ≡ Err (misshapen (Member (codes "format") ∷ []))
 unfolding serde_json_on_literals is_utf8 chars frame_at
 later_member = refl
+
+one_fill : frame_of (codes "{\"format\":1,\"queues\":[{\"name\":\"g\",\"family\":\"graphics\"}],\"resources\":[{\"name\":\"b\",\"buffer\":16}],\"passes\":[{\"name\":\"p\",\"queue\":\"g\",\"writes\":[{\"new\":\"b\"}],\"ops\":[{\"op\":\"fill_buffer\",\"dst\":\"b\",\"offset\":0,\"size\":16,\"word\":7}]}],\"exports\":[\"b\"]}") ≡ Ok (record {
+  queues = record { name = codes "g"; family = Graphics } ∷ [];
+  resources = record { name = codes "b"; shape = Buffer 16; layers = 1; import = None; sharing = Exclusive } ∷ [];
+  passes = record { name = codes "p"; queue = codes "g"; reads = []; writes = record { what = record { name = codes "b"; layer = None }; fresh = true } ∷ []; ops = FillBuffer (record { name = codes "b"; layer = None }) 0 16 7 ∷ []; side_effect = false } ∷ [];
+  exports = record { name = codes "b"; layer = None } ∷ [];
+})
+unfolding serde_json_on_literals is_utf8 chars frame_at queue_at resource_at pass_at write_at op_at parts_at variant_at fill_buffer_at
+one_fill = refl

@@ -1,18 +1,10 @@
 -- Worked rows: what the definitions come to on written-out values.
-use Rattle.std.proofs.Common.{◌≡◌, [], ◌∷◌, Some, Ok, codes, refl}
+use Rattle.std.proofs.Common.{◌≡◌, [], ◌∷◌, Some, codes, refl}
 use Rattle.std.specs.Fmt.{digits}
-use Rattle.std.specs.Str.{is_utf8, chars}
 use Rattle.hex.proofs.OnLiterals.{hex_on_literals}
-use Rattle.serde_json.proofs.OnLiterals.{serde_json_on_literals}
 use Rattle.fg_base.specs.declared.limit.Limit.TheVariants.{Input}
 use Rattle.fg_base.specs.declared.shape.Family.TheVariants.{Graphics}
 use Rattle.fg_frame.specs.Faults.{not_json}
-use Rattle.fg_framefile.specs.Queues.{queue_at}
-use Rattle.fg_framefile.specs.Files.{frame_of}
-use Rattle.fg_framefile.specs.Frames.{frame_at}
-use Rattle.fg_framefile.specs.Passes.{write_at, pass_at}
-use Rattle.fg_framefile.specs.Resources.{resource_at}
-use Rattle.fg_opforms.specs.OpReading.{op_at, parts_at, variant_at, fill_buffer_at}
 use Rattle.fg_top.specs.Answers.{refusal}
 use Rattle.fg_top.specs.Lines.{hex_lines}
 use Rattle.fg_top.specs.Meaning.{repeated, filled}
@@ -57,7 +49,3 @@ one_fill_answer = refl
 one_fill_printed : printed (small_frame one_fill) ≡ Some (codes "kept 1 culled 0\nexport b 16\n07000000070000000700000007000000\n")
 unfolding one_fill hex_on_literals digits
 one_fill_printed = refl
-
-one_fill_read : frame_of (codes "{\"format\":1,\"queues\":[{\"name\":\"g\",\"family\":\"graphics\"}],\"resources\":[{\"name\":\"b\",\"buffer\":16}],\"passes\":[{\"name\":\"p\",\"queue\":\"g\",\"writes\":[{\"new\":\"b\"}],\"ops\":[{\"op\":\"fill_buffer\",\"dst\":\"b\",\"offset\":0,\"size\":16,\"word\":7}]}],\"exports\":[\"b\"]}") ≡ Ok (small_frame one_fill)
-unfolding one_fill serde_json_on_literals is_utf8 chars frame_at queue_at resource_at pass_at write_at op_at parts_at variant_at fill_buffer_at
-one_fill_read = refl
