@@ -1,1 +1,12 @@
+pub mod Clashes
 pub mod Faults
+pub mod FirstFault
+pub mod Limits
+pub mod Members
+pub mod Numbered
+pub mod Paths
+pub mod Places
+pub mod Repeats
+pub mod Units
+pub mod Unknowns
+pub mod Uses

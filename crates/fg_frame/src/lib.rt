@@ -3,8 +3,14 @@
 
 mod fault;
 mod frame;
+mod good;
+mod numbered;
+mod place;
+mod uses;
 
 pub use fault::FrameFault;
 pub use fg_base::{Limit, Path};
 pub use fg_bits::Sharing;
 pub use frame::{Frame, Pass, QueueDecl, Resource, Spot, Write};
+pub use good::FrameEnd;
+pub use numbered::NumberedPass;

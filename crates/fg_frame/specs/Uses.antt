@@ -1,0 +1,132 @@
+-- The rules on what passes do, over numbers.
+use Rattle.std.specs.Prelude.{ℕ, suc, List, take, map, length, ◌==◌, ◌&&◌, ◌||◌, nat_lt, not, is_some, Bool, true, false, slice_get, Option, Some, None, if◌then◌else◌}
+use Rattle.std.specs.List.{list_any, position, find}
+use Rattle.std.specs.Option.{option_or, option_map, option_map_or}
+use Rattle.fg_base.specs.Fits.{fits}
+use Rattle.fg_base.specs.InPlace.{in_place}
+use Rattle.fg_base.specs.Operands.{operands_of, destination_of, mapped}
+use Rattle.fg_base.specs.Runs.{runs}
+use Rattle.fg_base.specs.Shapes.{shape_at, bytes_of, is_buffer}
+use Rattle.fg_base.specs.Wholes.{is_whole}
+use Rattle.fg_base.specs.declared.op.Op.{Op}
+use Rattle.fg_base.specs.declared.shape.Family.{Family}
+use Rattle.fg_base.specs.declared.shape.Family.TheVariants.{Graphics}
+use Rattle.fg_base.specs.declared.shape.Shape.{Shape}
+use Rattle.fg_frame.specs.Members.{member_at}
+use Rattle.fg_frame.specs.Places.{first_in}
+use Rattle.fg_frame.specs.declared.frame.Frame.{Frame}
+use Rattle.fg_frame.specs.declared.frame.Resource.{Resource}
+use Rattle.fg_frame.specs.declared.numbered.NumberedPass.{NumberedPass}
+use Rattle.fg_frame.specs.declared.numbered.Uses.{Uses}
+use Rattle.fg_frame.specs.declared.place.Operand.TheVariants.{Dst}
+use Rattle.fg_frame.specs.declared.place.Place.{Place}
+use Rattle.fg_frame.specs.declared.place.Place.TheVariants as at
+use Rattle.fg_frame.specs.declared.uses.Rule.{Rule}
+use Rattle.fg_frame.specs.declared.uses.Rule.TheVariants as rules
+
+-- OPERATIONS RUN ON THEIR QUEUES
+
+abbrev pub family_of : Frame → ℕ → Family
+family_of frame queue = option_map_or (λ q. q.family) (slice_get frame.queues queue) Graphics
+
+abbrev pub stranger_in : Frame → ℕ → NumberedPass → Option Place
+stranger_in frame p pass = option_map (λ k. at.Op p k) (position (λ op. not (runs op (family_of frame pass.queue))) pass.ops)
+
+-- OPERANDS ARE DECLARED
+
+abbrev pub writes_it : NumberedPass → ℕ → Bool
+writes_it pass unit = list_any (λ w. w.what == unit) pass.writes
+
+abbrev pub reads_it : NumberedPass → ℕ → Bool
+reads_it pass unit = list_any (λ r. r == unit) pass.reads
+
+-- operand j: a source is read or written, the destination, which is the last, is written
+abbrev pub undeclared_at : NumberedPass → ℕ → ℕ → Op ℕ → ℕ → ℕ → Option Place
+undeclared_at pass p k op j unit = if writes_it pass unit || (nat_lt (suc j) (length (operands_of op)) && reads_it pass unit) then None else Some (at.Operand p k (member_at op j))
+
+abbrev pub undeclared_operand : NumberedPass → ℕ → ℕ → Op ℕ → Option Place
+undeclared_operand pass p k op = first_in (undeclared_at pass p k op) 0 (operands_of op)
+
+abbrev pub undeclared_in : ℕ → NumberedPass → Option Place
+undeclared_in p pass = first_in (undeclared_operand pass p) 0 pass.ops
+
+-- NEW CONTENTS ARE FIRST STORED WHOLE
+
+abbrev pub touches : ℕ → Op ℕ → Bool
+touches unit op = list_any (λ x. x == unit) (operands_of op)
+
+abbrev pub stores_whole : List Shape → ℕ → Op ℕ → Bool
+stores_whole shapes unit op = destination_of op == unit && is_whole (mapped (shape_at shapes) op)
+
+-- the first of the operations that touches the unit is there, and stores the whole of it
+abbrev pub starts_whole : List Shape → List (Op ℕ) → ℕ → Bool
+starts_whole shapes ops unit = option_map_or (stores_whole shapes unit) (find (touches unit) ops) false
+
+abbrev pub is_partial : List Shape → List (Op ℕ) → List ℕ → Bool
+is_partial shapes ops stored = list_any (λ unit. not (starts_whole shapes ops unit)) stored
+
+abbrev pub not_whole_in : List Shape → ℕ → Uses → Option Place
+not_whole_in shapes p uses = option_map (λ j. at.Write p j) (position (λ w. w.fresh && is_partial shapes uses.pass.ops w.units) uses.writes)
+
+-- WHAT IS READ OR CHANGED WAS WRITTEN
+
+abbrev pub makes : ℕ → Uses → Bool
+makes unit uses = list_any (λ w. w.fresh && w.what == unit) uses.pass.writes
+
+-- the unit is an import, or one of these passes makes it
+abbrev pub is_there : List Bool → List Uses → ℕ → Bool
+is_there imported passes unit = option_map_or (λ b. b) (slice_get imported unit) false || list_any (makes unit) passes
+
+abbrev pub is_missing : (ℕ → Bool) → List ℕ → Bool
+is_missing there wanted = list_any (λ unit. not (there unit)) wanted
+
+abbrev pub unwritten_in : (ℕ → Bool) → ℕ → Uses → Option Place
+unwritten_in there p uses =
+    option_or (option_map (λ k. at.Read p k) (position (is_missing there) uses.reads))
+    (option_map (λ j. at.Write p j) (position (λ w. not w.fresh && is_missing there w.units) uses.writes))
+
+-- in pass p, after the passes before it
+abbrev pub unwritten_at : List Bool → List Uses → ℕ → Uses → Option Place
+unwritten_at imported passes p uses = unwritten_in (is_there imported (take p passes)) p uses
+
+abbrev pub unwritten : List Bool → List Uses → List (List ℕ) → Option Place
+unwritten imported passes exports =
+    option_or (first_in (unwritten_at imported passes) 0 passes)
+    (option_map (λ i. at.Export i) (position (is_missing (is_there imported passes)) exports))
+
+-- IMPORTS AND OPERATIONS FIT
+
+-- a buffer, with as many bytes
+abbrev pub import_fits : Shape → Option (List ℕ) → Bool
+import_fits shape None = true
+import_fits shape (Some bytes) = is_buffer shape && length bytes == bytes_of shape
+
+abbrev pub misfit_import : List Resource → Option Place
+misfit_import resources = option_map (λ i. at.Import i) (position (λ r. not (import_fits r.shape r.import)) resources)
+
+abbrev pub misfit_in : List Shape → ℕ → NumberedPass → Option Place
+misfit_in shapes p pass = option_map (λ k. at.Op p k) (position (λ op. not (fits (mapped (shape_at shapes) op))) pass.ops)
+
+-- NOTHING IS COMPUTED IN PLACE
+
+abbrev pub in_place_in : ℕ → NumberedPass → Option Place
+in_place_in p pass = option_map (λ k. at.Operand p k Dst) (position in_place pass.ops)
+
+-- NEW CONTENTS ARE NOT READ
+
+abbrev pub read_new_in : ℕ → Uses → Option Place
+read_new_in p uses = option_map (λ j. at.Write p j) (position (λ w. w.fresh && list_any (reads_it uses.pass) w.units) uses.writes)
+
+-- EACH RULE OVER ALL PASSES
+
+abbrev pub use_at : Rule → Frame → List Shape → ℕ → Uses → Option Place
+use_at rules.Runs frame shapes p uses = stranger_in frame p uses.pass
+use_at rules.Declared frame shapes p uses = undeclared_in p uses.pass
+use_at rules.Whole frame shapes p uses = not_whole_in shapes p uses
+use_at rules.Fits frame shapes p uses = misfit_in shapes p uses.pass
+use_at rules.InPlace frame shapes p uses = in_place_in p uses.pass
+use_at rules.ReadNew frame shapes p uses = read_new_in p uses
+
+-- the first place in the passes where a rule is broken
+abbrev pub first_use : Rule → Frame → List Shape → List Uses → Option Place
+first_use rule frame shapes passes = first_in (use_at rule frame shapes) 0 passes
