@@ -57,15 +57,23 @@ rects_over room p (pass ∷ passes) = option_or (option_map (λ k. at.Rects p k)
 abbrev pub exported : Frame → Spot → ℕ
 exported frame spot = if is_some spot.layer then 1 else option_map_or (λ r. r.layers) (find (λ r. bytes_eq r.name spot.name) frame.resources) 1
 
-abbrev pub limit_broken : Frame → Option Broken
-limit_broken frame =
+-- the limits on what stands in the lists
+abbrev pub count_broken : Frame → Option Broken
+count_broken frame =
     option_or (option_map (λ i. over limits.Layers (at.Resource i)) (position (λ r. not (layers_allowed r)) frame.resources))
     (option_or (if is_between 1 4 (length frame.queues) then None else Some (over limits.Queues at.Queues))
     (option_or (option_map (λ i. over limits.Resources at.Resources) (first_over (λ r. r.layers) 256 0 frame.resources))
     (option_or (if nat_le (length frame.passes) 256 then None else Some (over limits.Passes at.Passes))
     (option_or (option_map (λ p. over limits.Ops (at.Ops p)) (first_over op_count 256 0 frame.passes))
     (option_or (option_map (over limits.Rects) (rects_over 4096 0 frame.passes))
-    (option_or (option_map (λ i. over limits.Exports at.Exports) (first_over (exported frame) 32 0 frame.exports))
-    (option_or (option_map (λ i. over limits.Side (at.Resource i)) (position (λ r. not (sides_allowed r.shape)) frame.resources))
-    (option_or (option_map (λ i. over limits.Size (at.Resource i)) (position (λ r. not (size_allowed r.shape)) frame.resources))
-    (option_map (λ i. over limits.Total (at.Resource i)) (first_over all_bytes 268435456 0 frame.resources))))))))))
+    (option_map (λ i. over limits.Exports at.Exports) (first_over (exported frame) 32 0 frame.exports)))))))
+
+-- the limits on each resource, and on all bytes together
+abbrev pub size_broken : List Resource → Option Broken
+size_broken resources =
+    option_or (option_map (λ i. over limits.Side (at.Resource i)) (position (λ r. not (sides_allowed r.shape)) resources))
+    (option_or (option_map (λ i. over limits.Size (at.Resource i)) (position (λ r. not (size_allowed r.shape)) resources))
+    (option_map (λ i. over limits.Total (at.Resource i)) (first_over all_bytes 268435456 0 resources)))
+
+abbrev pub limit_broken : Frame → Option Broken
+limit_broken frame = option_or (count_broken frame) (size_broken frame.resources)

@@ -1,11 +1,14 @@
 //! A frame as it is declared, with names in place of numbers.
 
-use fg_base::{Family, List, Name, Op, Shape};
+ghost use Rattle.std.specs.Prelude.{◌≡◌, IfOk};
+
+use fg_base::{Family, List, Name, NoMemory, Op, Shape};
 use fg_bits::Sharing;
+use std::alloc::Global;
 
 /// A buffer, a whole image, or one layer of an image: a place where a resource is named. Without a layer it stands for
 /// all layers of its resource.
-#[derive(Clone, Copy, Debug)]
+#[derive(Clone, Copy, Debug, PartialEq, Eq, Hash)]
 pub struct Spot {
     pub name: Name,
     pub layer: Option<u32>,
@@ -58,4 +61,81 @@ pub struct Frame {
     pub resources: List<Resource>,
     pub passes: List<Pass>,
     pub exports: List<Spot>,
+}
+
+impl Resource {
+    fn copy(&self, alloc: Global) -> Result<Resource, NoMemory>
+        ensures { IfOk result (λ resource. resource ≡ self.now) }
+    {
+        let import = match &self.import {
+            None => None,
+            Some(bytes) => Some(bytes.copy(alloc)?),
+        };
+        Ok(Resource {
+            name: self.name,
+            shape: self.shape,
+            layers: self.layers,
+            import,
+            sharing: self.sharing,
+        })
+    }
+}
+
+fn copy_resources(alloc: Global, resources: &List<Resource>) -> Result<List<Resource>, NoMemory>
+    ensures { IfOk result (λ copies. copies ≡ resources.now) }
+{
+    let mut copies = List::new(alloc);
+    for resource in resources.as_slice() {
+        copies.push(resource.copy(alloc)?)?;
+    }
+    Ok(copies)
+}
+
+fn copy_ops(alloc: Global, ops: &List<Op<Spot>>) -> Result<List<Op<Spot>>, NoMemory>
+    ensures { IfOk result (λ copies. copies ≡ ops.now) }
+{
+    let mut copies = List::new(alloc);
+    for op in ops.as_slice() {
+        copies.push(op.copy(alloc)?)?;
+    }
+    Ok(copies)
+}
+
+impl Pass {
+    fn copy(&self, alloc: Global) -> Result<Pass, NoMemory>
+        ensures { IfOk result (λ pass. pass ≡ self.now) }
+    {
+        Ok(Pass {
+            name: self.name,
+            queue: self.queue,
+            reads: self.reads.copy(alloc)?,
+            writes: self.writes.copy(alloc)?,
+            ops: copy_ops(alloc, &self.ops)?,
+            side_effect: self.side_effect,
+        })
+    }
+}
+
+fn copy_passes(alloc: Global, passes: &List<Pass>) -> Result<List<Pass>, NoMemory>
+    ensures { IfOk result (λ copies. copies ≡ passes.now) }
+{
+    let mut copies = List::new(alloc);
+    for pass in passes.as_slice() {
+        copies.push(pass.copy(alloc)?)?;
+    }
+    Ok(copies)
+}
+
+impl Frame {
+    /// An equal frame.
+    pub fn copy(&self, alloc: Global) -> Result<Frame, NoMemory>
+        ensures { IfOk result (λ frame. frame ≡ self.now) }
+    {
+        Ok(Frame {
+            queues: self.queues.copy(alloc)?,
+            resources: copy_resources(alloc, &self.resources)?,
+            passes: copy_passes(alloc, &self.passes)?,
+            exports: self.exports.copy(alloc)?,
+        })
+    }
 }

@@ -4,6 +4,7 @@
 mod fault;
 mod frame;
 mod good;
+mod limits;
 mod numbered;
 mod place;
 mod uses;

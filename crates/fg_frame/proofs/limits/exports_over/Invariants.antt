@@ -1,0 +1,7 @@
+use Rattle.std.proofs.Common.{◌≡◌, drop}
+use Rattle.fg_frame.specs.Limits.{op_count, rect_count, exported, all_bytes}
+use Rattle.fg_frame.specs.Places.{first_over}
+use Rattle.fg_frame.proofs.limits.exports_over.Given as goal
+
+abbrev pub invariant-loop-i : goal.invariant-loop-i
+invariant-loop-i l = first_over (exported l.frame) l.room l.i (drop l.i l.frame.exports) ≡ first_over (exported l.frame) 32 0 l.frame.exports

@@ -1,0 +1,255 @@
+//! The limits of a frame.
+
+ghost use Rattle.std.specs.Prelude.{◌≡◌, ◌≤◌, not, IfOk, IfErr, IfNone, Some, None, length, option_copied};
+ghost use Rattle.std.specs.List.{position, find};
+ghost use Rattle.std.specs.Str.{bytes_eq};
+ghost use Rattle.fg_frame.specs.Limits.{over, layers_allowed, sides_allowed, size_allowed, all_bytes, op_count, rect_count, rects_over, exported, count_broken, size_broken, limit_broken};
+ghost use Rattle.fg_frame.specs.Places.{first_over, room_after};
+
+use crate::place::{Broken, Place};
+use crate::{Frame, Pass, Resource, Spot};
+use fg_base::{Limit, Op, Shape};
+
+fn over(limit: Limit, place: Place) -> Broken
+    ensures { result ≡ over limit place }
+{
+    Broken {
+        number: 4,
+        limit: Some(limit),
+        place,
+    }
+}
+
+fn layers_allowed(resource: &Resource) -> bool
+    ensures { result ≡ layers_allowed resource.now }
+{
+    if resource.shape.is_buffer() {
+        resource.layers == 1
+    } else {
+        1 <= resource.layers && resource.layers <= 8
+    }
+}
+
+fn wrong_layers(resources: &[Resource]) -> Option<usize>
+    ensures { result ≡ position (λ r. not (layers_allowed r)) resources.now }
+{
+    resources
+        .iter()
+        .position(|resource| !layers_allowed(resource))
+}
+
+fn sides_allowed(shape: Shape) -> bool
+    ensures { result ≡ sides_allowed shape }
+{
+    match shape {
+        Shape::Buffer { .. } => true,
+        Shape::Image { width, height, .. } => {
+            1 <= width && width <= 4096 && (1 <= height && height <= 4096)
+        }
+    }
+}
+
+fn wrong_sides(resources: &[Resource]) -> Option<usize>
+    ensures { result ≡ position (λ r. not (sides_allowed r.shape)) resources.now }
+{
+    resources
+        .iter()
+        .position(|resource| !sides_allowed(resource.shape))
+}
+
+fn size_allowed(shape: Shape) -> bool
+    ensures { result ≡ size_allowed shape }
+{
+    let bytes = shape.bytes();
+    1 <= bytes && bytes <= 16_777_216
+}
+
+fn wrong_size(resources: &[Resource]) -> Option<usize>
+    ensures { result ≡ position (λ r. not (size_allowed r.shape)) resources.now }
+{
+    resources
+        .iter()
+        .position(|resource| !size_allowed(resource.shape))
+}
+
+fn units_over(resources: &[Resource]) -> Option<usize>
+    ensures { result ≡ first_over (λ r. r.layers) 256 0 resources.now }
+{
+    let mut room = 256;
+    for (i, resource) in resources.iter().enumerate() {
+        if resource.layers > room {
+            return Some(i);
+        }
+        room -= resource.layers;
+    }
+    None
+}
+
+fn ops_over(passes: &[Pass]) -> Option<usize>
+    ensures { result ≡ first_over op_count 256 0 passes.now }
+{
+    let mut room = 256;
+    for (p, pass) in passes.iter().enumerate() {
+        if pass.ops.len() > room {
+            return Some(p);
+        }
+        room -= pass.ops.len();
+    }
+    None
+}
+
+fn rect_count(op: &Op<Spot>) -> usize
+    ensures { result ≡ rect_count op.now }
+{
+    match op {
+        Op::Draw { rects, .. } => rects.len(),
+        _ => 0,
+    }
+}
+
+// The room that the rectangles leave, or the first draw with which they are more.
+fn rects_in(most: usize, ops: &[Op<Spot>]) -> Result<usize, usize>
+    ensures within { IfOk result (λ left. (first_over rect_count most 0 ops.now ≡ None) × (left ≡ room_after rect_count most ops.now)) }
+    ensures over { IfErr result (λ k. first_over rect_count most 0 ops.now ≡ Some k) }
+{
+    let mut room = most;
+    for (k, op) in ops.iter().enumerate() {
+        let count = rect_count(op);
+        if count > room {
+            return Err(k);
+        }
+        room -= count;
+    }
+    Ok(room)
+}
+
+fn rects_over(passes: &[Pass]) -> Option<Place>
+    ensures { result ≡ rects_over 4096 0 passes.now }
+{
+    let mut room = 4096;
+    for (p, pass) in passes.iter().enumerate() {
+        match rects_in(room, &pass.ops) {
+            Ok(left) => room = left,
+            Err(k) => return Some(Place::Rects(p, k)),
+        }
+    }
+    None
+}
+
+fn named<'a>(frame: &'a Frame, spot: &Spot) -> Option<&'a Resource>
+    ensures { option_copied result ≡ find (λ r. bytes_eq r.name spot.now.name) frame.now.resources }
+{
+    frame
+        .resources
+        .iter()
+        .find(|resource| resource.name == spot.name)
+}
+
+fn exported(frame: &Frame, spot: &Spot) -> u32
+    ensures { result ≡ exported frame.now spot.now }
+{
+    if spot.layer.is_some() {
+        return 1;
+    }
+    match named(frame, spot) {
+        Some(resource) => resource.layers,
+        None => 1,
+    }
+}
+
+fn exports_over(frame: &Frame) -> Option<usize>
+    ensures { result ≡ first_over (exported frame.now) 32 0 frame.now.exports }
+{
+    let mut room = 32;
+    for (i, spot) in frame.exports.iter().enumerate() {
+        let count = exported(frame, spot);
+        if count > room {
+            return Some(i);
+        }
+        room -= count;
+    }
+    None
+}
+
+fn all_bytes(resource: &Resource) -> u128
+    ensures { result ≡ all_bytes resource.now }
+{
+    match resource.shape {
+        Shape::Buffer { size } => resource.layers as u128 * size as u128,
+        Shape::Image {
+            width,
+            height,
+            texel,
+        } => {
+            resource.layers as u128 * (width as u128 * height as u128 * texel.bytes() as u128)
+        }
+    }
+}
+
+fn bytes_over(resources: &[Resource]) -> Option<usize>
+    ensures { result ≡ first_over all_bytes 268435456 0 resources.now }
+{
+    let mut room = 268_435_456;
+    for (i, resource) in resources.iter().enumerate() {
+        let bytes = all_bytes(resource);
+        if bytes > room {
+            return Some(i);
+        }
+        room -= bytes;
+    }
+    None
+}
+
+// The limits on what stands in the lists.
+fn count_broken(frame: &Frame) -> Option<Broken>
+    ensures { result ≡ count_broken frame.now }
+{
+    if let Some(i) = wrong_layers(&frame.resources) {
+        return Some(over(Limit::Layers, Place::Resource(i)));
+    }
+    if frame.queues.len() < 1 || frame.queues.len() > 4 {
+        return Some(over(Limit::Queues, Place::Queues));
+    }
+    if units_over(&frame.resources).is_some() {
+        return Some(over(Limit::Resources, Place::Resources));
+    }
+    if frame.passes.len() > 256 {
+        return Some(over(Limit::Passes, Place::Passes));
+    }
+    if let Some(p) = ops_over(&frame.passes) {
+        return Some(over(Limit::Ops, Place::Ops(p)));
+    }
+    if let Some(place) = rects_over(&frame.passes) {
+        return Some(over(Limit::Rects, place));
+    }
+    if exports_over(frame).is_some() {
+        return Some(over(Limit::Exports, Place::Exports));
+    }
+    None
+}
+
+// The limits on each resource and on their bytes.
+fn size_broken(resources: &[Resource]) -> Option<Broken>
+    ensures { result ≡ size_broken resources.now }
+{
+    if let Some(i) = wrong_sides(resources) {
+        return Some(over(Limit::Side, Place::Resource(i)));
+    }
+    if let Some(i) = wrong_size(resources) {
+        return Some(over(Limit::Size, Place::Resource(i)));
+    }
+    if let Some(i) = bytes_over(resources) {
+        return Some(over(Limit::Total, Place::Resource(i)));
+    }
+    None
+}
+
+/// The first limit that is broken.
+pub(crate) fn limit_broken(frame: &Frame) -> Option<Broken>
+    ensures { result ≡ limit_broken frame.now }
+{
+    if let Some(broken) = count_broken(frame) {
+        return Some(broken);
+    }
+    size_broken(&frame.resources)
+}
