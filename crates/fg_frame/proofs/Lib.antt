@@ -1,1 +1,5 @@
+pub mod Clashing
 mod Rows
+pub mod Sizes
+pub mod Stretches
+pub mod Walks

@@ -18,6 +18,11 @@ abbrev pub stretches : ℕ → List Resource → List Stretch
 stretches n [] = []
 stretches n (r ∷ rs) = record { first = n; layers = r.layers; is_image = is_image r.shape } ∷ stretches (n + r.layers) rs
 
+-- the layers of all of them
+abbrev pub layers_of : List Resource → ℕ
+layers_of [] = 0
+layers_of (r ∷ rs) = r.layers + layers_of rs
+
 -- the names of resources, and beside each its units
 pub record Numbering : Type 0 where
   pub names : List (List ℕ)

@@ -37,8 +37,11 @@ is_known n spot = option_map_or (has_layer spot.layer) (stretch_of n spot.name) 
 abbrev pub is_known_unit : Numbering → Spot → Bool
 is_known_unit n spot = option_map_or (picks_one spot.layer) (stretch_of n spot.name) false
 
+abbrev pub unknown_at : Numbering → ℕ → ℕ → Op Spot → ℕ → Spot → Option Place
+unknown_at n p k op j spot = if is_known_unit n spot then None else Some (at.Operand p k (member_at op j))
+
 abbrev pub unknown_operand : Numbering → ℕ → ℕ → Op Spot → Option Place
-unknown_operand n p k op = option_map (λ j. at.Operand p k (member_at op j)) (position (λ spot. not (is_known_unit n spot)) (operands_of op))
+unknown_operand n p k op = first_in (unknown_at n p k op) 0 (operands_of op)
 
 abbrev pub unknown_in : Frame → Numbering → ℕ → Pass → Option Place
 unknown_in frame n p pass =

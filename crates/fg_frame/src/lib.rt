@@ -5,8 +5,12 @@ mod fault;
 mod frame;
 mod good;
 mod limits;
+mod members;
 mod numbered;
 mod place;
+mod repeats;
+mod table;
+mod unknowns;
 mod uses;
 
 pub use fault::FrameFault;

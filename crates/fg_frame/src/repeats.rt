@@ -1,0 +1,195 @@
+//! Names that stand twice, and entries that name one unit twice.
+
+ghost use Rattle.std.specs.Prelude.{◌≡◌, ◌≤◌, ◌<◌, ◌&&◌, take, map, length, is_some, IfOk, IfErr, None, Some, true};
+ghost use Rattle.std.specs.List.{list_any};
+ghost use Rattle.std.specs.Str.{bytes_eq};
+ghost use Rattle.fg_frame.specs.Clashes.{clash, clashes_at, first_clash};
+ghost use Rattle.fg_frame.specs.Places.{first_in};
+ghost use Rattle.fg_frame.specs.Repeats.{repeats_at, first_repeat, repeats_in, repeated};
+
+use crate::place::Place;
+use crate::{Frame, Pass, Spot, Write};
+use fg_base::{List, Name, NoMemory};
+use indexmap::IndexSet;
+use std::alloc::Global;
+
+/// The names as a table, or the position of the first that stands before it too.
+#[tactic(auto, using(crate::proofs::Walks::first_on))]
+pub(crate) fn distinct(
+    alloc: Global,
+    names: &[Name],
+) -> Result<Result<IndexSet<Name>, usize>, NoMemory>
+    ensures table { IfOk result (λ found. IfOk found (λ table. (table.keys ≡ names.now) × (first_repeat names.now ≡ None))) }
+    ensures repeat { IfOk result (λ found. IfErr found (λ at. first_repeat names.now ≡ Some at)) }
+{
+    let mut seen = IndexSet::new(alloc);
+    for (i, name) in names.iter().enumerate() {
+        let (_, added) = seen.insert_full(*name)?;
+        if !added {
+            return Ok(Err(i));
+        }
+    }
+    Ok(Ok(seen))
+}
+
+fn first_repeat(alloc: Global, names: &[Name]) -> Result<Option<usize>, NoMemory>
+    ensures { IfOk result (λ place. place ≡ first_repeat names.now) }
+{
+    match distinct(alloc, names)? {
+        Ok(_) => Ok(None),
+        Err(at) => Ok(Some(at)),
+    }
+}
+
+fn repeats_at(names: &[Name], at: usize, name: &Name) -> Option<usize>
+    requires { at ≤ length names.now }
+    ensures { result ≡ repeats_at names.now at name.now }
+{
+    if names[..at].contains(name) {
+        Some(at)
+    } else {
+        None
+    }
+}
+
+// Whether one of these entries names this layer, or all.
+#[tactic(auto, using(crate::proofs::Clashing::layer_taken))]
+fn is_taken(seen: &IndexSet<Spot>, name: Name, layer: u32) -> bool
+    ensures { result ≡ list_any (clash (record { name = name; layer = Some layer })) seen.now.keys }
+{
+    let whole = Spot { name, layer: None };
+    let spot = Spot {
+        name,
+        layer: Some(layer),
+    };
+    seen.contains(&whole) || seen.contains(&spot)
+}
+
+// Whether one of these entries clashes with this one, where it is known whether one has its name.
+#[tactic(auto, using(crate::proofs::Clashing::none_named, crate::proofs::Clashing::all_taken))]
+fn clashes(named: bool, seen: &IndexSet<Spot>, spot: Spot) -> bool
+    requires { named ≡ list_any (λ s. bytes_eq spot.name s.name) seen.now.keys }
+    ensures { result ≡ list_any (clash spot) seen.now.keys }
+{
+    if !named {
+        return false;
+    }
+    match spot.layer {
+        None => true,
+        Some(layer) => is_taken(seen, spot.name, layer),
+    }
+}
+
+fn first_clash(alloc: Global, spots: &[Spot]) -> Result<Option<usize>, NoMemory>
+    ensures { IfOk result (λ place. place ≡ first_clash spots.now) }
+{
+    let mut names = IndexSet::new(alloc);
+    let mut seen = IndexSet::new(alloc);
+    for (i, spot) in spots.iter().enumerate() {
+        let (_, fresh) = names.insert_full(spot.name)?;
+        if clashes(!fresh, &seen, *spot) {
+            return Ok(Some(i));
+        }
+        seen.insert_full(*spot)?;
+    }
+    Ok(None)
+}
+
+fn written(alloc: Global, writes: &[Write<Spot>]) -> Result<List<Spot>, NoMemory>
+    ensures { IfOk result (λ spots. spots ≡ map (λ w. w.what) writes.now) }
+{
+    let mut spots = List::new(alloc);
+    for write in writes {
+        spots.push(write.what)?;
+    }
+    Ok(spots)
+}
+
+fn queue_names(alloc: Global, frame: &Frame) -> Result<List<Name>, NoMemory>
+    ensures { IfOk result (λ names. names ≡ map (λ q. q.name) frame.now.queues) }
+{
+    let mut names = List::new(alloc);
+    for queue in frame.queues.iter() {
+        names.push(queue.name)?;
+    }
+    Ok(names)
+}
+
+pub(crate) fn resource_names(alloc: Global, frame: &Frame) -> Result<List<Name>, NoMemory>
+    ensures { IfOk result (λ names. names ≡ map (λ r. r.name) frame.now.resources) }
+{
+    let mut names = List::new(alloc);
+    for resource in frame.resources.iter() {
+        names.push(resource.name)?;
+    }
+    Ok(names)
+}
+
+fn pass_names(alloc: Global, frame: &Frame) -> Result<List<Name>, NoMemory>
+    ensures { IfOk result (λ names. names ≡ map (λ p. p.name) frame.now.passes) }
+{
+    let mut names = List::new(alloc);
+    for pass in frame.passes.iter() {
+        names.push(pass.name)?;
+    }
+    Ok(names)
+}
+
+fn repeats_in(
+    alloc: Global,
+    names: &[Name],
+    p: usize,
+    pass: &Pass,
+) -> Result<Option<Place>, NoMemory>
+    requires { p ≤ length names.now }
+    ensures { IfOk result (λ place. place ≡ repeats_in names.now p pass.now) }
+{
+    if let Some(i) = repeats_at(names, p, &pass.name) {
+        return Ok(Some(Place::Pass(i)));
+    }
+    if let Some(k) = first_clash(alloc, &pass.reads)? {
+        return Ok(Some(Place::Read(p, k)));
+    }
+    let spots = written(alloc, &pass.writes)?;
+    match first_clash(alloc, &spots)? {
+        Some(k) => Ok(Some(Place::Write(p, k))),
+        None => Ok(None),
+    }
+}
+
+#[tactic(auto, using(crate::proofs::Walks::first_on))]
+fn repeats_in_passes(
+    alloc: Global,
+    names: &[Name],
+    passes: &[Pass],
+) -> Result<Option<Place>, NoMemory>
+    requires { length names.now ≡ length passes.now }
+    ensures { IfOk result (λ place. place ≡ first_in (repeats_in names.now) 0 passes.now) }
+{
+    for (p, pass) in passes.iter().enumerate() {
+        if let Some(place) = repeats_in(alloc, names, p, pass)? {
+            return Ok(Some(place));
+        }
+    }
+    Ok(None)
+}
+
+/// The first name that stands twice, or entry that names a unit twice.
+pub(crate) fn repeated(alloc: Global, frame: &Frame) -> Result<Option<Place>, NoMemory>
+    ensures { IfOk result (λ place. place ≡ repeated frame.now) }
+{
+    if let Some(i) = first_repeat(alloc, &queue_names(alloc, frame)?)? {
+        return Ok(Some(Place::Queue(i)));
+    }
+    if let Some(i) = first_repeat(alloc, &resource_names(alloc, frame)?)? {
+        return Ok(Some(Place::Resource(i)));
+    }
+    let names = pass_names(alloc, frame)?;
+    if let Some(place) = repeats_in_passes(alloc, &names, &frame.passes)? {
+        return Ok(Some(place));
+    }
+    match first_clash(alloc, &frame.exports)? {
+        Some(i) => Ok(Some(Place::Export(i))),
+        None => Ok(None),
+    }
+}

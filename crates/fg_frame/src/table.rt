@@ -1,0 +1,182 @@
+//! From the names of resources to their units.
+
+ghost use Rattle.std.specs.Prelude.{◌≡◌, ◌≤◌, ◌<◌, ◌+◌, ◌++◌, ◌∷◌, [], IfOk, IfSome, OnOk, None, map, slice_get};
+ghost use Rattle.std.specs.List.{All, range_with_len};
+ghost use Rattle.fg_frame.specs.Repeats.{first_repeat};
+ghost use Rattle.fg_frame.specs.Units.{Numbering, numbering, stretches, stretch_of, layers_of, layer_unit, units_in, unit_in, units_of, unit_of};
+ghost use Rattle.fg_frame.specs.Unknowns.{has_layer, picks_one, is_known, is_known_unit};
+
+use crate::numbered::Stretch;
+use crate::repeats::{distinct, resource_names};
+use crate::{Frame, Resource, Spot};
+use fg_base::{List, Name, NoMemory};
+use indexmap::IndexSet;
+use std::alloc::Global;
+use std::marker::Model;
+
+/// The names of a frame's resources, and beside each where its units stand.
+#[derive(Drop)]
+pub(crate) struct Table {
+    names: IndexSet<Name>,
+    stretches: List<Stretch>,
+}
+
+impl Model for Table {
+    ghost use Rattle.std.specs.Prelude.{◌+◌, ◌≤◌};
+    ghost use Rattle.std.specs.List.{All};
+    ghost use Rattle.fg_frame.specs.Units.{Numbering};
+
+    ghost Value = { Numbering };
+
+    ghost view = { λ t. record { names = t.names.keys; stretches = t.stretches } };
+
+    ghost invariant = { λ t. All (λ s. s.first + s.layers ≤ 256) t.stretches };
+}
+
+#[tactic(auto, using(crate::proofs::Stretches::stretches_on, crate::proofs::Stretches::few_on, crate::proofs::Stretches::few_here, crate::proofs::Stretches::all_small))]
+fn stretches(alloc: Global, resources: &[Resource]) -> Result<List<Stretch>, NoMemory>
+    requires { layers_of resources.now ≤ 256 }
+    ensures all { IfOk result (λ list. list ≡ stretches 0 resources.now) }
+    ensures small { IfOk result (λ list. All (λ s. s.first + s.layers ≤ 256) list) }
+{
+    let mut list = List::new(alloc);
+    let mut first = 0;
+    for resource in resources {
+        list.push(Stretch {
+            first,
+            layers: resource.layers,
+            is_image: resource.shape.is_image(),
+        })?;
+        first += resource.layers;
+    }
+    Ok(list)
+}
+
+impl Table {
+    /// The table of a frame whose resources have different names.
+    pub fn new(alloc: Global, frame: &Frame) -> Result<Table, NoMemory>
+        requires few { layers_of frame.now.resources ≤ 256 }
+        requires distinct { first_repeat (map (λ r. r.name) frame.now.resources) ≡ None }
+        ensures { IfOk result (λ table. table ≡ numbering frame.now) }
+    {
+        let names = resource_names(alloc, frame)?;
+        match distinct(alloc, &names)? {
+            Ok(names) => Ok(Table {
+                names,
+                stretches: stretches(alloc, &frame.resources)?,
+            }),
+            Err(_) => unreachable!(),
+        }
+    }
+
+    fn stretch_of(&self, name: Name) -> Option<Stretch>
+        ensures stretch { result ≡ stretch_of self.now name }
+        ensures small { IfSome result (λ s. s.first + s.layers ≤ 256) }
+    {
+        match self.names.get_index_of(&name) {
+            Some(at) => stretch_at(&self.stretches, at),
+            None => None,
+        }
+    }
+
+    pub fn is_known(&self, spot: Spot) -> bool
+        ensures { result ≡ is_known self.now spot }
+    {
+        match self.stretch_of(spot.name) {
+            Some(stretch) => has_layer(spot.layer, stretch),
+            None => false,
+        }
+    }
+
+    /// Whether the spot is one unit.
+    pub fn is_known_unit(&self, spot: Spot) -> bool
+        ensures { result ≡ is_known_unit self.now spot }
+    {
+        match self.stretch_of(spot.name) {
+            Some(stretch) => picks_one(spot.layer, stretch),
+            None => false,
+        }
+    }
+
+    /// The units that an entry stands for.
+    pub fn units_of(&self, alloc: Global, spot: Spot) -> Result<List<u32>, NoMemory>
+        ensures { IfOk result (λ units. units ≡ units_of self.now spot) }
+    {
+        match self.stretch_of(spot.name) {
+            Some(stretch) => units_in(alloc, spot.layer, stretch),
+            None => Ok(List::new(alloc)),
+        }
+    }
+
+    /// The unit that an operand stands for.
+    pub fn unit_of(&self, spot: Spot) -> u32
+        ensures { result ≡ unit_of self.now spot }
+    {
+        match self.stretch_of(spot.name) {
+            Some(stretch) => layer_unit(stretch, spot.layer.unwrap_or(0)),
+            None => 0,
+        }
+    }
+}
+
+fn stretch_at(stretches: &[Stretch], at: usize) -> Option<Stretch>
+    ensures { result ≡ slice_get stretches.now at }
+{
+    stretches.get(at).copied()
+}
+
+fn has_layer(layer: Option<u32>, stretch: Stretch) -> bool
+    ensures { result ≡ has_layer layer stretch }
+{
+    match layer {
+        None => true,
+        Some(layer) => stretch.is_image && layer < stretch.layers,
+    }
+}
+
+fn picks_one(layer: Option<u32>, stretch: Stretch) -> bool
+    ensures { result ≡ picks_one layer stretch }
+{
+    match layer {
+        None => stretch.layers <= 1,
+        Some(_) => has_layer(layer, stretch),
+    }
+}
+
+fn layer_unit(stretch: Stretch, layer: u32) -> u32
+    requires { stretch.first + stretch.layers ≤ 256 }
+    ensures { result ≡ layer_unit stretch layer }
+{
+    if layer < stretch.layers {
+        stretch.first + layer
+    } else {
+        0
+    }
+}
+
+// So many numbers from the first on.
+#[tactic(auto, using(crate::proofs::Stretches::range_on))]
+fn numbers(alloc: Global, first: u32, count: u32) -> Result<List<u32>, NoMemory>
+    requires { first + count ≤ 256 }
+    ensures { IfOk result (λ list. list ≡ range_with_len first count) }
+{
+    let mut list = List::new(alloc);
+    for k in 0..count {
+        list.push(first + k)?;
+    }
+    Ok(list)
+}
+
+fn units_in(alloc: Global, layer: Option<u32>, stretch: Stretch) -> Result<List<u32>, NoMemory>
+    requires { stretch.first + stretch.layers ≤ 256 }
+    ensures { IfOk result (λ units. units ≡ units_in layer stretch) }
+{
+    match layer {
+        None => numbers(alloc, stretch.first, stretch.layers),
+        Some(layer) => {
+            let mut units = List::new(alloc);
+            units.push(layer_unit(stretch, layer))?;
+            Ok(units)
+        }
+    }
+}

@@ -1,0 +1,115 @@
+//! Names that nothing has, and layers that are not there.
+
+ghost use Rattle.std.specs.Prelude.{◌≡◌, ◌<◌, not, if◌then◌else◌, None, Some, IfSome, length};
+ghost use Rattle.std.specs.List.{position};
+ghost use Rattle.fg_base.specs.Operands.{operands_of};
+ghost use Rattle.fg_frame.specs.Members.{member_at};
+ghost use Rattle.fg_frame.specs.Places.{first_in};
+ghost use Rattle.fg_frame.specs.Unknowns.{queue_at, has_queue, is_known, is_known_unit, unknown_at, unknown_operand, unknown_in, unknown_by};
+
+use crate::members::member_at;
+use crate::place::Place;
+use crate::table::Table;
+use crate::{Frame, Pass, Spot, Write};
+use fg_base::{Name, Op};
+
+pub(crate) fn queue_at(frame: &Frame, name: Name) -> Option<usize>
+    ensures at { result ≡ queue_at frame.now name }
+    ensures within { IfSome result (λ i. i < length frame.now.queues) }
+{
+    frame.queues.iter().position(|queue| queue.name == name)
+}
+
+fn has_queue(frame: &Frame, name: Name) -> bool
+    ensures { result ≡ has_queue frame.now name }
+{
+    queue_at(frame, name).is_some()
+}
+
+fn unknown_at(table: &Table, p: usize, k: usize, op: &Op<Spot>, j: usize, spot: Spot) -> Option<Place>
+    ensures { result ≡ unknown_at table.now p k op.now j spot }
+{
+    if table.is_known_unit(spot) {
+        None
+    } else {
+        Some(Place::Operand(p, k, member_at(op, j)))
+    }
+}
+
+#[tactic(auto, using(crate::proofs::Walks::operand_on))]
+fn unknown_operand(table: &Table, p: usize, k: usize, op: &Op<Spot>) -> Option<Place>
+    ensures { result ≡ unknown_operand table.now p k op.now }
+{
+    for j in 0..op.touch_count() {
+        if let Some(place) = unknown_at(table, p, k, op, j as usize, op.operand(j)) {
+            return Some(place);
+        }
+    }
+    None
+}
+
+fn unknown_spot(table: &Table, spots: &[Spot]) -> Option<usize>
+    ensures { result ≡ position (λ spot. not (is_known table.now spot)) spots.now }
+{
+    spots.iter().position(|spot| !table.is_known(*spot))
+}
+
+fn unknown_write(table: &Table, writes: &[Write<Spot>]) -> Option<usize>
+    ensures { result ≡ position (λ w. not (is_known table.now w.what)) writes.now }
+{
+    writes
+        .iter()
+        .position(|write| !table.is_known(write.what))
+}
+
+#[tactic(auto, using(crate::proofs::Walks::first_on))]
+fn unknown_op(table: &Table, p: usize, ops: &[Op<Spot>]) -> Option<Place>
+    ensures { result ≡ first_in (unknown_operand table.now p) 0 ops.now }
+{
+    for (k, op) in ops.iter().enumerate() {
+        if let Some(place) = unknown_operand(table, p, k, op) {
+            return Some(place);
+        }
+    }
+    None
+}
+
+fn unknown_in(frame: &Frame, table: &Table, p: usize, pass: &Pass) -> Option<Place>
+    ensures { result ≡ unknown_in frame.now table.now p pass.now }
+{
+    if !has_queue(frame, pass.queue) {
+        return Some(Place::PassQueue(p));
+    }
+    if let Some(k) = unknown_spot(table, &pass.reads) {
+        return Some(Place::Read(p, k));
+    }
+    if let Some(k) = unknown_write(table, &pass.writes) {
+        return Some(Place::Write(p, k));
+    }
+    unknown_op(table, p, &pass.ops)
+}
+
+#[tactic(auto, using(crate::proofs::Walks::first_on))]
+fn unknown_in_passes(frame: &Frame, table: &Table) -> Option<Place>
+    ensures { result ≡ first_in (unknown_in frame.now table.now) 0 frame.now.passes }
+{
+    for (p, pass) in frame.passes.iter().enumerate() {
+        if let Some(place) = unknown_in(frame, table, p, pass) {
+            return Some(place);
+        }
+    }
+    None
+}
+
+/// The first name or layer that is not there.
+pub(crate) fn unknown(frame: &Frame, table: &Table) -> Option<Place>
+    ensures { result ≡ unknown_by table.now frame.now }
+{
+    if let Some(place) = unknown_in_passes(frame, table) {
+        return Some(place);
+    }
+    match unknown_spot(table, &frame.exports) {
+        Some(i) => Some(Place::Export(i)),
+        None => None,
+    }
+}
