@@ -36,7 +36,6 @@ fn unknown_at(table: &Table, p: usize, k: usize, op: &Op<Spot>, j: usize, spot: 
     }
 }
 
-#[tactic(auto, using(crate::proofs::Walks::operand_on))]
 fn unknown_operand(table: &Table, p: usize, k: usize, op: &Op<Spot>) -> Option<Place>
     ensures { result ≡ unknown_operand table.now p k op.now }
 {
