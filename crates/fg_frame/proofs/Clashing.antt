@@ -93,6 +93,7 @@ found n k keys = by_old (list_any (bytes_eq k) keys) refl
         let same : n ≡ k = (bytes_eq-Decides n k).0 e in
         let there : list_any (bytes_eq n) keys ≡ true = subst (λ m. list_any (bytes_eq m) keys ≡ true) (sym same) old in
         rw there refl
+
     by_old : (b : Bool) → list_any (bytes_eq k) keys ≡ b → list_any (bytes_eq n) (if b then keys else keys ++ k ∷ []) ≡ (list_any (bytes_eq n) keys || bytes_eq n k)
     by_old true e = known (bytes_eq n k) refl e
     by_old false e = list_any-append (bytes_eq n) keys (k ∷ []) ∙ ap (λ b. list_any (bytes_eq n) keys || b) (or_false (bytes_eq n k))

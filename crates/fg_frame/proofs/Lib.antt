@@ -1,4 +1,5 @@
 pub mod Clashing
+pub mod Flat
 mod Rows
 pub mod Sizes
 pub mod Stretches

@@ -1,5 +1,5 @@
 -- A frame with numbers in place of names.
-use Rattle.std.specs.Prelude.{ℕ, List, map, length, ◌<◌, unwrap_or}
+use Rattle.std.specs.Prelude.{ℕ, Bool, List, map, length, ◌<◌, unwrap_or}
 use Rattle.std.specs.List.{All, flat_map}
 use Rattle.fg_base.specs.Operands.{operands_of, mapped}
 use Rattle.fg_base.specs.declared.shape.Family.{Family}
@@ -16,9 +16,12 @@ use Rattle.fg_frame.specs.declared.numbered.Uses.{Uses}
 abbrev pub queue_number : Frame → List ℕ → ℕ
 queue_number frame name = unwrap_or (queue_at frame name) 0
 
+abbrev pub write_each : Bool → ℕ → Write ℕ
+write_each fresh unit = record { what = unit; fresh = fresh }
+
 -- one write for each unit
 abbrev pub writes_of : Numbering → Write Spot → List (Write ℕ)
-writes_of n write = map (λ unit. record { what = unit; fresh = write.fresh }) (units_of n write.what)
+writes_of n write = map (write_each write.fresh) (units_of n write.what)
 
 abbrev pub numbered_pass : Frame → Numbering → Pass → NumberedPass
 numbered_pass frame n pass = record {
@@ -66,5 +69,6 @@ uses_of frame n pass = record {
 -- all passes, and the exports
 abbrev pub all_uses : Frame → List Uses
 all_uses frame = map (uses_of frame (numbering frame)) frame.passes
+
 abbrev pub export_units : Frame → List (List ℕ)
 export_units frame = map (units_of (numbering frame)) frame.exports

@@ -17,6 +17,7 @@ use Rattle.fg_frame.specs.Places.{first_in}
 use Rattle.fg_frame.specs.declared.frame.Frame.{Frame}
 use Rattle.fg_frame.specs.declared.frame.Resource.{Resource}
 use Rattle.fg_frame.specs.declared.numbered.NumberedPass.{NumberedPass}
+use Rattle.fg_frame.specs.declared.numbered.Stored.{Stored}
 use Rattle.fg_frame.specs.declared.numbered.Uses.{Uses}
 use Rattle.fg_frame.specs.declared.place.Operand.TheVariants.{Dst}
 use Rattle.fg_frame.specs.declared.place.Place.{Place}
@@ -65,8 +66,11 @@ starts_whole shapes ops unit = option_map_or (stores_whole shapes unit) (find (t
 abbrev pub is_partial : List Shape → List (Op ℕ) → List ℕ → Bool
 is_partial shapes ops stored = list_any (λ unit. not (starts_whole shapes ops unit)) stored
 
+abbrev pub not_whole_at : List Shape → List (Op ℕ) → ℕ → ℕ → Stored → Option Place
+not_whole_at shapes ops p j write = if write.fresh && is_partial shapes ops write.units then Some (at.Write p j) else None
+
 abbrev pub not_whole_in : List Shape → ℕ → Uses → Option Place
-not_whole_in shapes p uses = option_map (λ j. at.Write p j) (position (λ w. w.fresh && is_partial shapes uses.pass.ops w.units) uses.writes)
+not_whole_in shapes p uses = first_in (not_whole_at shapes uses.pass.ops p) 0 uses.writes
 
 -- WHAT IS READ OR CHANGED WAS WRITTEN
 
@@ -104,8 +108,11 @@ import_fits shape (Some bytes) = is_buffer shape && length bytes == bytes_of sha
 abbrev pub misfit_import : List Resource → Option Place
 misfit_import resources = option_map (λ i. at.Import i) (position (λ r. not (import_fits r.shape r.import)) resources)
 
+abbrev pub misfit_at : List Shape → ℕ → ℕ → Op ℕ → Option Place
+misfit_at shapes p k op = if fits (mapped (shape_at shapes) op) then None else Some (at.Op p k)
+
 abbrev pub misfit_in : List Shape → ℕ → NumberedPass → Option Place
-misfit_in shapes p pass = option_map (λ k. at.Op p k) (position (λ op. not (fits (mapped (shape_at shapes) op))) pass.ops)
+misfit_in shapes p pass = first_in (misfit_at shapes p) 0 pass.ops
 
 -- NOTHING IS COMPUTED IN PLACE
 

@@ -7,6 +7,7 @@ mod good;
 mod limits;
 mod members;
 mod numbered;
+mod numbers;
 mod place;
 mod repeats;
 mod table;

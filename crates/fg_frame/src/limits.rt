@@ -192,9 +192,7 @@ fn all_bytes(resource: &Resource) -> u128
             width,
             height,
             texel,
-        } => {
-            resource.layers as u128 * (width as u128 * height as u128 * texel_bytes(texel))
-        }
+        } => { resource.layers as u128 * (width as u128 * height as u128 * texel_bytes(texel)) }
     }
 }
 

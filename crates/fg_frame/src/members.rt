@@ -10,11 +10,7 @@ use fg_base::Op;
 fn source_or_dst(j: usize) -> Operand
     ensures { result ≡ slice_index_or (Src ∷ []) j Dst }
 {
-    if j == 0 {
-        Operand::Src
-    } else {
-        Operand::Dst
-    }
+    if j == 0 { Operand::Src } else { Operand::Dst }
 }
 
 fn two_sources(j: usize) -> Operand

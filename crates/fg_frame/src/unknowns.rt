@@ -26,7 +26,14 @@ fn has_queue(frame: &Frame, name: Name) -> bool
     queue_at(frame, name).is_some()
 }
 
-fn unknown_at(table: &Table, p: usize, k: usize, op: &Op<Spot>, j: usize, spot: Spot) -> Option<Place>
+fn unknown_at(
+    table: &Table,
+    p: usize,
+    k: usize,
+    op: &Op<Spot>,
+    j: usize,
+    spot: Spot,
+) -> Option<Place>
     ensures { result ≡ unknown_at table.now p k op.now j spot }
 {
     if table.is_known_unit(spot) {
@@ -56,9 +63,7 @@ fn unknown_spot(table: &Table, spots: &[Spot]) -> Option<usize>
 fn unknown_write(table: &Table, writes: &[Write<Spot>]) -> Option<usize>
     ensures { result ≡ position (λ w. not (is_known table.now w.what)) writes.now }
 {
-    writes
-        .iter()
-        .position(|write| !table.is_known(write.what))
+    writes.iter().position(|write| !table.is_known(write.what))
 }
 
 #[tactic(auto, using(crate::proofs::Walks::first_on))]
