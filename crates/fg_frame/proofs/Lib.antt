@@ -1,5 +1,7 @@
 pub mod Clashing
 pub mod Flat
+pub mod Known
+pub mod Marks
 mod Rows
 pub mod Sizes
 pub mod Stretches

@@ -4,7 +4,7 @@ use Rattle.std.specs.Option.{option_or, option_map}
 use Rattle.fg_base.specs.declared.shape.Shape.{Shape}
 use Rattle.fg_frame.specs.Limits.{limit_broken}
 use Rattle.fg_frame.specs.Numbered.{all_uses, export_units}
-use Rattle.fg_frame.specs.Paths.{path_of}
+use Rattle.fg_frame.specs.Paths.{told}
 use Rattle.fg_frame.specs.Repeats.{repeated}
 use Rattle.fg_frame.specs.Units.{units}
 use Rattle.fg_frame.specs.Unknowns.{unknown}
@@ -48,10 +48,6 @@ use_broken frame shapes imported passes exports =
 
 abbrev pub first_broken : Frame → Option Broken
 first_broken frame = option_or (name_broken frame) (use_broken frame (shapes_of frame) (imports_of frame) (all_uses frame) (export_units frame))
-
--- as it is told: with the path of its place
-abbrev pub told : Broken → FrameFault
-told b = record { number = b.number; limit = b.limit; place = path_of b.place }
 
 abbrev pub first_fault : Frame → Option FrameFault
 first_fault frame = option_map told (first_broken frame)

@@ -2,6 +2,8 @@
 use Rattle.std.specs.Prelude.{ℕ, List, [], ◌∷◌, ◌++◌, codes}
 use Rattle.fg_base.specs.declared.path.Leg.{Leg}
 use Rattle.fg_base.specs.declared.path.Leg.TheVariants.{Member, Position}
+use Rattle.fg_frame.specs.declared.fault.FrameFault.{FrameFault}
+use Rattle.fg_frame.specs.declared.place.Broken.{Broken}
 use Rattle.fg_frame.specs.declared.place.Operand.{Operand}
 use Rattle.fg_frame.specs.declared.place.Operand.TheVariants.{Src, Mask, A, B, Dst}
 use Rattle.fg_frame.specs.declared.place.Place.{Place}
@@ -39,3 +41,7 @@ path_of (at.Op p k) = in_op p k (codes "op")
 path_of (at.Rects p k) = in_op p k (codes "rects")
 path_of (at.Operand p k member) = in_op p k (operand_name member)
 path_of (at.Export i) = entry (codes "exports") i
+
+-- as it is told: with the path of its place
+abbrev pub told : Broken → FrameFault
+told b = record { number = b.number; limit = b.limit; place = path_of b.place }

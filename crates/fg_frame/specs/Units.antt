@@ -75,9 +75,12 @@ abbrev pub owners : ℕ → List Resource → List ℕ
 owners i [] = []
 owners i (r ∷ rs) = replicate r.layers i ++ owners (suc i) rs
 
+abbrev pub layer_spot : List ℕ → ℕ → Spot
+layer_spot name layer = record { name = name; layer = Some layer }
+
 -- how units are named: by the resource alone where it has one layer
 abbrev pub spots_of : Resource → List Spot
-spots_of r = if r.layers == 1 then record { name = r.name; layer = None } ∷ [] else map (λ layer. record { name = r.name; layer = Some layer }) (range_with_len 0 r.layers)
+spots_of r = if r.layers == 1 then record { name = r.name; layer = None } ∷ [] else map (layer_spot r.name) (range_with_len 0 r.layers)
 
 abbrev pub unit_spots : Frame → List Spot
 unit_spots frame = flat_map spots_of frame.resources

@@ -1,5 +1,5 @@
 -- The rules on what passes do, over numbers.
-use Rattle.std.specs.Prelude.{ℕ, suc, List, take, map, length, ◌==◌, ◌&&◌, ◌||◌, nat_lt, not, is_some, Bool, true, false, slice_get, Option, Some, None, if◌then◌else◌}
+use Rattle.std.specs.Prelude.{ℕ, suc, List, take, map, length, ◌==◌, ◌&&◌, ◌||◌, nat_lt, not, is_some, Bool, true, false, slice_get, slice_index_or, Option, Some, None, if◌then◌else◌}
 use Rattle.std.specs.List.{list_any, position, find}
 use Rattle.std.specs.Option.{option_or, option_map, option_map_or}
 use Rattle.fg_base.specs.Fits.{fits}
@@ -77,9 +77,13 @@ not_whole_in shapes p uses = first_in (not_whole_at shapes uses.pass.ops p) 0 us
 abbrev pub makes : ℕ → Uses → Bool
 makes unit uses = list_any (λ w. w.fresh && w.what == unit) uses.pass.writes
 
+-- the mark of a unit
+abbrev pub is_marked : List Bool → ℕ → Bool
+is_marked marks unit = slice_index_or marks unit false
+
 -- the unit is an import, or one of these passes makes it
 abbrev pub is_there : List Bool → List Uses → ℕ → Bool
-is_there imported passes unit = option_map_or (λ b. b) (slice_get imported unit) false || list_any (makes unit) passes
+is_there imported passes unit = is_marked imported unit || list_any (makes unit) passes
 
 abbrev pub is_missing : (ℕ → Bool) → List ℕ → Bool
 is_missing there wanted = list_any (λ unit. not (there unit)) wanted

@@ -8,11 +8,14 @@ mod limits;
 mod members;
 mod numbered;
 mod numbers;
+mod path;
 mod place;
 mod repeats;
 mod table;
+mod units;
 mod unknowns;
 mod uses;
+mod written;
 
 pub use fault::FrameFault;
 pub use fg_base::{Limit, Path};
