@@ -76,7 +76,7 @@ first_none rule i (x ∷ xs) none (suc k) d lt =
     let e : suc i + k ≡ i + suc k = omega arith in
     subst (λ j. rule j (get_or xs k d) ≡ None) e (first_none rule (suc i) xs (or_second (rule i x) (first_in rule (suc i) xs) none) k d (omega arith))
 
-has_it : {A : Type 0} (b : Bool) (x : A) → (if b then None else Some x) ≡ None → b ≡ true
+pub has_it : {A : Type 0} (b : Bool) (x : A) → (if b then None else Some x) ≡ None → b ≡ true
 has_it true x e = refl
 has_it false x e = absurd (no_some (sym (ap is_some e)))
 

@@ -4,5 +4,7 @@ pub mod Known
 pub mod Marks
 mod Rows
 pub mod Sizes
+pub mod Small
+pub mod Spread
 pub mod Stretches
 pub mod Walks

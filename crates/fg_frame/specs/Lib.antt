@@ -4,6 +4,7 @@ pub mod FirstFault
 pub mod Limits
 pub mod Members
 pub mod Numbered
+pub mod Parts
 pub mod Paths
 pub mod Places
 pub mod Repeats

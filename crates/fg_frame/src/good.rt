@@ -1,10 +1,299 @@
 //! Frames that break no rule.
 
-use crate::{Frame, FrameFault};
+ghost use Rattle.std.specs.Prelude.{◌≡◌, ◌≤◌, ◌<◌, ◌+◌, IfOk, IfErr, IfSome, length, None, Some, slice_get, map};
+ghost use Rattle.std.specs.List.{All};
+ghost use Rattle.fg_frame.specs.FirstFault.{broken, shapes_of, imports_of, sharings_of, name_broken, misfit_broken, use_broken, first_broken, first_fault, Ends, AllWithin};
+ghost use Rattle.fg_frame.specs.Numbered.{IsWithin, numbered, all_uses, export_units};
+ghost use Rattle.fg_frame.specs.Parts.{parts_of};
+ghost use Rattle.fg_frame.specs.Units.{numbering, units, owners, unit_spots};
+
+use crate::limits::limit_broken;
+use crate::numbered::{NumberedPass, Uses};
+use crate::numbers::{all_uses, entries, flat_reads};
+use crate::path::told;
+use crate::place::{Broken, Place};
+use crate::repeats::repeated;
+use crate::table::Table;
+use crate::units::{imports, owners, shapes, sharings, spots};
+use crate::unknowns::unknown;
+use crate::uses::{Rule, first_use, misfit_import};
+use crate::written::unwritten;
+use crate::{Frame, FrameFault, Sharing, Spot, Write};
+use fg_base::{Family, List, NoMemory, Op, Shape};
+use std::alloc::Global;
+use std::marker::Model;
+
+/// What is computed once for a frame.
+#[derive(Debug, Drop)]
+pub struct Parts {
+    pub shapes: List<Shape>,
+    pub sharings: List<Sharing>,
+    pub owners: List<u32>,
+    pub spots: List<Spot>,
+    pub passes: List<NumberedPass>,
+    pub exports: List<u32>,
+}
+
+/// A frame that breaks no rule, with its names as numbers. Each number of a buffer or image is that of a *unit*: a
+/// buffer, or one layer of an image, in the order of declaration.
+#[derive(Debug, Drop)]
+pub struct GoodFrame {
+    frame: Frame,
+    parts: Parts,
+}
+
+impl Model for GoodFrame {
+    ghost use Rattle.std.specs.Prelude.{◌≡◌, None};
+    ghost use Rattle.fg_frame.specs.FirstFault.{first_broken};
+    ghost use Rattle.fg_frame.specs.Parts.{parts_of};
+    ghost use Rattle.fg_frame.specs.declared.frame.Frame.{Frame};
+
+    ghost Value = { Frame };
+
+    ghost view = { λ g. g.frame };
+
+    ghost invariant = { λ g. (first_broken g.frame ≡ None) × (g.parts ≡ parts_of g.frame) };
+}
 
 /// Why a frame was not taken, and the frame itself.
 #[derive(Debug, Drop)]
 pub enum FrameEnd {
     Refused(FrameFault, Frame),
     NoMemory(Frame),
+}
+
+fn broken(number: u8, place: Place) -> Broken
+    ensures { result ≡ broken number place }
+{
+    Broken {
+        number,
+        limit: None,
+        place,
+    }
+}
+
+// The rules on limits and names, and then the table of names.
+#[tactic(auto, using(crate::proofs::Small::few_units, crate::proofs::Small::names_differ))]
+fn named(alloc: Global, frame: &Frame) -> Result<Result<Table, Broken>, NoMemory>
+    ensures broken { IfOk result (λ found. IfErr found (λ b. name_broken frame.now ≡ Some b)) }
+    ensures none { IfOk result (λ found. IfOk found (λ table. name_broken frame.now ≡ None)) }
+    ensures table { IfOk result (λ found. IfOk found (λ table. table ≡ numbering frame.now)) }
+{
+    if let Some(over) = limit_broken(frame) {
+        return Ok(Err(over));
+    }
+    if let Some(place) = repeated(alloc, frame)? {
+        return Ok(Err(broken(5, place)));
+    }
+    let table = Table::new(alloc, frame)?;
+    if let Some(place) = unknown(frame, &table) {
+        return Ok(Err(broken(6, place)));
+    }
+    Ok(Ok(table))
+}
+
+fn misfit_broken(frame: &Frame, shapes: &[Shape], passes: &[Uses]) -> Option<Place>
+    requires { AllWithin (length frame.now.queues) (length shapes.now) passes.now }
+    ensures { result ≡ misfit_broken frame.now shapes.now passes.now }
+{
+    if let Some(place) = misfit_import(&frame.resources) {
+        return Some(place);
+    }
+    first_use(Rule::Fits, frame, shapes, passes)
+}
+
+fn use_broken(
+    frame: &Frame,
+    shapes: &[Shape],
+    imported: List<bool>,
+    passes: &[Uses],
+    exports: &[List<u32>],
+) -> Option<Broken>
+    requires imported { length imported ≡ length shapes.now }
+    requires within { AllWithin (length frame.now.queues) (length shapes.now) passes.now }
+    ensures { result ≡ use_broken frame.now shapes.now imported passes.now exports.now }
+{
+    if let Some(place) = first_use(Rule::Runs, frame, shapes, passes) {
+        return Some(broken(7, place));
+    }
+    if let Some(place) = first_use(Rule::Declared, frame, shapes, passes) {
+        return Some(broken(8, place));
+    }
+    if let Some(place) = first_use(Rule::Whole, frame, shapes, passes) {
+        return Some(broken(9, place));
+    }
+    if let Some(place) = unwritten(imported, frame.queues.len(), passes, exports) {
+        return Some(broken(10, place));
+    }
+    if let Some(place) = misfit_broken(frame, shapes, passes) {
+        return Some(broken(11, place));
+    }
+    if let Some(place) = first_use(Rule::InPlace, frame, shapes, passes) {
+        return Some(broken(12, place));
+    }
+    if let Some(place) = first_use(Rule::ReadNew, frame, shapes, passes) {
+        return Some(broken(13, place));
+    }
+    None
+}
+
+fn passes_of(alloc: Global, uses: List<Uses>) -> Result<List<NumberedPass>, NoMemory>
+    ensures { IfOk result (λ passes. passes ≡ map (λ u. u.pass) uses) }
+{
+    let mut passes = List::new(alloc);
+    for one in uses.into_vec() {
+        let Uses { pass, .. } = one;
+        passes.push(pass)?;
+    }
+    Ok(passes)
+}
+
+// A frame's parts, or the first rule that it breaks.
+#[tactic(auto, using(crate::proofs::Small::few_queues, crate::proofs::Small::few_resources, crate::proofs::Small::shapes_within, crate::proofs::Small::as_many, crate::proofs::Small::same_passes, crate::proofs::Small::then_uses))]
+fn parts_of(alloc: Global, frame: &Frame, table: &Table) -> Result<Result<Parts, Broken>, NoMemory>
+    requires named { name_broken frame.now ≡ None }
+    requires table { table.now ≡ numbering frame.now }
+    ensures broken { IfOk result (λ found. IfErr found (λ b. first_broken frame.now ≡ Some b)) }
+    ensures none { IfOk result (λ found. IfOk found (λ parts. first_broken frame.now ≡ None)) }
+    ensures parts { IfOk result (λ found. IfOk found (λ parts. parts ≡ parts_of frame.now)) }
+{
+    let shapes = shapes(alloc, frame)?;
+    let imported = imports(alloc, frame)?;
+    let uses = all_uses(alloc, frame, table)?;
+    let exports = entries(alloc, table, &frame.exports)?;
+    if let Some(place) = use_broken(frame, &shapes, imported, &uses, &exports) {
+        return Ok(Err(place));
+    }
+    Ok(Ok(Parts {
+        shapes,
+        sharings: sharings(alloc, frame)?,
+        owners: owners(alloc, &frame.resources)?,
+        spots: spots(alloc, &frame.resources)?,
+        passes: passes_of(alloc, uses)?,
+        exports: flat_reads(alloc, table, &frame.exports)?,
+    }))
+}
+
+#[tactic(auto, using(crate::proofs::Small::names_first))]
+fn first_broken(alloc: Global, frame: &Frame) -> Result<Result<Parts, Broken>, NoMemory>
+    ensures broken { IfOk result (λ found. IfErr found (λ b. first_broken frame.now ≡ Some b)) }
+    ensures none { IfOk result (λ found. IfOk found (λ parts. first_broken frame.now ≡ None)) }
+    ensures parts { IfOk result (λ found. IfOk found (λ parts. parts ≡ parts_of frame.now)) }
+{
+    match named(alloc, frame)? {
+        Ok(table) => parts_of(alloc, frame, &table),
+        Err(over) => Ok(Err(over)),
+    }
+}
+
+/// The frame with its names as numbers, or the first rule that it breaks.
+pub fn well_formed(alloc: Global, frame: Frame) -> Result<GoodFrame, FrameEnd>
+    ensures good { IfOk result (λ good. (good ≡ frame) × (first_fault frame ≡ None)) }
+    ensures refused { IfErr result (λ end. Ends frame end) }
+{
+    match first_broken(alloc, &frame) {
+        Ok(Ok(parts)) => Ok(GoodFrame { frame, parts }),
+        Ok(Err(over)) => match told(alloc, over) {
+            Ok(fault) => Err(FrameEnd::Refused(fault, frame)),
+            Err(NoMemory) => Err(FrameEnd::NoMemory(frame)),
+        },
+        Err(NoMemory) => Err(FrameEnd::NoMemory(frame)),
+    }
+}
+
+impl GoodFrame {
+    pub fn frame(&self) -> &Frame
+        ensures frame { result.now ≡ self.now }
+        ensures good { first_fault self.now ≡ None }
+    {
+        &self.frame
+    }
+
+    #[tactic(auto, using(crate::proofs::Small::families_are, crate::proofs::Small::family_got))]
+    pub fn family(&self, queue: u32) -> Family
+        requires { queue < length (numbered self.now).queues }
+        ensures { slice_get (numbered self.now).queues queue ≡ Some result }
+    {
+        self.frame.queues[queue as usize].family
+    }
+
+    /// The queue of a pass.
+    pub fn queue_of(&self, pass: u32) -> u32
+        requires { pass < length (numbered self.now).passes }
+        ensures { IfSome (slice_get (numbered self.now).passes pass) (λ p. result ≡ p.queue) }
+    {
+        self.parts.passes[pass as usize].queue
+    }
+
+    /// The units that a pass reads, in the order of its entries.
+    pub fn reads(&self, pass: u32) -> &[u32]
+        requires { pass < length (numbered self.now).passes }
+        ensures { IfSome (slice_get (numbered self.now).passes pass) (λ p. result.now ≡ p.reads) }
+    {
+        &self.parts.passes[pass as usize].reads
+    }
+
+    /// The units that a pass writes, in the order of its entries.
+    pub fn writes(&self, pass: u32) -> &[Write<u32>]
+        requires { pass < length (numbered self.now).passes }
+        ensures { IfSome (slice_get (numbered self.now).passes pass) (λ p. result.now ≡ p.writes) }
+    {
+        &self.parts.passes[pass as usize].writes
+    }
+
+    /// The operations of a pass, over units.
+    pub fn ops(&self, pass: u32) -> &[Op<u32>]
+        requires { pass < length (numbered self.now).passes }
+        ensures { IfSome (slice_get (numbered self.now).passes pass) (λ p. result.now ≡ p.ops) }
+    {
+        &self.parts.passes[pass as usize].ops
+    }
+
+    /// The units that are read back after the frame, in the order of the exports.
+    pub fn exports(&self) -> &[u32]
+        ensures { result.now ≡ (numbered self.now).exports }
+    {
+        &self.parts.exports
+    }
+
+    /// The shape of each unit.
+    pub fn shapes(&self) -> &[Shape]
+        ensures { result.now ≡ map (λ unit. unit.shape) (numbered self.now).units }
+    {
+        &self.parts.shapes
+    }
+
+    /// The number of units.
+    #[tactic(auto, using(crate::proofs::Small::count_fits, crate::proofs::Small::shapes_are))]
+    pub fn unit_count(&self) -> u32
+        ensures { result ≡ length (numbered self.now).units }
+    {
+        self.parts.shapes.len() as u32
+    }
+
+    /// How a unit is named: without a layer exactly where its resource has one.
+    #[tactic(auto, using(crate::proofs::Small::spots_are))]
+    pub fn unit_name(&self, unit: u32) -> Spot
+        requires { unit < length (numbered self.now).units }
+        ensures { slice_get (unit_spots self.now) unit ≡ Some result }
+    {
+        self.parts.spots[unit as usize]
+    }
+
+    /// The number of a unit's resource, in the order of declaration.
+    #[tactic(auto, using(crate::proofs::Small::owners_are))]
+    pub fn unit_resource(&self, unit: u32) -> u32
+        requires { unit < length (numbered self.now).units }
+        ensures { slice_get (owners 0 self.now.resources) unit ≡ Some result }
+    {
+        self.parts.owners[unit as usize]
+    }
+
+    #[tactic(auto, using(crate::proofs::Small::sharings_are))]
+    pub fn sharing(&self, unit: u32) -> Sharing
+        requires { unit < length (numbered self.now).units }
+        ensures { slice_get (map (λ u. u.sharing) (numbered self.now).units) unit ≡ Some result }
+    {
+        self.parts.sharings[unit as usize]
+    }
 }

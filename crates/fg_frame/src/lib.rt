@@ -21,5 +21,5 @@ pub use fault::FrameFault;
 pub use fg_base::{Limit, Path};
 pub use fg_bits::Sharing;
 pub use frame::{Frame, Pass, QueueDecl, Resource, Spot, Write};
-pub use good::FrameEnd;
+pub use good::{FrameEnd, GoodFrame, well_formed};
 pub use numbered::NumberedPass;

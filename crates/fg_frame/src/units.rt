@@ -2,9 +2,10 @@
 
 ghost use Rattle.std.specs.Prelude.{◌≡◌, ◌≤◌, ◌++◌, ◌==◌, IfOk, OnOk, map, replicate, is_some, length};
 ghost use Rattle.std.specs.List.{flat_map, range_with_len};
+ghost use Rattle.fg_frame.specs.FirstFault.{shapes_of, sharings_of, imports_of};
 ghost use Rattle.fg_frame.specs.Units.{owners, spots_of, layer_spot};
 
-use crate::{Resource, Sharing, Spot};
+use crate::{Frame, Resource, Sharing, Spot};
 use fg_base::{List, Name, NoMemory, Shape};
 use std::alloc::Global;
 
@@ -19,9 +20,8 @@ fn copies<T: Copy + Drop>(alloc: Global, item: T, count: u32) -> Result<List<T>,
     Ok(list)
 }
 
-/// The shape of each unit.
 #[tactic(auto, using(crate::proofs::Flat::flat_on))]
-pub(crate) fn shapes(alloc: Global, resources: &[Resource]) -> Result<List<Shape>, NoMemory>
+fn resource_shapes(alloc: Global, resources: &[Resource]) -> Result<List<Shape>, NoMemory>
     ensures { IfOk result (λ list. list ≡ flat_map (λ r. replicate r.layers r.shape) resources.now) }
 {
     let mut list = List::new(alloc);
@@ -32,9 +32,16 @@ pub(crate) fn shapes(alloc: Global, resources: &[Resource]) -> Result<List<Shape
     Ok(list)
 }
 
-/// Who owns each unit.
+/// The shape of each unit.
+#[tactic(auto, using(crate::proofs::Spread::shapes_spread))]
+pub(crate) fn shapes(alloc: Global, frame: &Frame) -> Result<List<Shape>, NoMemory>
+    ensures { IfOk result (λ list. list ≡ shapes_of frame.now) }
+{
+    resource_shapes(alloc, &frame.resources)
+}
+
 #[tactic(auto, using(crate::proofs::Flat::flat_on))]
-pub(crate) fn sharings(alloc: Global, resources: &[Resource]) -> Result<List<Sharing>, NoMemory>
+fn resource_sharings(alloc: Global, resources: &[Resource]) -> Result<List<Sharing>, NoMemory>
     ensures { IfOk result (λ list. list ≡ flat_map (λ r. replicate r.layers r.sharing) resources.now) }
 {
     let mut list = List::new(alloc);
@@ -45,9 +52,16 @@ pub(crate) fn sharings(alloc: Global, resources: &[Resource]) -> Result<List<Sha
     Ok(list)
 }
 
-/// Whether each unit is an import.
+/// Who owns each unit.
+#[tactic(auto, using(crate::proofs::Spread::sharings_spread))]
+pub(crate) fn sharings(alloc: Global, frame: &Frame) -> Result<List<Sharing>, NoMemory>
+    ensures { IfOk result (λ list. list ≡ sharings_of frame.now) }
+{
+    resource_sharings(alloc, &frame.resources)
+}
+
 #[tactic(auto, using(crate::proofs::Flat::flat_on))]
-pub(crate) fn imports(alloc: Global, resources: &[Resource]) -> Result<List<bool>, NoMemory>
+fn resource_imports(alloc: Global, resources: &[Resource]) -> Result<List<bool>, NoMemory>
     ensures { IfOk result (λ list. list ≡ flat_map (λ r. replicate r.layers (is_some r.import)) resources.now) }
 {
     let mut list = List::new(alloc);
@@ -56,6 +70,14 @@ pub(crate) fn imports(alloc: Global, resources: &[Resource]) -> Result<List<bool
         list.extend_from_slice(&more)?;
     }
     Ok(list)
+}
+
+/// Whether each unit is an import.
+#[tactic(auto, using(crate::proofs::Spread::imports_spread))]
+pub(crate) fn imports(alloc: Global, frame: &Frame) -> Result<List<bool>, NoMemory>
+    ensures { IfOk result (λ list. list ≡ imports_of frame.now) }
+{
+    resource_imports(alloc, &frame.resources)
 }
 
 /// The resource of each unit.

@@ -1,0 +1,208 @@
+-- What the limits and the rules on names leave.
+use Rattle.std.proofs.Common.{subst, zero, suc, if◌then◌else◌, map, ◌≡◌, ℕ, ◌+◌, ◌-◌, ◌^◌, ◌<◌, ◌≤◌, ◌==◌, ◌&&◌, nat_le, nat_lt, List, [], ◌∷◌, length, get_or, slice_get, not, is_some, Bool, true, false, Option, None, Some, refl, sym, ap, ap₂, ◌∙◌, arith, replicate}
+use Rattle.std.specs.List.{position, All, flat_map, range_with_len}
+use Rattle.std.specs.Option.{option_or, option_map}
+use Rattle.std.proofs.lemmas.Bool.{ltb-false, leb-true, eqb-true}
+use Rattle.std.proofs.lemmas.List.{length-append, length-map, length-replicate}
+use Rattle.std.proofs.lemmas.List.FromFn.{length-map-range_with_len}
+use Rattle.std.proofs.lemmas.Option.{slice_get_read}
+use Rattle.fg_base.specs.Shapes.{is_buffer}
+use Rattle.fg_base.specs.declared.limit.Limit.TheVariants as limits
+use Rattle.fg_base.specs.declared.shape.Family.{Family}
+use Rattle.fg_frame.proofs.Known.{all_known, or_first, or_second, map_none, has_it, uses_within}
+use Rattle.fg_frame.specs.Clashes.{first_clash}
+use Rattle.fg_frame.specs.FirstFault.{broken, shapes_of, sharings_of, imports_of, name_broken, use_broken, first_broken, first_fault, AllWithin}
+use Rattle.fg_frame.specs.Limits.{over, is_between, layers_allowed, op_count, rects_over, exported, count_broken, size_broken, limit_broken}
+use Rattle.fg_frame.specs.Numbered.{numbered, numbered_pass, uses_of, all_uses, export_units}
+use Rattle.fg_frame.specs.Parts.{parts_of}
+use Rattle.fg_frame.specs.Paths.{told}
+use Rattle.fg_frame.specs.Places.{first_in, first_over}
+use Rattle.fg_frame.specs.Repeats.{first_repeat, repeats_in, repeated}
+use Rattle.fg_frame.specs.Units.{numbering, layers_of, Unit, units, units_from, unit_from, owners, spots_of, layer_spot, unit_spots}
+use Rattle.fg_frame.specs.Unknowns.{unknown}
+use Rattle.fg_frame.specs.declared.frame.Frame.{Frame}
+use Rattle.fg_frame.specs.declared.frame.Pass.{Pass}
+use Rattle.fg_frame.specs.declared.frame.QueueDecl.{QueueDecl}
+use Rattle.fg_frame.specs.declared.frame.Resource.{Resource}
+use Rattle.fg_frame.specs.declared.frame.Spot.{Spot}
+use Rattle.fg_frame.specs.declared.good.Parts.{Parts}
+use Rattle.fg_frame.specs.declared.numbered.NumberedPass.{NumberedPass}
+use Rattle.fg_frame.specs.declared.place.Broken.{Broken}
+use Rattle.fg_frame.specs.declared.place.Place.{Place}
+use Rattle.fg_frame.specs.declared.place.Place.TheVariants as at
+
+-- LIMITS
+
+no_fault : {A : Type 0} (x : A) → ◌≡◌ {A = Option A} (Some x) None → ⊥
+no_fault x e = cc
+
+over_none : (rs : List Resource) (room i : ℕ) → first_over (λ r. r.layers) room i rs ≡ None → layers_of rs ≤ room
+over_none [] room i none = omega arith
+over_none (r ∷ rs) room i none = by_test (nat_lt room r.layers) refl none (λ left. over_none rs (room - r.layers) (suc i) left)
+  where
+    by_test : (b : Bool) → nat_lt room r.layers ≡ b → (if b then Some i else first_over (λ r. r.layers) (room - r.layers) (suc i) rs) ≡ None → (first_over (λ r. r.layers) (room - r.layers) (suc i) rs ≡ None → layers_of rs ≤ room - r.layers) → r.layers + layers_of rs ≤ room
+    by_test true e none more = absurd (no_fault i none)
+    by_test false e none more = let fits : r.layers ≤ room = ltb-false room r.layers e in let rest = more none in omega arith
+
+-- the limits one after another
+module _ (frame : Frame) (none : limit_broken frame ≡ None) where
+  abbrev layers : Option Broken
+  layers = option_map (λ i. over limits.Layers (at.Resource i)) (position (λ r. not (layers_allowed r)) frame.resources)
+  abbrev queues : Option Broken
+  queues = if is_between 1 4 (length frame.queues) then None else Some (over limits.Queues at.Queues)
+  abbrev resources : Option Broken
+  resources = option_map (λ i. over limits.Resources at.Resources) (first_over (λ r. r.layers) 256 0 frame.resources)
+  abbrev rest : Option Broken
+  rest =
+    option_or (if nat_le (length frame.passes) 256 then None else Some (over limits.Passes at.Passes))
+    (option_or (option_map (λ p. over limits.Ops (at.Ops p)) (first_over op_count 256 0 frame.passes))
+    (option_or (option_map (over limits.Rects) (rects_over 4096 0 frame.passes))
+    (option_map (λ i. over limits.Exports at.Exports) (first_over (exported frame) 32 0 frame.exports))))
+
+  counts : count_broken frame ≡ None
+  counts = or_first (count_broken frame) (size_broken frame.resources) none
+
+  layers_none : layers ≡ None
+  layers_none = or_first layers (option_or queues (option_or resources rest)) counts
+
+  after_layers : option_or queues (option_or resources rest) ≡ None
+  after_layers = or_second layers (option_or queues (option_or resources rest)) counts
+
+  queues_none : queues ≡ None
+  queues_none = or_first queues (option_or resources rest) after_layers
+
+  resources_none : resources ≡ None
+  resources_none = or_first resources rest (or_second queues (option_or resources rest) after_layers)
+
+  pub few_units : layers_of frame.resources ≤ 256
+  few_units = over_none frame.resources 256 0 (map_none (λ i. over limits.Resources at.Resources) (first_over (λ r. r.layers) 256 0 frame.resources) resources_none)
+
+  pub queues_few : length frame.queues ≤ 4
+  queues_few = leb-true (length frame.queues) 4 (right (nat_le 1 (length frame.queues)) (nat_le (length frame.queues) 4) (has_it (is_between 1 4 (length frame.queues)) (over limits.Queues at.Queues) queues_none))
+    where
+      right : (a b : Bool) → (a && b) ≡ true → b ≡ true
+      right true b e = e
+      right false b e = absurd cc
+
+  pub some_layers : All (λ r. 0 < r.layers) frame.resources
+  some_layers = λ k d lt. allowed (get_or frame.resources k d) (is_buffer (get_or frame.resources k d).shape) (all_known layers_allowed frame.resources (map_none (λ i. over limits.Layers (at.Resource i)) (position (λ r. not (layers_allowed r)) frame.resources) layers_none) k d lt)
+    where
+      left : (a b : Bool) → (a && b) ≡ true → a ≡ true
+      left true b e = refl
+      left false b e = absurd cc
+      allowed : (r : Resource) (b : Bool) → (if b then r.layers == 1 else is_between 1 8 r.layers) ≡ true → 0 < r.layers
+      allowed r true e = let one : r.layers ≡ 1 = eqb-true r.layers 1 e in omega arith
+      allowed r false e = let least : 1 ≤ r.layers = leb-true 1 r.layers (left (nat_le 1 r.layers) (nat_le r.layers 8) e) in omega arith
+
+-- as many resources as units at most
+count_few : (rs : List Resource) → All (λ r. 0 < r.layers) rs → length rs ≤ layers_of rs
+count_few [] some = omega arith
+count_few (r ∷ rs) some = let here : 0 < r.layers = some zero r (omega arith) in let more = count_few rs (λ k d lt. some (suc k) d (omega arith)) in omega arith
+
+pub names_differ : (frame : Frame) → repeated frame ≡ None → first_repeat (map (λ r. r.name) frame.resources) ≡ None
+names_differ frame none =
+    let queues = option_map (λ i. at.Queue i) (first_repeat (map (λ q. q.name) frame.queues)) in
+    let resources = option_map (λ i. at.Resource i) (first_repeat (map (λ r. r.name) frame.resources)) in
+    let others = option_or (first_in (repeats_in (map (λ p. p.name) frame.passes)) 0 frame.passes) (option_map (λ i. at.Export i) (first_clash frame.exports)) in
+    map_none (λ i. at.Resource i) (first_repeat (map (λ r. r.name) frame.resources)) (or_first resources others (or_second queues (option_or resources others) none))
+
+-- NAMES
+
+limits_none : (frame : Frame) → name_broken frame ≡ None → limit_broken frame ≡ None
+limits_none frame none = or_first (limit_broken frame) (option_or (option_map (broken 5) (repeated frame)) (option_map (broken 6) (unknown frame))) none
+
+unknown_none : (frame : Frame) → name_broken frame ≡ None → unknown frame ≡ None
+unknown_none frame none = map_none (broken 6) (unknown frame) (or_second (option_map (broken 5) (repeated frame)) (option_map (broken 6) (unknown frame)) (or_second (limit_broken frame) (option_or (option_map (broken 5) (repeated frame)) (option_map (broken 6) (unknown frame))) none))
+
+pub few_queues : (frame : Frame) → name_broken frame ≡ None → length frame.queues ≤ 4
+few_queues frame none = queues_few frame (limits_none frame none)
+
+pub few_resources : (frame : Frame) → name_broken frame ≡ None → length frame.resources ≤ 256
+few_resources frame none =
+    let few = few_units frame (limits_none frame none) in
+    let less = count_few frame.resources (some_layers frame (limits_none frame none)) in
+    omega arith
+
+length_units : (rs : List Resource) → length (flat_map units_from rs) ≡ layers_of rs
+length_units [] = refl
+length_units (r ∷ rs) = length-append (units_from r) (flat_map units_from rs) ∙ ap₂ (λ a b. a + b) (length-replicate r.layers (unit_from r)) (length_units rs)
+
+pub length_shapes : (frame : Frame) → length (shapes_of frame) ≡ layers_of frame.resources
+length_shapes frame = length-map (units frame) (λ u. u.shape) ∙ length_units frame.resources
+
+pub as_many : (frame : Frame) → length (imports_of frame) ≡ length (shapes_of frame)
+as_many frame = length-map (units frame) (λ u. is_some u.imported) ∙ sym (length-map (units frame) (λ u. u.shape))
+
+pub shapes_within : (frame : Frame) → name_broken frame ≡ None → AllWithin (length frame.queues) (length (shapes_of frame)) (all_uses frame)
+shapes_within frame none = subst (λ n. AllWithin (length frame.queues) n (all_uses frame)) (sym (length_shapes frame)) (uses_within frame (some_layers frame (limits_none frame none)) (unknown_none frame none))
+
+passes_same : (frame : Frame) (passes : List Pass) → map (λ u. u.pass) (map (uses_of frame (numbering frame)) passes) ≡ map (numbered_pass frame (numbering frame)) passes
+passes_same frame [] = refl
+passes_same frame (pass ∷ passes) = ap (λ ps. numbered_pass frame (numbering frame) pass ∷ ps) (passes_same frame passes)
+
+pub same_passes : (frame : Frame) → map (λ u. u.pass) (all_uses frame) ≡ (numbered frame).passes
+same_passes frame = passes_same frame frame.passes
+
+pub then_uses : (frame : Frame) → name_broken frame ≡ None → first_broken frame ≡ use_broken frame (shapes_of frame) (imports_of frame) (all_uses frame) (export_units frame)
+then_uses frame none = ap (λ o. option_or o (use_broken frame (shapes_of frame) (imports_of frame) (all_uses frame) (export_units frame))) none
+
+pub names_first : (frame : Frame) (b : Broken) → name_broken frame ≡ Some b → first_broken frame ≡ Some b
+names_first frame b found = ap (λ o. option_or o (use_broken frame (shapes_of frame) (imports_of frame) (all_uses frame) (export_units frame))) found
+
+-- GOOD FRAMES
+
+pub names_good : (frame : Frame) → first_broken frame ≡ None → name_broken frame ≡ None
+names_good frame none = or_first (name_broken frame) (use_broken frame (shapes_of frame) (imports_of frame) (all_uses frame) (export_units frame)) none
+
+pub unit_count_few : (frame : Frame) → first_broken frame ≡ None → length (shapes_of frame) ≤ 256
+unit_count_few frame none = subst (λ n. n ≤ 256) (sym (length_shapes frame)) (few_units frame (limits_none frame (names_good frame none)))
+
+pub shapes_are : (frame : Frame) → length (shapes_of frame) ≡ length (units frame)
+shapes_are frame = length-map (units frame) (λ u. u.shape)
+
+pub sharings_are : (frame : Frame) → length (sharings_of frame) ≡ length (units frame)
+sharings_are frame = length-map (units frame) (λ u. u.sharing)
+
+length_owners : (i : ℕ) (rs : List Resource) → length (owners i rs) ≡ layers_of rs
+length_owners i [] = refl
+length_owners i (r ∷ rs) = length-append (replicate r.layers i) (owners (suc i) rs) ∙ ap₂ (λ a b. a + b) (length-replicate r.layers i) (length_owners (suc i) rs)
+
+pub owners_are : (frame : Frame) → length (owners 0 frame.resources) ≡ length (units frame)
+owners_are frame = length_owners 0 frame.resources ∙ sym (length_units frame.resources)
+
+length_spots : (r : Resource) → length (spots_of r) ≡ r.layers
+length_spots r = by_count (r.layers == 1) refl
+  where
+    by_count : (b : Bool) → (r.layers == 1) ≡ b → length (if b then record { name = r.name; layer = None } ∷ [] else map (layer_spot r.name) (range_with_len 0 r.layers)) ≡ r.layers
+    by_count true e = sym (eqb-true r.layers 1 e)
+    by_count false e = length-map-range_with_len (layer_spot r.name) 0 r.layers
+
+length_all_spots : (rs : List Resource) → length (flat_map spots_of rs) ≡ layers_of rs
+length_all_spots [] = refl
+length_all_spots (r ∷ rs) = length-append (spots_of r) (flat_map spots_of rs) ∙ ap₂ (λ a b. a + b) (length_spots r) (length_all_spots rs)
+
+pub spots_are : (frame : Frame) → length (unit_spots frame) ≡ length (units frame)
+spots_are frame = length_all_spots frame.resources ∙ sym (length_units frame.resources)
+
+pub families_are : (frame : Frame) → length (map (λ q. q.family) frame.queues) ≡ length frame.queues
+families_are frame = length-map frame.queues (λ q. q.family)
+
+pub family_got : (queues : List QueueDecl) (i : ℕ) (q : QueueDecl) → i < length queues → q ≡ get_or queues i q → slice_get (map (λ q. q.family) queues) i ≡ Some q.family
+family_got [] i q lt is = absurd (omega arith)
+family_got (x ∷ xs) zero q lt is = ap (λ y. Some y.family) (sym is)
+family_got (x ∷ xs) (suc i) q lt is = family_got xs i q (omega arith) is
+
+pub faultless : (frame : Frame) → first_broken frame ≡ None → first_fault frame ≡ None
+faultless frame none = ap (option_map told) none
+
+pub count_fits : (frame : Frame) (parts : Parts) → first_broken frame ≡ None → parts ≡ parts_of frame → length parts.shapes < 2 ^ 32
+count_fits frame parts none is = let few = unit_count_few frame none in let same : length parts.shapes ≡ length (shapes_of frame) = ap (λ p. length p.shapes) is in omega arith
+
+got : {X : Type 0} (xs ys : List X) (count u : ℕ) (x : X) → xs ≡ ys → length ys ≡ count → u < count → x ≡ get_or xs u x → slice_get ys u ≡ Some x
+got xs ys count u x same size lt is = slice_get_read ys count u x (sym size) lt (is ∙ ap (λ zs. get_or zs u x) same)
+
+pub spot_got : (frame : Frame) (parts : Parts) (u : ℕ) (x : Spot) → parts ≡ parts_of frame → u < length (units frame) → x ≡ get_or parts.spots u x → slice_get (unit_spots frame) u ≡ Some x
+spot_got frame parts u x same lt is = got parts.spots (unit_spots frame) (length (units frame)) u x (ap (λ p. p.spots) same) (spots_are frame) lt is
+
+pub owner_got : (frame : Frame) (parts : Parts) (u x : ℕ) → parts ≡ parts_of frame → u < length (units frame) → x ≡ get_or parts.owners u x → slice_get (owners 0 frame.resources) u ≡ Some x
+owner_got frame parts u x same lt is = got parts.owners (owners 0 frame.resources) (length (units frame)) u x (ap (λ p. p.owners) same) (owners_are frame) lt is
