@@ -1,5 +1,5 @@
 -- Entries that clash, by a table of their names and one of the entries.
-use Rattle.std.proofs.Common.{◌≡◌, ℕ, suc, ◌+◌, ◌<◌, ◌||◌, ◌&&◌, ◌==◌, ◌++◌, nat_eq, List, [], ◌∷◌, length, get_or, take, if◌then◌else◌, Bool, true, false, Option, None, Some, refl, sym, ap, ap₂, subst, ◌∙◌, add-one}
+use Rattle.std.proofs.Common.{◌≡◌, ℕ, ◌+◌, ◌<◌, ◌||◌, ◌&&◌, ◌==◌, ◌++◌, nat_eq, List, [], ◌∷◌, length, get_or, take, if◌then◌else◌, Bool, true, false, Option, None, Some, refl, sym, ap, ap₂, subst, ◌∙◌, add-one}
 use Rattle.std.specs.List.{list_any}
 use Rattle.std.specs.Option.{option_eq}
 use Rattle.std.specs.Str.{bytes_eq}

@@ -1,5 +1,5 @@
 -- Names that a frame has get numbers of queues and units.
-use Rattle.std.proofs.Common.{subst, zero, suc, if◌then◌else◌, is_some, map, replicate, nat_lt, ◌≡◌, ℕ, ◌+◌, ◌-◌, ◌<◌, ◌≤◌, ◌&&◌, ◌++◌, ◌⊎◌, inl, inr, List, [], ◌∷◌, length, get_or, slice_get, not, Bool, true, false, Option, None, Some, refl, sym, ap, ◌∙◌, cond, arith}
+use Rattle.std.proofs.Common.{subst, zero, suc, if◌then◌else◌, is_some, map, nat_lt, ◌≡◌, ℕ, ◌+◌, ◌<◌, ◌≤◌, ◌&&◌, ◌⊎◌, inl, inr, List, [], ◌∷◌, length, get_or, slice_get, not, Bool, true, false, Option, None, Some, refl, sym, ap, ◌∙◌, cond, arith}
 use Rattle.std.specs.List.{position, position_or_len, All, flat_map, range_with_len}
 use Rattle.std.specs.Option.{option_or, option_map, option_map_or, option_and_then, unwrap_or}
 use Rattle.std.specs.Str.{bytes_eq}
@@ -13,15 +13,14 @@ use Rattle.fg_base.specs.declared.op.Op.{Op}
 use Rattle.fg_base.specs.declared.op.Op.TheVariants.{FillBuffer, ClearImage, CopyBuffer, CopyImage, BufferToImage, ImageToBuffer, Ramp, Map, Combine, Select, Convert, Box3, Halve, Histogram, Draw}
 use Rattle.fg_frame.specs.Members.{member_at}
 use Rattle.fg_frame.specs.Numbered.{IsWithin, queue_number, writes_of, write_each, numbered_pass, uses_of, all_uses}
-use Rattle.fg_frame.specs.Places.{first_in, first_over}
-use Rattle.fg_frame.specs.Units.{Numbering, numbering, stretches, layers_of, stretch_of, layer_unit, units_in, unit_in, units_of, unit_of, Unit, units, units_from, unit_from}
-use Rattle.fg_frame.specs.Unknowns.{queue_at, has_queue, has_layer, picks_one, is_known, is_known_unit, unknown_at, unknown_operand, unknown_in, unknown_by, unknown}
+use Rattle.fg_frame.specs.Places.{first_in}
+use Rattle.fg_frame.specs.Units.{Numbering, numbering, stretches, layers_of, stretch_of, layer_unit, units_in, unit_in, units_of, unit_of}
+use Rattle.fg_frame.specs.Unknowns.{queue_at, has_queue, has_layer, picks_one, is_known, is_known_unit, unknown_at, unknown_operand, unknown_in, unknown}
 use Rattle.fg_frame.specs.declared.frame.Frame.{Frame}
 use Rattle.fg_frame.specs.declared.frame.Pass.{Pass}
 use Rattle.fg_frame.specs.declared.frame.Resource.{Resource}
 use Rattle.fg_frame.specs.declared.frame.Spot.{Spot}
 use Rattle.fg_frame.specs.declared.frame.Write.{Write}
-use Rattle.fg_frame.specs.declared.numbered.NumberedPass.{NumberedPass}
 use Rattle.fg_frame.specs.declared.numbered.Stretch.{Stretch}
 use Rattle.fg_frame.specs.declared.place.Place.{Place}
 use Rattle.fg_frame.specs.declared.place.Place.TheVariants as at

@@ -1,5 +1,5 @@
 -- Marks of the units that are there.
-use Rattle.std.proofs.Common.{◌≡◌, ℕ, suc, ◌+◌, ◌<◌, ◌||◌, ◌&&◌, ◌==◌, not, List, [], ◌∷◌, length, get_or, take, drop, Bool, true, false, Option, None, Some, refl, sym, ap, ap₂, ◌∙◌, slice_set, arith}
+use Rattle.std.proofs.Common.{◌≡◌, ℕ, ◌+◌, ◌<◌, ◌||◌, ◌&&◌, ◌==◌, List, length, get_or, take, drop, Bool, true, false, Option, None, refl, sym, ap, ◌∙◌, slice_set}
 use Rattle.std.specs.List.{list_any, position}
 use Rattle.std.proofs.Math.Path.{fun_ext}
 use Rattle.std.proofs.lemmas.Bool.{eqb-true, eqb-false}
@@ -28,6 +28,7 @@ set_mark marks k u lt = by_same (k == u) refl
     true_last : (a : Bool) → true ≡ (a || true)
     true_last true = refl
     true_last false = refl
+
     by_same : (b : Bool) → (k == u) ≡ b → is_marked (slice_set marks k true) u ≡ (is_marked marks u || b)
     by_same true e = let same : u ≡ k = sym (eqb-true k u e) in get_or-set_at marks k u true false same lt ∙ true_last (is_marked marks u)
     by_same false e = get_or-set_other marks k u true false (λ same. eqb-false k u e (sym same)) ∙ or_false (is_marked marks u)

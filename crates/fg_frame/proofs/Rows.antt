@@ -1,5 +1,5 @@
 -- Worked rows: the first fault of small frames.
-use Rattle.std.proofs.Common.{◌≡◌, ℕ, List, [], ◌∷◌, Option, Some, None, true, false, codes, refl, replicate}
+use Rattle.std.proofs.Common.{◌≡◌, ℕ, List, [], ◌∷◌, Some, None, true, false, codes, refl, replicate}
 use Rattle.fg_base.specs.declared.limit.Limit.TheVariants as limits
 use Rattle.fg_base.specs.declared.op.Op.{Op}
 use Rattle.fg_base.specs.declared.op.Op.TheVariants.{FillBuffer, ClearImage, Map}
@@ -13,8 +13,6 @@ use Rattle.fg_frame.specs.FirstFault.{first_broken, broken}
 use Rattle.fg_frame.specs.Limits.{over}
 use Rattle.fg_frame.specs.Numbered.{numbered}
 use Rattle.fg_frame.specs.declared.frame.Frame.{Frame}
-use Rattle.fg_frame.specs.declared.frame.Pass.{Pass}
-use Rattle.fg_frame.specs.declared.frame.Resource.{Resource}
 use Rattle.fg_frame.specs.declared.frame.Spot.{Spot}
 use Rattle.fg_frame.specs.declared.frame.Write.{Write}
 use Rattle.fg_frame.specs.declared.place.Operand.TheVariants.{Src, Dst}

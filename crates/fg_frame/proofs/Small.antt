@@ -8,7 +8,8 @@ use Rattle.std.proofs.lemmas.List.FromFn.{length-map-range_with_len}
 use Rattle.std.proofs.lemmas.Option.{slice_get_read}
 use Rattle.fg_base.specs.Shapes.{is_buffer}
 use Rattle.fg_base.specs.declared.limit.Limit.TheVariants as limits
-use Rattle.fg_base.specs.declared.shape.Family.{Family}
+use Rattle.fg_base.specs.declared.shape.Shape.{Shape}
+use Rattle.fg_bits.specs.declared.sharing.Sharing.{Sharing}
 use Rattle.fg_frame.proofs.Known.{all_known, or_first, or_second, map_none, has_it, uses_within}
 use Rattle.fg_frame.specs.Clashes.{first_clash}
 use Rattle.fg_frame.specs.FirstFault.{broken, shapes_of, sharings_of, imports_of, name_broken, use_broken, first_broken, first_fault, AllWithin}
@@ -18,7 +19,7 @@ use Rattle.fg_frame.specs.Parts.{parts_of}
 use Rattle.fg_frame.specs.Paths.{told}
 use Rattle.fg_frame.specs.Places.{first_in, first_over}
 use Rattle.fg_frame.specs.Repeats.{first_repeat, repeats_in, repeated}
-use Rattle.fg_frame.specs.Units.{numbering, layers_of, Unit, units, units_from, unit_from, owners, spots_of, layer_spot, unit_spots}
+use Rattle.fg_frame.specs.Units.{Numbering, numbering, units_of, layers_of, units, units_from, unit_from, owners, spots_of, layer_spot, unit_spots}
 use Rattle.fg_frame.specs.Unknowns.{unknown}
 use Rattle.fg_frame.specs.declared.frame.Frame.{Frame}
 use Rattle.fg_frame.specs.declared.frame.Pass.{Pass}
@@ -27,8 +28,8 @@ use Rattle.fg_frame.specs.declared.frame.Resource.{Resource}
 use Rattle.fg_frame.specs.declared.frame.Spot.{Spot}
 use Rattle.fg_frame.specs.declared.good.Parts.{Parts}
 use Rattle.fg_frame.specs.declared.numbered.NumberedPass.{NumberedPass}
+use Rattle.fg_frame.specs.declared.numbered.Uses.{Uses}
 use Rattle.fg_frame.specs.declared.place.Broken.{Broken}
-use Rattle.fg_frame.specs.declared.place.Place.{Place}
 use Rattle.fg_frame.specs.declared.place.Place.TheVariants as at
 
 -- LIMITS
@@ -48,16 +49,19 @@ over_none (r ∷ rs) room i none = by_test (nat_lt room r.layers) refl none (λ 
 module _ (frame : Frame) (none : limit_broken frame ≡ None) where
   abbrev layers : Option Broken
   layers = option_map (λ i. over limits.Layers (at.Resource i)) (position (λ r. not (layers_allowed r)) frame.resources)
+
   abbrev queues : Option Broken
   queues = if is_between 1 4 (length frame.queues) then None else Some (over limits.Queues at.Queues)
+
   abbrev resources : Option Broken
   resources = option_map (λ i. over limits.Resources at.Resources) (first_over (λ r. r.layers) 256 0 frame.resources)
+
   abbrev rest : Option Broken
   rest =
-    option_or (if nat_le (length frame.passes) 256 then None else Some (over limits.Passes at.Passes))
-    (option_or (option_map (λ p. over limits.Ops (at.Ops p)) (first_over op_count 256 0 frame.passes))
-    (option_or (option_map (over limits.Rects) (rects_over 4096 0 frame.passes))
-    (option_map (λ i. over limits.Exports at.Exports) (first_over (exported frame) 32 0 frame.exports))))
+      option_or (if nat_le (length frame.passes) 256 then None else Some (over limits.Passes at.Passes))
+      (option_or (option_map (λ p. over limits.Ops (at.Ops p)) (first_over op_count 256 0 frame.passes))
+      (option_or (option_map (over limits.Rects) (rects_over 4096 0 frame.passes))
+      (option_map (λ i. over limits.Exports at.Exports) (first_over (exported frame) 32 0 frame.exports))))
 
   counts : count_broken frame ≡ None
   counts = or_first (count_broken frame) (size_broken frame.resources) none
@@ -90,6 +94,7 @@ module _ (frame : Frame) (none : limit_broken frame ≡ None) where
       left : (a b : Bool) → (a && b) ≡ true → a ≡ true
       left true b e = refl
       left false b e = absurd cc
+
       allowed : (r : Resource) (b : Bool) → (if b then r.layers == 1 else is_between 1 8 r.layers) ≡ true → 0 < r.layers
       allowed r true e = let one : r.layers ≡ 1 = eqb-true r.layers 1 e in omega arith
       allowed r false e = let least : 1 ≤ r.layers = leb-true 1 r.layers (left (nat_le 1 r.layers) (nat_le r.layers 8) e) in omega arith
@@ -206,3 +211,32 @@ spot_got frame parts u x same lt is = got parts.spots (unit_spots frame) (length
 
 pub owner_got : (frame : Frame) (parts : Parts) (u x : ℕ) → parts ≡ parts_of frame → u < length (units frame) → x ≡ get_or parts.owners u x → slice_get (owners 0 frame.resources) u ≡ Some x
 owner_got frame parts u x same lt is = got parts.owners (owners 0 frame.resources) (length (units frame)) u x (ap (λ p. p.owners) same) (owners_are frame) lt is
+
+-- THE JOIN OF ALL RULES
+
+pub within_as : (frame : Frame) (shapes : List Shape) (uses : List Uses) → name_broken frame ≡ None → shapes ≡ shapes_of frame → uses ≡ all_uses frame → AllWithin (length frame.queues) (length shapes) uses
+within_as frame shapes uses none same-shapes same-uses = subst (λ ss. AllWithin (length frame.queues) (length ss) uses) (sym same-shapes) (subst (λ us. AllWithin (length frame.queues) (length (shapes_of frame)) us) (sym same-uses) (shapes_within frame none))
+
+pub as_many_as : (frame : Frame) (shapes : List Shape) (imported : List Bool) → shapes ≡ shapes_of frame → imported ≡ imports_of frame → length imported ≡ length shapes
+as_many_as frame shapes imported same-shapes same-imported = ap length same-imported ∙ as_many frame ∙ ap length (sym same-shapes)
+
+pub uses_by : (frame : Frame) (n : Numbering) (uses : List Uses) → n ≡ numbering frame → uses ≡ map (uses_of frame n) frame.passes → uses ≡ all_uses frame
+uses_by frame n uses same is = is ∙ ap (λ m. map (uses_of frame m) frame.passes) same
+
+pub uses_are : (frame : Frame) (n : Numbering) (shapes : List Shape) (imported : List Bool) (uses : List Uses) (exports : List (List ℕ)) (r : Option Broken) → name_broken frame ≡ None → n ≡ numbering frame → shapes ≡ shapes_of frame → imported ≡ imports_of frame → uses ≡ all_uses frame → exports ≡ map (units_of n) frame.exports → r ≡ use_broken frame shapes imported uses exports → r ≡ first_broken frame
+uses_are frame n shapes imported uses exports r none same-n same-shapes same-imported same-uses same-exports is =
+    is
+    ∙ ap (λ x. use_broken frame x imported uses exports) same-shapes
+    ∙ ap (λ x. use_broken frame (shapes_of frame) x uses exports) same-imported
+    ∙ ap (λ x. use_broken frame (shapes_of frame) (imports_of frame) x exports) same-uses
+    ∙ ap (λ x. use_broken frame (shapes_of frame) (imports_of frame) (all_uses frame) x) (same-exports ∙ ap (λ m. map (units_of m) frame.exports) same-n)
+    ∙ sym (then_uses frame none)
+
+pub parts_are : (frame : Frame) (shapes : List Shape) (sharings : List Sharing) (owned : List ℕ) (spots : List Spot) (passes : List NumberedPass) (exports : List ℕ) → shapes ≡ shapes_of frame → sharings ≡ sharings_of frame → owned ≡ owners 0 frame.resources → spots ≡ unit_spots frame → passes ≡ (numbered frame).passes → exports ≡ (numbered frame).exports → ◌≡◌ {A = Parts} (record { shapes = shapes; sharings = sharings; owners = owned; spots = spots; passes = passes; exports = exports }) (parts_of frame)
+parts_are frame shapes sharings owned spots passes exports a b c d e f =
+    ap (λ x. record { shapes = x; sharings = sharings; owners = owned; spots = spots; passes = passes; exports = exports }) a
+    ∙ ap (λ x. record { shapes = shapes_of frame; sharings = x; owners = owned; spots = spots; passes = passes; exports = exports }) b
+    ∙ ap (λ x. record { shapes = shapes_of frame; sharings = sharings_of frame; owners = x; spots = spots; passes = passes; exports = exports }) c
+    ∙ ap (λ x. record { shapes = shapes_of frame; sharings = sharings_of frame; owners = owners 0 frame.resources; spots = x; passes = passes; exports = exports }) d
+    ∙ ap (λ x. record { shapes = shapes_of frame; sharings = sharings_of frame; owners = owners 0 frame.resources; spots = unit_spots frame; passes = x; exports = exports }) e
+    ∙ ap (λ x. record { shapes = shapes_of frame; sharings = sharings_of frame; owners = owners 0 frame.resources; spots = unit_spots frame; passes = (numbered frame).passes; exports = x }) f

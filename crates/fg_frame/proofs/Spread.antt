@@ -1,9 +1,8 @@
 -- Each resource stands as its units.
-use Rattle.std.proofs.Common.{◌≡◌, ℕ, zero, suc, ◌+◌, ◌++◌, List, [], ◌∷◌, length, map, replicate, is_some, refl, sym, ap, ap₂, ◌∙◌}
+use Rattle.std.proofs.Common.{◌≡◌, ℕ, zero, suc, ◌++◌, List, [], ◌∷◌, map, replicate, is_some, refl, sym, ap, ap₂, ◌∙◌}
 use Rattle.std.specs.List.{flat_map}
-use Rattle.std.proofs.lemmas.List.{length-append}
 use Rattle.fg_frame.specs.FirstFault.{shapes_of, sharings_of, imports_of}
-use Rattle.fg_frame.specs.Units.{Unit, unit_from, units_from, layers_of}
+use Rattle.fg_frame.specs.Units.{Unit, unit_from, units_from}
 use Rattle.fg_frame.specs.declared.frame.Frame.{Frame}
 use Rattle.fg_frame.specs.declared.frame.Resource.{Resource}
 

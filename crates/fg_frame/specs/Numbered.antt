@@ -1,5 +1,5 @@
 -- A frame with numbers in place of names.
-use Rattle.std.specs.Prelude.{ℕ, Bool, List, map, length, ◌<◌, unwrap_or}
+use Rattle.std.specs.Prelude.{ℕ, Bool, List, map, ◌<◌, unwrap_or}
 use Rattle.std.specs.List.{All, flat_map}
 use Rattle.fg_base.specs.Operands.{operands_of, mapped}
 use Rattle.fg_base.specs.declared.shape.Family.{Family}

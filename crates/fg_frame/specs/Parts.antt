@@ -1,5 +1,4 @@
 -- What is computed once for a good frame.
-use Rattle.std.specs.Prelude.{map}
 use Rattle.fg_frame.specs.FirstFault.{shapes_of, sharings_of}
 use Rattle.fg_frame.specs.Numbered.{numbered}
 use Rattle.fg_frame.specs.Units.{owners, unit_spots}

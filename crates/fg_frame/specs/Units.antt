@@ -1,7 +1,7 @@
 -- Units: buffers and single layers of images, numbered by resource in the order of declaration, and then by layer.
-use Rattle.std.specs.Prelude.{ℕ, suc, List, [], ◌∷◌, ◌++◌, ◌+◌, ◌==◌, ◌&&◌, nat_le, nat_lt, map, replicate, length, Bool, true, false, is_some, Option, Some, None, slice_get, unwrap_or, option_and_then, if◌then◌else◌}
+use Rattle.std.specs.Prelude.{ℕ, suc, List, [], ◌∷◌, ◌++◌, ◌+◌, ◌==◌, nat_lt, map, replicate, Option, Some, None, slice_get, unwrap_or, option_and_then, if◌then◌else◌}
 use Rattle.std.specs.List.{position, range_with_len, flat_map}
-use Rattle.std.specs.Option.{option_map, option_map_or}
+use Rattle.std.specs.Option.{option_map_or}
 use Rattle.std.specs.Str.{bytes_eq}
 use Rattle.fg_base.specs.Shapes.{is_image}
 use Rattle.fg_base.specs.declared.shape.Shape.{Shape}

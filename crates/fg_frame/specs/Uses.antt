@@ -1,5 +1,5 @@
 -- The rules on what passes do, over numbers.
-use Rattle.std.specs.Prelude.{ℕ, suc, List, take, map, length, ◌==◌, ◌&&◌, ◌||◌, nat_lt, not, is_some, Bool, true, false, slice_get, slice_index_or, Option, Some, None, if◌then◌else◌}
+use Rattle.std.specs.Prelude.{ℕ, suc, List, take, length, ◌==◌, ◌&&◌, ◌||◌, nat_lt, not, Bool, true, false, slice_get, slice_index_or, Option, Some, None, if◌then◌else◌}
 use Rattle.std.specs.List.{list_any, position, find}
 use Rattle.std.specs.Option.{option_or, option_map, option_map_or}
 use Rattle.fg_base.specs.Fits.{fits}

@@ -148,8 +148,52 @@ fn passes_of(alloc: Global, uses: List<Uses>) -> Result<List<NumberedPass>, NoMe
     Ok(passes)
 }
 
+// The first rule that a frame with known names breaks.
+#[tactic(auto, using(crate::proofs::Small::as_many_as))]
+fn judged(
+    alloc: Global,
+    frame: &Frame,
+    table: &Table,
+    shapes: &[Shape],
+    uses: &[Uses],
+) -> Result<Option<Broken>, NoMemory>
+    requires named { name_broken frame.now ≡ None }
+    requires table { table.now ≡ numbering frame.now }
+    requires shapes { shapes.now ≡ shapes_of frame.now }
+    requires uses { uses.now ≡ all_uses frame.now }
+    ensures { IfOk result (λ found. found ≡ first_broken frame.now) }
+{
+    let imported = imports(alloc, frame)?;
+    let exports = entries(alloc, table, &frame.exports)?;
+    Ok(use_broken(frame, shapes, imported, uses, &exports))
+}
+
+#[tactic(auto, using(crate::proofs::Small::few_resources))]
+fn collected(
+    alloc: Global,
+    frame: &Frame,
+    table: &Table,
+    shapes: List<Shape>,
+    uses: List<Uses>,
+) -> Result<Parts, NoMemory>
+    requires named { name_broken frame.now ≡ None }
+    requires table { table.now ≡ numbering frame.now }
+    requires shapes { shapes ≡ shapes_of frame.now }
+    requires uses { uses ≡ all_uses frame.now }
+    ensures { IfOk result (λ parts. parts ≡ parts_of frame.now) }
+{
+    Ok(Parts {
+        shapes,
+        sharings: sharings(alloc, frame)?,
+        owners: owners(alloc, &frame.resources)?,
+        spots: spots(alloc, &frame.resources)?,
+        passes: passes_of(alloc, uses)?,
+        exports: flat_reads(alloc, table, &frame.exports)?,
+    })
+}
+
 // A frame's parts, or the first rule that it breaks.
-#[tactic(auto, using(crate::proofs::Small::few_queues, crate::proofs::Small::few_resources, crate::proofs::Small::shapes_within, crate::proofs::Small::as_many, crate::proofs::Small::same_passes, crate::proofs::Small::then_uses))]
+#[tactic(auto, using(crate::proofs::Small::few_queues, crate::proofs::Small::uses_by))]
 fn parts_of(alloc: Global, frame: &Frame, table: &Table) -> Result<Result<Parts, Broken>, NoMemory>
     requires named { name_broken frame.now ≡ None }
     requires table { table.now ≡ numbering frame.now }
@@ -158,20 +202,11 @@ fn parts_of(alloc: Global, frame: &Frame, table: &Table) -> Result<Result<Parts,
     ensures parts { IfOk result (λ found. IfOk found (λ parts. parts ≡ parts_of frame.now)) }
 {
     let shapes = shapes(alloc, frame)?;
-    let imported = imports(alloc, frame)?;
     let uses = all_uses(alloc, frame, table)?;
-    let exports = entries(alloc, table, &frame.exports)?;
-    if let Some(place) = use_broken(frame, &shapes, imported, &uses, &exports) {
-        return Ok(Err(place));
+    match judged(alloc, frame, table, &shapes, &uses)? {
+        Some(broken) => Ok(Err(broken)),
+        None => Ok(Ok(collected(alloc, frame, table, shapes, uses)?)),
     }
-    Ok(Ok(Parts {
-        shapes,
-        sharings: sharings(alloc, frame)?,
-        owners: owners(alloc, &frame.resources)?,
-        spots: spots(alloc, &frame.resources)?,
-        passes: passes_of(alloc, uses)?,
-        exports: flat_reads(alloc, table, &frame.exports)?,
-    }))
 }
 
 #[tactic(auto, using(crate::proofs::Small::names_first))]

@@ -48,13 +48,7 @@ fn entry(alloc: Global, path: &mut Path, list: &[u8], at: usize) -> Result<(), N
 }
 
 // A member of an operation.
-fn in_op(
-    alloc: Global,
-    path: &mut Path,
-    p: usize,
-    k: usize,
-    name: &[u8],
-) -> Result<(), NoMemory>
+fn in_op(alloc: Global, path: &mut Path, p: usize, k: usize, name: &[u8]) -> Result<(), NoMemory>
     ensures { OnOk result (path.new ≡ path.old ++ in_op p k name.now) }
 {
     entry(alloc, path, b"passes", p)?;
@@ -96,9 +90,7 @@ fn path_of(alloc: Global, place: Place) -> Result<Path, NoMemory>
         }
         Place::Op(p, k) => in_op(alloc, &mut path, p, k, b"op")?,
         Place::Rects(p, k) => in_op(alloc, &mut path, p, k, b"rects")?,
-        Place::Operand(p, k, member) => {
-            in_op(alloc, &mut path, p, k, operand_name(member))?
-        }
+        Place::Operand(p, k, member) => { in_op(alloc, &mut path, p, k, operand_name(member))? }
         Place::Export(i) => entry(alloc, &mut path, b"exports", i)?,
     }
     Ok(path)

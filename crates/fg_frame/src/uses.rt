@@ -179,12 +179,7 @@ fn not_whole_at(
 }
 
 #[tactic(auto, using(crate::proofs::Walks::first_on))]
-fn not_whole(
-    ops: &[Op<u32>],
-    shapes: &[Shape],
-    p: usize,
-    writes: &[Stored],
-) -> Option<Place>
+fn not_whole(ops: &[Op<u32>], shapes: &[Shape], p: usize, writes: &[Stored]) -> Option<Place>
     requires { All (λ op. All (λ r. r < length shapes.now) (operands_of op)) ops.now }
     ensures { result ≡ first_in (not_whole_at shapes.now ops.now p) 0 writes.now }
 {
@@ -285,13 +280,7 @@ fn read_new_in(p: usize, uses: &Uses) -> Option<Place>
     }
 }
 
-fn use_at(
-    rule: Rule,
-    frame: &Frame,
-    shapes: &[Shape],
-    p: usize,
-    uses: &Uses,
-) -> Option<Place>
+fn use_at(rule: Rule, frame: &Frame, shapes: &[Shape], p: usize, uses: &Uses) -> Option<Place>
     requires { IsWithin (length frame.now.queues) (length shapes.now) uses.now.pass }
     ensures { result ≡ use_at rule frame.now shapes.now p uses.now }
 {

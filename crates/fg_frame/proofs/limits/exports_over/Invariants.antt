@@ -1,5 +1,5 @@
 use Rattle.std.proofs.Common.{◌≡◌, drop}
-use Rattle.fg_frame.specs.Limits.{op_count, rect_count, exported, all_bytes}
+use Rattle.fg_frame.specs.Limits.{exported}
 use Rattle.fg_frame.specs.Places.{first_over}
 use Rattle.fg_frame.proofs.limits.exports_over.Given as goal
 

@@ -1,4 +1,4 @@
-use Rattle.std.proofs.Common.{◌≡◌, take, map}
+use Rattle.std.proofs.Common.{◌≡◌, take}
 use Rattle.std.specs.List.{flat_map}
 use Rattle.fg_frame.specs.Units.{units_of}
 use Rattle.fg_frame.proofs.numbers.flat_reads.Given as goal

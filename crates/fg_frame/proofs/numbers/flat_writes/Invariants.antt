@@ -1,4 +1,4 @@
-use Rattle.std.proofs.Common.{◌≡◌, take, map}
+use Rattle.std.proofs.Common.{◌≡◌, take}
 use Rattle.std.specs.List.{flat_map}
 use Rattle.fg_frame.specs.Numbered.{writes_of}
 use Rattle.fg_frame.proofs.numbers.flat_writes.Given as goal

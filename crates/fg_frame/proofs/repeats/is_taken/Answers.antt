@@ -1,4 +1,4 @@
-use Rattle.std.proofs.Common.{◌≡◌, ◌||◌, Some, None, sym, ap, ap₂, ◌∙◌}
+use Rattle.std.proofs.Common.{◌||◌, Some, sym, ap, ap₂, ◌∙◌}
 use Rattle.std.specs.List.{list_any}
 use Rattle.fg_frame.proofs.Clashing.{same_spot, layer_taken}
 use Rattle.fg_frame.proofs.repeats.is_taken.Goals as goal

@@ -1,4 +1,4 @@
-use Rattle.std.proofs.Common.{◌≡◌, take, replicate, is_some}
+use Rattle.std.proofs.Common.{◌≡◌, take, replicate}
 use Rattle.std.specs.List.{flat_map}
 use Rattle.fg_frame.proofs.units.resource_shapes.Given as goal
 

@@ -1,4 +1,3 @@
-use Rattle.std.proofs.Common.{◌≡◌, None}
 use Rattle.fg_base.specs.Operands.{operands_of}
 use Rattle.fg_frame.proofs.Walks.{operand_on}
 use Rattle.fg_frame.specs.Unknowns.{unknown_at, unknown_operand}

@@ -1,5 +1,5 @@
 use Rattle.std.specs.List.{list_any}
-use Rattle.std.proofs.Common.{◌≡◌, ◌||◌, ◌&&◌, ◌==◌, sym, ap, ◌∙◌}
+use Rattle.std.proofs.Common.{◌||◌, ◌&&◌, ◌==◌, sym, ap, ◌∙◌}
 use Rattle.fg_frame.proofs.Marks.{there_on, missing_on, same_place}
 use Rattle.fg_frame.proofs.Walks.{found_on}
 use Rattle.fg_frame.specs.Places.{first_in}
