@@ -27,15 +27,15 @@ use Rattle.fg_frame.specs.declared.place.Place.TheVariants as at
 
 -- NOTHING FOUND
 
-not_none : {A : Type 0} (b : Bool) (x : A) → cond b (Some x) None ≡ None → b ≡ false
+pub not_none : {A : Type 0} (b : Bool) (x : A) → cond b (Some x) None ≡ None → b ≡ false
 not_none true x e = absurd cc
 not_none false x e = refl
 
-not_false : (b : Bool) → not b ≡ false → b ≡ true
+pub not_false : (b : Bool) → not b ≡ false → b ≡ true
 not_false true e = refl
 not_false false e = absurd cc
 
-position-none : {X : Type 0} (p : X → Bool) (xs : List X) (i : ℕ) (x : X) → i < length xs → position p xs ≡ None → p (get_or xs i x) ≡ false
+pub position-none : {X : Type 0} (p : X → Bool) (xs : List X) (i : ℕ) (x : X) → i < length xs → position p xs ≡ None → p (get_or xs i x) ≡ false
 position-none p xs i x lt none =
     let le : length xs ≤ position_or_len p xs = ltb-false (position_or_len p xs) (length xs) (not_none (nat_lt (position_or_len p xs) (length xs)) (position_or_len p xs) none) in
     fails_before_first p xs i x (omega arith)
@@ -43,7 +43,7 @@ position-none p xs i x lt none =
 some_is : (a b : ℕ) → Some a ≡ Some b → a ≡ b
 some_is a b e = ap (λ o. unwrap_or o 0) e
 
-no_some : false ≡ true → ⊥
+pub no_some : false ≡ true → ⊥
 no_some e = cc
 
 none_is : (i : ℕ) → ◌≡◌ {A = Option ℕ} None (Some i) → ⊥
@@ -165,7 +165,7 @@ unit_within n count spot holds known = unit_within_by count spot.layer (stretch_
 
 -- PASSES
 
-flat_all : {X Y : Type 0} (P : Y → Type 0) (f : X → List Y) (xs : List X) → All (λ x. All P (f x)) xs → All P (flat_map f xs)
+pub flat_all : {X Y : Type 0} (P : Y → Type 0) (f : X → List Y) (xs : List X) → All (λ x. All P (f x)) xs → All P (flat_map f xs)
 flat_all P f [] all = λ i d lt. absurd (omega arith)
 flat_all P f (x ∷ xs) all = All-append P (f x) (flat_map f xs) (all zero x (omega arith)) (flat_all P f xs (λ k d lt. all (suc k) d (omega arith)))
 

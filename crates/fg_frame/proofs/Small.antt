@@ -4,6 +4,7 @@ use Rattle.std.specs.List.{position, All, flat_map, range_with_len}
 use Rattle.std.specs.Option.{option_or, option_map}
 use Rattle.std.proofs.lemmas.Bool.{ltb-false, leb-true, eqb-true}
 use Rattle.std.proofs.lemmas.List.{length-append, length-map, length-replicate}
+use Rattle.std.proofs.lemmas.List.Elements.{All-map}
 use Rattle.std.proofs.lemmas.List.FromFn.{length-map-range_with_len}
 use Rattle.std.proofs.lemmas.Option.{slice_get_read}
 use Rattle.fg_base.specs.Shapes.{is_buffer}
@@ -13,8 +14,8 @@ use Rattle.fg_bits.specs.declared.sharing.Sharing.{Sharing}
 use Rattle.fg_frame.proofs.Known.{all_known, or_first, or_second, map_none, has_it, uses_within}
 use Rattle.fg_frame.specs.Clashes.{first_clash}
 use Rattle.fg_frame.specs.FirstFault.{broken, shapes_of, sharings_of, imports_of, name_broken, use_broken, first_broken, first_fault, AllWithin}
-use Rattle.fg_frame.specs.Limits.{over, is_between, layers_allowed, op_count, rects_over, exported, count_broken, size_broken, limit_broken}
-use Rattle.fg_frame.specs.Numbered.{numbered, numbered_pass, uses_of, all_uses, export_units}
+use Rattle.fg_frame.specs.Limits.{over, is_between, layers_allowed, sides_allowed, size_allowed, all_bytes, op_count, rects_over, exported, count_broken, size_broken, limit_broken}
+use Rattle.fg_frame.specs.Numbered.{IsWithin, numbered, numbered_pass, uses_of, all_uses, export_units}
 use Rattle.fg_frame.specs.Parts.{parts_of}
 use Rattle.fg_frame.specs.Paths.{told}
 use Rattle.fg_frame.specs.Places.{first_in, first_over}
@@ -56,12 +57,17 @@ module _ (frame : Frame) (none : limit_broken frame ≡ None) where
   abbrev resources : Option Broken
   resources = option_map (λ i. over limits.Resources at.Resources) (first_over (λ r. r.layers) 256 0 frame.resources)
 
-  abbrev rest : Option Broken
-  rest =
-      option_or (if nat_le (length frame.passes) 256 then None else Some (over limits.Passes at.Passes))
-      (option_or (option_map (λ p. over limits.Ops (at.Ops p)) (first_over op_count 256 0 frame.passes))
+  abbrev passes : Option Broken
+  passes = if nat_le (length frame.passes) 256 then None else Some (over limits.Passes at.Passes)
+
+  abbrev others : Option Broken
+  others =
+      option_or (option_map (λ p. over limits.Ops (at.Ops p)) (first_over op_count 256 0 frame.passes))
       (option_or (option_map (over limits.Rects) (rects_over 4096 0 frame.passes))
-      (option_map (λ i. over limits.Exports at.Exports) (first_over (exported frame) 32 0 frame.exports))))
+      (option_map (λ i. over limits.Exports at.Exports) (first_over (exported frame) 32 0 frame.exports)))
+
+  abbrev rest : Option Broken
+  rest = option_or passes others
 
   counts : count_broken frame ≡ None
   counts = or_first (count_broken frame) (size_broken frame.resources) none
@@ -75,8 +81,26 @@ module _ (frame : Frame) (none : limit_broken frame ≡ None) where
   queues_none : queues ≡ None
   queues_none = or_first queues (option_or resources rest) after_layers
 
+  after_queues : option_or resources rest ≡ None
+  after_queues = or_second queues (option_or resources rest) after_layers
+
   resources_none : resources ≡ None
-  resources_none = or_first resources rest (or_second queues (option_or resources rest) after_layers)
+  resources_none = or_first resources rest after_queues
+
+  pub passes_few : length frame.passes ≤ 256
+  passes_few = leb-true (length frame.passes) 256 (has_it (nat_le (length frame.passes) 256) (over limits.Passes at.Passes) (or_first passes others (or_second resources rest after_queues)))
+
+  abbrev sides : Option Broken
+  sides = option_map (λ i. over limits.Side (at.Resource i)) (position (λ r. not (sides_allowed r.shape)) frame.resources)
+
+  abbrev sizes : Option Broken
+  sizes = option_map (λ i. over limits.Size (at.Resource i)) (position (λ r. not (size_allowed r.shape)) frame.resources)
+
+  abbrev total : Option Broken
+  total = option_map (λ i. over limits.Total (at.Resource i)) (first_over all_bytes 268435456 0 frame.resources)
+
+  pub sizes_allowed : All (λ r. size_allowed r.shape ≡ true) frame.resources
+  sizes_allowed = all_known (λ r. size_allowed r.shape) frame.resources (map_none (λ i. over limits.Size (at.Resource i)) (position (λ r. not (size_allowed r.shape)) frame.resources) (or_first sizes total (or_second sides (option_or sizes total) (or_second (count_broken frame) (size_broken frame.resources) none))))
 
   pub few_units : layers_of frame.resources ≤ 256
   few_units = over_none frame.resources 256 0 (map_none (λ i. over limits.Resources at.Resources) (first_over (λ r. r.layers) 256 0 frame.resources) resources_none)
@@ -113,10 +137,10 @@ names_differ frame none =
 
 -- NAMES
 
-limits_none : (frame : Frame) → name_broken frame ≡ None → limit_broken frame ≡ None
+pub limits_none : (frame : Frame) → name_broken frame ≡ None → limit_broken frame ≡ None
 limits_none frame none = or_first (limit_broken frame) (option_or (option_map (broken 5) (repeated frame)) (option_map (broken 6) (unknown frame))) none
 
-unknown_none : (frame : Frame) → name_broken frame ≡ None → unknown frame ≡ None
+pub unknown_none : (frame : Frame) → name_broken frame ≡ None → unknown frame ≡ None
 unknown_none frame none = map_none (broken 6) (unknown frame) (or_second (option_map (broken 5) (repeated frame)) (option_map (broken 6) (unknown frame)) (or_second (limit_broken frame) (option_or (option_map (broken 5) (repeated frame)) (option_map (broken 6) (unknown frame))) none))
 
 pub few_queues : (frame : Frame) → name_broken frame ≡ None → length frame.queues ≤ 4
@@ -128,7 +152,7 @@ few_resources frame none =
     let less = count_few frame.resources (some_layers frame (limits_none frame none)) in
     omega arith
 
-length_units : (rs : List Resource) → length (flat_map units_from rs) ≡ layers_of rs
+pub length_units : (rs : List Resource) → length (flat_map units_from rs) ≡ layers_of rs
 length_units [] = refl
 length_units (r ∷ rs) = length-append (units_from r) (flat_map units_from rs) ∙ ap₂ (λ a b. a + b) (length-replicate r.layers (unit_from r)) (length_units rs)
 
@@ -144,6 +168,17 @@ shapes_within frame none = subst (λ n. AllWithin (length frame.queues) n (all_u
 passes_same : (frame : Frame) (passes : List Pass) → map (λ u. u.pass) (map (uses_of frame (numbering frame)) passes) ≡ map (numbered_pass frame (numbering frame)) passes
 passes_same frame [] = refl
 passes_same frame (pass ∷ passes) = ap (λ ps. numbered_pass frame (numbering frame) pass ∷ ps) (passes_same frame passes)
+
+-- of each numbered pass
+pub passes_within : (frame : Frame) → name_broken frame ≡ None → All (IsWithin (length (numbered frame).queues) (length (units frame))) (numbered frame).passes
+passes_within frame none =
+    let within = shapes_within frame none in
+    let queues = sym (length-map frame.queues (λ q. q.family)) in
+    let count = length-map (units frame) (λ u. u.shape) in
+    subst (λ q. All (IsWithin q (length (units frame))) (numbered frame).passes) queues
+    (subst (λ m. All (IsWithin (length frame.queues) m) (numbered frame).passes) count
+    (subst (λ ps. All (IsWithin (length frame.queues) (length (shapes_of frame))) ps) (passes_same frame frame.passes)
+    (All-map (IsWithin (length frame.queues) (length (shapes_of frame))) (λ u. u.pass) (all_uses frame) within)))
 
 pub same_passes : (frame : Frame) → map (λ u. u.pass) (all_uses frame) ≡ (numbered frame).passes
 same_passes frame = passes_same frame frame.passes

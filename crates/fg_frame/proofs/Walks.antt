@@ -1,5 +1,6 @@
 -- Loops that look for the first place.
-use Rattle.std.proofs.Common.{Some, subst, slice_get, ◌≡◌, ℕ, suc, ◌+◌, ◌<◌, List, length, get_or, drop, Option, None, sym, ap, ◌∙◌, add-one, drop-cons}
+use Rattle.std.proofs.Common.{Some, subst, slice_get, Bool, true, false, ◌||◌, ◌∷◌, ◌≡◌, ℕ, suc, ◌+◌, ◌<◌, List, length, get_or, drop, Option, None, sym, ap, ◌∙◌, add-one, drop-cons}
+use Rattle.std.specs.List.{list_any}
 use Rattle.std.specs.Option.{option_or}
 use Rattle.std.proofs.lemmas.Option.{get_or_from_slice_get}
 use Rattle.fg_frame.specs.Places.{first_in}
@@ -21,3 +22,14 @@ found_on rule xs i x place total lt is gives so_far =
     let rest = first_in rule (suc i) (drop (suc i) xs) in
     let here : first_in rule i (drop i xs) ≡ option_or (rule i x) rest = ap (first_in rule i) (drop-cons xs i x lt) ∙ ap (λ y. option_or (rule i y) rest) (sym is) in
     sym so_far ∙ here ∙ ap (λ o. option_or o rest) gives
+
+-- a test fails at an operand: the rest of the operands decides
+pub any_on : (test : ℕ → Bool) (xs : List ℕ) (i n x : ℕ) (total : Bool) → i < n → n ≡ length xs → slice_get xs i ≡ Some x → test x ≡ false → list_any test (drop i xs) ≡ total → list_any test (drop (i + 1) xs) ≡ total
+any_on test xs i n x total lt size is fails so_far =
+    let here : drop i xs ≡ x ∷ drop (suc i) xs = drop-cons xs i x (subst (λ m. i < m) size lt) ∙ ap (λ y. y ∷ drop (suc i) xs) (get_or_from_slice_get xs i x x is) in
+    rw add-one (sym (ap (list_any test) here ∙ ap (λ b. b || list_any test (drop (suc i) xs)) fails) ∙ so_far)
+
+pub any_here : (test : ℕ → Bool) (xs : List ℕ) (i n x : ℕ) (total : Bool) → i < n → n ≡ length xs → slice_get xs i ≡ Some x → test x ≡ true → list_any test (drop i xs) ≡ total → total ≡ true
+any_here test xs i n x total lt size is holds so_far =
+    let here : drop i xs ≡ x ∷ drop (suc i) xs = drop-cons xs i x (subst (λ m. i < m) size lt) ∙ ap (λ y. y ∷ drop (suc i) xs) (get_or_from_slice_get xs i x x is) in
+    sym so_far ∙ ap (list_any test) here ∙ ap (λ b. b || list_any test (drop (suc i) xs)) holds

@@ -1,6 +1,7 @@
 pub mod Clashes
 pub mod Faults
 pub mod FirstFault
+pub mod Good
 pub mod Limits
 pub mod Members
 pub mod Numbered

@@ -3,6 +3,8 @@
 ghost use Rattle.std.specs.Prelude.{◌≡◌, ◌≤◌, ◌<◌, ◌+◌, IfOk, IfErr, IfSome, length, None, Some, slice_get, map};
 ghost use Rattle.std.specs.List.{All};
 ghost use Rattle.fg_frame.specs.FirstFault.{broken, shapes_of, imports_of, sharings_of, name_broken, misfit_broken, use_broken, first_broken, first_fault, Ends, AllWithin};
+ghost use Rattle.fg_base.specs.Operands.{operands_of};
+ghost use Rattle.fg_frame.specs.Good.{IsGood};
 ghost use Rattle.fg_frame.specs.Numbered.{IsWithin, numbered, all_uses, export_units};
 ghost use Rattle.fg_frame.specs.Parts.{parts_of};
 ghost use Rattle.fg_frame.specs.Units.{numbering, units, owners, unit_spots};
@@ -45,6 +47,8 @@ pub struct GoodFrame {
 impl Model for GoodFrame {
     ghost use Rattle.std.specs.Prelude.{◌≡◌, None};
     ghost use Rattle.fg_frame.specs.FirstFault.{first_broken};
+    ghost use Rattle.fg_frame.specs.Good.{IsGood};
+    ghost use Rattle.fg_frame.specs.Numbered.{numbered};
     ghost use Rattle.fg_frame.specs.Parts.{parts_of};
     ghost use Rattle.fg_frame.specs.declared.frame.Frame.{Frame};
 
@@ -52,7 +56,7 @@ impl Model for GoodFrame {
 
     ghost view = { λ g. g.frame };
 
-    ghost invariant = { λ g. (first_broken g.frame ≡ None) × (g.parts ≡ parts_of g.frame) };
+    ghost invariant = { λ g. (first_broken g.frame ≡ None) × (g.parts ≡ parts_of g.frame) × IsGood (numbered g.frame) };
 }
 
 /// Why a frame was not taken, and the frame itself.
@@ -240,8 +244,22 @@ impl GoodFrame {
     pub fn frame(&self) -> &Frame
         ensures frame { result.now ≡ self.now }
         ensures good { first_fault self.now ≡ None }
+        ensures numbers { IsGood (numbered self.now) }
     {
         &self.frame
+    }
+
+    #[tactic(auto, using(crate::proofs::Small::families_are))]
+    pub fn queue_count(&self) -> u32
+        ensures { result ≡ length (numbered self.now).queues }
+    {
+        self.frame.queues.len() as u32
+    }
+
+    pub fn pass_count(&self) -> u32
+        ensures { result ≡ length (numbered self.now).passes }
+    {
+        self.parts.passes.len() as u32
     }
 
     #[tactic(auto, using(crate::proofs::Small::families_are, crate::proofs::Small::family_got))]
@@ -255,7 +273,8 @@ impl GoodFrame {
     /// The queue of a pass.
     pub fn queue_of(&self, pass: u32) -> u32
         requires { pass < length (numbered self.now).passes }
-        ensures { IfSome (slice_get (numbered self.now).passes pass) (λ p. result ≡ p.queue) }
+        ensures queue { IfSome (slice_get (numbered self.now).passes pass) (λ p. result ≡ p.queue) }
+        ensures within { result < length (numbered self.now).queues }
     {
         self.parts.passes[pass as usize].queue
     }
@@ -263,7 +282,8 @@ impl GoodFrame {
     /// The units that a pass reads, in the order of its entries.
     pub fn reads(&self, pass: u32) -> &[u32]
         requires { pass < length (numbered self.now).passes }
-        ensures { IfSome (slice_get (numbered self.now).passes pass) (λ p. result.now ≡ p.reads) }
+        ensures reads { IfSome (slice_get (numbered self.now).passes pass) (λ p. result.now ≡ p.reads) }
+        ensures within { All (λ unit. unit < length (numbered self.now).units) result.now }
     {
         &self.parts.passes[pass as usize].reads
     }
@@ -271,7 +291,8 @@ impl GoodFrame {
     /// The units that a pass writes, in the order of its entries.
     pub fn writes(&self, pass: u32) -> &[Write<u32>]
         requires { pass < length (numbered self.now).passes }
-        ensures { IfSome (slice_get (numbered self.now).passes pass) (λ p. result.now ≡ p.writes) }
+        ensures writes { IfSome (slice_get (numbered self.now).passes pass) (λ p. result.now ≡ p.writes) }
+        ensures within { All (λ w. w.what < length (numbered self.now).units) result.now }
     {
         &self.parts.passes[pass as usize].writes
     }
@@ -279,14 +300,24 @@ impl GoodFrame {
     /// The operations of a pass, over units.
     pub fn ops(&self, pass: u32) -> &[Op<u32>]
         requires { pass < length (numbered self.now).passes }
-        ensures { IfSome (slice_get (numbered self.now).passes pass) (λ p. result.now ≡ p.ops) }
+        ensures ops { IfSome (slice_get (numbered self.now).passes pass) (λ p. result.now ≡ p.ops) }
+        ensures within { All (λ op. All (λ unit. unit < length (numbered self.now).units) (operands_of op)) result.now }
     {
         &self.parts.passes[pass as usize].ops
     }
 
+    /// Whether a pass stays though nothing that it writes is wanted.
+    pub fn has_side_effect(&self, pass: u32) -> bool
+        requires { pass < length (numbered self.now).passes }
+        ensures { IfSome (slice_get (numbered self.now).passes pass) (λ p. result ≡ p.side_effect) }
+    {
+        self.parts.passes[pass as usize].side_effect
+    }
+
     /// The units that are read back after the frame, in the order of the exports.
     pub fn exports(&self) -> &[u32]
-        ensures { result.now ≡ (numbered self.now).exports }
+        ensures exports { result.now ≡ (numbered self.now).exports }
+        ensures within { All (λ unit. unit < length (numbered self.now).units) result.now }
     {
         &self.parts.exports
     }
@@ -301,7 +332,8 @@ impl GoodFrame {
     /// The number of units.
     #[tactic(auto, using(crate::proofs::Small::count_fits, crate::proofs::Small::shapes_are))]
     pub fn unit_count(&self) -> u32
-        ensures { result ≡ length (numbered self.now).units }
+        ensures count { result ≡ length (numbered self.now).units }
+        ensures few { result ≤ 256 }
     {
         self.parts.shapes.len() as u32
     }

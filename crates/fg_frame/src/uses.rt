@@ -109,24 +109,12 @@ fn undeclared_op(pass: &NumberedPass, p: usize, ops: &[Op<u32>]) -> Option<Place
 fn touches(op: &Op<u32>, unit: u32) -> bool
     ensures { result ≡ touches unit op.now }
 {
-    match op {
-        Op::FillBuffer { dst, .. } | Op::ClearImage { dst, .. } => *dst == unit,
-        Op::Ramp { dst, .. } | Op::Draw { dst, .. } => *dst == unit,
-        Op::CopyBuffer { src, dst, .. } | Op::CopyImage { src, dst, .. } => {
-            *src == unit || *dst == unit
-        }
-        Op::BufferToImage { src, dst, .. } | Op::ImageToBuffer { src, dst, .. } => {
-            *src == unit || *dst == unit
-        }
-        Op::Map { src, dst, .. } | Op::Convert { src, dst } => *src == unit || *dst == unit,
-        Op::Box3 { src, dst } | Op::Halve { src, dst } | Op::Histogram { src, dst } => {
-            *src == unit || *dst == unit
-        }
-        Op::Combine { a, b, dst, .. } => *a == unit || *b == unit || *dst == unit,
-        Op::Select { mask, a, b, dst } => {
-            *mask == unit || *a == unit || *b == unit || *dst == unit
+    for j in 0..op.touch_count() {
+        if op.operand(j) == unit {
+            return true;
         }
     }
+    false
 }
 
 fn stores_whole(op: &Op<u32>, shapes: &[Shape], unit: u32) -> bool

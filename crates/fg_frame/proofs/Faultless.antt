@@ -1,0 +1,297 @@
+-- A frame that breaks no rule has a good numbered frame.
+use Rattle.std.proofs.Common.{subst, zero, suc, if◌then◌else◌, map, take, ◌≡◌, ℕ, ◌+◌, ◌<◌, ◌≤◌, ◌==◌, ◌&&◌, ◌||◌, ◌++◌, nat_le, nat_lt, List, [], ◌∷◌, length, get_or, slice_get, slice_index_or, not, is_some, Bool, true, false, Option, None, Some, refl, sym, ap, ap₂, ◌∙◌, arith}
+use Rattle.std.specs.List.{position, All, flat_map, list_any}
+use Rattle.std.specs.Option.{option_or, option_map, option_map_or}
+use Rattle.std.proofs.lemmas.Bool.{le-ltb}
+use Rattle.std.proofs.lemmas.List.{length-append, length-map, get_or-map, get_or_append_left, take-map}
+use Rattle.std.proofs.Math.Seq.{get_or-append_seam}
+use Rattle.std.proofs.lemmas.List.Elements.{All-map, All-replicate}
+use Rattle.std.proofs.lemmas.List.Folds.{list_any_at}
+use Rattle.fg_base.specs.Fits.{fits}
+use Rattle.fg_base.specs.InPlace.{in_place}
+use Rattle.fg_base.specs.Operands.{sources_of, destination_of, operands_of, mapped}
+use Rattle.fg_base.specs.Runs.{runs}
+use Rattle.fg_base.specs.Shapes.{shape_at}
+use Rattle.fg_base.specs.declared.op.Op.{Op}
+use Rattle.fg_base.specs.declared.shape.Family.{Family}
+use Rattle.fg_base.specs.declared.shape.Family.TheVariants.{Graphics}
+use Rattle.fg_base.specs.declared.shape.Shape.{Shape}
+use Rattle.fg_frame.proofs.Known.{all_known, first_none, or_first, or_second, map_none, has_it, not_none, not_false, no_some, position-none, flat_all, exports_within}
+use Rattle.fg_frame.proofs.Small.{names_good, then_uses, few_queues, few_units, limits_none, unknown_none, some_layers, length_units, passes_few, sizes_allowed, passes_within, families_are}
+use Rattle.fg_frame.specs.FirstFault.{broken, shapes_of, imports_of, misfit_broken, use_broken, first_broken}
+use Rattle.fg_frame.specs.Good.{shapes_in, is_import, renews, has_contents, IsGoodOp, IsGoodPass, IsGood}
+use Rattle.fg_frame.specs.Limits.{size_allowed}
+use Rattle.fg_frame.specs.Members.{member_at}
+use Rattle.fg_frame.specs.Numbered.{IsWithin, NumberedFrame, numbered, numbered_pass, write_each, writes_of, stored_of, uses_of, all_uses, export_units}
+use Rattle.fg_frame.specs.Places.{first_in}
+use Rattle.fg_frame.specs.Units.{Numbering, numbering, units_of, units, Unit, units_from, unit_from}
+use Rattle.fg_frame.specs.Uses.{family_of, stranger_in, writes_it, reads_it, undeclared_at, undeclared_operand, undeclared_in, starts_whole, is_partial, not_whole_at, not_whole_in, makes, is_there, is_marked, is_missing, unwritten_in, unwritten_at, unwritten, import_fits, misfit_import, misfit_at, misfit_in, in_place_in, read_new_in, use_at, first_use}
+use Rattle.fg_frame.specs.declared.frame.Frame.{Frame}
+use Rattle.fg_frame.specs.declared.frame.Pass.{Pass}
+use Rattle.fg_frame.specs.declared.frame.QueueDecl.{QueueDecl}
+use Rattle.fg_frame.specs.declared.frame.Resource.{Resource}
+use Rattle.fg_frame.specs.declared.frame.Spot.{Spot}
+use Rattle.fg_frame.specs.declared.frame.Write.{Write}
+use Rattle.fg_frame.specs.declared.numbered.NumberedPass.{NumberedPass}
+use Rattle.fg_frame.specs.declared.numbered.Stored.{Stored}
+use Rattle.fg_frame.specs.declared.numbered.Uses.{Uses}
+use Rattle.fg_frame.specs.declared.place.Broken.{Broken}
+use Rattle.fg_frame.specs.declared.place.Operand.TheVariants.{Dst}
+use Rattle.fg_frame.specs.declared.place.Place.{Place}
+use Rattle.fg_frame.specs.declared.place.Place.TheVariants as at
+use Rattle.fg_frame.specs.declared.uses.Rule.{Rule}
+use Rattle.fg_frame.specs.declared.uses.Rule.TheVariants as rules
+
+-- NOTHING FOUND
+
+any_false : {X : Type 0} (test : X → Bool) (xs : List X) → list_any test xs ≡ false → All (λ x. test x ≡ false) xs
+any_false {X} test xs none = λ k d lt. by_case k d lt (test (get_or xs k d)) refl
+  where
+    by_case : (k : ℕ) (d : X) → k < length xs → (b : Bool) → test (get_or xs k d) ≡ b → test (get_or xs k d) ≡ false
+    by_case k d lt true e = absurd (no_some (sym none ∙ list_any_at test xs k d lt e))
+    by_case k d lt false e = e
+
+-- a test that finds nothing among the images of a list
+none_mapped : {X Y : Type 0} (test : Y → Bool) (f : X → Y) (xs : List X) → position test (map f xs) ≡ None → All (λ x. test (f x) ≡ false) xs
+none_mapped test f xs none = λ k d lt. subst (λ y. test y ≡ false) (get_or-map f xs k d (f d) lt) (position-none test (map f xs) k (f d) (subst (λ n. k < n) (sym (length-map xs f)) lt) none)
+
+none_at : {X Z : Type 0} (rule : ℕ → X → Option Z) (xs : List X) → first_in rule 0 xs ≡ None → (k : ℕ) (d : X) → k < length xs → rule k (get_or xs k d) ≡ None
+none_at rule xs none k d lt = let e : 0 + k ≡ k = omega arith in subst (λ j. rule j (get_or xs k d) ≡ None) e (first_none rule 0 xs none k d lt)
+
+-- a rule that gives nothing over the images of a list
+rule_mapped : {X Y Z : Type 0} (rule : ℕ → Y → Option Z) (f : X → Y) (xs : List X) → first_in rule 0 (map f xs) ≡ None → (k : ℕ) (d : X) → k < length xs → rule k (f (get_or xs k d)) ≡ None
+rule_mapped rule f xs none k d lt = subst (λ y. rule k y ≡ None) (get_or-map f xs k d (f d) lt) (none_at rule (map f xs) none k (f d) (subst (λ n. k < n) (sym (length-map xs f)) lt))
+
+and_false : {X : Type 0} (b : Bool) (test : X → Bool) (xs : List X) → (b && list_any test xs) ≡ false → b ≡ true → All (λ x. test x ≡ false) xs
+and_false true test xs none e = any_false test xs none
+and_false false test xs none e = absurd (no_some e)
+
+not_true : (b : Bool) → b ≡ false → not b ≡ true
+not_true true e = absurd (no_some (sym e))
+not_true false e = refl
+
+-- ENTRIES AND THEIR UNITS
+
+writes_all : (n : Numbering) (P : Bool → ℕ → Type 0) (writes : List (Write Spot)) → All (λ w. All (λ u. P w.fresh u) (units_of n w.what)) writes → All (λ w. P w.fresh w.what) (flat_map (writes_of n) writes)
+writes_all n P writes all = flat_all (λ w. P w.fresh w.what) (writes_of n) writes (λ k d lt. All-map (λ w. P w.fresh w.what) (write_each (get_or writes k d).fresh) (units_of n (get_or writes k d).what) (all k d lt))
+
+entries_there : (there : ℕ → Bool) (n : Numbering) (spots : List Spot) → position (is_missing there) (map (units_of n) spots) ≡ None → All (λ u. there u ≡ true) (flat_map (units_of n) spots)
+entries_there there n spots none = flat_all (λ u. there u ≡ true) (units_of n) spots (λ k d lt. λ j e less. not_false (there (get_or (units_of n (get_or spots k d)) j e)) (any_false (λ u. not (there u)) (units_of n (get_or spots k d)) (none_mapped (is_missing there) (units_of n) spots none k d lt) j e less))
+
+changes_there : (there : ℕ → Bool) (n : Numbering) (writes : List (Write Spot)) → position (λ w. not w.fresh && is_missing there w.units) (map (stored_of n) writes) ≡ None → All (λ w. w.fresh ≡ false → there w.what ≡ true) (flat_map (writes_of n) writes)
+changes_there there n writes none = writes_all n (λ fresh u. fresh ≡ false → there u ≡ true) writes (λ k d lt. λ j e less. λ stale. not_false (there (get_or (units_of n (get_or writes k d).what) j e)) (and_false (not (get_or writes k d).fresh) (λ u. not (there u)) (units_of n (get_or writes k d).what) (none_mapped (λ w. not w.fresh && is_missing there w.units) (stored_of n) writes none k d lt) (not_true (get_or writes k d).fresh stale) j e less))
+
+new_whole : (shapes : List Shape) (ops : List (Op ℕ)) (p : ℕ) (n : Numbering) (writes : List (Write Spot)) → first_in (not_whole_at shapes ops p) 0 (map (stored_of n) writes) ≡ None → All (λ w. w.fresh ≡ true → starts_whole shapes ops w.what ≡ true) (flat_map (writes_of n) writes)
+new_whole shapes ops p n writes none = writes_all n (λ fresh u. fresh ≡ true → starts_whole shapes ops u ≡ true) writes (λ k d lt. λ j e less. λ new. not_false (starts_whole shapes ops (get_or (units_of n (get_or writes k d).what) j e)) (and_false (get_or writes k d).fresh (λ u. not (starts_whole shapes ops u)) (units_of n (get_or writes k d).what) (not_none ((get_or writes k d).fresh && is_partial shapes ops (units_of n (get_or writes k d).what)) (at.Write p k) (rule_mapped (not_whole_at shapes ops p) (stored_of n) writes none k d lt)) new j e less))
+
+new_unread : (pass : NumberedPass) (n : Numbering) (writes : List (Write Spot)) → position (λ w. w.fresh && list_any (reads_it pass) w.units) (map (stored_of n) writes) ≡ None → All (λ w. w.fresh ≡ true → reads_it pass w.what ≡ false) (flat_map (writes_of n) writes)
+new_unread pass n writes none = writes_all n (λ fresh u. fresh ≡ true → reads_it pass u ≡ false) writes (λ k d lt. λ j e less. λ new. and_false (get_or writes k d).fresh (reads_it pass) (units_of n (get_or writes k d).what) (none_mapped (λ w. w.fresh && list_any (reads_it pass) w.units) (stored_of n) writes none k d lt) new j e less)
+
+-- CONTENTS
+
+import_marked : (all : List Unit) (unit : ℕ) → is_marked (map (λ u. is_some u.imported) all) unit ≡ is_import all unit
+import_marked [] unit = refl
+import_marked (u ∷ all) zero = refl
+import_marked (u ∷ all) (suc unit) = import_marked all unit
+
+renews_same : (frame : Frame) (n : Numbering) (unit : ℕ) (passes : List Pass) → list_any (makes unit) (map (uses_of frame n) passes) ≡ list_any (renews unit) (map (numbered_pass frame n) passes)
+renews_same frame n unit [] = refl
+renews_same frame n unit (pass ∷ passes) = ap (λ b. renews unit (numbered_pass frame n pass) || b) (renews_same frame n unit passes)
+
+there_same : (frame : Frame) (unit : ℕ) (passes : List Pass) → is_there (imports_of frame) (map (uses_of frame (numbering frame)) passes) unit ≡ has_contents (units frame) (map (numbered_pass frame (numbering frame)) passes) unit
+there_same frame unit passes = ap₂ (λ a b. a || b) (import_marked (units frame) unit) (renews_same frame (numbering frame) unit passes)
+
+there_before : (frame : Frame) (p unit : ℕ) → is_there (imports_of frame) (take p (all_uses frame)) unit ≡ has_contents (units frame) (take p (numbered frame).passes) unit
+there_before frame p unit =
+    let n = numbering frame in
+    ap (λ uses. is_there (imports_of frame) uses unit) (take-map (uses_of frame n) p frame.passes)
+    ∙ there_same frame unit (take p frame.passes)
+    ∙ ap (λ passes. has_contents (units frame) passes unit) (sym (take-map (numbered_pass frame n) p frame.passes))
+
+-- OPERATIONS
+
+family_there : (queues : List QueueDecl) (q : ℕ) (family : Family) → slice_get (map (λ d. d.family) queues) q ≡ Some family → option_map_or (λ d. d.family) (slice_get queues q) Graphics ≡ family
+family_there [] q family is = absurd (no_some (ap is_some is))
+family_there (d ∷ queues) zero family is = ap (λ o. option_map_or (λ f. f) o Graphics) is
+family_there (d ∷ queues) (suc q) family is = family_there queues q family is
+
+read_or_written : (a b c : Bool) → (a || (b && c)) ≡ true → (a || c) ≡ true
+read_or_written true b c e = refl
+read_or_written false true c e = e
+read_or_written false false c e = absurd (no_some e)
+
+written : (a b c : Bool) → (a || (b && c)) ≡ true → b ≡ false → a ≡ true
+written true b c e last = refl
+written false true c e last = absurd (no_some (sym last))
+written false false c e last = absurd (no_some e)
+
+one_more : {X : Type 0} (xs : List X) (y : X) → length (xs ++ y ∷ []) ≡ length xs + 1
+one_more xs y = length-append xs (y ∷ [])
+
+-- the operands of an operation of which none is undeclared
+module _ (pass : NumberedPass) (p k : ℕ) (op : Op ℕ) (none : undeclared_operand pass p k op ≡ None) where
+  abbrev is_declared : ℕ → ℕ → Bool
+  is_declared j unit = writes_it pass unit || (nat_lt (suc j) (length (operands_of op)) && reads_it pass unit)
+
+  declared_at : (j : ℕ) (d : ℕ) → j < length (operands_of op) → is_declared j (get_or (operands_of op) j d) ≡ true
+  declared_at j d lt = has_it (is_declared j (get_or (operands_of op) j d)) (at.Operand p k (member_at op j)) (none_at (undeclared_at pass p k op) (operands_of op) none j d lt)
+
+  declared_sources : All (λ unit. (writes_it pass unit || reads_it pass unit) ≡ true) (sources_of op)
+  declared_sources = λ j d lt.
+      let size : length (operands_of op) ≡ length (sources_of op) + 1 = one_more (sources_of op) (destination_of op) in
+      let here = declared_at j d (omega (arith, size)) in
+      let unit = get_or (sources_of op) j d in
+      let same : get_or (operands_of op) j d ≡ unit = get_or_append_left (sources_of op) (destination_of op ∷ []) d j lt in
+      read_or_written (writes_it pass unit) (nat_lt (suc j) (length (operands_of op))) (reads_it pass unit) (subst (λ u. is_declared j u ≡ true) same here)
+
+  declared_destination : writes_it pass (destination_of op) ≡ true
+  declared_destination =
+      let j = length (sources_of op) in
+      let size : length (operands_of op) ≡ length (sources_of op) + 1 = one_more (sources_of op) (destination_of op) in
+      let here = declared_at j (destination_of op) (omega (arith, size)) in
+      let same : get_or (operands_of op) j (destination_of op) ≡ destination_of op = get_or-append_seam (sources_of op) (destination_of op) [] (destination_of op) in
+      let last : nat_lt (suc j) (length (operands_of op)) ≡ false = le-ltb (suc j) (length (operands_of op)) (omega (arith, size)) in
+      written (writes_it pass (destination_of op)) (nat_lt (suc j) (length (operands_of op))) (reads_it pass (destination_of op)) (subst (λ u. is_declared j u ≡ true) same here) last
+
+-- GOOD FRAMES
+
+module _ (frame : Frame) (none : first_broken frame ≡ None) where
+  abbrev n : Numbering
+  n = numbering frame
+
+  abbrev shapes : List Shape
+  shapes = shapes_of frame
+
+  abbrev uses : List Uses
+  uses = all_uses frame
+
+  abbrev rule_runs : Option Broken
+  rule_runs = option_map (broken 7) (first_use rules.Runs frame shapes uses)
+
+  abbrev rule_declared : Option Broken
+  rule_declared = option_map (broken 8) (first_use rules.Declared frame shapes uses)
+
+  abbrev rule_whole : Option Broken
+  rule_whole = option_map (broken 9) (first_use rules.Whole frame shapes uses)
+
+  abbrev rule_written : Option Broken
+  rule_written = option_map (broken 10) (unwritten (imports_of frame) uses (export_units frame))
+
+  abbrev rule_fits : Option Broken
+  rule_fits = option_map (broken 11) (misfit_broken frame shapes uses)
+
+  abbrev rule_in_place : Option Broken
+  rule_in_place = option_map (broken 12) (first_use rules.InPlace frame shapes uses)
+
+  abbrev rule_read_new : Option Broken
+  rule_read_new = option_map (broken 13) (first_use rules.ReadNew frame shapes uses)
+
+  abbrev from_in_place : Option Broken
+  from_in_place = option_or rule_in_place rule_read_new
+
+  abbrev from_fits : Option Broken
+  from_fits = option_or rule_fits from_in_place
+
+  abbrev from_written : Option Broken
+  from_written = option_or rule_written from_fits
+
+  abbrev from_whole : Option Broken
+  from_whole = option_or rule_whole from_written
+
+  abbrev from_declared : Option Broken
+  from_declared = option_or rule_declared from_whole
+
+  all_none : option_or rule_runs from_declared ≡ None
+  all_none = sym (then_uses frame (names_good frame none)) ∙ none
+
+  declared_none : from_declared ≡ None
+  declared_none = or_second rule_runs from_declared all_none
+
+  whole_none : from_whole ≡ None
+  whole_none = or_second rule_declared from_whole declared_none
+
+  written_none : from_written ≡ None
+  written_none = or_second rule_whole from_written whole_none
+
+  fits_none : from_fits ≡ None
+  fits_none = or_second rule_written from_fits written_none
+
+  in_place_none : from_in_place ≡ None
+  in_place_none = or_second rule_fits from_in_place fits_none
+
+  -- a rule that no pass breaks
+  at_pass : (rule : Rule) (number : ℕ) → option_map (broken number) (first_use rule frame shapes uses) ≡ None → (p : ℕ) (d : Pass) → p < length frame.passes → use_at rule frame shapes p (uses_of frame n (get_or frame.passes p d)) ≡ None
+  at_pass rule number rule_none p d lt = rule_mapped (use_at rule frame shapes) (uses_of frame n) frame.passes (map_none (broken number) (first_use rule frame shapes uses) rule_none) p d lt
+
+  unwritten_none : unwritten (imports_of frame) uses (export_units frame) ≡ None
+  unwritten_none = map_none (broken 10) (unwritten (imports_of frame) uses (export_units frame)) (or_first rule_written from_fits written_none)
+
+  misfit_none : misfit_broken frame shapes uses ≡ None
+  misfit_none = map_none (broken 11) (misfit_broken frame shapes uses) (or_first rule_fits from_in_place fits_none)
+
+  module _ (p : ℕ) (d : Pass) (lt : p < length frame.passes) where
+    abbrev pass : Pass
+    pass = get_or frame.passes p d
+
+    abbrev here : NumberedPass
+    here = numbered_pass frame n pass
+
+    abbrev there : ℕ → Bool
+    there = is_there (imports_of frame) (take p uses)
+
+    abbrev reads_found : Option Place
+    reads_found = option_map (λ k. at.Read p k) (position (is_missing there) (map (units_of n) pass.reads))
+
+    abbrev changes_found : Option Place
+    changes_found = option_map (λ j. at.Write p j) (position (λ w. not w.fresh && is_missing there w.units) (map (stored_of n) pass.writes))
+
+    entries_none : option_or reads_found changes_found ≡ None
+    entries_none = rule_mapped (unwritten_at (imports_of frame) uses) (uses_of frame n) frame.passes (or_first (first_in (unwritten_at (imports_of frame) uses) 0 uses) (option_map (λ i. at.Export i) (position (is_missing (is_there (imports_of frame) uses)) (export_units frame))) unwritten_none) p d lt
+
+    good_op : (k : ℕ) (e : Op ℕ) → k < length here.ops → IsGoodOp (numbered frame) here (get_or here.ops k e)
+    good_op k e less =
+        let op = get_or here.ops k e in
+        let undeclared = none_at (undeclared_operand here p) here.ops (at_pass rules.Declared 8 (or_first rule_declared from_whole declared_none) p d lt) k e less in
+        record {
+          on_queue = λ family is. subst (λ f. runs op f ≡ true) (family_there frame.queues here.queue family is) (all_known (λ o. runs o (family_of frame here.queue)) here.ops (map_none (λ j. at.Op p j) (position (λ o. not (runs o (family_of frame here.queue))) here.ops) (at_pass rules.Runs 7 (or_first rule_runs from_declared all_none) p d lt)) k e less);
+          declared_sources = declared_sources here p k op undeclared;
+          declared_destination = declared_destination here p k op undeclared;
+          fitting = has_it (fits (mapped (shape_at shapes) op)) (at.Op p k) (none_at (misfit_at shapes p) here.ops (rule_mapped (use_at rules.Fits frame shapes) (uses_of frame n) frame.passes (or_second (misfit_import frame.resources) (first_use rules.Fits frame shapes uses) misfit_none) p d lt) k e less);
+          not_in_place = position-none in_place here.ops k e less (map_none (λ j. at.Operand p j Dst) (position in_place here.ops) (at_pass rules.InPlace 12 (or_first rule_in_place rule_read_new in_place_none) p d lt));
+        }
+
+    good_pass : IsGoodPass (numbered frame) (take p (numbered frame).passes) here
+    good_pass = record {
+      reads_there = λ k e less. sym (there_before frame p (get_or here.reads k e)) ∙ entries_there there n pass.reads (map_none (λ k. at.Read p k) (position (is_missing there) (map (units_of n) pass.reads)) (or_first reads_found changes_found entries_none)) k e less;
+      changes_there = λ k e less. λ stale. sym (there_before frame p (get_or here.writes k e).what) ∙ changes_there there n pass.writes (map_none (λ j. at.Write p j) (position (λ w. not w.fresh && is_missing there w.units) (map (stored_of n) pass.writes)) (or_second reads_found changes_found entries_none)) k e less stale;
+      new_whole = new_whole shapes here.ops p n pass.writes (at_pass rules.Whole 9 (or_first rule_whole from_written whole_none) p d lt);
+      new_unread = new_unread here n pass.writes (map_none (λ j. at.Write p j) (position (λ w. w.fresh && list_any (reads_it here) w.units) (map (stored_of n) pass.writes)) (at_pass rules.ReadNew 13 (or_second rule_in_place rule_read_new in_place_none) p d lt));
+      ops_good = good_op;
+    }
+
+  -- of numbered passes from the declared ones
+  good_passes : (p : ℕ) (d : NumberedPass) → p < length (numbered frame).passes → IsGoodPass (numbered frame) (take p (numbered frame).passes) (get_or (numbered frame).passes p d)
+  good_passes p d lt = by_list frame.passes refl (subst (λ m. p < m) (length-map frame.passes (numbered_pass frame n)) lt)
+    where
+      by_list : (passes : List Pass) → frame.passes ≡ passes → p < length frame.passes → IsGoodPass (numbered frame) (take p (numbered frame).passes) (get_or (numbered frame).passes p d)
+      by_list [] e less = absurd (subst (λ ps. p < length ps → ⊥) (sym e) (λ no. omega arith) less)
+      by_list (first ∷ passes) e less = subst (λ x. IsGoodPass (numbered frame) (take p (numbered frame).passes) x) (sym (get_or-map (numbered_pass frame n) frame.passes p first d less)) (good_pass p first less)
+
+  units_all : (P : Unit → Type 0) → All (λ r. P (unit_from r)) frame.resources → All P (units frame)
+  units_all P all = flat_all P units_from frame.resources (λ k d lt. All-replicate P (get_or frame.resources k d).layers (unit_from (get_or frame.resources k d)) (all k d lt))
+
+  good_exports : All (λ unit. has_contents (units frame) (numbered frame).passes unit ≡ true) (numbered frame).exports
+  good_exports = λ k e less. sym (there_same frame (get_or (numbered frame).exports k e) frame.passes) ∙ entries_there (is_there (imports_of frame) uses) n frame.exports (map_none (λ i. at.Export i) (position (is_missing (is_there (imports_of frame) uses)) (export_units frame)) (or_second (first_in (unwritten_at (imports_of frame) uses) 0 uses) (option_map (λ i. at.Export i) (position (is_missing (is_there (imports_of frame) uses)) (export_units frame))) unwritten_none)) k e less
+
+  pub good : IsGood (numbered frame)
+  good = record {
+    few_queues = subst (λ m. m ≤ 4) (sym (families_are frame)) (few_queues frame (names_good frame none));
+    few_passes = subst (λ m. m ≤ 256) (sym (length-map frame.passes (numbered_pass frame n))) (passes_few frame (limits_none frame (names_good frame none)));
+    few_units = subst (λ m. m ≤ 256) (sym (length_units frame.resources)) (few_units frame (limits_none frame (names_good frame none)));
+    sized = units_all (λ u. size_allowed u.shape ≡ true) (sizes_allowed frame (limits_none frame (names_good frame none)));
+    imports_fit = units_all (λ u. import_fits u.shape u.imported ≡ true) (all_known (λ r. import_fits r.shape r.import) frame.resources (map_none (λ i. at.Import i) (position (λ r. not (import_fits r.shape r.import)) frame.resources) (or_first (misfit_import frame.resources) (first_use rules.Fits frame shapes uses) misfit_none)));
+    within = passes_within frame (names_good frame none);
+    passes_good = good_passes;
+    exports_within = subst (λ m. All (λ unit. unit < m) (numbered frame).exports) (sym (length_units frame.resources)) (exports_within frame (some_layers frame (limits_none frame (names_good frame none))) (unknown_none frame (names_good frame none)));
+    exports_there = good_exports;
+  }
