@@ -1,5 +1,5 @@
 -- A frame that breaks no rule has a good numbered frame.
-use Rattle.std.proofs.Common.{subst, zero, suc, if◌then◌else◌, map, take, ◌≡◌, ℕ, ◌+◌, ◌<◌, ◌≤◌, ◌==◌, ◌&&◌, ◌||◌, ◌++◌, nat_le, nat_lt, List, [], ◌∷◌, length, get_or, slice_get, slice_index_or, not, is_some, Bool, true, false, Option, None, Some, refl, sym, ap, ap₂, ◌∙◌, arith}
+use Rattle.std.proofs.Common.{subst, zero, suc, map, take, ◌≡◌, ℕ, ◌+◌, ◌<◌, ◌≤◌, ◌&&◌, ◌||◌, ◌++◌, nat_lt, List, [], ◌∷◌, length, get_or, slice_get, not, is_some, Bool, true, false, Option, None, Some, refl, sym, ap, ap₂, ◌∙◌, arith}
 use Rattle.std.specs.List.{position, All, flat_map, list_any}
 use Rattle.std.specs.Option.{option_or, option_map, option_map_or}
 use Rattle.std.proofs.lemmas.Bool.{le-ltb}
@@ -18,22 +18,20 @@ use Rattle.fg_base.specs.declared.shape.Family.TheVariants.{Graphics}
 use Rattle.fg_base.specs.declared.shape.Shape.{Shape}
 use Rattle.fg_frame.proofs.Known.{all_known, first_none, or_first, or_second, map_none, has_it, not_none, not_false, no_some, position-none, flat_all, exports_within}
 use Rattle.fg_frame.proofs.Small.{names_good, then_uses, few_queues, few_units, limits_none, unknown_none, some_layers, length_units, passes_few, sizes_allowed, passes_within, families_are}
-use Rattle.fg_frame.specs.FirstFault.{broken, shapes_of, imports_of, misfit_broken, use_broken, first_broken}
-use Rattle.fg_frame.specs.Good.{shapes_in, is_import, renews, has_contents, IsGoodOp, IsGoodPass, IsGood}
+use Rattle.fg_frame.specs.FirstFault.{broken, shapes_of, imports_of, misfit_broken, first_broken}
+use Rattle.fg_frame.specs.Good.{is_import, renews, has_contents, IsGoodOp, IsGoodPass, IsGood}
 use Rattle.fg_frame.specs.Limits.{size_allowed}
 use Rattle.fg_frame.specs.Members.{member_at}
-use Rattle.fg_frame.specs.Numbered.{IsWithin, NumberedFrame, numbered, numbered_pass, write_each, writes_of, stored_of, uses_of, all_uses, export_units}
+use Rattle.fg_frame.specs.Numbered.{numbered, numbered_pass, write_each, writes_of, stored_of, uses_of, all_uses, export_units}
 use Rattle.fg_frame.specs.Places.{first_in}
 use Rattle.fg_frame.specs.Units.{Numbering, numbering, units_of, units, Unit, units_from, unit_from}
-use Rattle.fg_frame.specs.Uses.{family_of, stranger_in, writes_it, reads_it, undeclared_at, undeclared_operand, undeclared_in, starts_whole, is_partial, not_whole_at, not_whole_in, makes, is_there, is_marked, is_missing, unwritten_in, unwritten_at, unwritten, import_fits, misfit_import, misfit_at, misfit_in, in_place_in, read_new_in, use_at, first_use}
+use Rattle.fg_frame.specs.Uses.{family_of, writes_it, reads_it, undeclared_at, undeclared_operand, starts_whole, is_partial, not_whole_at, makes, is_there, is_marked, is_missing, unwritten_at, unwritten, import_fits, misfit_import, misfit_at, use_at, first_use}
 use Rattle.fg_frame.specs.declared.frame.Frame.{Frame}
 use Rattle.fg_frame.specs.declared.frame.Pass.{Pass}
 use Rattle.fg_frame.specs.declared.frame.QueueDecl.{QueueDecl}
-use Rattle.fg_frame.specs.declared.frame.Resource.{Resource}
 use Rattle.fg_frame.specs.declared.frame.Spot.{Spot}
 use Rattle.fg_frame.specs.declared.frame.Write.{Write}
 use Rattle.fg_frame.specs.declared.numbered.NumberedPass.{NumberedPass}
-use Rattle.fg_frame.specs.declared.numbered.Stored.{Stored}
 use Rattle.fg_frame.specs.declared.numbered.Uses.{Uses}
 use Rattle.fg_frame.specs.declared.place.Broken.{Broken}
 use Rattle.fg_frame.specs.declared.place.Operand.TheVariants.{Dst}

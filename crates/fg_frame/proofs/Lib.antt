@@ -3,6 +3,7 @@ pub mod Faultless
 pub mod Flat
 pub mod Known
 pub mod Marks
+pub mod Owned
 mod Rows
 pub mod Sizes
 pub mod Small

@@ -1,6 +1,6 @@
 //! Frames that break no rule.
 
-ghost use Rattle.std.specs.Prelude.{◌≡◌, ◌≤◌, ◌<◌, ◌+◌, IfOk, IfErr, IfSome, length, None, Some, slice_get, map};
+ghost use Rattle.std.specs.Prelude.{◌≡◌, ◌≤◌, ◌<◌, ◌+◌, IfOk, IfErr, IfSome, length, None, Some, slice_get, map, option_copied};
 ghost use Rattle.std.specs.List.{All};
 ghost use Rattle.fg_frame.specs.FirstFault.{broken, shapes_of, imports_of, sharings_of, name_broken, misfit_broken, use_broken, first_broken, first_fault, Ends, AllWithin};
 ghost use Rattle.fg_base.specs.Operands.{operands_of};
@@ -327,6 +327,19 @@ impl GoodFrame {
         ensures { result.now ≡ map (λ unit. unit.shape) (numbered self.now).units }
     {
         &self.parts.shapes
+    }
+
+    /// The bytes that a unit holds before the frame, if it is an import.
+    #[tactic(auto, using(crate::proofs::Owned::owner_within, crate::proofs::Owned::unit_owned))]
+    pub fn import(&self, unit: u32) -> Option<&[u8]>
+        requires { unit < length (numbered self.now).units }
+        ensures { IfSome (slice_get (numbered self.now).units unit) (λ u. option_copied result ≡ u.imported) }
+    {
+        let owner = self.parts.owners[unit as usize];
+        match &self.frame.resources[owner as usize].import {
+            Some(bytes) => Some(bytes.as_slice()),
+            None => None,
+        }
     }
 
     /// The number of units.
