@@ -1,6 +1,6 @@
 //! What resources are, and where commands run.
 
-ghost use Rattle.std.specs.Prelude.{◌≡◌, ◌<◌, length};
+ghost use Rattle.std.specs.Prelude.{◌≡◌, ◌<◌, ◌≤◌, ◌^◌, length};
 ghost use Rattle.fg_base.specs.Shapes.{bytes_of, texel_bytes, grid_of, is_buffer, is_image, has_texel, has_sides, same_texel, same_sides, twice_the_sides, same_grid, shape_at};
 ghost use Rattle.fg_base.specs.declared.shape.Shape.TheVariants.{Buffer};
 
@@ -38,7 +38,8 @@ pub enum Shape {
 impl Texel {
     /// The number of bytes of a texel.
     pub fn bytes(self) -> u32
-        ensures { result ≡ texel_bytes self }
+        ensures bytes { result ≡ texel_bytes self }
+        ensures few { result ≤ 4 }
     {
         match self {
             Texel::R8 => 1,
@@ -48,9 +49,11 @@ impl Texel {
 }
 
 impl Shape {
+    #[tactic(auto, using(crate::proofs::Sizes::image_fits))]
     /// The number of bytes. Sides of any size are allowed, so it can go over 64 bits.
     pub fn bytes(self) -> u128
-        ensures { result ≡ bytes_of self }
+        ensures bytes { result ≡ bytes_of self }
+        ensures fits { result < 2 ^ 67 }
     {
         match self {
             Shape::Buffer { size } => size as u128,

@@ -3,13 +3,12 @@
 ghost use Rattle.std.specs.Prelude.{◌≡◌, ◌≤◌, not, IfOk, IfErr, IfNone, Some, None, length, option_copied};
 ghost use Rattle.std.specs.List.{position, find};
 ghost use Rattle.std.specs.Str.{bytes_eq};
-ghost use Rattle.fg_base.specs.Shapes.{texel_bytes};
 ghost use Rattle.fg_frame.specs.Limits.{over, layers_allowed, sides_allowed, size_allowed, all_bytes, op_count, rect_count, rects_over, exported, count_broken, size_broken, limit_broken};
 ghost use Rattle.fg_frame.specs.Places.{first_over, room_after};
 
 use crate::place::{Broken, Place};
 use crate::{Frame, Pass, Resource, Spot};
-use fg_base::{Limit, Op, Shape, Texel};
+use fg_base::{Limit, Op, Shape};
 
 fn over(limit: Limit, place: Place) -> Broken
     ensures { result ≡ over limit place }
@@ -172,28 +171,11 @@ fn exports_over(frame: &Frame) -> Option<usize>
     None
 }
 
-fn texel_bytes(texel: Texel) -> u128
-    ensures value { result ≡ texel_bytes texel }
-    ensures few { result ≤ 4 }
-{
-    match texel {
-        Texel::R8 => 1,
-        Texel::R32 => 4,
-    }
-}
-
 #[tactic(auto, using(crate::proofs::Sizes::product_fits))]
 fn all_bytes(resource: &Resource) -> u128
     ensures { result ≡ all_bytes resource.now }
 {
-    match resource.shape {
-        Shape::Buffer { size } => resource.layers as u128 * size as u128,
-        Shape::Image {
-            width,
-            height,
-            texel,
-        } => { resource.layers as u128 * (width as u128 * height as u128 * texel_bytes(texel)) }
-    }
+    resource.layers as u128 * resource.shape.bytes()
 }
 
 fn bytes_over(resources: &[Resource]) -> Option<usize>
