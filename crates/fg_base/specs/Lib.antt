@@ -1,6 +1,8 @@
+pub mod Applied
 pub mod Counts
 pub mod Fits
 pub mod InPlace
+pub mod Kernels
 pub mod Limits
 pub mod Memory
 pub mod Names
@@ -9,6 +11,7 @@ pub mod Reads
 pub mod Runs
 pub mod Shapes
 pub mod Taps
+pub mod Texels
 pub mod Touches
 pub mod Wholes
 pub mod Writes
