@@ -1,0 +1,2 @@
+pub mod MoreLines
+mod Rows
