@@ -1,0 +1,5 @@
+pub mod Bits
+pub mod Closing
+pub mod Kept
+pub mod Pairs
+pub mod Paths

@@ -1,0 +1,11 @@
+//! Which numbers are reached from which, where every step goes to a greater number.
+#![tactic(auto)]
+
+mod bits;
+mod close;
+mod rows;
+
+pub use rows::Rows;
+
+#[cfg(test)]
+mod tests;
