@@ -1,0 +1,35 @@
+//! Places in a file.
+
+ghost use Rattle.std.specs.Prelude.{◌≡◌, ◌++◌, OnOk};
+ghost use Rattle.fg_report.specs.Paths.{leg_text, path_text};
+
+use crate::key::add_key;
+use fg_base::{Leg, NoMemory, Text};
+use fg_lines::Lines;
+
+fn add_leg(text: &mut Text, leg: &Leg) -> Result<(), NoMemory>
+    ensures { OnOk result (text.new ≡ text.old ++ leg_text leg.now) }
+{
+    match leg {
+        Leg::Member(key) => {
+            text.word(b".")?;
+            add_key(text, key)
+        }
+        Leg::Position(at) => {
+            text.word(b"[")?;
+            text.number(u64::from(*at))?;
+            text.word(b"]")
+        }
+    }
+}
+
+/// Adds the steps from the root, which is `$`, to a place.
+pub(crate) fn add_path(text: &mut Text, place: &[Leg]) -> Result<(), NoMemory>
+    ensures { OnOk result (text.new ≡ text.old ++ path_text place.now) }
+{
+    text.word(b"$")?;
+    for leg in place {
+        add_leg(text, leg)?;
+    }
+    Ok(())
+}
