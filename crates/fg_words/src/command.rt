@@ -1,0 +1,26 @@
+//! The commands, by their words.
+
+ghost use Rattle.std.specs.Prelude.{◌≡◌};
+ghost use Rattle.fg_words.specs.Commands.{named};
+
+/// A command that the program has.
+#[derive(Clone, Copy, Debug, PartialEq, Eq)]
+pub enum Command {
+    /// Runs a frame and prints what it exports.
+    Run,
+    /// Prints a frame in the newest format.
+    Migrate,
+}
+
+impl Command {
+    /// The command with this word.
+    pub fn named(word: &str) -> Option<Command>
+        ensures { result ≡ named word.now }
+    {
+        match word {
+            "run" => Some(Command::Run),
+            "migrate" => Some(Command::Migrate),
+            _ => None,
+        }
+    }
+}

@@ -1,0 +1,12 @@
+//! The command line: which command words are.
+#![tactic(auto)]
+
+mod command;
+mod line;
+mod matching;
+
+pub use command::Command;
+pub use line::command_of;
+
+#[cfg(test)]
+mod tests;

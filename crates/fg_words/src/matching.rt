@@ -1,0 +1,57 @@
+//! Words, matched by the one `clap` command.
+
+ghost use Rattle.std.specs.Prelude.{◌≡◌, IfOk, map, false};
+ghost use Rattle.clap.specs.Words.{app_of, rule_of};
+ghost use Rattle.fg_words.specs.Lines.{framec, bare_app, word_rule, Matches};
+
+use clap::error::ErrorKind;
+use clap::{Arg, ArgAction, ArgMatches, Command};
+use std::alloc::{AllocError, Global};
+
+/// Why words have no matches.
+#[derive(Clone, Copy, Debug, PartialEq, Eq)]
+pub enum Unmatched {
+    NoLine,
+    NoMemory,
+}
+
+fn word<'a>(alloc: Global) -> Arg<'a>
+    ensures rule { rule_of result ≡ word_rule }
+    ensures own { result.global ≡ false }
+{
+    Arg::new(alloc, "command")
+        .required(true)
+        .action(ArgAction::Set)
+}
+
+fn bare<'a>(alloc: Global) -> Command<'a>
+    ensures { app_of result ≡ bare_app }
+{
+    Command::new(alloc, "framec")
+        .disable_help_flag(true)
+        .disable_version_flag(true)
+}
+
+fn framec<'a>(alloc: Global) -> Result<Command<'a>, AllocError>
+    ensures { IfOk result (λ command. app_of command ≡ framec) }
+{
+    let command = bare(alloc).arg(word(alloc))?;
+    Ok(command)
+}
+
+/// The matches of the words, the first of which is the program's own name.
+pub fn matches<'a>(alloc: Global, words: &'a [&'a str]) -> Result<ArgMatches<'a>, Unmatched>
+    ensures { Matches (map (λ word. word.now) words.entry.now) result }
+{
+    let Ok(command) = framec(alloc) else {
+        return Err(Unmatched::NoMemory);
+    };
+    match command.try_get_matches_from(words) {
+        Ok(matches) => Ok(matches),
+        Err(error) => if error.kind() == ErrorKind::OutOfMemory {
+            Err(Unmatched::NoMemory)
+        } else {
+            Err(Unmatched::NoLine)
+        },
+    }
+}
