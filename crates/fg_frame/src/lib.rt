@@ -11,7 +11,11 @@ mod numbers;
 mod path;
 mod place;
 mod repeats;
+#[cfg(test)]
+mod sketch;
 mod table;
+#[cfg(test)]
+mod tests;
 mod units;
 mod unknowns;
 mod uses;
