@@ -1,2 +1,4 @@
+pub mod Exports
 pub mod Faults
 pub mod Paths
+pub mod UnitNames

@@ -1,0 +1,25 @@
+//! Units by their names.
+
+ghost use Rattle.std.specs.Prelude.{◌≡◌, ◌++◌, OnOk};
+ghost use Rattle.fg_lines.specs.Starts.{Starts};
+ghost use Rattle.fg_report.specs.UnitNames.{spot_text};
+
+use fg_base::{NoMemory, Text};
+use fg_frame::Spot;
+use fg_lines::Lines;
+
+/// Adds the name of a unit, and after a stroke its layer where it is one of several.
+#[tactic(auto, using(crate::proofs::Begun::begun, crate::proofs::Begun::begun_more))]
+pub(crate) fn add_spot(text: &mut Text, spot: &Spot) -> Result<(), NoMemory>
+    ensures ok { OnOk result (text.new ≡ text.old ++ spot_text spot.now) }
+    ensures starts { Starts text.old text.new }
+{
+    text.word(spot.name.as_bytes())?;
+    match spot.layer {
+        Some(layer) => {
+            text.word(b"/")?;
+            text.number(u64::from(layer))
+        }
+        None => Ok(()),
+    }
+}
