@@ -8,8 +8,6 @@ ghost use Rattle.fg_words.specs.Commands.{named};
 pub enum Command {
     /// Runs a frame and prints what it exports.
     Run,
-    /// Prints a frame in the newest format.
-    Migrate,
 }
 
 impl Command {
@@ -19,7 +17,6 @@ impl Command {
     {
         match word {
             "run" => Some(Command::Run),
-            "migrate" => Some(Command::Migrate),
             _ => None,
         }
     }
