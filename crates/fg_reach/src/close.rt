@@ -113,12 +113,7 @@ fn close_all(words: &mut [u64], scratch: &mut [u64], width: usize, count: usize)
 }
 
 /// Leaves exactly the pairs that a path of old pairs joins.
-pub(crate) fn close_words(
-    words: &mut Vec<u64>,
-    scratch: &mut Vec<u64>,
-    width: usize,
-    count: usize,
-)
+pub(crate) fn close_words(words: &mut Vec<u64>, scratch: &mut Vec<u64>, width: usize, count: usize)
     requires few { width ≤ 2 ^ 26 }
     requires count { count ≤ 64 * width }
     requires size { length words.old.items ≡ count * width }

@@ -1,6 +1,4 @@
-use Rattle.std.proofs.Common.{◌≡◌, ◌↔◌, true}
 use Rattle.fg_reach.specs.Pairs.{has, links}
-use Rattle.fg_reach.specs.Paths.{Path}
 use Rattle.fg_reach.proofs.Linked.{paths_same}
 use Rattle.fg_reach.proofs.rows.Rows.closure.Goals as goal
 
