@@ -1,23 +1,36 @@
 -- The frame that bytes are, or the first fault.
-use Rattle.std.specs.Prelude.{◌≡◌, ℕ, List, [], Option, Some, None, Result, Ok, Err}
+use Rattle.std.specs.Prelude.{◌≡◌, ℕ, ◌==◌, List, [], ◌∷◌, Option, Some, None, Result, Ok, Err, if◌then◌else◌, codes}
+use Rattle.fg_base.specs.declared.path.Leg.TheVariants as leg
 use Rattle.fg_forms.specs.Json.{json_of}
 use Rattle.fg_forms.specs.Reading.{Reading}
 use Rattle.fg_frame.specs.Faults.{not_json, misshapen}
 use Rattle.fg_frame.specs.declared.fault.FrameFault.{FrameFault}
 use Rattle.fg_frame.specs.declared.frame.Frame.{Frame}
-use Rattle.fg_framefile.specs.Frames.{frame_at}
+use Rattle.fg_framefile.specs.Frames.{format_at, frame_at}
 use Rattle.fg_framefile.specs.declared.file.FrameReadEnd.{FrameReadEnd}
 use Rattle.fg_framefile.specs.declared.file.FrameReadEnd.TheVariants as ends
 use Rattle.serde_json.specs.Data.{Data}
+
+-- F3, at the member
+abbrev pub unknown_format : FrameFault
+unknown_format = record { number = 3; limit = None; place = leg.Member (codes "format") ∷ [] }
 
 -- a first fault of form is F2 at its path
 abbrev pub shaped : Reading Frame → Result Frame FrameFault
 shaped (Ok frame) = Ok frame
 shaped (Err path) = Err (misshapen path)
 
+-- the format is 1 or 2; where it is another whole number, nothing else is examined
+abbrev pub of_format : Reading ℕ → Data → Result Frame FrameFault
+of_format (Err path) d = Err (misshapen path)
+of_format (Ok format) d =
+    if format == 1 then shaped (frame_at 1 [] d) else
+    if format == 2 then shaped (frame_at 2 [] d) else
+    Err unknown_format
+
 -- the frame that a JSON value is
 abbrev pub frame_in : Data → Result Frame FrameFault
-frame_in d = shaped (frame_at [] d)
+frame_in d = of_format (format_at [] d) d
 
 abbrev pub file_of : Option Data → Result Frame FrameFault
 file_of None = Err not_json
@@ -25,6 +38,11 @@ file_of (Some d) = frame_in d
 
 abbrev pub frame_of : List ℕ → Result Frame FrameFault
 frame_of bytes = file_of (json_of bytes)
+
+-- a function ended with this fault, unless memory ran out
+abbrev pub Refuses : FrameReadEnd → FrameFault → Type 0
+Refuses ends.NoMemory fault = Unit {0}
+Refuses (ends.Refused found) fault = found ≡ fault
 
 -- what a function returned is this frame or fault, unless memory ran out
 abbrev pub FrameGives : Result Frame FrameReadEnd → Result Frame FrameFault → Type 0

@@ -1,12 +1,14 @@
 //! A frame file from its bytes.
 
-ghost use Rattle.std.specs.Prelude.{◌≡◌, IfOk};
-ghost use Rattle.fg_framefile.specs.Files.{frame_of, frame_in, FrameGives};
-ghost use Rattle.fg_framefile.specs.Frames.{FitsFrame};
+ghost use Rattle.std.specs.Prelude.{◌≡◌, [], IfOk};
+ghost use Rattle.fg_forms.specs.Reading.{Gives};
+ghost use Rattle.fg_framefile.specs.Files.{frame_of, frame_in, shaped, unknown_format, FrameGives, Refuses};
+ghost use Rattle.fg_framefile.specs.Frames.{format_at, frame_at, FitsFrame};
 ghost use Rattle.serde_json.specs.View.{view};
 
 use crate::frame::FrameForm;
-use fg_forms::{JsonEnd, Place, ReadEnd, Reader, read_json};
+use fg_base::{Leg, List, NoMemory, Path};
+use fg_forms::{JsonEnd, NumberForm, Place, ReadEnd, Reader, object, read_json, required};
 use fg_frame::{Frame, FrameFault};
 use serde_json::Value;
 use std::alloc::Global;
@@ -24,19 +26,62 @@ pub fn read_frame(alloc: Global, bytes: &[u8]) -> Result<Frame, FrameReadEnd>
     ensures fits { IfOk result FitsFrame }
 {
     match read_json(alloc, bytes) {
-        Ok(value) => frame_in_value(alloc, &value),
+        Ok(value) => frame_in(alloc, &value),
         Err(JsonEnd::NoMemory) => Err(FrameReadEnd::NoMemory),
         Err(JsonEnd::NotJson) => Err(FrameReadEnd::Refused(FrameFault::not_json(alloc))),
     }
 }
 
-fn frame_in_value(alloc: Global, value: &Value) -> Result<Frame, FrameReadEnd>
+fn frame_in(alloc: Global, value: &Value) -> Result<Frame, FrameReadEnd>
     ensures gives { FrameGives result (frame_in (view value.now)) }
     ensures fits { IfOk result FitsFrame }
 {
-    match FrameForm::read(alloc, &Place::Top, value) {
+    match format(alloc, value) {
+        Ok(1) => frame_of_format::<1>(alloc, value),
+        Ok(2) => frame_of_format::<2>(alloc, value),
+        Ok(_) => Err(unknown_format(alloc)),
+        Err(ReadEnd::NoMemory) => Err(FrameReadEnd::NoMemory),
+        Err(ReadEnd::Refused(path)) => Err(FrameReadEnd::Refused(FrameFault::misshapen(path))),
+    }
+}
+
+#[tactic(auto, unfolding(crate::specs::Frames::format_at))]
+fn format(alloc: Global, value: &Value) -> Result<u32, ReadEnd>
+    ensures { Gives result (format_at [] (view value.now)) }
+{
+    object(alloc, &Place::Top, value)?;
+    required::<NumberForm>(alloc, &Place::Top, "format", value)
+}
+
+fn frame_of_format<const FORMAT: u32>(alloc: Global, value: &Value) -> Result<Frame, FrameReadEnd>
+    ensures gives { FrameGives result (shaped (frame_at FORMAT [] (view value.now))) }
+    ensures fits { IfOk result FitsFrame }
+{
+    match <FrameForm<FORMAT>>::read(alloc, &Place::Top, value) {
         Ok(frame) => Ok(frame),
         Err(ReadEnd::NoMemory) => Err(FrameReadEnd::NoMemory),
         Err(ReadEnd::Refused(path)) => Err(FrameReadEnd::Refused(FrameFault::misshapen(path))),
+    }
+}
+
+fn format_path(alloc: Global) -> Result<Path, NoMemory>
+    ensures { IfOk result (λ path. path ≡ unknown_format.place) }
+{
+    let mut path = List::new(alloc);
+    path.push(Leg::Member(List::from_slice(alloc, b"format")?))?;
+    Ok(path)
+}
+
+// F3: the format is another whole number.
+fn unknown_format(alloc: Global) -> FrameReadEnd
+    ensures { Refuses result unknown_format }
+{
+    match format_path(alloc) {
+        Ok(place) => FrameReadEnd::Refused(FrameFault {
+            number: 3,
+            limit: None,
+            place,
+        }),
+        Err(NoMemory) => FrameReadEnd::NoMemory,
     }
 }

@@ -2,10 +2,15 @@
 #![tactic(auto)]
 
 mod file;
+mod flag;
 mod frame;
 mod pass;
 mod queue;
 mod resource;
 mod spot;
+mod write;
 
 pub use file::{FrameReadEnd, read_frame};
+
+#[cfg(test)]
+mod tests;

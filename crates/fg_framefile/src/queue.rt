@@ -1,51 +1,13 @@
-//! Queues and their families in a file.
+//! Queues in a file.
 
 ghost use Rattle.std.specs.Prelude.{◌≡◌};
-ghost use Rattle.fg_base.specs.Names.{IsName};
-ghost use Rattle.fg_framefile.specs.Queues.{family_of, family_text, family_again, queue_at, FitsQueue};
+ghost use Rattle.fg_framefile.specs.Queues.{queue_at, FitsQueue};
 
-use fg_base::Family;
-use fg_forms::{NameForm, Place, ReadEnd, Reader, TextForm, Word, object, others, required};
+use fg_forms::{NameForm, Place, ReadEnd, Reader, TextForm, object, others, required};
 use fg_frame::QueueDecl;
+use fg_shapeforms::FamilyWord;
 use serde_json::Value;
 use std::alloc::Global;
-
-/// The words of families.
-pub struct FamilyWord;
-
-impl Word for FamilyWord {
-    ghost use Rattle.std.specs.Prelude.{⊤};
-
-    type Of = Family;
-
-    ghost value_of = { family_of };
-
-    ghost text_of = { family_text };
-
-    ghost Fits = { λ _. ⊤ };
-
-    ghost again = { λ family _. family_again family };
-
-    fn value(text: &str) -> Option<Family> {
-        if text == "graphics" {
-            Some(Family::Graphics)
-        } else if text == "compute" {
-            Some(Family::Compute)
-        } else if text == "transfer" {
-            Some(Family::Transfer)
-        } else {
-            None
-        }
-    }
-
-    fn text(family: &Family) -> &str {
-        match family {
-            Family::Graphics => "graphics",
-            Family::Compute => "compute",
-            Family::Transfer => "transfer",
-        }
-    }
-}
 
 /// An entry of `queues`.
 pub struct QueueForm;

@@ -1,21 +1,59 @@
 //! Resources in a file.
 
-ghost use Rattle.std.specs.Prelude.{◌≡◌};
-ghost use Rattle.fg_framefile.specs.Resources.{resource_at, FitsResource};
+ghost use Rattle.std.specs.Prelude.{◌≡◌, map, IfOk};
+ghost use Rattle.fg_forms.specs.Places.{legs};
+ghost use Rattle.fg_forms.specs.Reading.{Gives};
+ghost use Rattle.fg_framefile.specs.Resources.{import_at, members_of, resource_at, FitsImport, FitsResource};
+ghost use Rattle.serde_json.specs.View.{view};
 
-use fg_base::Shape;
-use fg_forms::{NameForm, Place, RangeForm, ReadEnd, Reader, object, others, required};
-use fg_frame::{Resource, Sharing};
+use fg_base::{List, Shape};
+use fg_forms::{NameForm, Place, ReadEnd, Reader, object, optional, others, required};
+use fg_frame::Resource;
+use fg_shapeforms::{HexForm, read_body, read_sharing};
 use serde_json::Value;
 use std::alloc::Global;
 
-/// An entry of `resources`: so far a buffer that the frame itself fills.
-pub struct ResourceForm;
+/// An entry of `resources`.
+pub struct ResourceForm<const FORMAT: u32>;
 
-impl Reader for ResourceForm {
+// The bytes of a buffer that the host filled. An image has none, and `import` is unknown there.
+fn import(
+    alloc: Global,
+    at: &Place<'_>,
+    shape: Shape,
+    value: &Value,
+) -> Result<Option<List<u8>>, ReadEnd>
+    ensures gives { Gives result (import_at shape (legs at.now) (view value.now)) }
+    ensures fits { IfOk result (FitsImport shape) }
+{
+    match shape {
+        Shape::Buffer { .. } => optional::<HexForm>(alloc, at, "import", value),
+        Shape::Image { .. } => Ok(None),
+    }
+}
+
+// The members of a resource of this shape, in a file of this format.
+fn members<const FORMAT: u32>(shape: Shape) -> &'static [&'static str]
+    ensures { map (λ name. name.now) result.now ≡ members_of FORMAT shape }
+{
+    match shape {
+        Shape::Buffer { .. } => if FORMAT == 1 {
+            &["name", "buffer", "import"]
+        } else {
+            &["name", "buffer", "import", "sharing"]
+        },
+        Shape::Image { .. } => if FORMAT == 1 {
+            &["name", "image", "texel"]
+        } else {
+            &["name", "image", "texel", "layers", "sharing"]
+        },
+    }
+}
+
+impl<const FORMAT: u32> Reader for ResourceForm<FORMAT> {
     type Out = Resource;
 
-    ghost reads = { resource_at };
+    ghost reads = { resource_at FORMAT };
 
     ghost Fits = { FitsResource };
 
@@ -23,14 +61,16 @@ impl Reader for ResourceForm {
     fn read(alloc: Global, at: &Place<'_>, value: &Value) -> Result<Resource, ReadEnd> {
         object(alloc, at, value)?;
         let name = required::<NameForm>(alloc, at, "name", value)?;
-        let size = required::<RangeForm<1, { u32::MAX }>>(alloc, at, "buffer", value)?;
-        others(alloc, at, &["name", "buffer"], value)?;
+        let body = read_body::<FORMAT>(alloc, at, value)?;
+        let import = import(alloc, at, body.shape, value)?;
+        let sharing = read_sharing::<FORMAT>(alloc, at, value)?;
+        others(alloc, at, members::<FORMAT>(body.shape), value)?;
         Ok(Resource {
             name,
-            shape: Shape::Buffer { size },
-            layers: 1,
-            import: None,
-            sharing: Sharing::Exclusive,
+            shape: body.shape,
+            layers: body.layers,
+            import,
+            sharing,
         })
     }
 }

@@ -1,25 +1,68 @@
 //! Spots in a file.
 
-ghost use Rattle.std.specs.Prelude.{◌≡◌};
-ghost use Rattle.fg_framefile.specs.Spots.{spot_at, FitsSpot};
+ghost use Rattle.std.specs.Prelude.{◌≡◌, IfSome, length};
+ghost use Rattle.fg_framefile.specs.Spots.{spot_at, spot_of, layered_spot, layer_of, FitsSpot};
 
-use fg_forms::{NameForm, Place, ReadEnd, Reader};
+use fg_base::Name;
+use fg_forms::{Place, ReadEnd, Reader};
 use fg_frame::Spot;
 use serde_json::Value;
 use std::alloc::Global;
 
-/// A spot of format 1: the name of a resource.
-pub struct SpotForm;
+/// A spot: the name of a resource and, in files of format 2, maybe `/` and the number of a layer behind it.
+pub struct SpotForm<const FORMAT: u32>;
 
-impl Reader for SpotForm {
+// What stands behind the name, from the slash on.
+fn layer(end: &[u8]) -> Option<u32>
+    ensures layer { result ≡ layer_of end.now }
+{
+    match end {
+        [b'/', digit @ b'0'..=b'7'] => Some(u32::from(digit - b'0')),
+        _ => None,
+    }
+}
+
+fn layered_spot(text: &[u8]) -> Option<Spot>
+    ensures spot { result ≡ layered_spot text.now }
+    ensures fits { IfSome result FitsSpot }
+{
+    let (name, end) = text.split_at(text.len().saturating_sub(2));
+    let name = Name::read(name)?;
+    let layer = layer(end)?;
+    Some(Spot {
+        name,
+        layer: Some(layer),
+    })
+}
+
+fn spot<const FORMAT: u32>(text: &[u8]) -> Option<Spot>
+    ensures spot { result ≡ spot_of FORMAT text.now }
+    ensures fits { IfSome result FitsSpot }
+{
+    match Name::read(text) {
+        Some(name) => Some(Spot { name, layer: None }),
+        None => if FORMAT == 1 {
+            None
+        } else {
+            layered_spot(text)
+        },
+    }
+}
+
+impl<const FORMAT: u32> Reader for SpotForm<FORMAT> {
     type Out = Spot;
 
-    ghost reads = { spot_at };
+    ghost reads = { spot_at FORMAT };
 
     ghost Fits = { FitsSpot };
 
     fn read(alloc: Global, at: &Place<'_>, value: &Value) -> Result<Spot, ReadEnd> {
-        let name = NameForm::read(alloc, at, value)?;
-        Ok(Spot { name, layer: None })
+        match value.as_str() {
+            Some(text) => match spot::<FORMAT>(text.as_bytes()) {
+                Some(found) => Ok(found),
+                None => Err(at.refused(alloc)),
+            },
+            None => Err(at.refused(alloc)),
+        }
     }
 }

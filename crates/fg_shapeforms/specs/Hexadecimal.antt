@@ -1,0 +1,29 @@
+-- Bytes as hexadecimal text: an even number of digits in either case, and written in lower case.
+use Rattle.std.specs.Prelude.{◌≡◌, ℕ, List, Option, Some, None, Result, Ok, Err}
+use Rattle.fg_forms.specs.Leaves.{text_at, text_data}
+use Rattle.fg_forms.specs.Parts.{Reader}
+use Rattle.hex.specs.Hex.{decode_of, encode_lower}
+use Rattle.hex.specs.declared.error.FromHexError.{FromHexError}
+use Rattle.serde_json.specs.Data.{Data}
+use Rattle.fg_shapeforms.specs.declared.hexadecimal.HexEnd.{HexEnd}
+use Rattle.fg_shapeforms.specs.declared.hexadecimal.HexEnd.TheVariants as ends
+
+abbrev pub bytes_in : Result (List ℕ) FromHexError → Option (List ℕ)
+bytes_in (Ok bytes) = Some bytes
+bytes_in (Err e) = None
+
+-- the bytes of a text of hexadecimal digits
+abbrev pub hex_of : List ℕ → Option (List ℕ)
+hex_of text = bytes_in (decode_of text)
+
+-- what a function returned are these bytes, unless memory ran out
+abbrev pub HexGives : Result (List ℕ) HexEnd → Option (List ℕ) → Type 0
+HexGives (Ok bytes) found = found ≡ Some bytes
+HexGives (Err ends.NoMemory) found = Unit {0}
+HexGives (Err ends.NoBytes) found = found ≡ None
+
+abbrev pub hex_at : Reader (List ℕ)
+hex_at = text_at hex_of
+
+abbrev pub hex_data : List ℕ → Data
+hex_data = text_data encode_lower

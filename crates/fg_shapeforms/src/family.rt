@@ -1,0 +1,42 @@
+//! The families of queues in a file.
+
+ghost use Rattle.std.specs.Prelude.{◌≡◌, ⊤};
+ghost use Rattle.fg_shapeforms.specs.Families.{family_of, family_text, family_again};
+
+use fg_base::Family;
+use fg_forms::Word;
+
+/// The words of families.
+pub struct FamilyWord;
+
+impl Word for FamilyWord {
+    type Of = Family;
+
+    ghost value_of = { family_of };
+
+    ghost text_of = { family_text };
+
+    ghost Fits = { λ _. ⊤ };
+
+    ghost again = { family_again };
+
+    fn value(text: &str) -> Option<Family> {
+        if text == "graphics" {
+            Some(Family::Graphics)
+        } else if text == "compute" {
+            Some(Family::Compute)
+        } else if text == "transfer" {
+            Some(Family::Transfer)
+        } else {
+            None
+        }
+    }
+
+    fn text(family: &Family) -> &str {
+        match family {
+            Family::Graphics => "graphics",
+            Family::Compute => "compute",
+            Family::Transfer => "transfer",
+        }
+    }
+}

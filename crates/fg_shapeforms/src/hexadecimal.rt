@@ -1,0 +1,62 @@
+//! Bytes in a file.
+
+ghost use Rattle.std.specs.Prelude.{◌≡◌, IfOk};
+ghost use Rattle.hex.specs.Hex.{IsBytes};
+ghost use Rattle.fg_shapeforms.specs.Hexadecimal.{hex_at, hex_data, hex_of, HexGives};
+
+use fg_base::List;
+use fg_forms::{Place, ReadEnd, Reader, Writer};
+use hex::FromHexError;
+use serde_json::Value;
+use std::alloc::{AllocError, Global};
+
+/// Bytes as a text of two hexadecimal digits each. Digits are read in either case, and written in lower case.
+pub struct HexForm;
+
+/// Why a text gave no bytes.
+#[derive(Clone, Copy, Debug, PartialEq, Eq)]
+enum HexEnd {
+    NoMemory,
+    NoBytes,
+}
+
+fn decode(alloc: Global, text: &str) -> Result<List<u8>, HexEnd>
+    ensures gives { HexGives result (hex_of text.now) }
+    ensures fits { IfOk result IsBytes }
+{
+    match hex::decode(alloc, text) {
+        Ok(bytes) => Ok(List::from_vec(bytes)),
+        Err(FromHexError::OutOfMemory) => Err(HexEnd::NoMemory),
+        Err(_) => Err(HexEnd::NoBytes),
+    }
+}
+
+impl Reader for HexForm {
+    type Out = List<u8>;
+
+    ghost reads = { hex_at };
+
+    ghost Fits = { IsBytes };
+
+    fn read(alloc: Global, at: &Place<'_>, value: &Value) -> Result<List<u8>, ReadEnd> {
+        let Some(text) = value.as_str() else {
+            return Err(at.refused(alloc));
+        };
+        match decode(alloc, text) {
+            Ok(bytes) => Ok(bytes),
+            Err(HexEnd::NoMemory) => Err(ReadEnd::NoMemory),
+            Err(HexEnd::NoBytes) => Err(at.refused(alloc)),
+        }
+    }
+}
+
+impl Writer for HexForm {
+    type In = List<u8>;
+
+    ghost writes = { hex_data };
+
+    fn write(alloc: Global, bytes: &List<u8>) -> Result<Value, AllocError> {
+        let text = hex::encode(alloc, bytes.as_slice())?;
+        Ok(Value::String(text))
+    }
+}
