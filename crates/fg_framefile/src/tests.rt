@@ -8,7 +8,8 @@ use std::process::Abort;
 use std::test::Fail;
 
 // A file of format 2 with each member.
-const FILE: &str = r#"{"format":2,"queues":[{"name":"g","family":"graphics"}],"resources":[{"name":"b","buffer":4,"import":"00fFA07e"},{"name":"im","image":[2,3],"texel":"r8","layers":8,"sharing":"concurrent"}],"passes":[{"name":"p","queue":"g","reads":["b","im/7"],"writes":[{"new":"im/0"}],"ops":[{"op":"draw","dst":"im/0","clear":1,"rects":[{"x":0,"y":0,"width":1,"height":1,"mix":"xor","value":5}]}],"side_effect":true}],"exports":["im"]}"#;
+const FILE: &str =
+    r#"{"format":2,"queues":[{"name":"g","family":"graphics"}],"resources":[{"name":"b","buffer":4,"import":"00fFA07e"},{"name":"im","image":[2,3],"texel":"r8","layers":8,"sharing":"concurrent"}],"passes":[{"name":"p","queue":"g","reads":["b","im/7"],"writes":[{"new":"im/0"}],"ops":[{"op":"draw","dst":"im/0","clear":1,"rects":[{"x":0,"y":0,"width":1,"height":1,"mix":"xor","value":5}]}],"side_effect":true}],"exports":["im"]}"#;
 
 // What the file is with another piece in the place of one of its pieces: `frame`, or the number and place of the fault.
 fn judge(alloc: Global, piece: &str, other: &str) -> Result<String, AllocError> {
@@ -36,7 +37,11 @@ fn written(alloc: Global, path: &Path) -> Result<String, AllocError> {
             Leg::Member(name) => {
                 text.push('.')?;
                 for byte in name.as_slice() {
-                    text.push(if (32..127).contains(byte) { *byte as char } else { '?' })?;
+                    text.push(if (32..127).contains(byte) {
+                        *byte as char
+                    } else {
+                        '?'
+                    })?;
                 }
             }
             Leg::Position(at) => text.push_str(format!(in alloc; "[{at}]")?.as_str())?,
@@ -69,7 +74,11 @@ const FILES: [(&str, &str); 16] = [
 fn whole_files(rt: HostRuntime) -> Result<(), Fail> {
     let alloc = rt.alloc();
     for (file, answer) in FILES {
-        assert_eq!(rt; judge_bytes(alloc, file.as_bytes())?.as_str(), answer, "{file}");
+        assert_eq!(rt;
+            judge_bytes(alloc, file.as_bytes())?.as_str(),
+            answer,
+            "{file}"
+        );
     }
     Ok(())
 }
@@ -81,7 +90,11 @@ type Row = (&'static str, &'static str, &'static str);
 const FRAME: [Row; 18] = [
     ("im/7", "im/1", "frame"),
     ("\"queues\":[", "\"lines\":[", "F2 $.queues"),
-    ("\"resources\":[", "\"resources\":5,\"r\":[", "F2 $.resources"),
+    (
+        "\"resources\":[",
+        "\"resources\":5,\"r\":[",
+        "F2 $.resources",
+    ),
     ("\"passes\":[", "\"passes\":{},\"p\":[", "F2 $.passes"),
     (",\"exports\":[\"im\"]", "", "F2 $.exports"),
     ("[\"im\"]}", "[\"im\",5]}", "F2 $.exports[1]"),
@@ -99,8 +112,16 @@ const FRAME: [Row; 18] = [
         "F2 $.queues[0].name",
     ),
     ("\"graphics\"", "\"Graphics\"", "F2 $.queues[0].family"),
-    (",\"family\":\"graphics\"}", ",\"a\":0}", "F2 $.queues[0].family"),
-    ("\"graphics\"", "\"transfer\",\"count\":1", "F2 $.queues[0].count"),
+    (
+        ",\"family\":\"graphics\"}",
+        ",\"a\":0}",
+        "F2 $.queues[0].family",
+    ),
+    (
+        "\"graphics\"",
+        "\"transfer\",\"count\":1",
+        "F2 $.queues[0].count",
+    ),
 ];
 
 // Resources.
@@ -109,11 +130,27 @@ const RESOURCES: [Row; 30] = [
     ("\"buffer\":4,", "", "F2 $.resources[0].buffer"),
     ("\"buffer\":4", "\"buffer\":0", "F2 $.resources[0].buffer"),
     ("\"buffer\":4", "\"buffer\":4294967295", "frame"),
-    ("\"buffer\":4", "\"buffer\":4294967296", "F2 $.resources[0].buffer"),
+    (
+        "\"buffer\":4",
+        "\"buffer\":4294967296",
+        "F2 $.resources[0].buffer",
+    ),
     ("\"buffer\":4", "\"buffer\":4.0", "F2 $.resources[0].buffer"),
-    ("\"buffer\":4", "\"buffer\":4,\"image\":[1,1]", "F2 $.resources[0].image"),
-    ("\"buffer\":4", "\"buffer\":4,\"texel\":\"r8\"", "F2 $.resources[0].texel"),
-    ("\"buffer\":4", "\"buffer\":4,\"layers\":1", "F2 $.resources[0].layers"),
+    (
+        "\"buffer\":4",
+        "\"buffer\":4,\"image\":[1,1]",
+        "F2 $.resources[0].image",
+    ),
+    (
+        "\"buffer\":4",
+        "\"buffer\":4,\"texel\":\"r8\"",
+        "F2 $.resources[0].texel",
+    ),
+    (
+        "\"buffer\":4",
+        "\"buffer\":4,\"layers\":1",
+        "F2 $.resources[0].layers",
+    ),
     (",\"import\":\"00fFA07e\"", "", "frame"),
     ("00fFA07e", "", "frame"),
     ("00fFA07e", "0", "F2 $.resources[0].import"),
@@ -133,8 +170,16 @@ const RESOURCES: [Row; 30] = [
     (",\"sharing\":\"concurrent\"", "", "frame"),
     ("\"concurrent\"", "\"exclusive\"", "frame"),
     ("\"concurrent\"", "true", "F2 $.resources[1].sharing"),
-    ("\"concurrent\"", "\"shared\",\"a\":0", "F2 $.resources[1].sharing"),
-    ("\"concurrent\"", "\"exclusive\",\"import\":\"00\"", "F2 $.resources[1].import"),
+    (
+        "\"concurrent\"",
+        "\"shared\",\"a\":0",
+        "F2 $.resources[1].sharing",
+    ),
+    (
+        "\"concurrent\"",
+        "\"exclusive\",\"import\":\"00\"",
+        "F2 $.resources[1].import",
+    ),
 ];
 
 // Passes, and what they read and write.
@@ -154,39 +199,103 @@ const PASSES: [Row; 27] = [
     ("im/7", "01234567890123456789012345678901/0", "frame"),
     ("\"writes\":[{\"new\":\"im/0\"}],", "", "frame"),
     ("{\"new\":\"im/0\"}", "\"im/0\"", "F2 $.passes[0].writes[0]"),
-    ("{\"new\":\"im/0\"}", "{\"a\":0}", "F2 $.passes[0].writes[0].new"),
-    ("\"new\":\"im/0\"", "\"new\":\"im/a\"", "F2 $.passes[0].writes[0].new"),
+    (
+        "{\"new\":\"im/0\"}",
+        "{\"a\":0}",
+        "F2 $.passes[0].writes[0].new",
+    ),
+    (
+        "\"new\":\"im/0\"",
+        "\"new\":\"im/a\"",
+        "F2 $.passes[0].writes[0].new",
+    ),
     ("\"new\":\"im/0\"", "\"change\":\"im/0\"", "frame"),
-    ("\"new\":\"im/0\"", "\"change\":null", "F2 $.passes[0].writes[0].change"),
+    (
+        "\"new\":\"im/0\"",
+        "\"change\":null",
+        "F2 $.passes[0].writes[0].change",
+    ),
     (
         "\"new\":\"im/0\"",
         "\"change\":\"im/0\",\"new\":\"im/0\"",
         "F2 $.passes[0].writes[0].change",
     ),
-    ("\"new\":\"im/0\"", "\"new\":\"b\",\"old\":0", "F2 $.passes[0].writes[0].old"),
-    ("\"new\":\"im/0\"", "\"change\":\"b\",\"old\":0", "F2 $.passes[0].writes[0].old"),
+    (
+        "\"new\":\"im/0\"",
+        "\"new\":\"b\",\"old\":0",
+        "F2 $.passes[0].writes[0].old",
+    ),
+    (
+        "\"new\":\"im/0\"",
+        "\"change\":\"b\",\"old\":0",
+        "F2 $.passes[0].writes[0].old",
+    ),
     (",\"side_effect\":true", "", "frame"),
-    ("\"side_effect\":true", "\"side_effect\":1", "F2 $.passes[0].side_effect"),
-    ("\"side_effect\":true", "\"side_effect\":null", "F2 $.passes[0].side_effect"),
-    ("\"side_effect\":true", "\"waits\":0,\"side\":0", "F2 $.passes[0].side"),
+    (
+        "\"side_effect\":true",
+        "\"side_effect\":1",
+        "F2 $.passes[0].side_effect",
+    ),
+    (
+        "\"side_effect\":true",
+        "\"side_effect\":null",
+        "F2 $.passes[0].side_effect",
+    ),
+    (
+        "\"side_effect\":true",
+        "\"waits\":0,\"side\":0",
+        "F2 $.passes[0].side",
+    ),
     ("\"ops\":[", "\"ops\":null,\"p\":[", "F2 $.passes[0].ops"),
 ];
 
 // Operations and rectangles.
 const OPS: [Row; 14] = [
-    ("{\"op\":\"draw\"", "1,{\"op\":\"draw\"", "F2 $.passes[0].ops[0]"),
+    (
+        "{\"op\":\"draw\"",
+        "1,{\"op\":\"draw\"",
+        "F2 $.passes[0].ops[0]",
+    ),
     ("\"op\":\"draw\",", "", "F2 $.passes[0].ops[0].op"),
     ("\"draw\"", "\"paint\"", "F2 $.passes[0].ops[0].op"),
-    ("\"dst\":\"im/0\"", "\"dst\":\"im/9\"", "F2 $.passes[0].ops[0].dst"),
+    (
+        "\"dst\":\"im/0\"",
+        "\"dst\":\"im/9\"",
+        "F2 $.passes[0].ops[0].dst",
+    ),
     ("\"clear\":1,", "", "frame"),
-    ("\"clear\":1", "\"clear\":null", "F2 $.passes[0].ops[0].clear"),
-    ("\"clear\":1", "\"cleared\":1", "F2 $.passes[0].ops[0].cleared"),
-    ("\"rects\":[", "\"rects\":0,\"r\":[", "F2 $.passes[0].ops[0].rects"),
-    ("{\"x\":0", "{},{\"x\":0", "F2 $.passes[0].ops[0].rects[0].x"),
-    ("\"width\":1", "\"width\":-1", "F2 $.passes[0].ops[0].rects[0].width"),
+    (
+        "\"clear\":1",
+        "\"clear\":null",
+        "F2 $.passes[0].ops[0].clear",
+    ),
+    (
+        "\"clear\":1",
+        "\"cleared\":1",
+        "F2 $.passes[0].ops[0].cleared",
+    ),
+    (
+        "\"rects\":[",
+        "\"rects\":0,\"r\":[",
+        "F2 $.passes[0].ops[0].rects",
+    ),
+    (
+        "{\"x\":0",
+        "{},{\"x\":0",
+        "F2 $.passes[0].ops[0].rects[0].x",
+    ),
+    (
+        "\"width\":1",
+        "\"width\":-1",
+        "F2 $.passes[0].ops[0].rects[0].width",
+    ),
     ("\"mix\":\"xor\",", "", "frame"),
     ("\"xor\"", "\"add\"", "F2 $.passes[0].ops[0].rects[0].mix"),
-    ("\"value\":5", "\"value\":5,\"z\":0", "F2 $.passes[0].ops[0].rects[0].z"),
+    (
+        "\"value\":5",
+        "\"value\":5,\"z\":0",
+        "F2 $.passes[0].ops[0].rects[0].z",
+    ),
     (
         "\"draw\",\"dst\":\"im/0\",\"clear\":1,\"rects\":[",
         "\"box3\",\"src\":\"im/0\",\"dst\":\"im/1\",\"rects\":[",
@@ -196,7 +305,11 @@ const OPS: [Row; 14] = [
 
 fn all(rt: &impl Abort, alloc: Global, rows: &[Row]) -> Result<(), Fail> {
     for (piece, other, answer) in rows {
-        assert_eq!(rt; judge(alloc, piece, other)?.as_str(), *answer, "{piece} to {other}");
+        assert_eq!(rt;
+            judge(alloc, piece, other)?.as_str(),
+            *answer,
+            "{piece} to {other}"
+        );
     }
     Ok(())
 }
