@@ -1,0 +1,6 @@
+pub mod Begin
+pub mod Grow
+pub mod Needed
+pub mod Pop
+pub mod Reach
+pub mod Steps

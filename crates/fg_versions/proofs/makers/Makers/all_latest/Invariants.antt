@@ -1,0 +1,7 @@
+use Rattle.std.proofs.Common.{◌≡◌, map, take}
+use Rattle.fg_versions.specs.Rows.{row_of}
+use Rattle.fg_versions.specs.Versions.{latest}
+use Rattle.fg_versions.proofs.makers.Makers.all_latest.Given as goal
+
+abbrev pub invariant-loop-unit : goal.invariant-loop-unit
+invariant-loop-unit l = l.numbers ≡ map (λ unit. latest (row_of l.self unit)) (take l.unit-index l.units)
