@@ -1,5 +1,6 @@
 pub mod Begin
 pub mod Grow
+pub mod Lookups
 pub mod Needed
 pub mod Pop
 pub mod Reach

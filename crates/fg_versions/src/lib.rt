@@ -10,3 +10,6 @@ mod versions;
 pub use culling::cull;
 pub use kept::Kept;
 pub use versions::{Versions, versions_of};
+
+#[cfg(test)]
+mod tests;
