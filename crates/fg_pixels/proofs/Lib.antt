@@ -1,0 +1,7 @@
+pub mod Numbers
+pub mod Bytes
+pub mod Moduli
+pub mod Rows
+pub mod Areas
+pub mod Pieces
+pub mod Counts

@@ -1,0 +1,19 @@
+-- Numbers modulo those of texels.
+use Rattle.std.proofs.Common.{◌≡◌, ℕ, ◌+◌, ◌-◌, ◌%◌, ◌^◌, ◌<◌, refl, arith}
+use Rattle.fg_base.specs.Texels.{modulus}
+use Rattle.fg_base.specs.declared.shape.Texel.{Texel}
+use Rattle.fg_base.specs.declared.shape.Texel.TheVariants.{R8, R32}
+
+-- 32 bits hold what any texel keeps
+pub kept : (t : Texel) (n : ℕ) → n % 2 ^ 32 % modulus t ≡ n % modulus t
+kept R8 n = omega arith
+kept R32 n = omega arith
+
+-- a difference that wrapped
+pub kept_difference : (t : Texel) (a b d : ℕ) → a < modulus t → b < modulus t → (d + b) % 2 ^ 32 ≡ a → d % modulus t ≡ (a + modulus t - b) % modulus t
+kept_difference R8 a b d ha hb e = omega arith
+kept_difference R32 a b d ha hb e = omega arith
+
+pub kept_twice : (t : Texel) (m n : ℕ) → m ≡ n % 2 ^ 32 → m % modulus t ≡ n % modulus t
+kept_twice R8 m n e = omega arith
+kept_twice R32 m n e = omega arith

@@ -1,0 +1,42 @@
+//! The mean of four texels.
+
+ghost use Rattle.std.specs.Prelude.{◌≡◌, ◌+◌, ◌*◌, ◌%◌, ◌<◌, ◌≤◌};
+ghost use Rattle.fg_base.specs.Kernels.{halved};
+ghost use Rattle.fg_base.specs.Texels.{modulus, picture, band};
+ghost use Rattle.fg_pixels.specs.Bands.{HasRows};
+
+use crate::painting::paint;
+use crate::texels::pick;
+use fg_base::Grid;
+
+#[inline(always)]
+#[tactic(auto, unfolding(fg_base::specs::Kernels::halved))]
+fn halved_at(grid: Grid, src: &[u8], x: u32, y: u32) -> u32
+    requires size { HasRows grid grid.height src.now }
+    requires x { 2 * x + 1 < grid.width }
+    requires y { 2 * y + 1 < grid.height }
+    ensures { result ≡ halved (picture grid src.now) x y }
+{
+    let (left, top) = (2 * x, 2 * y);
+    let a = pick(grid, src, left, top);
+    let b = pick(grid, src, left + 1, top);
+    let c = pick(grid, src, left, top + 1);
+    let d = pick(grid, src, left + 1, top + 1);
+    ((u64::from(a) + u64::from(b) + u64::from(c) + u64::from(d)) / 4) as u32
+}
+
+/// Rows of `halve`, from row `first` on. `grid` is the source's, whose sides are twice those of the result.
+pub fn halve_rows(grid: Grid, half: Grid, src: &[u8], first: u32, count: u32, out: &mut [u8])
+    requires sides { (grid.width ≡ 2 * half.width) × (grid.height ≡ 2 * half.height) }
+    requires src { HasRows grid grid.height src.now }
+    requires out { HasRows half count out.old }
+    requires rows { first + count ≤ half.height }
+    ensures { out.new ≡ band half.texel half.width first count (halved (picture grid src.now)) }
+{
+    paint(half.texel, out, half.width, first, count, |x: u32, y: u32| -> u32
+        requires { HasRows grid grid.height src.now × (2 * x + 1 < grid.width) × (2 * y + 1 < grid.height) }
+        ensures { result ≡ halved (picture grid src.entry.now) x y }
+    {
+        halved_at(grid, src, x, y)
+    });
+}

@@ -1,0 +1,34 @@
+//! What operations leave in the bytes of their destination. Kernels work on bands of rows.
+#![tactic(auto)]
+
+mod blur;
+mod clear;
+mod combine;
+mod convert;
+mod copies;
+mod fill;
+mod function;
+mod halve;
+mod histogram;
+mod map;
+mod painting;
+mod ramp;
+mod repainting;
+mod select;
+mod texels;
+
+pub use blur::box3_rows;
+pub use clear::clear_rows;
+pub use combine::combine_rows;
+pub use convert::convert_rows;
+pub use copies::{copy_area, copy_range};
+pub use fill::fill_words;
+pub use function::cut;
+pub use halve::halve_rows;
+pub use histogram::count_texels;
+pub use map::map_rows;
+pub use painting::paint;
+pub use ramp::ramp_rows;
+pub use repainting::{Area, repaint};
+pub use select::select_rows;
+pub use texels::{get, pick, put};
