@@ -5,3 +5,4 @@ pub mod Rows
 pub mod Areas
 pub mod Pieces
 pub mod Counts
+pub mod Fitting

@@ -1,6 +1,7 @@
 //! What operations leave in the bytes of their destination. Kernels work on bands of rows.
 #![tactic(auto)]
 
+mod apply_op;
 mod blur;
 mod clear;
 mod combine;
@@ -15,8 +16,12 @@ mod painting;
 mod ramp;
 mod repainting;
 mod select;
+mod shapes;
 mod texels;
+mod transfers;
+mod whole;
 
+pub use apply_op::apply;
 pub use blur::box3_rows;
 pub use clear::clear_rows;
 pub use combine::combine_rows;
@@ -31,4 +36,5 @@ pub use painting::paint;
 pub use ramp::ramp_rows;
 pub use repainting::{Area, repaint};
 pub use select::select_rows;
+pub use shapes::canvas;
 pub use texels::{get, pick, put};

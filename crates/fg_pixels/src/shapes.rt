@@ -1,0 +1,36 @@
+//! Shapes as the grids that kernels work on.
+
+ghost use Rattle.std.specs.Prelude.{◌≡◌, ◌<◌, length};
+ghost use Rattle.fg_base.specs.Shapes.{shape_at};
+ghost use Rattle.fg_base.specs.Texels.{canvas_of};
+
+use fg_base::{Grid, Shape, Texel};
+
+/// The texels of an image, or the words of a buffer in one row.
+pub fn canvas(shape: Shape) -> Grid
+    ensures { result ≡ canvas_of shape }
+{
+    match shape {
+        Shape::Buffer { size } => Grid {
+            width: size / 4,
+            height: 1,
+            texel: Texel::R32,
+        },
+        Shape::Image {
+            width,
+            height,
+            texel,
+        } => Grid {
+            width,
+            height,
+            texel,
+        },
+    }
+}
+
+pub(crate) fn shape_at(shapes: &[Shape], n: u32) -> Shape
+    requires { n < length shapes.now }
+    ensures { result ≡ shape_at shapes.now n }
+{
+    shapes[n as usize]
+}
