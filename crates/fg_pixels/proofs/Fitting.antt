@@ -49,13 +49,13 @@ same_texels R8 R32 e = absurd cc
 same_texels R32 R8 e = absurd cc
 same_texels R32 R32 e = refl
 
-both : (a b : Bool) → (a && b) ≡ true → (a ≡ true) × (b ≡ true)
+pub both : (a b : Bool) → (a && b) ≡ true → (a ≡ true) × (b ≡ true)
 both true true e = (refl, refl)
 both true false e = absurd cc
 both false true e = absurd cc
 both false false e = absurd cc
 
-number_same : (m n : ℕ) → (m == n) ≡ true → m ≡ n
+pub number_same : (m n : ℕ) → (m == n) ≡ true → m ≡ n
 number_same m n e = grind (arith, nat_tests)
 
 abbrev grid_with : ℕ → ℕ → Texel → Grid

@@ -6,3 +6,5 @@ pub mod Areas
 pub mod Pieces
 pub mod Counts
 pub mod Fitting
+pub mod Pictures
+pub mod WholeLaw

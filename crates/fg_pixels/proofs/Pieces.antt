@@ -45,7 +45,7 @@ unfolding low_bytes texel_at
 piece_is t i xs bytes fits = sym (digits_back (texel_bytes t) (texel_bytes t * i) xs bytes fits)
 
 -- what is cut off does not count
-low_same : (t : Texel) (m n : ℕ) → m % modulus t ≡ n % modulus t → low_bytes t m ≡ low_bytes t n
+pub low_same : (t : Texel) (m n : ℕ) → m % modulus t ≡ n % modulus t → low_bytes t m ≡ low_bytes t n
 unfolding low_bytes
 low_same R8 m n e = ap (λ d. d ∷ []) e
 low_same R32 m n e =
@@ -56,7 +56,7 @@ low_same R32 m n e =
     rw (a, b, c, d) refl
 
 -- a piece of a piece
-inner : (k m i b : ℕ) (xs : List ℕ) → i + b ≤ m → chunk i b (chunk k m xs) ≡ chunk (k + i) b xs
+pub inner : (k m i b : ℕ) (xs : List ℕ) → i + b ≤ m → chunk i b (chunk k m xs) ≡ chunk (k + i) b xs
 inner k m i b xs le =
     let whole : m ≡ i + (m - i) = omega arith in
     ap (λ n. chunk i b (chunk k n xs)) whole

@@ -1,3 +1,4 @@
+pub mod Anew
 pub mod Bands
 pub mod Closures
 pub mod Sources

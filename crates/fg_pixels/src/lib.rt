@@ -1,6 +1,7 @@
 //! What operations leave in the bytes of their destination. Kernels work on bands of rows.
 #![tactic(auto)]
 
+mod anew;
 mod apply_op;
 mod blur;
 mod clear;
@@ -21,6 +22,7 @@ mod texels;
 mod transfers;
 mod whole;
 
+pub use anew::whole_leaves_nothing_old;
 pub use apply_op::apply;
 pub use blur::box3_rows;
 pub use clear::clear_rows;

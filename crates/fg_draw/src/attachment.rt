@@ -1,0 +1,58 @@
+//! A draw into an attachment.
+
+ghost use Rattle.std.specs.Prelude.{◌≡◌, ◌%◌, ◌+◌, ◌≤◌, ◌<◌, true, [], List, Option, All, length};
+ghost use Rattle.std.specs.List.{list_all};
+ghost use Rattle.fg_base.specs.Applied.{effect, begun};
+ghost use Rattle.fg_base.specs.Fits.{fits, has_drawn};
+ghost use Rattle.fg_base.specs.Kernels.{mixed, under, drawn};
+ghost use Rattle.fg_base.specs.Shapes.{bytes_of, is_image};
+ghost use Rattle.fg_base.specs.Texels.{canvas_of, modulus, painted, picture};
+ghost use Rattle.fg_pixels.specs.Bands.{HasRows};
+ghost use Rattle.fg_draw.specs.Rects.{IsWithin};
+
+use crate::mix::mixed_with;
+use fg_base::{Grid, Op, Rect, Shape};
+use fg_pixels::{Area, canvas, clear_rows, cut, repaint};
+
+/// Draws into an image: with `clear` each texel is first that value, then the rectangles change theirs, in order.
+pub fn draw(shape: Shape, clear: Option<u32>, rects: &[Rect], out: &mut [u8])
+    requires image { is_image shape ≡ true }
+    requires inside { list_all (has_drawn shape) rects.now ≡ true }
+    requires out { length out.old ≡ bytes_of shape }
+    ensures { out.new ≡ effect (Op.Draw shape clear rects.now) [] [] [] out.old }
+{
+    let grid = canvas(shape);
+    begin(grid, clear, out);
+    for rect in rects {
+        draw_rect(grid, rect, out);
+    }
+}
+
+fn begin(grid: Grid, clear: Option<u32>, out: &mut [u8])
+    requires { HasRows grid grid.height out.old }
+    ensures { out.new ≡ painted grid (begun grid clear out.old) }
+{
+    if let Some(value) = clear {
+        clear_rows(grid, cut(grid.texel, value), 0, grid.height, out);
+    }
+}
+
+fn draw_rect(grid: Grid, rect: &Rect, out: &mut [u8])
+    requires size { HasRows grid grid.height out.old }
+    requires inside { IsWithin grid rect.now }
+    ensures { out.new ≡ painted grid (under grid.texel (picture grid out.old) rect.now) }
+{
+    let area = Area {
+        left: rect.x,
+        top: rect.y,
+        width: rect.width,
+        height: rect.height,
+    };
+    let value = cut(grid.texel, rect.value);
+    let mix = rect.mix;
+    repaint(grid, area, out, |old: u32, _x: u32, _y: u32| -> u32
+        ensures { result ≡ mixed mix old value }
+    {
+        mixed_with(mix, old, value)
+    });
+}
