@@ -32,8 +32,9 @@ fn begin(grid: Grid, clear: Option<u32>, out: &mut [u8])
     requires { HasRows grid grid.height out.old }
     ensures { out.new ≡ painted grid (begun grid clear out.old) }
 {
-    if let Some(value) = clear {
-        clear_rows(grid, cut(grid.texel, value), 0, grid.height, out);
+    match clear {
+        Some(value) => clear_rows(grid, cut(grid.texel, value), 0, grid.height, out),
+        None => {}
     }
 }
 

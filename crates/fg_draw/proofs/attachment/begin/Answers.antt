@@ -1,0 +1,8 @@
+use Rattle.std.proofs.Common.{◌≡◌}
+use Rattle.fg_base.specs.Applied.{begun}
+use Rattle.fg_base.specs.Texels.{painted}
+use Rattle.fg_pixels.proofs.Pictures.{painted_back}
+use Rattle.fg_draw.proofs.attachment.begin.Goals as goal
+
+pub returns-in-None : goal.returns-in-None
+returns-in-None c = rw c.in-None.is (painted_back c.args.grid c.args.out.now c.type_inv.out c.requires)
