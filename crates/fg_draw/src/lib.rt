@@ -5,3 +5,6 @@ mod attachment;
 mod mix;
 
 pub use attachment::draw;
+
+#[cfg(test)]
+mod tests;

@@ -40,3 +40,6 @@ pub use repainting::{Area, repaint};
 pub use select::select_rows;
 pub use shapes::canvas;
 pub use texels::{get, pick, put};
+
+#[cfg(test)]
+mod tests;
