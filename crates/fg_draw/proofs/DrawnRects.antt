@@ -40,11 +40,11 @@ either_cut t false mix n value = twice_cut t n
 pub under_painted : (g : Grid) (f : ℕ → ℕ → ℕ) (rect : Rect) → painted g (under g.texel (picture g (painted g f)) rect) ≡ painted g (under g.texel f rect)
 under_painted g f rect =
     same_band g.texel g.width 0 g.height (under g.texel (picture g (painted g f)) rect) (under g.texel f rect) (λ x y hx hy.
-      let row = 0 + y in
-      let b = is_inside rect.x rect.y rect.width rect.height x row in
-      let value = rect.value % modulus g.texel in
-      ap (λ (n : ℕ). (if b then mixed rect.mix n value else n) % modulus g.texel) (picture_painted g f x row hx (omega arith))
-      ∙ either_cut g.texel b rect.mix (f x row) value)
+    let row = 0 + y in
+    let b = is_inside rect.x rect.y rect.width rect.height x row in
+    let value = rect.value % modulus g.texel in
+    ap (λ (n : ℕ). (if b then mixed rect.mix n value else n) % modulus g.texel) (picture_painted g f x row hx (omega arith))
+    ∙ either_cut g.texel b rect.mix (f x row) value)
 
 -- one rectangle more
 pub drawn_more : (g : Grid) (f : ℕ → ℕ → ℕ) (rects : List Rect) (i : ℕ) (rect : Rect) (now new : List ℕ) → i < length rects

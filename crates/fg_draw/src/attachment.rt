@@ -51,9 +51,12 @@ fn draw_rect(grid: Grid, rect: &Rect, out: &mut [u8])
     };
     let value = cut(grid.texel, rect.value);
     let mix = rect.mix;
-    repaint(grid, area, out, |old: u32, _x: u32, _y: u32| -> u32
-        ensures { result ≡ mixed mix old value }
-    {
-        mixed_with(mix, old, value)
-    });
+    repaint(
+        grid,
+        area,
+        out,
+        |old: u32, _x: u32, _y: u32| -> u32
+            ensures { result ≡ mixed mix old value }
+        { mixed_with(mix, old, value) },
+    );
 }

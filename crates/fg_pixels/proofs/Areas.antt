@@ -65,16 +65,16 @@ pub reached_more : (g : Grid) (a : Area) (row column : ℕ) (q f : ℕ → ℕ �
     → IsReached g a row (column + 1) q f new
 reached_more g a row column q f old new hx hy up here others x y wx wy =
     elim (cases_eq y (a.top + row)) [
-      inl same_row ↦
-        elim (cases_eq x (a.left + column)) [
-          inl same ↦ rw (same_row, same, just_reached a row column) here
-        | inr ne ↦
-            others (y * g.width + x) (λ e. ne (same_from_place y x (a.top + row) (a.left + column) g.width wx hx e).1)
-            ∙ up x y wx wy
-            ∙ ap (λ b. (if b then f x y else q x y) % modulus g.texel) (rw same_row (sym (other_column a row column x ne)))
-        ]
-    | inr ne ↦
-        others (y * g.width + x) (λ e. ne (same_from_place y x (a.top + row) (a.left + column) g.width wx hx e).0)
-        ∙ up x y wx wy
-        ∙ ap (λ b. (if b then f x y else q x y) % modulus g.texel) (sym (other_row a row column x y ne))
+      | inl same_row ↦
+          elim (cases_eq x (a.left + column)) [
+            | inl same ↦ rw (same_row, same, just_reached a row column) here
+            | inr ne ↦
+                others (y * g.width + x) (λ e. ne (same_from_place y x (a.top + row) (a.left + column) g.width wx hx e).1)
+                ∙ up x y wx wy
+                ∙ ap (λ b. (if b then f x y else q x y) % modulus g.texel) (rw same_row (sym (other_column a row column x ne)))
+          ]
+      | inr ne ↦
+          others (y * g.width + x) (λ e. ne (same_from_place y x (a.top + row) (a.left + column) g.width wx hx e).0)
+          ∙ up x y wx wy
+          ∙ ap (λ b. (if b then f x y else q x y) % modulus g.texel) (sym (other_row a row column x y ne))
     ]

@@ -32,7 +32,7 @@ word_is bytes i =
       number_from bytes k (k + 1) 3 (omega arith),
       number_from bytes (k + 1) (k + 2) 2 (omega arith),
       number_from bytes (k + 2) (k + 3) 1 (omega arith),
-      number_more bytes (k + 3) 0
+      number_more bytes (k + 3) 0,
     )
 
 abbrev pub AreBytes : List ℕ → Type 0

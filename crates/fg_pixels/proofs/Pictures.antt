@@ -20,23 +20,23 @@ same_pieces h k zero a each = refl
 same_pieces h k (suc n) a each =
     let first : h a ≡ k a = let z : a + 0 ≡ a = omega arith in rw z at (each 0 (omega arith)) in
     let others : flat_map h (range_with_len (a + 1) n) ≡ flat_map k (range_with_len (a + 1) n) =
-      same_pieces h k n (a + 1) (λ i lt. let e : a + 1 + i ≡ a + suc i = omega arith in rw e (each (suc i) (omega arith))) in
+    same_pieces h k n (a + 1) (λ i lt. let e : a + 1 + i ≡ a + suc i = omega arith in rw e (each (suc i) (omega arith))) in
     rw (first, others) refl
 
 pub same_band : (t : Texel) (w first count : ℕ) (f g : ℕ → ℕ → ℕ) → ((x y : ℕ) → x < w → y < count → f x (first + y) % modulus t ≡ g x (first + y) % modulus t) → band t w first count f ≡ band t w first count g
 unfolding band
 same_band t w first count f g alike =
     same_pieces (λ y. flat_map (λ x. low_bytes t (f x y)) (range_with_len 0 w)) (λ y. flat_map (λ x. low_bytes t (g x y)) (range_with_len 0 w)) count first (λ y hy.
-      same_pieces (λ x. low_bytes t (f x (first + y))) (λ x. low_bytes t (g x (first + y))) w 0 (λ x hx.
-        let z : 0 + x ≡ x = omega arith in
-        rw z (low_same t (f x (first + y)) (g x (first + y)) (alike x y hx hy))))
+    same_pieces (λ x. low_bytes t (f x (first + y))) (λ x. low_bytes t (g x (first + y))) w 0 (λ x hx.
+    let z : 0 + x ≡ x = omega arith in
+    rw z (low_same t (f x (first + y)) (g x (first + y)) (alike x y hx hy))))
 
 -- the bytes of a picture are painted by it
 pub painted_back : (g : Grid) (bytes : List ℕ) → AreBytes bytes → HasRows g g.height bytes → bytes ≡ painted g (picture g bytes)
 painted_back g bytes fit len =
     band_from g.texel g.width 0 g.height (picture g bytes) bytes fit len (λ x y hx hy.
-      let z : 0 + y ≡ y = omega arith in
-      rw z (whole_texel g.texel bytes (y * g.width + x) fit))
+    let z : 0 + y ≡ y = omega arith in
+    rw z (whole_texel g.texel bytes (y * g.width + x) fit))
 
 length_low : (t : Texel) (n : ℕ) → length (low_bytes t n) ≡ texel_bytes t
 unfolding low_bytes
@@ -76,13 +76,13 @@ picture_painted g f x y hx hy =
     let line = λ (r : ℕ). flat_map (λ c. low_bytes g.texel (f c r)) (range_with_len 0 w) in
     let long : (r : ℕ) → length (line r) ≡ b * w = λ r. length_pieces b (λ c. low_bytes g.texel (f c r)) w 0 (λ k. length_low g.texel (f k r)) in
     let inside : b * x + b ≤ b * w =
-      let n : b * (x + 1) ≤ b * w = mul-le-mul_left b (omega arith) in
-      omega (arith, n) in
+    let n : b * (x + 1) ≤ b * w = mul-le-mul_left b (omega arith) in
+    omega (arith, n) in
     let start : b * (y * w + x) ≡ b * w * y + b * x = omega arith in
     let all = flat_map line (range_with_len 0 g.height) in
     ap (number_l 256) (ap (λ k. chunk k b all) start
-      ∙ sym (inner (b * w * y) (b * w) (b * x) b all inside)
-      ∙ ap (λ l. chunk (b * x) b l) (nth_piece (b * w) line g.height 0 y long hy)
-      ∙ nth_piece b (λ c. low_bytes g.texel (f c (0 + y))) w 0 x (λ k. length_low g.texel (f k (0 + y))) hx)
+    ∙ sym (inner (b * w * y) (b * w) (b * x) b all inside)
+    ∙ ap (λ l. chunk (b * x) b l) (nth_piece (b * w) line g.height 0 y long hy)
+    ∙ nth_piece b (λ c. low_bytes g.texel (f c (0 + y))) w 0 x (λ k. length_low g.texel (f k (0 + y))) hx)
     ∙ read_back g.texel (f (0 + x) (0 + y))
     ∙ ap (λ n. n % modulus g.texel) (ap (λ c. f c (0 + y)) (zero-add x) ∙ ap (f x) (zero-add y))

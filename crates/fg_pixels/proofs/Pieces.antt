@@ -16,15 +16,15 @@ pieces : (c : ℕ) (h : ℕ → List ℕ) (n a : ℕ) (xs : List ℕ) → length
 pieces c h zero a xs len each = drop_all 0 xs (omega (arith, len))
 pieces c h (suc n) a xs len each =
     let first : take c xs ≡ h a =
-      let zero_times : c * 0 ≡ 0 = omega arith in
-      let none_added : a + 0 ≡ a = omega arith in
-      rw (zero_times, none_added) at (each 0 (omega arith)) in
+    let zero_times : c * 0 ≡ 0 = omega arith in
+    let none_added : a + 0 ≡ a = omega arith in
+    rw (zero_times, none_added) at (each 0 (omega arith)) in
     let others : drop c xs ≡ flat_map h (range_with_len (a + 1) n) =
-      pieces c h n (a + 1) (drop c xs) (length-drop c xs ∙ omega (arith, len)) (λ i lt.
-        ap (take c) (drop-drop (c * i) c xs)
-        ∙ ap (λ k. chunk k c xs) (omega arith)
-        ∙ each (suc i) (omega arith)
-        ∙ ap h (omega arith)) in
+    pieces c h n (a + 1) (drop c xs) (length-drop c xs ∙ omega (arith, len)) (λ i lt.
+    ap (take c) (drop-drop (c * i) c xs)
+    ∙ ap (λ k. chunk k c xs) (omega arith)
+    ∙ each (suc i) (omega arith)
+    ∙ ap h (omega arith)) in
     sym (take-append-drop c xs) ∙ ap (λ l. l ++ drop c xs) first ∙ ap (λ l. h a ++ l) others
 
 -- bytes, and the number that they hold
@@ -75,27 +75,27 @@ row_from : (t : Texel) (w count y : ℕ) (g : ℕ → ℕ) (xs : List ℕ) → A
 row_from t w count y g xs bytes len within row =
     let b = texel_bytes t in
     let end : b * w * y + b * w ≤ b * (w * count) =
-      let m : (y + 1) * w ≤ count * w = grind arith in
-      let n : b * ((y + 1) * w) ≤ b * (count * w) = mul-le-mul_left b m in
-      omega (arith, n) in
+    let m : (y + 1) * w ≤ count * w = grind arith in
+    let n : b * ((y + 1) * w) ≤ b * (count * w) = mul-le-mul_left b m in
+    omega (arith, n) in
     let long : length (chunk (b * w * y) (b * w) xs) ≡ b * w =
-      length-take-le (b * w) (drop (b * w * y) xs) (omega (arith, length-drop (b * w * y) xs)) in
+    length-take-le (b * w) (drop (b * w * y) xs) (omega (arith, length-drop (b * w * y) xs)) in
     pieces b (λ x. low_bytes t (g x)) w 0 (chunk (b * w * y) (b * w) xs) long (λ x lt.
-      let place = y * w + x in
-      let inside : b * x + b ≤ b * w =
-        let n : b * (x + 1) ≤ b * w = mul-le-mul_left b (omega arith) in
-        omega (arith, n) in
-      let fits : b * place + b ≤ length xs = omega arith in
-      let start : b * w * y + b * x ≡ b * place = omega arith in
-      inner (b * w * y) (b * w) (b * x) b xs inside
-      ∙ ap (λ k. chunk k b xs) start
-      ∙ piece_is t place xs bytes fits
-      ∙ low_kept t (texel_at t xs place) (g x) (row x lt)
-      ∙ ap (λ k. low_bytes t (g k)) (omega arith))
+    let place = y * w + x in
+    let inside : b * x + b ≤ b * w =
+    let n : b * (x + 1) ≤ b * w = mul-le-mul_left b (omega arith) in
+    omega (arith, n) in
+    let fits : b * place + b ≤ length xs = omega arith in
+    let start : b * w * y + b * x ≡ b * place = omega arith in
+    inner (b * w * y) (b * w) (b * x) b xs inside
+    ∙ ap (λ k. chunk k b xs) start
+    ∙ piece_is t place xs bytes fits
+    ∙ low_kept t (texel_at t xs place) (g x) (row x lt)
+    ∙ ap (λ k. low_bytes t (g k)) (omega arith))
 
 pub band_from : (t : Texel) (w first count : ℕ) (f : ℕ → ℕ → ℕ) (xs : List ℕ) → AreBytes xs → length xs ≡ texel_bytes t * (w * count)
     → IsImage (texel_at t xs) w count (λ x y. f x (first + y) % modulus t) → xs ≡ band t w first count f
 unfolding band
 band_from t w first count f xs bytes len image =
     pieces (texel_bytes t * w) (λ y. flat_map (λ x. low_bytes t (f x y)) (range_with_len 0 w)) count first xs (omega (arith, len)) (λ y lt.
-      row_from t w count y (λ x. f x (first + y)) xs bytes len lt (λ x in_row. image x y in_row lt))
+    row_from t w count y (λ x. f x (first + y)) xs bytes len lt (λ x in_row. image x y in_row lt))

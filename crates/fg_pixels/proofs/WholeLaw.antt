@@ -32,7 +32,7 @@ all_inside w h x y hx hy = grind (arith, nat_tests)
 -- a rectangle that covers the grid
 covered : (g : Grid) (p q r : ℕ → ℕ → ℕ) → painted g (λ x y. if is_inside 0 0 g.width g.height x y then p x y else q x y) ≡ painted g (λ x y. if is_inside 0 0 g.width g.height x y then p x y else r x y)
 covered g p q r = same_band g.texel g.width 0 g.height (λ x y. if is_inside 0 0 g.width g.height x y then p x y else q x y) (λ x y. if is_inside 0 0 g.width g.height x y then p x y else r x y) (λ x y hx hy.
-  rw (all_inside g.width g.height x (0 + y) hx (omega arith)) refl)
+    rw (all_inside g.width g.height x (0 + y) hx (omega arith)) refl)
 
 copy_covers : (src dst : Shape) (sx sy x y w h : ℕ) → (x == 0 && y == 0 && has_sides w h dst) ≡ true → IgnoresOld (CopyImage src dst sx sy x y w h)
 copy_covers src (Buffer n) sx sy x y w h e first second third old other len same =

@@ -9,5 +9,4 @@ ghost use Rattle.fg_pixels.specs.Anew.{IgnoresOld};
 /// Where an operation is whole, the old bytes of its destination have no influence. It does nothing.
 pub fn whole_leaves_nothing_old()
     ensures { (op : Op Shape) → is_whole op ≡ true → IgnoresOld op }
-{
-}
+{}

@@ -37,13 +37,7 @@ pub fn apply(
             offset,
             size,
             word,
-        } => transfers::fill_buffer(
-            shape_at(shapes, *dst),
-            *offset,
-            *size,
-            *word,
-            out,
-        ),
+        } => transfers::fill_buffer(shape_at(shapes, *dst), *offset, *size, *word, out),
         Op::ClearImage { dst, value } => whole::clear(shape_at(shapes, *dst), *value, out),
         Op::CopyBuffer {
             src,
@@ -105,13 +99,7 @@ pub fn apply(
             first,
             out,
         ),
-        Op::Ramp { dst, base, dx, dy } => whole::ramp(
-            shape_at(shapes, *dst),
-            *base,
-            *dx,
-            *dy,
-            out,
-        ),
+        Op::Ramp { dst, base, dx, dy } => whole::ramp(shape_at(shapes, *dst), *base, *dx, *dy, out),
         Op::Map {
             src,
             dst,

@@ -56,10 +56,15 @@ pub fn box3_rows(grid: Grid, src: &[u8], first: u32, count: u32, out: &mut [u8])
     requires rows { first + count ≤ grid.height }
     ensures { out.new ≡ band grid.texel grid.width first count (box3 grid.width grid.height (picture grid src.now)) }
 {
-    paint(grid.texel, out, grid.width, first, count, |x: u32, y: u32| -> u32
-        requires { HasRows grid grid.height src.now × (x < grid.width) × (y < grid.height) }
-        ensures { result ≡ box3 grid.width grid.height (picture grid src.entry.now) x y }
-    {
-        box3_at(grid, src, x, y)
-    });
+    paint(
+        grid.texel,
+        out,
+        grid.width,
+        first,
+        count,
+        |x: u32, y: u32| -> u32
+            requires { HasRows grid grid.height src.now × (x < grid.width) × (y < grid.height) }
+            ensures { result ≡ box3 grid.width grid.height (picture grid src.entry.now) x y }
+        { box3_at(grid, src, x, y) },
+    );
 }

@@ -13,9 +13,14 @@ pub fn clear_rows(grid: Grid, value: u32, first: u32, count: u32, out: &mut [u8]
     requires rows { first + count ≤ grid.height }
     ensures { out.new ≡ band grid.texel grid.width first count (λ x y. value) }
 {
-    paint(grid.texel, out, grid.width, first, count, |_x: u32, _y: u32| -> u32
-        ensures { result ≡ value }
-    {
-        value
-    });
+    paint(
+        grid.texel,
+        out,
+        grid.width,
+        first,
+        count,
+        |_x: u32, _y: u32| -> u32
+            ensures { result ≡ value }
+        { value },
+    );
 }

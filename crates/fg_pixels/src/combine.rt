@@ -26,10 +26,15 @@ pub fn combine_rows(
     requires rows { first + count ≤ grid.height }
     ensures { out.new ≡ band grid.texel grid.width first count (λ x y. fun_of grid.texel fun (picture grid a.now x y) (picture grid b.now x y)) }
 {
-    paint(grid.texel, out, grid.width, first, count, |x: u32, y: u32| -> u32
-        requires { HasRows grid grid.height a.now × HasRows grid grid.height b.now × (x < grid.width) × (y < grid.height) }
-        ensures { result % modulus grid.texel ≡ fun_of grid.texel fun (picture grid a.entry.now x y) (picture grid b.entry.now x y) % modulus grid.texel }
-    {
-        fun_at(grid.texel, fun, pick(grid, a, x, y), pick(grid, b, x, y))
-    });
+    paint(
+        grid.texel,
+        out,
+        grid.width,
+        first,
+        count,
+        |x: u32, y: u32| -> u32
+            requires { HasRows grid grid.height a.now × HasRows grid grid.height b.now × (x < grid.width) × (y < grid.height) }
+            ensures { result % modulus grid.texel ≡ fun_of grid.texel fun (picture grid a.entry.now x y) (picture grid b.entry.now x y) % modulus grid.texel }
+        { fun_at(grid.texel, fun, pick(grid, a, x, y), pick(grid, b, x, y)) },
+    );
 }

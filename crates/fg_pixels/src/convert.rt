@@ -15,10 +15,15 @@ pub fn convert_rows(grid: Grid, texel: Texel, src: &[u8], first: u32, count: u32
     requires rows { first + count ≤ grid.height }
     ensures { out.new ≡ band texel grid.width first count (picture grid src.now) }
 {
-    paint(texel, out, grid.width, first, count, |x: u32, y: u32| -> u32
-        requires { HasRows grid grid.height src.now × (x < grid.width) × (y < grid.height) }
-        ensures { result ≡ picture grid src.entry.now x y }
-    {
-        pick(grid, src, x, y)
-    });
+    paint(
+        texel,
+        out,
+        grid.width,
+        first,
+        count,
+        |x: u32, y: u32| -> u32
+            requires { HasRows grid grid.height src.now × (x < grid.width) × (y < grid.height) }
+            ensures { result ≡ picture grid src.entry.now x y }
+        { pick(grid, src, x, y) },
+    );
 }

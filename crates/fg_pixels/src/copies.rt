@@ -37,10 +37,13 @@ pub fn copy_area(
     requires rows { area.top + area.height ≤ to.height }
     ensures { out.new ≡ painted to (λ x y. if is_inside area.left area.top area.width area.height x y then picture from src.now (src_x + (x - area.left)) (src_y + (y - area.top)) else picture to out.old x y) }
 {
-    repaint(to, area, out, |_old: u32, x: u32, y: u32| -> u32
-        requires { HasRows from from.height src.now × (from.width < 2 ^ 32) × (from.height < 2 ^ 32) × (area.left ≤ x) × (src_x + (x - area.left) < from.width) × (area.top ≤ y) × (src_y + (y - area.top) < from.height) }
-        ensures { result ≡ picture from src.entry.now (src_x + (x - area.left)) (src_y + (y - area.top)) }
-    {
-        pick(from, src, src_x + (x - area.left), src_y + (y - area.top))
-    });
+    repaint(
+        to,
+        area,
+        out,
+        |_old: u32, x: u32, y: u32| -> u32
+            requires { HasRows from from.height src.now × (from.width < 2 ^ 32) × (from.height < 2 ^ 32) × (area.left ≤ x) × (src_x + (x - area.left) < from.width) × (area.top ≤ y) × (src_y + (y - area.top) < from.height) }
+            ensures { result ≡ picture from src.entry.now (src_x + (x - area.left)) (src_y + (y - area.top)) }
+        { pick(from, src, src_x + (x - area.left), src_y + (y - area.top)) },
+    );
 }

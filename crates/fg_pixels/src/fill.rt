@@ -15,9 +15,14 @@ pub fn fill_words(offset: u32, size: u32, word: u32, out: &mut [u8])
     ensures { out.new ≡ replaced out.old offset size (painted (canvas_of (Buffer size)) (λ x y. word)) }
 {
     let (start, end) = (offset as usize, offset as usize + size as usize);
-    paint(Texel::R32, &mut out[start..end], size / 4, 0, 1, |_x: u32, _y: u32| -> u32
-        ensures { result ≡ word }
-    {
-        word
-    });
+    paint(
+        Texel::R32,
+        &mut out[start..end],
+        size / 4,
+        0,
+        1,
+        |_x: u32, _y: u32| -> u32
+            ensures { result ≡ word }
+        { word },
+    );
 }

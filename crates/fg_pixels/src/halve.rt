@@ -33,10 +33,15 @@ pub fn halve_rows(grid: Grid, half: Grid, src: &[u8], first: u32, count: u32, ou
     requires rows { first + count ≤ half.height }
     ensures { out.new ≡ band half.texel half.width first count (halved (picture grid src.now)) }
 {
-    paint(half.texel, out, half.width, first, count, |x: u32, y: u32| -> u32
-        requires { HasRows grid grid.height src.now × (2 * x + 1 < grid.width) × (2 * y + 1 < grid.height) }
-        ensures { result ≡ halved (picture grid src.entry.now) x y }
-    {
-        halved_at(grid, src, x, y)
-    });
+    paint(
+        half.texel,
+        out,
+        half.width,
+        first,
+        count,
+        |x: u32, y: u32| -> u32
+            requires { HasRows grid grid.height src.now × (2 * x + 1 < grid.width) × (2 * y + 1 < grid.height) }
+            ensures { result ≡ halved (picture grid src.entry.now) x y }
+        { halved_at(grid, src, x, y) },
+    );
 }

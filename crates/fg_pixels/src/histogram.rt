@@ -31,10 +31,15 @@ pub fn count_texels(src: &[u8], out: &mut [u8])
     ensures { out.new ≡ painted (canvas_of (Buffer 1024)) (λ v row. count_by (λ texel. texel == v) src.now) }
 {
     let counts = counts_of(src);
-    paint(Texel::R32, out, 256, 0, 1, |v: u32, _row: u32| -> u32
-        requires { v < 256 }
-        ensures { result ≡ slice_index counts v }
-    {
-        counts[v as usize]
-    });
+    paint(
+        Texel::R32,
+        out,
+        256,
+        0,
+        1,
+        |v: u32, _row: u32| -> u32
+            requires { v < 256 }
+            ensures { result ≡ slice_index counts v }
+        { counts[v as usize] },
+    );
 }

@@ -26,10 +26,15 @@ pub fn map_rows(
     ensures { out.new ≡ band grid.texel grid.width first count (λ x y. fun_of grid.texel fun (picture grid src.now x y) (value % modulus grid.texel)) }
 {
     let value = cut(grid.texel, value);
-    paint(grid.texel, out, grid.width, first, count, |x: u32, y: u32| -> u32
-        requires { HasRows grid grid.height src.now × (x < grid.width) × (y < grid.height) × (value < modulus grid.texel) }
-        ensures { result % modulus grid.texel ≡ fun_of grid.texel fun (picture grid src.entry.now x y) value % modulus grid.texel }
-    {
-        fun_at(grid.texel, fun, pick(grid, src, x, y), value)
-    });
+    paint(
+        grid.texel,
+        out,
+        grid.width,
+        first,
+        count,
+        |x: u32, y: u32| -> u32
+            requires { HasRows grid grid.height src.now × (x < grid.width) × (y < grid.height) × (value < modulus grid.texel) }
+            ensures { result % modulus grid.texel ≡ fun_of grid.texel fun (picture grid src.entry.now x y) value % modulus grid.texel }
+        { fun_at(grid.texel, fun, pick(grid, src, x, y), value) },
+    );
 }

@@ -25,11 +25,22 @@ pub fn select_rows(
     requires rows { first + count ≤ grid.height }
     ensures { out.new ≡ band grid.texel grid.width first count (λ x y. if picture grid mask.now x y == 0 then picture grid b.now x y else picture grid a.now x y) }
 {
-    paint(grid.texel, out, grid.width, first, count, |x: u32, y: u32| -> u32
-        requires { HasRows grid grid.height mask.now × HasRows grid grid.height a.now × HasRows grid grid.height b.now × (x < grid.width) × (y < grid.height) }
-        ensures { result ≡ (if picture grid mask.entry.now x y == 0 then picture grid b.entry.now x y else picture grid a.entry.now x y) }
-    {
-        let (other, own) = (pick(grid, b, x, y), pick(grid, a, x, y));
-        if pick(grid, mask, x, y) == 0 { other } else { own }
-    });
+    paint(
+        grid.texel,
+        out,
+        grid.width,
+        first,
+        count,
+        |x: u32, y: u32| -> u32
+            requires { HasRows grid grid.height mask.now × HasRows grid grid.height a.now × HasRows grid grid.height b.now × (x < grid.width) × (y < grid.height) }
+            ensures { result ≡ (if picture grid mask.entry.now x y == 0 then picture grid b.entry.now x y else picture grid a.entry.now x y) }
+        {
+            let (other, own) = (pick(grid, b, x, y), pick(grid, a, x, y));
+            if pick(grid, mask, x, y) == 0 {
+                other
+            } else {
+                own
+            }
+        },
+    );
 }

@@ -99,5 +99,8 @@ fn texels_are_counted(rt: HostRuntime) {
         &[],
         &mut out,
     );
-    assert_eq!(&rt; (out[0], out[4], out[20], out[1020], out[1023]), (1, 0, 7, 1, 0));
+    assert_eq!(&rt;
+        (out[0], out[4], out[20], out[1020], out[1023]),
+        (1, 0, 7, 1, 0)
+    );
 }

@@ -49,14 +49,7 @@ pub(crate) fn map(from: Shape, to: Shape, fun: Fun, value: u32, src: &[u8], out:
 }
 
 #[tactic(auto, using(crate::proofs::Fitting::two_first, crate::proofs::Fitting::two_second, crate::proofs::Fitting::two_to))]
-pub(crate) fn combine(
-    from: (Shape, Shape),
-    to: Shape,
-    fun: Fun,
-    a: &[u8],
-    b: &[u8],
-    out: &mut [u8],
-)
+pub(crate) fn combine(from: (Shape, Shape), to: Shape, fun: Fun, a: &[u8], b: &[u8], out: &mut [u8])
     requires fits { fits (Op.Combine from.0 from.1 to fun) ≡ true }
     requires a { length a.now ≡ bytes_of from.0 }
     requires b { length b.now ≡ bytes_of from.1 }

@@ -9,4 +9,4 @@ returns c =
     let t = c.args.grid.texel in
     let old = picture c.args.grid c.args.out.now in
     c.repaint.ensures (λ x y. mixed rect.mix (old x y) (rect.value % modulus t)) (λ x y n hx hy ran.
-      ap (λ (k : ℕ). k % modulus t) (ran ∙ ap (λ (v : ℕ). mixed rect.mix (old (rect.x + x) (rect.y + y)) v) c.cut-value.ensures))
+    ap (λ (k : ℕ). k % modulus t) (ran ∙ ap (λ (v : ℕ). mixed rect.mix (old (rect.x + x) (rect.y + y)) v) c.cut-value.ensures))
