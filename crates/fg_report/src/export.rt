@@ -12,7 +12,7 @@ use fg_lines::{Lines, cut_back};
 
 // Where memory runs out, some of the lines may have been added.
 #[tactic(auto, using(crate::proofs::Begun::begun, crate::proofs::Begun::begun_more))]
-fn add_export(text: &mut Text, unit: &Spot, bytes: &[u8]) -> Result<(), NoMemory>
+pub(crate) fn add_export(text: &mut Text, unit: &Spot, bytes: &[u8]) -> Result<(), NoMemory>
     ensures ok { OnOk result (text.new ≡ text.old ++ export_lines unit.now bytes.now) }
     ensures starts { Starts text.old text.new }
 {
