@@ -1,4 +1,5 @@
 pub mod Exports
 pub mod Faults
+pub mod KeptLines
 pub mod Paths
 pub mod UnitNames

@@ -3,12 +3,14 @@
 
 mod export;
 mod fault;
+mod kept;
 mod key;
 mod path;
 mod unit;
 
 pub use export::export_text;
 pub use fault::frame_fault_text;
+pub use kept::{cull_text, run_text};
 
 #[cfg(test)]
 mod tests;

@@ -8,6 +8,8 @@ ghost use Rattle.fg_words.specs.Commands.{named};
 pub enum Command {
     /// Runs a frame and prints what it exports.
     Run,
+    /// Prints which passes of a frame are culled.
+    Cull,
 }
 
 impl Command {
@@ -17,6 +19,7 @@ impl Command {
     {
         match word {
             "run" => Some(Command::Run),
+            "cull" => Some(Command::Cull),
             _ => None,
         }
     }

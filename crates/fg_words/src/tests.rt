@@ -14,9 +14,10 @@ fn words_of(alloc: Global, words: &[&str]) -> Result<Vec<String>, AllocError> {
 fn command_lines(rt: HostRuntime) -> Result<(), Fail> {
     let alloc = rt.alloc();
     let none: [&str; 0] = [];
-    let lines: [(&[&str], Option<Command>); 7] = [
+    let lines: [(&[&str], Option<Command>); 8] = [
         (&none, None),
         (&["run"], Some(Command::Run)),
+        (&["--", "cull"], Some(Command::Cull)),
         (&["Run"], None),
         (&["run", "run"], None),
         (&["run", "--help"], None),
