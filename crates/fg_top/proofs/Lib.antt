@@ -1,5 +1,6 @@
 pub mod AnswerLemmas
+pub mod KeptLemmas
 pub mod Known
-pub mod LineLemmas
+pub mod WordLemmas
 mod Rows
 pub mod SmallLemmas

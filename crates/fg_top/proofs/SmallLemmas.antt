@@ -23,7 +23,9 @@ use Rattle.fg_frame.specs.declared.frame.Write.{Write}
 use Rattle.fg_top.specs.Meaning.{Pictures, imports, repeated, with_bytes, meaning}
 use Rattle.fg_top.specs.Small.{greatest_size, whole, small_frame, IsSmall}
 use Rattle.fg_top.specs.SmallTest.{only, whole_words, unshared, plain_buffer, is_whole, filling_word, filling_pass, parts_of, small_text}
-use Rattle.fg_top.specs.Texts.{kept_line, export_text, exports_text, run_text, printed}
+use Rattle.fg_frame.specs.Numbered.{numbered}
+use Rattle.fg_report.specs.Exports.{export_lines, export_text, exported}
+use Rattle.fg_top.specs.Texts.{exports_text, printed}
 use Rattle.fg_top.specs.declared.small.Small.{Small}
 
 -- what a choice or a chain that gave something went through
@@ -179,5 +181,16 @@ printed-small_frame s =
     let P : Pictures = with_bytes (imports (small_frame s).resources) s.buffer bytes in
     let meant : meaning (small_frame s) ≡ Some P = rw (bytes_eq-same s.buffer) refl in
     let here : P s.buffer ≡ Some bytes = rw (bytes_eq-same s.buffer) refl in
-    let exported : exports_text P (small_frame s).exports ≡ Some (export_text s.buffer bytes) = rw here (ap Some (append-nil (export_text s.buffer bytes))) in
-    ap (option_and_then (run_text (small_frame s))) meant ∙ ap (option_map (λ (t : List ℕ). kept_line 1 0 ++ t)) exported
+    let exported : exports_text P (small_frame s).exports ≡ Some (small_text s) = rw here (ap Some (append-nil (small_text s))) in
+    ap (option_and_then (λ (p : Pictures). exports_text p (small_frame s).exports)) meant ∙ exported
+
+-- ---- the export of a small frame is its buffer
+
+exported-small_frame : (s : Small) → exported (small_frame s) 0 ≡ Some (whole s.buffer)
+exported-small_frame s = rw (bytes_eq-same s.buffer) refl
+
+pub small_export : (s : Small) (frame : Frame) (bytes : List ℕ) → frame ≡ small_frame s → export_text frame 0 bytes ≡ export_lines (whole s.buffer) bytes
+small_export s frame bytes is = rw (is, exported-small_frame s) refl
+
+pub one_export : (s : Small) (frame : Frame) → frame ≡ small_frame s → length (numbered frame).exports ≡ 1
+one_export s frame is = rw (is, bytes_eq-same s.buffer) refl

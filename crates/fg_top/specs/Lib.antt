@@ -1,8 +1,8 @@
 pub mod Answers
+pub mod AtRest
 pub mod Causes
-pub mod Commands
+pub mod FrameFiles
 pub mod Intakes
-pub mod Lines
 pub mod Meaning
 pub mod Outcomes
 pub mod Small

@@ -1,5 +1,5 @@
--- For the code alone, and cited by no public clause: the test for a small frame, as the functions for it go, and the
--- answer that a small frame comes to. The test finds exactly the small frames, with their parts.
+-- For the code alone, and cited by no public clause: the test for a small frame, as the functions for it go, and what a
+-- small frame exports. The test finds exactly the small frames, with their parts.
 use Rattle.std.specs.Prelude.{ℕ, ◌==◌, ◌%◌, ◌/◌, ◌++◌, ◌&&◌, not, Bool, List, [], ◌∷◌, Option, Some, None, is_none, option_and_then, nat_le, length, if◌then◌else◌}
 use Rattle.std.specs.Str.{bytes_eq}
 use Rattle.fg_base.specs.declared.op.Op.{Op}
@@ -12,11 +12,9 @@ use Rattle.fg_frame.specs.declared.frame.Frame.{Frame}
 use Rattle.fg_frame.specs.declared.frame.Pass.{Pass}
 use Rattle.fg_frame.specs.declared.frame.Resource.{Resource}
 use Rattle.fg_frame.specs.declared.frame.Spot.{Spot}
+use Rattle.fg_report.specs.Exports.{export_lines}
 use Rattle.fg_top.specs.Meaning.{repeated}
-use Rattle.fg_top.specs.Small.{greatest_size}
-use Rattle.fg_top.specs.Texts.{kept_line, export_text}
-use Rattle.fg_top.specs.declared.answer.Answer.{Answer}
-use Rattle.fg_top.specs.declared.ended.Status.TheVariants.{Done}
+use Rattle.fg_top.specs.Small.{greatest_size, whole}
 use Rattle.fg_top.specs.declared.small.Small.{Small}
 
 infixl 10 ◌>>=◌
@@ -68,7 +66,4 @@ parts_of frame = do
 
 -- the one export, full of the word
 abbrev pub small_text : Small → List ℕ
-small_text small = kept_line 1 0 ++ export_text small.buffer (repeated small.word (small.size / 4))
-
-abbrev pub small_answer : Small → Answer
-small_answer small = record { status = Done; text = small_text small }
+small_text small = export_lines (whole small.buffer) (repeated small.word (small.size / 4))

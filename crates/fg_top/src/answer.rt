@@ -4,9 +4,9 @@ ghost use Rattle.std.specs.Prelude.{◌≡◌, IfOk};
 ghost use Rattle.fg_top.specs.Answers.{refusal};
 
 use crate::Status;
-use crate::texts::fault_line;
-use fg_base::{List, NoMemory, Text};
+use fg_base::{NoMemory, Text};
 use fg_frame::FrameFault;
+use fg_report::frame_fault_text;
 use std::alloc::Global;
 
 /// A status and the whole text that goes with it.
@@ -20,10 +20,8 @@ pub struct Answer {
 pub fn refusal(alloc: Global, fault: &FrameFault) -> Result<Answer, NoMemory>
     ensures { IfOk result (λ answer. answer ≡ refusal fault.now) }
 {
-    let mut text = List::new(alloc);
-    fault_line(alloc, &mut text, fault.number, fault.limit)?;
     Ok(Answer {
         status: Status::Refused,
-        text,
+        text: frame_fault_text(alloc, fault)?,
     })
 }

@@ -2,18 +2,19 @@
 #![tactic(auto)]
 
 mod answer;
+mod cull;
 mod ended;
 mod fill;
+mod frames;
 mod intake;
-mod lines;
 mod output;
+mod rest;
 mod run;
 mod small;
-mod texts;
 mod top;
-mod words;
 
 pub use ended::{Ended, Status};
+pub use rest::at_rest;
 pub use top::framec;
 
 #[cfg(test)]

@@ -1,82 +1,61 @@
 //! The command `run`.
 
-ghost use Rattle.std.specs.Prelude.{◌≡◌, List, IfOk, IfErr, ◌⊎◌};
-ghost use Rattle.fg_framefile.specs.Files.{frame_of};
-ghost use Rattle.fg_top.specs.Answers.{AnswersFrame, AnswersFile, AnswersLeft, IsAnswered};
-ghost use Rattle.fg_top.specs.SmallTest.{small_answer};
-ghost use Rattle.fg_top.specs.Causes.{ReadCause, WriteCause, ReadsAnswer};
+ghost use Rattle.std.specs.Prelude.{◌≡◌, ◌++◌, IfOk};
+ghost use Rattle.fg_frame.specs.Numbered.{numbered};
+ghost use Rattle.fg_report.specs.KeptLines.{run_text};
+ghost use Rattle.fg_top.specs.Answers.{RunsFrame, IsRunText};
+ghost use Rattle.fg_top.specs.Small.{small_frame};
+ghost use Rattle.fg_top.specs.SmallTest.{small_text};
+ghost use Rattle.fg_versions.specs.Culled.{AreKept};
 
 use crate::Status;
 use crate::answer::{Answer, refusal};
+use crate::cull::kept_of;
 use crate::fill::repeated;
-use crate::intake::{Intake, read_input};
-use crate::output::put;
 use crate::small::{Small, small_of};
-use crate::texts::{export_text, kept_line};
-use fg_base::{Limit, List, NoMemory, Sink, Source};
-use fg_frame::{Frame, FrameFault};
-use fg_framefile::{FrameReadEnd, read_frame};
+use fg_base::{List, NoMemory, Text};
+use fg_frame::{FrameFault, GoodFrame};
+use fg_report::{export_text, run_text};
+use fg_versions::Kept;
 use std::alloc::Global;
 
-const INPUT_LIMIT: usize = 16_777_216;
-
-/// Reads a frame file, runs it and writes what it exports.
-pub fn run<I: Source, O: Sink>(alloc: Global, input: &mut I, output: &mut O) -> Status
-    ensures answered { IsAnswered (I.left input.old) (O.taken output.old) (O.taken output.new) result }
-    ensures read { ReadCause (I.faults input.old) (I.faults input.new) result }
-    ensures write { WriteCause (O.faults output.old) (O.faults output.new) result }
+/// Runs a frame, if it is one that runs so far.
+pub fn run_frame(alloc: Global, good: &GoodFrame) -> Result<Answer, NoMemory>
+    ensures { IfOk result (RunsFrame good.now) }
 {
-    match read_answer(alloc, input) {
-        Ok(answer) => put(output, answer.status, answer.text.as_slice()),
-        Err(status) => status,
-    }
-}
-
-// The answer to the file that is read, or the status where there is none.
-fn read_answer<I: Source>(alloc: Global, input: &mut I) -> Result<Answer, Status>
-    ensures answer { IfOk result (AnswersLeft (I.left input.old)) }
-    ensures none { IfErr result (λ status. (status ≡ Status.ReadFault) ⊎ (status ≡ Status.NoMemory)) }
-    ensures read { ReadsAnswer (I.faults input.old) (I.faults input.new) result }
-{
-    match read_input(alloc, input, INPUT_LIMIT) {
-        Intake::Whole(bytes) => Ok(run_file(alloc, bytes.as_slice())?),
-        Intake::Over => {
-            let fault = FrameFault::over_limit(Limit::Input, List::new(alloc));
-            Ok(refusal(alloc, &fault)?)
+    match small_of(good.frame()) {
+        Some(small) => {
+            let text = run_small(alloc, good, small)?;
+            Ok(Answer {
+                status: Status::Done,
+                text,
+            })
         }
-        Intake::Fault => Err(Status::ReadFault),
-        Intake::NoMemory => Err(Status::NoMemory),
-    }
-}
-
-fn run_file(alloc: Global, bytes: &[u8]) -> Result<Answer, NoMemory>
-    ensures { IfOk result (AnswersFile (frame_of bytes.now)) }
-{
-    match read_frame(alloc, bytes) {
-        Ok(frame) => run_frame(alloc, &frame),
-        Err(FrameReadEnd::Refused(fault)) => refusal(alloc, &fault),
-        Err(FrameReadEnd::NoMemory) => Err(NoMemory),
-    }
-}
-
-fn run_frame(alloc: Global, frame: &Frame) -> Result<Answer, NoMemory>
-    ensures { IfOk result (AnswersFrame frame.now) }
-{
-    match small_of(frame) {
-        Some(small) => run_small(alloc, small),
         None => refusal(alloc, &FrameFault::misshapen(List::new(alloc))),
     }
 }
 
-fn run_small(alloc: Global, small: Small) -> Result<Answer, NoMemory>
-    ensures { IfOk result (λ answer. answer ≡ small_answer small) }
+fn run_small(alloc: Global, good: &GoodFrame, small: Small) -> Result<Text, NoMemory>
+    requires { good.now ≡ small_frame small }
+    ensures { IfOk result (IsRunText good.now) }
 {
-    let mut text = List::new(alloc);
-    kept_line(alloc, &mut text, 1, 0)?;
+    let kept = kept_of(alloc, good)?;
+    small_run_text(alloc, good, small, &kept)
+}
+
+#[tactic(auto, using(crate::proofs::KeptLemmas::one_each, crate::proofs::SmallLemmas::small_export, crate::proofs::SmallLemmas::one_export))]
+fn small_run_text(
+    alloc: Global,
+    good: &GoodFrame,
+    small: Small,
+    kept: &Kept,
+) -> Result<Text, NoMemory>
+    requires small { good.now ≡ small_frame small }
+    requires kept { AreKept (numbered good.now) kept.now }
+    ensures { IfOk result (λ text. text ≡ run_text good.now kept.now ++ small_text small) }
+{
+    let mut text = run_text(alloc, good, kept)?;
     let bytes = repeated(alloc, small.word, small.size / 4)?;
-    export_text(alloc, &mut text, &small.buffer, bytes.as_slice())?;
-    Ok(Answer {
-        status: Status::Done,
-        text,
-    })
+    export_text(&mut text, good, 0, bytes.as_slice())?;
+    Ok(text)
 }

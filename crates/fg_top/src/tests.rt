@@ -1,11 +1,12 @@
 //! The worked rows of the top call, over sources and sinks in memory.
 
-use crate::{Ended, Status, framec};
+use crate::{Ended, Status, at_rest, framec};
 use fg_base::{
     CountTap, IdleGate, List, MemorySink, MemorySource, Put, Sink, Source, SteadySink,
-    SteadySource, Taken, Tap, Text,
+    SteadySource, Taken, Tap,
 };
 use std::alloc::{AllocError, Global};
+use std::process::Abort;
 use std::sync::Wait;
 use std::test::Fail;
 use std::thread::Threads;
@@ -29,12 +30,6 @@ fn bytes_of(alloc: Global, text: &str) -> Result<List<u8>, AllocError> {
 
 fn calls(alloc: Global, list: &[u32]) -> Result<List<u32>, AllocError> {
     Ok(List::from_vec(list.to_vec(alloc)?))
-}
-
-fn brackets(alloc: Global, opened: usize, closed: usize) -> Result<List<u8>, AllocError> {
-    let mut text = vec![in alloc; b'['; opened]?;
-    text.extend_from_slice(vec![in alloc; b']'; closed]?.as_slice())?;
-    Ok(List::from_vec(text))
 }
 
 fn spaces(alloc: Global, count: usize) -> Result<List<u8>, AllocError> {
@@ -72,158 +67,249 @@ fn status_of<R: Threads + Wait + Sync, I: Source, O: Sink>(
     }
 }
 
-// The status and the text for an input.
-fn run_on<R: Threads + Wait + Sync>(
-    rt: &R,
+// The status and the text of words on a file are these.
+fn gives(
+    rt: &(impl Threads + Wait + Sync + Abort),
     alloc: Global,
     words: &[&str],
-    input: &str,
-) -> Result<(Option<Status>, Text), AllocError> {
-    let mut source = SteadySource::new(bytes_of(alloc, input)?, 7);
-    let Ok(mut sink) = MemorySink::new(alloc, 1000, 13, List::new(alloc)) else {
-        return Err(AllocError);
-    };
+    file: &str,
+    wanted: Status,
+    text: &str,
+) -> Result<(), Fail> {
+    let mut source = SteadySource::new(bytes_of(alloc, file)?, 7);
+    let mut sink = MemorySink::new(alloc, 1000, 13, List::new(alloc))?;
     let status = status_of(rt, alloc, words, &mut source, &mut sink)?;
-    Ok((status, List::from_vec(sink.bytes().to_vec(alloc)?)))
+    assert_eq!(rt; status, Some(wanted), "status of {words:?} on {file}");
+    assert_eq!(rt;
+        sink.bytes(),
+        text.as_bytes(),
+        "text of {words:?} on {file}"
+    );
+    Ok(())
 }
 
-// The file of the one fill with another piece in the place of one of its pieces.
-fn fill_with(alloc: Global, piece: &str, other: &str) -> Result<String, AllocError> {
-    FILL.replace(alloc, piece, other)
-}
-
-// Files that differ from the one fill in one piece and are no small frames.
-const OTHERS: [(&str, &str); 24] = [
-    ("\"format\":1", "\"format\":2"),
-    ("\"format\":1", "\"format\":1.0"),
-    ("\"format\":1,", ""),
-    ("\"graphics\"", "\"video\""),
-    ("{\"name\":\"g\",\"family\":\"graphics\"}", ""),
-    ("\"name\":\"g\"", "\"name\":\"\""),
+// Pieces of the file of the one fill, others in their places, and the text of the file's fault.
+const FAULTS: [(&str, &str, &str); 10] = [
+    ("\"b\"]}", "\"b\"]", "fault F1 $\n"),
     (
-        "{\"name\":\"b\",\"buffer\":16}",
-        "{\"name\":\"b\",\"buffer\":16},{\"name\":\"c\",\"buffer\":16}",
+        "\"word\":7",
+        "\"word\":7,\"note\":0",
+        "fault F2 $.passes[0].ops[0].note\n",
     ),
-    ("\"buffer\":16", "\"buffer\":16,\"import\":\"00\""),
-    ("\"buffer\":16", "\"buffer\":0"),
-    ("\"buffer\":16", "\"buffer\":18"),
-    ("\"buffer\":16", "\"buffer\":16777220"),
-    ("\"queue\":\"g\"", "\"queue\":\"h\""),
-    ("{\"new\":\"b\"}", "{\"change\":\"b\"}"),
-    ("{\"new\":\"b\"}", "{\"new\":\"c\"}"),
-    ("{\"new\":\"b\"}", "{\"new\":\"b\"},{\"new\":\"b\"}"),
-    ("\"ops\":[", "\"reads\":[],\"ops\":["),
-    ("\"op\":\"fill_buffer\"", "\"op\":\"fill\""),
-    ("\"dst\":\"b\"", "\"dst\":\"c\""),
-    ("\"offset\":0", "\"offset\":4"),
-    ("\"size\":16", "\"size\":8"),
-    ("\"word\":7", "\"word\":4294967296"),
-    ("\"exports\":[\"b\"]", "\"exports\":[\"b\",\"b\"]"),
-    ("\"exports\":[\"b\"]", "\"exports\":[\"c\"]"),
-    ("\"exports\":[\"b\"]", "\"exports\":[\"b\"],\"note\":0"),
+    (
+        "\"exports\":[\"b\"]",
+        "\"exports\":[\"b\"],\"x\u{e9}\":0",
+        "fault F2 $.x??\n",
+    ),
+    ("\"format\":1", "\"format\":3", "fault F3 $.format\n"),
+    (
+        "{\"name\":\"g\",\"family\":\"graphics\"}",
+        "",
+        "fault F4 Queues $.queues\n",
+    ),
+    (
+        "\"exports\":[\"b\"]",
+        "\"exports\":[\"c\"]",
+        "fault F6 $.exports[0]\n",
+    ),
+    (
+        "{\"new\":\"b\"}",
+        "{\"change\":\"b\"}",
+        "fault F10 $.passes[0].writes[0]\n",
+    ),
+    (
+        "\"size\":16",
+        "\"size\":8",
+        "fault F9 $.passes[0].writes[0]\n",
+    ),
+    (
+        "\"buffer\":16",
+        "\"buffer\":16,\"import\":\"00\"",
+        "fault F11 $.resources[0].import\n",
+    ),
+    // A good frame that does not run yet.
+    ("\"exports\":[\"b\"]", "\"exports\":[]", "fault F2 $\n"),
 ];
 
-// Files that differ from the one fill in one piece and are small frames, with their texts.
+// The same where the file is a small frame, and the text of its export.
 const SMALL: [(&str, &str, &str); 5] = [
+    (
+        "\"format\":1",
+        "\"format\":2",
+        "export b 16\n07000000070000000700000007000000\n",
+    ),
     (
         "\"graphics\"",
         "\"transfer\"",
-        "kept 1 culled 0\nexport b 16\n07000000070000000700000007000000\n",
-    ),
-    (
-        "\"word\":7",
-        "\"word\":4294967295",
-        "kept 1 culled 0\nexport b 16\nffffffffffffffffffffffffffffffff\n",
+        "export b 16\n07000000070000000700000007000000\n",
     ),
     (
         "\"word\":7",
         "\"word\":305419896",
-        "kept 1 culled 0\nexport b 16\n78563412785634127856341278563412\n",
+        "export b 16\n78563412785634127856341278563412\n",
     ),
     (
         "\"word\":7",
         "\"word\":8,\"word\":9",
-        "kept 1 culled 0\nexport b 16\n09000000090000000900000009000000\n",
+        "export b 16\n09000000090000000900000009000000\n",
     ),
     (
         "16",
         "36",
-        "kept 1 culled 0\nexport b 36\n0700000007000000070000000700000007000000070000000700000007000000\n07000000\n",
+        "export b 36\n0700000007000000070000000700000007000000070000000700000007000000\n07000000\n",
     ),
 ];
 
 #[test]
-fn answers(rt: HostRuntime) -> Result<(), Fail> {
+fn faults(rt: HostRuntime) -> Result<(), Fail> {
     let alloc = rt.alloc();
-    let cut = fill_with(alloc, "[\"b\"]}", "[\"b\"]")?;
-    let rows = [
-        (FILL, Status::Done, FILL_TEXT),
-        ("", Status::Refused, "fault F1 $\n"),
-        (cut.as_str(), Status::Refused, "fault F1 $\n"),
-        ("[]", Status::Refused, "fault F2 $\n"),
-        ("{}", Status::Refused, "fault F2 $\n"),
-    ];
-    for (input, status, text) in rows {
-        let (found, printed) = run_on(&rt, alloc, &["run"], input)?;
-        assert_eq!(rt; found, Some(status), "status of {input}");
-        assert_eq!(rt; printed.as_slice(), text.as_bytes(), "text of {input}");
-    }
-    for (piece, other) in OTHERS {
-        let input = fill_with(alloc, piece, other)?;
-        let (status, text) = run_on(&rt, alloc, &["run"], input.as_str())?;
-        assert_eq!(rt; status, Some(Status::Refused), "status with {other}");
-        assert_eq!(rt;
-            text.as_slice(),
-            b"fault F2 $\n".as_slice(),
-            "text with {other}"
-        );
-    }
-    for (piece, other, text) in SMALL {
-        let input = fill_with(alloc, piece, other)?;
-        let (status, printed) = run_on(&rt, alloc, &["run"], input.as_str())?;
-        assert_eq!(rt; status, Some(Status::Done), "status with {other}");
-        assert_eq!(rt; printed.as_slice(), text.as_bytes(), "text with {other}");
+    gives(&rt, alloc, &["run"], "", Status::Refused, "fault F1 $\n")?;
+    gives(&rt, alloc, &["run"], "[]", Status::Refused, "fault F2 $\n")?;
+    for (piece, other, text) in FAULTS {
+        let file = FILL.replace(alloc, piece, other)?;
+        gives(&rt, alloc, &["run"], file.as_str(), Status::Refused, text)?;
     }
     Ok(())
 }
 
 #[test]
-fn words_and_limits(rt: HostRuntime) -> Result<(), Fail> {
+fn small_frames(rt: HostRuntime) -> Result<(), Fail> {
     let alloc = rt.alloc();
-    let none: [&str; 0] = [];
-    let lines: [&[&str]; 6] = [
-        &none,
-        &["Run"],
-        &["--help"],
-        &["check"],
-        &["run", "--workers"],
-        &["run", "run"],
-    ];
-    for words in lines {
-        let (status, text) = run_on(&rt, alloc, words, FILL)?;
-        assert_eq!(rt; status, Some(Status::Words), "status of {words:?}");
-        assert_eq!(rt; text.as_slice(), b"words\n".as_slice(), "text of {words:?}");
-    }
-    // Each file, its text, and how much is left unread: no more than one byte over the limit is taken.
-    for (file, text, rest) in [
-        (brackets(alloc, 200, 0)?, "fault F1 $\n", Taken::End),
-        (brackets(alloc, 100, 100)?, "fault F2 $\n", Taken::End),
-        (spaces(alloc, 16_777_216)?, "fault F1 $\n", Taken::End),
-        (spaces(alloc, 16_777_217)?, "fault F4 Input $\n", Taken::End),
-        (
-            spaces(alloc, 16_777_220)?,
-            "fault F4 Input $\n",
-            Taken::Got(3),
-        ),
-    ] {
-        let mut source = SteadySource::new(file, u32::MAX);
-        let mut sink = MemorySink::new(alloc, 100, 100, List::new(alloc))?;
-        let status = status_of(&rt, alloc, &["run"], &mut source, &mut sink)?;
-        assert_eq!(rt; status, Some(Status::Refused), "status with {text}");
-        assert_eq!(rt; sink.bytes(), text.as_bytes());
-        assert_eq!(rt; source.read(&mut [0u8; 8]), rest, "rest with {text}");
+    gives(&rt, alloc, &["run"], FILL, Status::Done, FILL_TEXT)?;
+    for (piece, other, export) in SMALL {
+        let file = FILL.replace(alloc, piece, other)?;
+        let text = format!(in alloc; "kept 1 culled 0\n{export}")?;
+        gives(
+            &rt,
+            alloc,
+            &["run"],
+            file.as_str(),
+            Status::Done,
+            text.as_str(),
+        )?;
     }
     Ok(())
+}
+
+// A pass without writes after the one fill, and a second buffer that it fills.
+const READER: &str = r#"},{"name":"idle","queue":"g","reads":["b"]}],"exports""#;
+
+const TWO_BUFFERS: [(&str, &str); 3] = [
+    (r#""buffer":16}"#, r#""buffer":16},{"name":"d","buffer":4}"#),
+    (r#"{"new":"b"}"#, r#"{"new":"b"},{"new":"d"}"#),
+    (
+        r#""word":7}"#,
+        r#""word":7},{"op":"fill_buffer","dst":"d","offset":0,"size":4,"word":9}"#,
+    ),
+];
+
+// A fill and two copies, one after another, that nobody exports.
+const CHAIN: &str =
+    r#"{"format":1,"queues":[{"name":"g","family":"graphics"}],"resources":[{"name":"x","buffer":4},{"name":"y","buffer":4},{"name":"z","buffer":4}],"passes":[{"name":"a","queue":"g","writes":[{"new":"x"}],"ops":[{"op":"fill_buffer","dst":"x","offset":0,"size":4,"word":7}]},{"name":"b","queue":"g","reads":["x"],"writes":[{"new":"y"}],"ops":[{"op":"copy_buffer","src":"x","dst":"y","src_offset":0,"dst_offset":0,"size":4}]},{"name":"c","queue":"g","reads":["y"],"writes":[{"new":"z"}],"ops":[{"op":"copy_buffer","src":"y","dst":"z","src_offset":0,"dst_offset":0,"size":4}]}],"exports":[]}"#;
+
+const CULLED: &str = "kept 0 culled 3\npass a culled\npass b culled\npass c culled\n";
+
+const KEPT: &str = "kept 3 culled 0\npass a kept\npass b kept\npass c kept\n";
+
+#[test]
+fn culling(rt: HostRuntime) -> Result<(), Fail> {
+    let alloc = rt.alloc();
+    let reader = FILL.replace(alloc, "}],\"exports\"", READER)?;
+    let idle = "kept 1 culled 1\npass p kept\npass idle culled\n";
+    gives(&rt, alloc, &["cull"], reader.as_str(), Status::Done, idle)?;
+    let mut two = String::from_str(alloc, FILL)?;
+    for (piece, other) in TWO_BUFFERS {
+        two = two.replace(alloc, piece, other)?;
+    }
+    let kept = "kept 1 culled 0\npass p kept\n";
+    gives(&rt, alloc, &["cull"], two.as_str(), Status::Done, kept)?;
+    gives(&rt, alloc, &["cull"], CHAIN, Status::Done, CULLED)?;
+    let seen = CHAIN.replace(
+        alloc,
+        "\"name\":\"c\",",
+        "\"name\":\"c\",\"side_effect\":true,",
+    )?;
+    gives(&rt, alloc, &["cull"], seen.as_str(), Status::Done, KEPT)?;
+    gives(&rt, alloc, &["cull"], "", Status::Refused, "fault F1 $\n")
+}
+
+#[test]
+fn at_rest_leaves_run(rt: HostRuntime) -> Result<(), Fail> {
+    let alloc = rt.alloc();
+    let mut source = SteadySource::new(bytes_of(alloc, CHAIN)?, 9);
+    let mut sink = MemorySink::new(alloc, 1000, 9, List::new(alloc))?;
+    let words = words_of(alloc, &["run"])?;
+    let left = at_rest(alloc, words.as_slice(), &mut source, &mut sink);
+    assert_eq!(rt; left, None);
+    assert_eq!(rt; sink.bytes().len(), 0);
+    let words = words_of(alloc, &["cull"])?;
+    let status = at_rest(alloc, words.as_slice(), &mut source, &mut sink);
+    assert_eq!(rt; status, Some(Status::Done));
+    assert_eq!(rt; sink.bytes(), CULLED.as_bytes());
+    Ok(())
+}
+
+const NO_LINES: [&str; 7] = [
+    "",
+    "Run",
+    "--help",
+    "check --workers 2",
+    "run --workers 17",
+    "run run",
+    "run --version",
+];
+
+#[test]
+fn other_words(rt: HostRuntime) -> Result<(), Fail> {
+    let alloc = rt.alloc();
+    for line in NO_LINES {
+        let words: Vec<&str> = line.split_whitespace().collect(alloc)?;
+        gives(&rt, alloc, words.as_slice(), FILL, Status::Words, "words\n")?;
+    }
+    Ok(())
+}
+
+// The text of a file, and how much of it is left unread: no more than one byte over the limit is taken.
+fn is_refused(
+    rt: &(impl Threads + Wait + Sync + Abort),
+    alloc: Global,
+    file: List<u8>,
+    text: &str,
+    rest: Taken,
+) -> Result<(), Fail> {
+    let mut source = SteadySource::new(file, u32::MAX);
+    let mut sink = MemorySink::new(alloc, 100, 100, List::new(alloc))?;
+    let status = status_of(rt, alloc, &["run"], &mut source, &mut sink)?;
+    assert_eq!(rt; status, Some(Status::Refused));
+    assert_eq!(rt; sink.bytes(), text.as_bytes());
+    assert_eq!(rt; source.read(&mut [0u8; 8]), rest);
+    Ok(())
+}
+
+#[test]
+fn input_limit(rt: HostRuntime) -> Result<(), Fail> {
+    let alloc = rt.alloc();
+    is_refused(
+        &rt,
+        alloc,
+        spaces(alloc, 16_777_216)?,
+        "fault F1 $\n",
+        Taken::End,
+    )?;
+    is_refused(
+        &rt,
+        alloc,
+        spaces(alloc, 16_777_217)?,
+        "fault F4 Input $\n",
+        Taken::End,
+    )?;
+    is_refused(
+        &rt,
+        alloc,
+        spaces(alloc, 16_777_220)?,
+        "fault F4 Input $\n",
+        Taken::Got(3),
+    )
 }
 
 // Takes four bytes of each write, and keeps how many were offered.
@@ -245,28 +331,68 @@ impl Sink for Offers {
     }
 }
 
+// The one fill, of which so many bytes are read a call and so many written a call; which read fails and which write.
+fn ends(
+    rt: &(impl Threads + Wait + Sync + Abort),
+    alloc: Global,
+    read: (u32, u32),
+    write: (u32, u32),
+    wanted: Status,
+    text: &str,
+) -> Result<(), Fail> {
+    let mut source = MemorySource::new(bytes_of(alloc, FILL)?, read.0, calls(alloc, &[read.1])?);
+    let mut sink = MemorySink::new(alloc, 1000, write.0, calls(alloc, &[write.1])?)?;
+    let status = status_of(rt, alloc, &["run"], &mut source, &mut sink)?;
+    assert_eq!(rt; status, Some(wanted), "status of {read:?} and {write:?}");
+    assert_eq!(rt;
+        sink.bytes(),
+        text.as_bytes(),
+        "text of {read:?} and {write:?}"
+    );
+    Ok(())
+}
+
 #[test]
 fn failing_ends(rt: HostRuntime) -> Result<(), Fail> {
     let alloc = rt.alloc();
-    // Which read fails, which write fails, the status, and what was written.
-    let rows = [
-        (1, 9, Status::ReadFault, ""),
-        (3, 9, Status::ReadFault, ""),
-        (99, 1, Status::WriteFault, ""),
-        (99, 2, Status::WriteFault, "kept 1 cul"),
-        (99, 9, Status::Done, FILL_TEXT),
-    ];
-    for (read, write, wanted, text) in rows {
-        let mut source = MemorySource::new(bytes_of(alloc, FILL)?, 100, calls(alloc, &[read])?);
-        let mut sink = MemorySink::new(alloc, 1000, 10, calls(alloc, &[write])?)?;
-        let status = status_of(&rt, alloc, &["run"], &mut source, &mut sink)?;
-        assert_eq!(rt; status, Some(wanted), "status of {read} and {write}");
-        assert_eq!(rt; sink.bytes(), text.as_bytes(), "text of {read} and {write}");
+    ends(&rt, alloc, (100, 1), (10, 9), Status::ReadFault, "")?;
+    ends(&rt, alloc, (100, 3), (10, 9), Status::ReadFault, "")?;
+    ends(
+        &rt,
+        alloc,
+        (100, 99),
+        (10, 2),
+        Status::WriteFault,
+        "kept 1 cul",
+    )?;
+    ends(&rt, alloc, (100, 99), (10, 9), Status::Done, FILL_TEXT)
+}
+
+#[test]
+fn each_read_fails(rt: HostRuntime) -> Result<(), Fail> {
+    let alloc = rt.alloc();
+    for k in 1..41 {
+        ends(&rt, alloc, (1, k), (10, 99), Status::ReadFault, "")?;
     }
+    Ok(())
+}
+
+#[test]
+fn each_write_fails(rt: HostRuntime) -> Result<(), Fail> {
+    let alloc = rt.alloc();
+    for k in 1..41 {
+        let front = FILL_TEXT.get(..k as usize - 1).unwrap_or("no front");
+        ends(&rt, alloc, (100, 99), (1, k), Status::WriteFault, front)?;
+    }
+    Ok(())
+}
+
+#[test]
+fn whole_rest_at_each_write(rt: HostRuntime) -> Result<(), Fail> {
+    let alloc = rt.alloc();
     let mut source = SteadySource::new(bytes_of(alloc, FILL)?, 1);
     let status = status_of(&rt, alloc, &["run"], &mut source, &mut SteadySink::new())?;
     assert_eq!(rt; status, Some(Status::Done));
-    // Each write is offered the whole rest of the text.
     let mut offers = Offers {
         lengths: Vec::new(alloc),
     };

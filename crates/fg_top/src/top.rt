@@ -1,17 +1,17 @@
 //! The top call.
 
-ghost use Rattle.std.specs.Prelude.{◌≡◌, [], map, string_bytes, true, false, codes};
+ghost use Rattle.std.specs.Prelude.{◌≡◌, [], map, string_bytes, Some, None, codes};
 ghost use Rattle.fg_top.specs.Answers.{IsAnswered};
 ghost use Rattle.fg_top.specs.Causes.{ReadCause, WriteCause};
-ghost use Rattle.fg_top.specs.Commands.{is_run};
 ghost use Rattle.fg_top.specs.Outcomes.{EndsAs};
 ghost use Rattle.fg_top.specs.Told.{IsUntold};
+ghost use Rattle.fg_words.specs.Lines.{command_of};
+ghost use Rattle.fg_words.specs.declared.command.Command.{Command};
 
-use crate::output::put;
-use crate::run::run;
-use crate::words::is_run;
-use crate::{Ended, Status};
+use crate::frames::answer;
+use crate::{Ended, Status, at_rest};
 use fg_base::{Gate, Sink, Source, Tap};
+use fg_words::Command;
 use std::alloc::Global;
 use std::sync::Wait;
 use std::thread::Threads;
@@ -29,11 +29,11 @@ pub fn framec<R: Threads + Wait + Sync, I: Source, O: Sink, G: Gate + Sync>(
     taps: &mut Vec<Box<dyn Tap>>,
 ) -> Ended
     // Words that are no command line.
-    ensures words { is_run (map string_bytes words.now) ≡ false → EndsAs Status.Words (codes "words\n") (O.taken output.old) (O.taken output.new) result.status }
-    ensures unread { is_run (map string_bytes words.now) ≡ false → input.new ≡ input.old }
+    ensures words { command_of (map string_bytes words.now) ≡ None → EndsAs Status.Words (codes "words\n") (O.taken output.old) (O.taken output.new) result.status }
+    ensures unread { command_of (map string_bytes words.now) ≡ None → input.new ≡ input.old }
 
-    // The command `run`.
-    ensures run { is_run (map string_bytes words.now) ≡ true → IsAnswered (I.left input.old) (O.taken output.old) (O.taken output.new) result.status }
+    // Words that are one.
+    ensures command { (command : Command) → command_of (map string_bytes words.now) ≡ Some command → IsAnswered command (I.left input.old) (O.taken output.old) (O.taken output.new) result.status }
 
     // The causes of faults, for all words.
     ensures read { ReadCause (I.faults input.old) (I.faults input.new) result.status }
@@ -41,10 +41,11 @@ pub fn framec<R: Threads + Wait + Sync, I: Source, O: Sink, G: Gate + Sync>(
 
     ensures untold { IsUntold taps.old.items taps.new.items result.spent.items result.places.items }
 {
-    if !is_run(words) {
-        return untold(alloc, put(output, Status::Words, b"words\n"));
-    }
-    untold(alloc, run(alloc, input, output))
+    let status = match at_rest(alloc, words, input, output) {
+        Some(status) => status,
+        None => answer(alloc, Command::Run, input, output),
+    };
+    untold(alloc, status)
 }
 
 fn untold(alloc: Global, status: Status) -> Ended

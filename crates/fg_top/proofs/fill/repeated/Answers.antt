@@ -1,4 +1,4 @@
-use Rattle.fg_top.proofs.LineLemmas.{repeated-more}
+use Rattle.fg_top.proofs.WordLemmas.{repeated-more}
 use Rattle.fg_top.proofs.fill.repeated.Goals as goal
 
 pub loop-i-preserved : goal.loop-i-preserved
