@@ -6,10 +6,11 @@ use Rattle.fg_forms.specs.Reading.{Reading}
 use Rattle.fg_frame.specs.Faults.{not_json, misshapen}
 use Rattle.fg_frame.specs.declared.fault.FrameFault.{FrameFault}
 use Rattle.fg_frame.specs.declared.frame.Frame.{Frame}
-use Rattle.fg_framefile.specs.Frames.{format_at, frame_at}
+use Rattle.fg_framefile.specs.Frames.{format_at, frame_at, frame_data}
 use Rattle.fg_framefile.specs.declared.file.FrameReadEnd.{FrameReadEnd}
 use Rattle.fg_framefile.specs.declared.file.FrameReadEnd.TheVariants as ends
 use Rattle.serde_json.specs.Data.{Data}
+use Rattle.serde_json.specs.Written.{compact_text}
 
 -- F3, at the member
 abbrev pub unknown_format : FrameFault
@@ -49,3 +50,7 @@ abbrev pub FrameGives : Result Frame FrameReadEnd → Result Frame FrameFault �
 FrameGives (Ok frame) found = found ≡ Ok frame
 FrameGives (Err ends.NoMemory) found = Unit {0}
 FrameGives (Err (ends.Refused fault)) found = found ≡ Err fault
+
+-- the canonical text of a frame
+abbrev pub frame_text : Frame → List ℕ
+frame_text frame = compact_text (frame_data frame)

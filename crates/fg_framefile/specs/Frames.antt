@@ -1,14 +1,15 @@
 -- Frames: `format`, `queues`, `resources`, `passes`, `exports`.
 use Rattle.std.specs.Prelude.{ℕ, [], ◌∷◌, Ok, codes}
 use Rattle.std.specs.List.{AllByRecursion}
-use Rattle.fg_forms.specs.Leaves.{whole_at}
-use Rattle.fg_forms.specs.Parts.{Reader, object_at, member_at, list_at, others_at}
+use Rattle.fg_forms.specs.Leaves.{whole_at, number_data}
+use Rattle.fg_forms.specs.Parts.{Reader, object_at, member_at, list_at, others_at, array_of, members_in}
 use Rattle.fg_forms.specs.Reading.{◌>>=◌}
 use Rattle.fg_frame.specs.declared.frame.Frame.{Frame}
-use Rattle.fg_framefile.specs.Passes.{pass_at, FitsPass}
-use Rattle.fg_framefile.specs.Queues.{queue_at, FitsQueue}
-use Rattle.fg_framefile.specs.Resources.{resource_at, FitsResource}
-use Rattle.fg_framefile.specs.Spots.{spot_at, FitsSpot}
+use Rattle.fg_framefile.specs.Passes.{pass_at, pass_data, FitsPass}
+use Rattle.fg_framefile.specs.Queues.{queue_at, queue_data, FitsQueue}
+use Rattle.fg_framefile.specs.Resources.{resource_at, resource_data, FitsResource}
+use Rattle.fg_framefile.specs.Spots.{spot_at, spot_data, FitsSpot}
+use Rattle.serde_json.specs.Data.{Data, object}
 
 -- the number of the format is examined before everything else
 unfoldable pub format_at : Reader ℕ
@@ -23,6 +24,16 @@ frame_at format at d = do
   exports ← member_at (list_at (spot_at format)) (codes "exports") at d
   end ← others_at (codes "format" ∷ codes "queues" ∷ codes "resources" ∷ codes "passes" ∷ codes "exports" ∷ []) at d
   Ok (record { queues = queues; resources = resources; passes = passes; exports = exports })
+
+-- a frame as it is written, in format 2
+abbrev pub frame_data : Frame → Data
+frame_data frame = object (members_in (
+    (codes "exports", array_of spot_data frame.exports) ∷
+    (codes "format", number_data 2) ∷
+    (codes "passes", array_of pass_data frame.passes) ∷
+    (codes "queues", array_of queue_data frame.queues) ∷
+    (codes "resources", array_of resource_data frame.resources) ∷
+    []))
 
 -- what the format says of a frame, whichever file it comes from
 pub record FitsFrame (frame : Frame) : Type 0 where

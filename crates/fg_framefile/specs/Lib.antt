@@ -5,4 +5,5 @@ pub mod Passes
 pub mod Queues
 pub mod Resources
 pub mod Spots
+pub mod Typed
 pub mod Writes

@@ -2,15 +2,17 @@
 use Rattle.std.specs.Prelude.{ℕ, [], ◌∷◌, false, Ok, unwrap_or, codes}
 use Rattle.std.specs.List.{AllByRecursion}
 use Rattle.fg_base.specs.Names.{IsName}
-use Rattle.fg_forms.specs.Leaves.{name_at}
-use Rattle.fg_forms.specs.Parts.{Reader, object_at, member_at, optional_at, list_at, others_at}
+use Rattle.fg_forms.specs.Leaves.{name_at, text_data, same_bytes}
+use Rattle.fg_forms.specs.Parts.{Reader, object_at, member_at, optional_at, list_at, others_at, array_of, members_in}
 use Rattle.fg_forms.specs.Reading.{◌>>=◌}
 use Rattle.fg_frame.specs.declared.frame.Pass.{Pass}
-use Rattle.fg_framefile.specs.Flags.{flag_at}
-use Rattle.fg_framefile.specs.Spots.{spot_at, FitsSpot}
-use Rattle.fg_framefile.specs.Writes.{write_at, FitsWrite}
+use Rattle.fg_framefile.specs.Flags.{flag_at, flag_data}
+use Rattle.fg_framefile.specs.Spots.{spot_at, spot_data, FitsSpot}
+use Rattle.fg_framefile.specs.Writes.{write_at, write_data, FitsWrite}
 use Rattle.fg_opforms.specs.OpFits.{FitsOp}
 use Rattle.fg_opforms.specs.OpReading.{op_at}
+use Rattle.fg_opforms.specs.OpWriting.{op_data}
+use Rattle.serde_json.specs.Data.{Data, object}
 
 unfoldable pub pass_at : ℕ → Reader Pass
 pass_at format at d = do
@@ -23,6 +25,17 @@ pass_at format at d = do
   side_effect ← optional_at flag_at (codes "side_effect") at d
   end ← others_at (codes "name" ∷ codes "queue" ∷ codes "reads" ∷ codes "writes" ∷ codes "ops" ∷ codes "side_effect" ∷ []) at d
   Ok (record { name = name; queue = queue; reads = unwrap_or reads []; writes = unwrap_or writes []; ops = unwrap_or ops []; side_effect = unwrap_or side_effect false })
+
+-- each member is written
+abbrev pub pass_data : Pass → Data
+pass_data pass = object (members_in (
+    (codes "name", text_data same_bytes pass.name) ∷
+    (codes "ops", array_of (op_data spot_data) pass.ops) ∷
+    (codes "queue", text_data same_bytes pass.queue) ∷
+    (codes "reads", array_of spot_data pass.reads) ∷
+    (codes "side_effect", flag_data pass.side_effect) ∷
+    (codes "writes", array_of write_data pass.writes) ∷
+    []))
 
 -- what the format says of a pass, whichever file it comes from
 pub record FitsPass (pass : Pass) : Type 0 where

@@ -1,17 +1,21 @@
 -- Resources: `name`; then `buffer` and optional `import`, or `image`, `texel` and, in format 2, optional `layers`; and in
 -- format 2 optional `sharing`.
-use Rattle.std.specs.Prelude.{◌≡◌, ℕ, ◌==◌, List, [], ◌∷◌, Option, None, IfSome, Ok, if◌then◌else◌, codes}
+use Rattle.std.specs.Prelude.{◌≡◌, ℕ, ◌==◌, List, Some, option_map, [], ◌∷◌, Option, None, IfSome, Ok, if◌then◌else◌, codes}
 use Rattle.hex.specs.Hex.{IsBytes}
 use Rattle.fg_base.specs.Names.{IsName}
 use Rattle.fg_base.specs.declared.shape.Shape.{Shape}
 use Rattle.fg_base.specs.declared.shape.Shape.TheVariants.{Buffer, Image}
-use Rattle.fg_forms.specs.Leaves.{name_at}
+use Rattle.fg_bits.specs.declared.sharing.Sharing.{Sharing}
+use Rattle.fg_bits.specs.declared.sharing.Sharing.TheVariants.{Exclusive, Concurrent}
+use Rattle.fg_forms.specs.Leaves.{name_at, number_data, text_data, same_bytes}
 use Rattle.fg_forms.specs.Parts.{Reader, object_at, member_at, optional_at, others_at}
 use Rattle.fg_forms.specs.Reading.{◌>>=◌}
 use Rattle.fg_frame.specs.declared.frame.Resource.{Resource}
 use Rattle.fg_shapeforms.specs.Bodies.{body_at, FitsLayers}
-use Rattle.fg_shapeforms.specs.Hexadecimal.{hex_at}
-use Rattle.fg_shapeforms.specs.Sharings.{sharing_at}
+use Rattle.fg_shapeforms.specs.Hexadecimal.{hex_at, hex_data}
+use Rattle.fg_shapeforms.specs.Sharings.{sharing_at, sharing_text}
+use Rattle.fg_shapeforms.specs.Texels.{texel_text}
+use Rattle.serde_json.specs.Data.{Data, array, object, Members, no_members, item, no_items, put}
 
 -- an image has no import
 abbrev pub import_at : Shape → Reader (Option (List ℕ))
@@ -36,6 +40,35 @@ resource_at format at d = do
   sharing ← sharing_at format at d
   end ← others_at (members_of format body.shape) at d
   Ok (record { name = name; shape = body.shape; layers = body.layers; import = import; sharing = sharing })
+
+-- the members with one more, in the byte order of their names, where there is one more
+abbrev pub put_maybe : List ℕ → Option Data → Members → Members
+put_maybe name None ms = ms
+put_maybe name (Some d) ms = put name d ms
+
+-- one layer is not written
+abbrev pub layers_data : ℕ → Option Data
+layers_data layers = if layers == 1 then None else Some (number_data layers)
+
+-- that a resource is exclusive is not written
+abbrev pub sharing_data : Sharing → Option Data
+sharing_data Exclusive = None
+sharing_data Concurrent = Some (text_data sharing_text Concurrent)
+
+abbrev pub shape_members : Shape → Members → Members
+shape_members (Buffer size) ms = put (codes "buffer") (number_data size) ms
+shape_members (Image width height texel) ms = put (codes "image") (array (item (number_data width) (item (number_data height) no_items))) (put (codes "texel") (text_data texel_text texel) ms)
+
+abbrev pub resource_members : Resource → Members
+resource_members resource =
+    put_maybe (codes "sharing") (sharing_data resource.sharing) (
+    put_maybe (codes "layers") (layers_data resource.layers) (
+    put_maybe (codes "import") (option_map hex_data resource.import) (
+    shape_members resource.shape (
+    put (codes "name") (text_data same_bytes resource.name) no_members))))
+
+abbrev pub resource_data : Resource → Data
+resource_data resource = object (resource_members resource)
 
 abbrev pub FitsImport : Shape → Option (List ℕ) → Type 0
 FitsImport (Buffer size) import = IfSome import IsBytes

@@ -1,9 +1,10 @@
 -- Spots: in format 1 the name of a resource; in format 2 this, or a name, `/` and a digit from 0 to 7, the layer.
-use Rattle.std.specs.Prelude.{ℕ, ◌≤◌, ◌==◌, ◌-◌, ◌&&◌, nat_le, List, [], ◌∷◌, length, take, drop, Option, Some, None, IfSome, option_and_then, option_map, if◌then◌else◌}
+use Rattle.std.specs.Prelude.{ℕ, ◌≤◌, ◌==◌, ◌-◌, ◌&&◌, ◌++◌, decimal, nat_le, List, [], ◌∷◌, length, take, drop, Option, Some, None, IfSome, option_and_then, option_map, if◌then◌else◌}
 use Rattle.fg_base.specs.Names.{IsName, name_of}
-use Rattle.fg_forms.specs.Leaves.{text_at}
+use Rattle.fg_forms.specs.Leaves.{text_at, text_data}
 use Rattle.fg_forms.specs.Parts.{Reader}
 use Rattle.fg_frame.specs.declared.frame.Spot.{Spot}
+use Rattle.serde_json.specs.Data.{Data}
 
 -- the number of a layer, with the slash before it
 abbrev pub layer_of : List ℕ → Option ℕ
@@ -31,6 +32,16 @@ spot_of format text = spot_or (if format == 1 then None else layered_spot text) 
 
 abbrev pub spot_at : ℕ → Reader Spot
 spot_at format = text_at (spot_of format)
+
+abbrev pub with_layer : List ℕ → Option ℕ → List ℕ
+with_layer name None = name
+with_layer name (Some layer) = name ++ 47 ∷ decimal layer
+
+abbrev pub spot_text : Spot → List ℕ
+spot_text spot = with_layer spot.name spot.layer
+
+abbrev pub spot_data : Spot → Data
+spot_data = text_data spot_text
 
 -- what the format says of a spot, whichever file it comes from
 pub record FitsSpot (spot : Spot) : Type 0 where

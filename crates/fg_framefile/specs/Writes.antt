@@ -1,12 +1,12 @@
 -- Entries of a pass's `writes`: either `new` or `change`.
-use Rattle.std.specs.Prelude.{ℕ, ◌||◌, Bool, true, false, not, is_some, [], ◌∷◌, Ok, if◌then◌else◌, codes}
-use Rattle.fg_forms.specs.Parts.{Reader, object_at, member_at, others_at}
+use Rattle.std.specs.Prelude.{ℕ, List, ◌||◌, Bool, true, false, not, is_some, [], ◌∷◌, Ok, if◌then◌else◌, codes}
+use Rattle.fg_forms.specs.Parts.{Reader, object_at, member_at, others_at, members_in}
 use Rattle.fg_forms.specs.Reading.{◌>>=◌}
 use Rattle.fg_frame.specs.declared.frame.Spot.{Spot}
 use Rattle.fg_frame.specs.declared.frame.Write.{Write}
-use Rattle.serde_json.specs.Data.{Data}
+use Rattle.serde_json.specs.Data.{Data, object}
 use Rattle.serde_json.specs.Find.{get}
-use Rattle.fg_framefile.specs.Spots.{spot_at, FitsSpot}
+use Rattle.fg_framefile.specs.Spots.{spot_at, spot_data, FitsSpot}
 
 unfoldable pub new_at : ℕ → Reader (Write Spot)
 new_at format at d = do
@@ -27,5 +27,13 @@ is_new d = is_some (get (codes "new") d) || not (is_some (get (codes "change") d
 unfoldable pub write_at : ℕ → Reader (Write Spot)
 write_at format at d = object_at at d >>= λ start. if is_new d then new_at format at d else change_at format at d
 
+abbrev pub write_word : Bool → List ℕ
+write_word true = codes "new"
+write_word false = codes "change"
+
+abbrev pub write_data : Write Spot → Data
+write_data write = object (members_in ((write_word write.fresh, spot_data write.what) ∷ []))
+
+-- what the format says of an entry
 abbrev pub FitsWrite : Write Spot → Type 0
 FitsWrite write = FitsSpot write.what

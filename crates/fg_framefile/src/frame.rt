@@ -1,16 +1,16 @@
 //! The frame that a JSON value is.
 
 ghost use Rattle.std.specs.Prelude.{◌≡◌};
-ghost use Rattle.fg_framefile.specs.Frames.{frame_at, FitsFrame};
+ghost use Rattle.fg_framefile.specs.Frames.{frame_at, frame_data, FitsFrame};
 
 use crate::pass::PassForm;
 use crate::queue::QueueForm;
 use crate::resource::ResourceForm;
 use crate::spot::SpotForm;
-use fg_forms::{ListForm, Place, ReadEnd, Reader, others, required};
+use fg_forms::{ListForm, Place, ReadEnd, Reader, Writer, others, required};
 use fg_frame::Frame;
-use serde_json::Value;
-use std::alloc::Global;
+use serde_json::{Value, json};
+use std::alloc::{AllocError, Global};
 
 /// A whole frame file of a format, whose `format` was examined before.
 pub struct FrameForm<const FORMAT: u32>;
@@ -40,5 +40,19 @@ impl<const FORMAT: u32> Reader for FrameForm<FORMAT> {
             passes,
             exports,
         })
+    }
+}
+
+impl<const FORMAT: u32> Writer for FrameForm<FORMAT> {
+    type In = Frame;
+
+    ghost writes = { frame_data };
+
+    fn write(alloc: Global, frame: &Frame) -> Result<Value, AllocError> {
+        let queues = <ListForm<QueueForm>>::write(alloc, &frame.queues)?;
+        let resources = <ListForm<ResourceForm<FORMAT>>>::write(alloc, &frame.resources)?;
+        let passes = <ListForm<PassForm<FORMAT>>>::write(alloc, &frame.passes)?;
+        let exports = <ListForm<SpotForm<FORMAT>>>::write(alloc, &frame.exports)?;
+        json!(in alloc; {"exports": exports, "format": 2u32, "passes": passes, "queues": queues, "resources": resources})
     }
 }

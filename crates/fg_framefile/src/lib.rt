@@ -7,10 +7,16 @@ mod frame;
 mod pass;
 mod queue;
 mod resource;
+mod resource_members;
 mod spot;
+mod text;
+mod typed;
 mod write;
 
 pub use file::{FrameReadEnd, read_frame};
+pub use text::write_frame;
 
 #[cfg(test)]
 mod tests;
+#[cfg(test)]
+mod text_tests;

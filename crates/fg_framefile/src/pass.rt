@@ -1,17 +1,19 @@
 //! Passes in a file.
 
 ghost use Rattle.std.specs.Prelude.{◌≡◌};
-ghost use Rattle.fg_framefile.specs.Passes.{pass_at, FitsPass};
+ghost use Rattle.fg_framefile.specs.Passes.{pass_at, pass_data, FitsPass};
 
 use crate::flag::FlagForm;
 use crate::spot::SpotForm;
 use crate::write::WriteForm;
 use fg_base::List;
-use fg_forms::{ListForm, NameForm, Place, ReadEnd, Reader, object, optional, others, required};
+use fg_forms::{
+    ListForm, NameForm, Place, ReadEnd, Reader, Writer, object, optional, others, required,
+};
 use fg_frame::Pass;
 use fg_opforms::OpForm;
-use serde_json::Value;
-use std::alloc::Global;
+use serde_json::{Value, json};
+use std::alloc::{AllocError, Global};
 
 /// An entry of `passes`.
 pub struct PassForm<const FORMAT: u32>;
@@ -46,5 +48,21 @@ impl<const FORMAT: u32> Reader for PassForm<FORMAT> {
             ops: ops.unwrap_or(List::new(alloc)),
             side_effect: side_effect.unwrap_or(false),
         })
+    }
+}
+
+impl<const FORMAT: u32> Writer for PassForm<FORMAT> {
+    type In = Pass;
+
+    ghost writes = { pass_data };
+
+    fn write(alloc: Global, pass: &Pass) -> Result<Value, AllocError> {
+        let name = NameForm::write(alloc, &pass.name)?;
+        let queue = NameForm::write(alloc, &pass.queue)?;
+        let reads = <ListForm<SpotForm<FORMAT>>>::write(alloc, &pass.reads)?;
+        let writes = <ListForm<WriteForm<FORMAT>>>::write(alloc, &pass.writes)?;
+        let ops = <ListForm<OpForm<SpotForm<FORMAT>>>>::write(alloc, &pass.ops)?;
+        let side_effect = pass.side_effect;
+        json!(in alloc; {"name": name, "ops": ops, "queue": queue, "reads": reads, "side_effect": side_effect, "writes": writes})
     }
 }

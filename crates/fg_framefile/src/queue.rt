@@ -1,13 +1,13 @@
 //! Queues in a file.
 
 ghost use Rattle.std.specs.Prelude.{◌≡◌};
-ghost use Rattle.fg_framefile.specs.Queues.{queue_at, FitsQueue};
+ghost use Rattle.fg_framefile.specs.Queues.{queue_at, queue_data, FitsQueue};
 
-use fg_forms::{NameForm, Place, ReadEnd, Reader, TextForm, object, others, required};
+use fg_forms::{NameForm, Place, ReadEnd, Reader, TextForm, Writer, object, others, required};
 use fg_frame::QueueDecl;
 use fg_shapeforms::FamilyWord;
-use serde_json::Value;
-use std::alloc::Global;
+use serde_json::{Value, json};
+use std::alloc::{AllocError, Global};
 
 /// An entry of `queues`.
 pub struct QueueForm;
@@ -26,5 +26,17 @@ impl Reader for QueueForm {
         let family = required::<TextForm<FamilyWord>>(alloc, at, "family", value)?;
         others(alloc, at, &["name", "family"], value)?;
         Ok(QueueDecl { name, family })
+    }
+}
+
+impl Writer for QueueForm {
+    type In = QueueDecl;
+
+    ghost writes = { queue_data };
+
+    fn write(alloc: Global, queue: &QueueDecl) -> Result<Value, AllocError> {
+        let name = NameForm::write(alloc, &queue.name)?;
+        let family = <TextForm<FamilyWord>>::write(alloc, &queue.family)?;
+        json!(in alloc; {"family": family, "name": name})
     }
 }

@@ -3,15 +3,16 @@
 ghost use Rattle.std.specs.Prelude.{◌≡◌, map, IfOk};
 ghost use Rattle.fg_forms.specs.Places.{legs};
 ghost use Rattle.fg_forms.specs.Reading.{Gives};
-ghost use Rattle.fg_framefile.specs.Resources.{import_at, members_of, resource_at, FitsImport, FitsResource};
+ghost use Rattle.fg_framefile.specs.Resources.{import_at, members_of, resource_at, resource_data, FitsImport, FitsResource};
 ghost use Rattle.serde_json.specs.View.{view};
 
+use crate::resource_members::resource_members;
 use fg_base::{List, Shape};
-use fg_forms::{NameForm, Place, ReadEnd, Reader, object, optional, others, required};
+use fg_forms::{NameForm, Place, ReadEnd, Reader, Writer, object, optional, others, required};
 use fg_frame::Resource;
 use fg_shapeforms::{HexForm, read_body, read_sharing};
 use serde_json::Value;
-use std::alloc::Global;
+use std::alloc::{AllocError, Global};
 
 /// An entry of `resources`.
 pub struct ResourceForm<const FORMAT: u32>;
@@ -72,5 +73,15 @@ impl<const FORMAT: u32> Reader for ResourceForm<FORMAT> {
             import,
             sharing,
         })
+    }
+}
+
+impl<const FORMAT: u32> Writer for ResourceForm<FORMAT> {
+    type In = Resource;
+
+    ghost writes = { resource_data };
+
+    fn write(alloc: Global, resource: &Resource) -> Result<Value, AllocError> {
+        Ok(Value::Object(resource_members(alloc, resource)?))
     }
 }

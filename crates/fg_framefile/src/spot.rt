@@ -1,13 +1,13 @@
 //! Spots in a file.
 
-ghost use Rattle.std.specs.Prelude.{◌≡◌, IfSome, length};
-ghost use Rattle.fg_framefile.specs.Spots.{spot_at, spot_of, layered_spot, layer_of, FitsSpot};
+ghost use Rattle.std.specs.Prelude.{◌≡◌, Some, IfOk, IfSome, length, string_bytes};
+ghost use Rattle.fg_framefile.specs.Spots.{spot_at, spot_data, with_layer, spot_of, layered_spot, layer_of, FitsSpot};
 
 use fg_base::Name;
-use fg_forms::{Place, ReadEnd, Reader};
+use fg_forms::{NameForm, Place, ReadEnd, Reader, Writer};
 use fg_frame::Spot;
 use serde_json::Value;
-use std::alloc::Global;
+use std::alloc::{AllocError, Global};
 
 /// A spot: the name of a resource and, in files of format 2, maybe `/` and the number of a layer behind it.
 pub struct SpotForm<const FORMAT: u32>;
@@ -63,6 +63,25 @@ impl<const FORMAT: u32> Reader for SpotForm<FORMAT> {
                 None => Err(at.refused(alloc)),
             },
             None => Err(at.refused(alloc)),
+        }
+    }
+}
+
+fn layered_text(alloc: Global, name: &Name, layer: u32) -> Result<String, AllocError>
+    ensures { IfOk result (λ text. string_bytes text ≡ with_layer name.now (Some layer)) }
+{
+    format!(in alloc; "{}/{layer}", name.as_str())
+}
+
+impl<const FORMAT: u32> Writer for SpotForm<FORMAT> {
+    type In = Spot;
+
+    ghost writes = { spot_data };
+
+    fn write(alloc: Global, spot: &Spot) -> Result<Value, AllocError> {
+        match spot.layer {
+            None => NameForm::write(alloc, &spot.name),
+            Some(layer) => Ok(Value::String(layered_text(alloc, &spot.name, layer)?)),
         }
     }
 }

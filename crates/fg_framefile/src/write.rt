@@ -3,14 +3,14 @@
 ghost use Rattle.std.specs.Prelude.{◌≡◌, IfOk};
 ghost use Rattle.fg_forms.specs.Places.{legs};
 ghost use Rattle.fg_forms.specs.Reading.{Gives};
-ghost use Rattle.fg_framefile.specs.Writes.{new_at, change_at, write_at, is_new, FitsWrite};
+ghost use Rattle.fg_framefile.specs.Writes.{new_at, change_at, write_at, write_data, is_new, FitsWrite};
 ghost use Rattle.serde_json.specs.View.{view};
 
 use crate::spot::SpotForm;
-use fg_forms::{Place, ReadEnd, Reader, object, others, required};
+use fg_forms::{Place, ReadEnd, Reader, Writer, object, others, required};
 use fg_frame::{Spot, Write};
-use serde_json::Value;
-use std::alloc::Global;
+use serde_json::{Value, json};
+use std::alloc::{AllocError, Global};
 
 /// An entry of a pass's `writes`.
 pub struct WriteForm<const FORMAT: u32>;
@@ -64,6 +64,21 @@ impl<const FORMAT: u32> Reader for WriteForm<FORMAT> {
             new::<FORMAT>(alloc, at, value)
         } else {
             change::<FORMAT>(alloc, at, value)
+        }
+    }
+}
+
+impl<const FORMAT: u32> Writer for WriteForm<FORMAT> {
+    type In = Write<Spot>;
+
+    ghost writes = { write_data };
+
+    fn write(alloc: Global, write: &Write<Spot>) -> Result<Value, AllocError> {
+        let what = <SpotForm<FORMAT>>::write(alloc, &write.what)?;
+        if write.fresh {
+            json!(in alloc; {"new": what})
+        } else {
+            json!(in alloc; {"change": what})
         }
     }
 }

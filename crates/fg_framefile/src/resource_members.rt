@@ -1,0 +1,110 @@
+//! The members of a resource as they are written.
+
+ghost use Rattle.std.specs.Prelude.{◌≡◌, codes, option_map, IfOk};
+ghost use Rattle.fg_forms.specs.Leaves.{text_data, same_bytes};
+ghost use Rattle.fg_framefile.specs.Resources.{put_maybe, layers_data, sharing_data, shape_members, resource_members};
+ghost use Rattle.fg_shapeforms.specs.Hexadecimal.{hex_data};
+ghost use Rattle.serde_json.specs.Data.{no_members, put};
+ghost use Rattle.serde_json.specs.View.{view, members_view};
+
+use fg_base::{List, Name, Shape};
+use fg_forms::{NameForm, TextForm, Writer};
+use fg_frame::{Resource, Sharing};
+use fg_shapeforms::{HexForm, SharingWord, TexelWord};
+use serde_json::{Map, Value, json};
+use std::alloc::{AllocError, Global};
+
+type Members = Map<String, Value>;
+
+// The members with one more.
+fn with(
+    alloc: Global,
+    mut members: Members,
+    name: &str,
+    value: Value,
+) -> Result<Members, AllocError>
+    ensures { IfOk result (λ more. members_view more.entries ≡ put name.now (view value) (members_view members.entries)) }
+{
+    members.insert(String::from_str(alloc, name)?, value)?;
+    Ok(members)
+}
+
+fn with_maybe(
+    alloc: Global,
+    members: Members,
+    name: &str,
+    value: Option<Value>,
+) -> Result<Members, AllocError>
+    ensures { IfOk result (λ more. members_view more.entries ≡ put_maybe name.now (option_map view value) (members_view members.entries)) }
+{
+    match value {
+        None => Ok(members),
+        Some(value) => with(alloc, members, name, value),
+    }
+}
+
+fn with_name(alloc: Global, members: Members, name: &Name) -> Result<Members, AllocError>
+    ensures { IfOk result (λ more. members_view more.entries ≡ put (codes "name") (text_data same_bytes name.now) (members_view members.entries)) }
+{
+    let value = NameForm::write(alloc, name)?;
+    with(alloc, members, "name", value)
+}
+
+fn with_shape(alloc: Global, members: Members, shape: Shape) -> Result<Members, AllocError>
+    ensures { IfOk result (λ more. members_view more.entries ≡ shape_members shape (members_view members.entries)) }
+{
+    match shape {
+        Shape::Buffer { size } => with(alloc, members, "buffer", Value::from(size)),
+        Shape::Image {
+            width,
+            height,
+            texel,
+        } => {
+            let texel = <TextForm<TexelWord>>::write(alloc, &texel)?;
+            let members = with(alloc, members, "texel", texel)?;
+            let sides = json!(in alloc; [width, height])?;
+            with(alloc, members, "image", sides)
+        }
+    }
+}
+
+fn import_value(alloc: Global, import: &Option<List<u8>>) -> Result<Option<Value>, AllocError>
+    ensures { IfOk result (λ value. option_map view value ≡ option_map hex_data import.now) }
+{
+    match import {
+        None => Ok(None),
+        Some(bytes) => Ok(Some(HexForm::write(alloc, bytes)?)),
+    }
+}
+
+fn layers_value(layers: u32) -> Option<Value>
+    ensures { option_map view result ≡ layers_data layers }
+{
+    if layers == 1 {
+        return None;
+    }
+    Some(Value::from(layers))
+}
+
+fn sharing_value(alloc: Global, sharing: Sharing) -> Result<Option<Value>, AllocError>
+    ensures { IfOk result (λ value. option_map view value ≡ sharing_data sharing) }
+{
+    match sharing {
+        Sharing::Exclusive => Ok(None),
+        Sharing::Concurrent => Ok(Some(<TextForm<SharingWord>>::write(alloc, &sharing)?)),
+    }
+}
+
+/// The members of a resource. `import` is written where it is there, `layers` where it is not 1, and `sharing` where the
+/// resource is concurrent.
+pub fn resource_members(alloc: Global, resource: &Resource) -> Result<Members, AllocError>
+    ensures { IfOk result (λ members. members_view members.entries ≡ resource_members resource.now) }
+{
+    let members = with_name(alloc, Map::new(alloc), &resource.name)?;
+    let members = with_shape(alloc, members, resource.shape)?;
+    let import = import_value(alloc, &resource.import)?;
+    let members = with_maybe(alloc, members, "import", import)?;
+    let members = with_maybe(alloc, members, "layers", layers_value(resource.layers))?;
+    let sharing = sharing_value(alloc, resource.sharing)?;
+    with_maybe(alloc, members, "sharing", sharing)
+}

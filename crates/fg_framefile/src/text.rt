@@ -1,0 +1,26 @@
+//! The canonical text of a frame.
+
+ghost use Rattle.std.specs.Prelude.{◌≡◌, Ok, None, IfOk};
+ghost use Rattle.fg_frame.specs.FirstFault.{first_fault};
+ghost use Rattle.fg_framefile.specs.Files.{frame_of, frame_text};
+ghost use Rattle.fg_framefile.specs.Frames.{FitsFrame};
+
+use crate::frame::FrameForm;
+use crate::typed::Typed;
+use fg_base::{List, NoMemory, Text};
+use fg_forms::Writer;
+use fg_frame::Frame;
+use std::alloc::Global;
+
+/// The canonical text of a frame: its value in format 2, compact, with the members of each object in the byte order of
+/// their names. From it a frame is read again that was read, or that breaks no rule.
+pub fn write_frame(alloc: Global, frame: &Frame) -> Result<Text, NoMemory>
+    ensures text { IfOk result (λ text. text ≡ frame_text frame.now) }
+    ensures again { IfOk result (λ text. FitsFrame frame.now → frame_of text ≡ Ok frame.now) }
+    ensures good { IfOk result (λ text. first_fault frame.now ≡ None → frame_of text ≡ Ok frame.now) }
+{
+    frame.look();
+    let value = <FrameForm<2>>::write(alloc, frame)?;
+    let text = value.to_vec(alloc)?;
+    Ok(List::from_vec(text))
+}
