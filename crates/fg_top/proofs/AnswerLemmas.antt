@@ -1,13 +1,15 @@
 -- What a call answers to a frame, and where it has no answer.
-use Rattle.std.proofs.Common.{◌≡◌, ℕ, Bool, List, [], ◌++◌, Some, None, Ok, Err, refl, sym, ap, ◌∙◌, inl, inr}
+use Rattle.std.proofs.Common.{◌≡◌, ℕ, Bool, List, [], ◌∷◌, ◌++◌, Some, None, Ok, Err, refl, sym, ap, ◌∙◌, inl, inr}
 use Rattle.std.specs.Prelude.{◌⊎◌, IfOk, Result, option_map}
 use Rattle.std.specs.declared.option.Option.{Option}
 use Rattle.std.specs.Io.KnownBytes.{Keeps}
 use Rattle.fg_frame.specs.Faults.{misshapen}
+use Rattle.fg_frame.specs.FirstFault.{first_fault}
 use Rattle.fg_frame.specs.Numbered.{numbered}
 use Rattle.fg_frame.specs.declared.frame.Frame.{Frame}
 use Rattle.fg_report.specs.KeptLines.{run_text}
-use Rattle.fg_top.specs.Answers.{refusal, IsRunText, RunsFrame, AnswersLeft, IsAnswered}
+use Rattle.fg_framefile.specs.Files.{frame_of, frame_text}
+use Rattle.fg_top.specs.Answers.{refusal, IsRunText, RunsFrame, MigratesFrame, AnswersLeft, IsAnswered}
 use Rattle.fg_top.specs.Outcomes.{EndsAs}
 use Rattle.fg_top.specs.Small.{small_frame, IsSmall}
 use Rattle.fg_top.specs.SmallTest.{small_text}
@@ -37,6 +39,15 @@ pub answers_other : (frame : Frame) (answer : Answer) → ((small : Small) → �
 answers_other frame answer none e = record {
   small = λ small is. absurd (none small is);
   other = λ _. e;
+}
+
+abbrev done : List ℕ → Answer
+done text = record { status = Done; text = text }
+
+pub migrated : (frame : Frame) (text whole : List ℕ) → text ≡ frame_text frame → (first_fault frame ≡ None → frame_of text ≡ Ok frame) → first_fault frame ≡ None → whole ≡ text ++ 10 ∷ [] → MigratesFrame frame (record { status = Done; text = whole })
+migrated frame text whole is again good ended = record {
+  whole = ap done (ended ∙ ap (λ (t : List ℕ). t ++ 10 ∷ []) is);
+  again = rw (← is) (again good);
 }
 
 pub answered : (command : Command) (left old new : Option (List ℕ)) (answer : Answer) (status : Status) → AnswersLeft command left answer → EndsAs answer.status answer.text old new status → IsAnswered command left old new status

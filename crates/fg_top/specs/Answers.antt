@@ -1,11 +1,12 @@
 -- What a command answers to the bytes of its input.
-use Rattle.std.specs.Prelude.{◌≡◌, ℕ, ◌<◌, ◌≤◌, Bool, List, [], ◌++◌, length, Option, Some, option_map, Result, Ok, Err}
+use Rattle.std.specs.Prelude.{◌≡◌, ℕ, ◌<◌, ◌≤◌, Bool, List, [], ◌++◌, length, Option, Some, option_map, Result, Ok, Err, codes}
 use Rattle.std.specs.Io.KnownBytes.{Keeps}
 use Rattle.fg_base.specs.declared.limit.Limit.TheVariants.{Input}
 use Rattle.fg_frame.specs.Faults.{misshapen, over_limit}
 use Rattle.fg_frame.specs.Numbered.{numbered}
 use Rattle.fg_frame.specs.declared.fault.FrameFault.{FrameFault}
 use Rattle.fg_frame.specs.declared.frame.Frame.{Frame}
+use Rattle.fg_framefile.specs.Files.{frame_of, frame_text}
 use Rattle.fg_report.specs.Faults.{frame_fault_text}
 use Rattle.fg_report.specs.KeptLines.{run_text, cull_text}
 use Rattle.fg_top.specs.FrameFiles.{frame_file}
@@ -18,7 +19,7 @@ use Rattle.fg_top.specs.declared.ended.Status.{Status}
 use Rattle.fg_top.specs.declared.ended.Status.TheVariants.{Done, Refused, ReadFault, NoMemory}
 use Rattle.fg_versions.specs.Culled.{AreKept}
 use Rattle.fg_words.specs.declared.command.Command.{Command}
-use Rattle.fg_words.specs.declared.command.Command.TheVariants.{Run, Cull}
+use Rattle.fg_words.specs.declared.command.Command.TheVariants.{Run, Cull, Migrate}
 
 -- 16 MiB
 abbrev pub input_limit : ℕ
@@ -44,10 +45,16 @@ pub record CullsFrame (frame : Frame) (answer : Answer) : Type 0 where
   pub are_kept : AreKept (numbered frame) kept
   pub whole : answer ≡ record { status = Done; text = cull_text frame kept }
 
+-- the canonical text and a line feed; from the text the frame is read again
+pub record MigratesFrame (frame : Frame) (answer : Answer) : Type 0 where
+  pub whole : answer ≡ record { status = Done; text = frame_text frame ++ codes "\n" }
+  pub again : frame_of (frame_text frame) ≡ Ok frame
+
 -- what the command makes of a frame without a fault
 abbrev pub AnswersFrame : Command → Frame → Answer → Type 0
 AnswersFrame Run frame answer = RunsFrame frame answer
 AnswersFrame Cull frame answer = CullsFrame frame answer
+AnswersFrame Migrate frame answer = MigratesFrame frame answer
 
 abbrev pub AnswersFile : Command → Result Frame FrameFault → Answer → Type 0
 AnswersFile command (Ok frame) answer = AnswersFrame command frame answer

@@ -3,6 +3,7 @@
 ghost use Rattle.std.specs.Prelude.{IfOk};
 ghost use Rattle.fg_frame.specs.Numbered.{numbered};
 ghost use Rattle.fg_top.specs.Answers.{CullsFrame};
+ghost use Rattle.fg_top.specs.Outcomes.{HasText};
 ghost use Rattle.fg_versions.specs.Culled.{AreKept};
 
 use crate::Status;
@@ -24,7 +25,8 @@ pub fn kept_of(alloc: Global, good: &GoodFrame) -> Result<Kept, NoMemory>
 /// The answer to the command on a good frame.
 #[tactic(auto, using(crate::proofs::KeptLemmas::one_each))]
 pub fn cull_frame(alloc: Global, good: &GoodFrame) -> Result<Answer, NoMemory>
-    ensures { IfOk result (CullsFrame good.now) }
+    ensures frame { IfOk result (CullsFrame good.now) }
+    ensures has_text { IfOk result (λ answer. HasText answer.status) }
 {
     let kept = kept_of(alloc, good)?;
     let text = cull_text(alloc, good, &kept)?;

@@ -4,11 +4,13 @@ ghost use Rattle.std.specs.Prelude.{◌≡◌, ◌≤◌, ◌⊎◌, length, IfO
 ghost use Rattle.fg_top.specs.Answers.{AnswersFile, AnswersFrame, AnswersLeft, IsAnswered, input_limit};
 ghost use Rattle.fg_top.specs.Causes.{ReadCause, WriteCause, ReadsAnswer};
 ghost use Rattle.fg_top.specs.FrameFiles.{judged, frame_file};
+ghost use Rattle.fg_top.specs.Outcomes.{HasText};
 
 use crate::Status;
 use crate::answer::{Answer, refusal};
 use crate::cull::cull_frame;
 use crate::intake::{Intake, read_input};
+use crate::migrate::migrate_frame;
 use crate::output::put;
 use crate::run::run_frame;
 use fg_base::{Limit, List, NoMemory, Sink, Source};
@@ -40,6 +42,7 @@ pub fn answer<I: Source, O: Sink>(
 // The answer to the file that is read, or the status where there is none.
 fn answer_input<I: Source>(alloc: Global, command: Command, input: &mut I) -> Result<Answer, Status>
     ensures answer { IfOk result (AnswersLeft command (I.left input.old)) }
+    ensures has_text { IfOk result (λ answer. HasText answer.status) }
     ensures none { IfErr result (λ status. (status ≡ Status.ReadFault) ⊎ (status ≡ Status.NoMemory)) }
     ensures read { ReadsAnswer (I.faults input.old) (I.faults input.new) result }
 {
@@ -55,7 +58,8 @@ fn answer_input<I: Source>(alloc: Global, command: Command, input: &mut I) -> Re
 }
 
 fn answer_file(alloc: Global, command: Command, bytes: &[u8]) -> Result<Answer, NoMemory>
-    ensures { IfOk result (AnswersFile command (frame_file bytes.now)) }
+    ensures file { IfOk result (AnswersFile command (frame_file bytes.now)) }
+    ensures has_text { IfOk result (λ answer. HasText answer.status) }
 {
     match good_frame(alloc, bytes)? {
         Ok(good) => answer_frame(alloc, command, &good),
@@ -64,11 +68,13 @@ fn answer_file(alloc: Global, command: Command, bytes: &[u8]) -> Result<Answer, 
 }
 
 fn answer_frame(alloc: Global, command: Command, good: &GoodFrame) -> Result<Answer, NoMemory>
-    ensures { IfOk result (AnswersFrame command good.now) }
+    ensures frame { IfOk result (AnswersFrame command good.now) }
+    ensures has_text { IfOk result (λ answer. HasText answer.status) }
 {
     match command {
         Command::Run => run_frame(alloc, good),
         Command::Cull => cull_frame(alloc, good),
+        Command::Migrate => migrate_frame(alloc, good),
     }
 }
 

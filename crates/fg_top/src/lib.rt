@@ -7,6 +7,7 @@ mod ended;
 mod fill;
 mod frames;
 mod intake;
+mod migrate;
 mod output;
 mod rest;
 mod run;

@@ -4,6 +4,7 @@ ghost use Rattle.std.specs.Prelude.{◌≡◌, ◌++◌, IfOk};
 ghost use Rattle.fg_frame.specs.Numbered.{numbered};
 ghost use Rattle.fg_report.specs.KeptLines.{run_text};
 ghost use Rattle.fg_top.specs.Answers.{RunsFrame, IsRunText};
+ghost use Rattle.fg_top.specs.Outcomes.{HasText};
 ghost use Rattle.fg_top.specs.Small.{small_frame};
 ghost use Rattle.fg_top.specs.SmallTest.{small_text};
 ghost use Rattle.fg_versions.specs.Culled.{AreKept};
@@ -21,7 +22,8 @@ use std::alloc::Global;
 
 /// Runs a frame, if it is one that runs so far.
 pub fn run_frame(alloc: Global, good: &GoodFrame) -> Result<Answer, NoMemory>
-    ensures { IfOk result (RunsFrame good.now) }
+    ensures frame { IfOk result (RunsFrame good.now) }
+    ensures has_text { IfOk result (λ answer. HasText answer.status) }
 {
     match small_of(good.frame()) {
         Some(small) => {

@@ -1,5 +1,7 @@
 //! The worked rows of the top call, over sources and sinks in memory.
 
+ghost use Rattle.std.specs.Prelude.{◌<◌};
+
 use crate::{Ended, Status, at_rest, framec};
 use fg_base::{
     CountTap, IdleGate, List, MemorySink, MemorySource, Put, Sink, Source, SteadySink,
@@ -233,6 +235,27 @@ fn culling(rt: HostRuntime) -> Result<(), Fail> {
     gives(&rt, alloc, &["cull"], "", Status::Refused, "fault F1 $\n")
 }
 
+const CANONICAL: &str =
+    "{\"exports\":[\"b\"],\"format\":2,\"passes\":[{\"name\":\"p\",\"ops\":[{\"dst\":\"b\",\"offset\":0,\"op\":\"fill_buffer\",\"size\":16,\"word\":7}],\"queue\":\"g\",\"reads\":[],\"side_effect\":false,\"writes\":[{\"new\":\"b\"}]}],\"queues\":[{\"family\":\"graphics\",\"name\":\"g\"}],\"resources\":[{\"buffer\":16,\"name\":\"b\"}]}\n";
+
+#[test]
+fn migration(rt: HostRuntime) -> Result<(), Fail> {
+    let alloc = rt.alloc();
+    gives(&rt, alloc, &["migrate"], FILL, Status::Done, CANONICAL)?;
+    gives(&rt, alloc, &["migrate"], CANONICAL, Status::Done, CANONICAL)?;
+    gives(&rt, alloc, &["run"], CANONICAL, Status::Done, FILL_TEXT)?;
+    let ended = "fault F6 $.exports[0]\n";
+    let broken = FILL.replace(alloc, "\"exports\":[\"b\"]", "\"exports\":[\"c\"]")?;
+    gives(
+        &rt,
+        alloc,
+        &["migrate"],
+        broken.as_str(),
+        Status::Refused,
+        ended,
+    )
+}
+
 #[test]
 fn at_rest_leaves_run(rt: HostRuntime) -> Result<(), Fail> {
     let alloc = rt.alloc();
@@ -339,7 +362,10 @@ fn ends(
     write: (u32, u32),
     wanted: Status,
     text: &str,
-) -> Result<(), Fail> {
+) -> Result<(), Fail>
+    requires read { 0 < read.0 }
+    requires write { 0 < write.0 }
+{
     let mut source = MemorySource::new(bytes_of(alloc, FILL)?, read.0, calls(alloc, &[read.1])?);
     let mut sink = MemorySink::new(alloc, 1000, write.0, calls(alloc, &[write.1])?)?;
     let status = status_of(rt, alloc, &["run"], &mut source, &mut sink)?;

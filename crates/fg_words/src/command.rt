@@ -10,6 +10,8 @@ pub enum Command {
     Run,
     /// Prints which passes of a frame are culled.
     Cull,
+    /// Prints a frame's canonical text.
+    Migrate,
 }
 
 impl Command {
@@ -20,6 +22,7 @@ impl Command {
         match word {
             "run" => Some(Command::Run),
             "cull" => Some(Command::Cull),
+            "migrate" => Some(Command::Migrate),
             _ => None,
         }
     }
