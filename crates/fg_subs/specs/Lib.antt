@@ -1,0 +1,12 @@
+pub mod Barriers
+pub mod Counts
+pub mod Faults
+pub mod FirstFault
+pub mod Limits
+pub mod Nodes
+pub mod Numbers
+pub mod Paths
+pub mod Places
+pub mod Ranges
+pub mod Rules
+pub mod Timelines

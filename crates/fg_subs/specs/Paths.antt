@@ -1,0 +1,32 @@
+-- The path of a place.
+use Rattle.std.specs.Prelude.{ℕ, List, [], ◌∷◌, ◌++◌, codes}
+use Rattle.fg_base.specs.declared.path.Leg.{Leg}
+use Rattle.fg_base.specs.declared.path.Leg.TheVariants.{Member, Position}
+use Rattle.fg_subs.specs.declared.fault.SubFault.{SubFault}
+use Rattle.fg_subs.specs.declared.place.Broken.{Broken}
+use Rattle.fg_subs.specs.declared.place.Place.{Place}
+use Rattle.fg_subs.specs.declared.place.Place.TheVariants as at
+
+-- an entry of a list that is a member
+abbrev pub entry : List ℕ → ℕ → List Leg
+entry list i = Member list ∷ Position i ∷ []
+
+abbrev pub in_batch : ℕ → ℕ → List Leg
+in_batch q b = entry (codes "queues") q ++ entry (codes "batches") b
+
+abbrev pub path_of : Place → List Leg
+path_of at.Whole = []
+path_of at.Queues = Member (codes "queues") ∷ []
+path_of at.Memories = Member (codes "memories") ∷ []
+path_of at.Pieces = Member (codes "pieces") ∷ []
+path_of at.Readbacks = Member (codes "readbacks") ∷ []
+path_of (at.Memory i) = entry (codes "memories") i
+path_of (at.Piece i) = entry (codes "pieces") i
+path_of (at.Wait q b k) = in_batch q b ++ entry (codes "waits") k
+path_of (at.Item q b k) = in_batch q b ++ entry (codes "items") k
+path_of (at.Signal q b) = in_batch q b ++ Member (codes "signal") ∷ []
+path_of (at.Readback k) = entry (codes "readbacks") k
+
+-- as it is told: with the path of its place
+abbrev pub told : Broken → SubFault
+told b = record { number = b.number; limit = b.limit; place = path_of b.place }

@@ -1,0 +1,21 @@
+//! Programs: submissions to queues that nobody here wrote, and what can be wrong with them.
+#![tactic(auto)]
+
+mod barriers;
+mod fault;
+mod limits;
+mod nodes;
+mod numbers;
+mod path;
+mod place;
+mod program;
+mod range;
+mod rule;
+mod shaped;
+mod walk;
+
+pub use fault::SubFault;
+pub use fg_base::{Limit, Path};
+pub use nodes::NodeAt;
+pub use program::{Batch, Item, Memory, Piece, Program, Queue, Signal, Transfer, WaitFor};
+pub use shaped::{ShapeEnd, Shaped, shape};

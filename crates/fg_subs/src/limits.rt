@@ -1,0 +1,254 @@
+//! The limits of a program.
+
+ghost use Rattle.std.specs.Prelude.{◌≡◌, ◌+◌, ◌<◌, not, nat_le, IfSome, IfNone, length};
+ghost use Rattle.std.specs.List.{position};
+ghost use Rattle.fg_subs.specs.Counts.{batch_count, batches_count, queues_count};
+ghost use Rattle.fg_subs.specs.Limits.{over, sides_allowed, size_allowed, rect_count, rects_of, spend_item, spend_batch, spend_queue, spend_memory, rects_over, bytes_over, count_broken, size_broken, limit_broken};
+ghost use Rattle.fg_subs.specs.Nodes.{nodes_of};
+ghost use Rattle.fg_subs.specs.Places.{spend_in};
+
+use crate::place::{Broken, Place};
+use crate::range::memory_bytes;
+use crate::{Batch, Item, Memory, Piece, Program, Queue};
+use fg_base::{Limit, Op, Shape};
+
+fn over(limit: Limit, place: Place) -> Broken
+    ensures { result ≡ over limit place }
+{
+    Broken {
+        number: 1,
+        limit: Some(limit),
+        place,
+    }
+}
+
+fn sides_allowed(shape: Shape) -> bool
+    ensures { result ≡ sides_allowed shape }
+{
+    match shape {
+        Shape::Buffer { .. } => true,
+        Shape::Image { width, height, .. } => {
+            1 <= width && width <= 4096 && (1 <= height && height <= 4096)
+        }
+    }
+}
+
+fn wrong_sides(pieces: &[Piece]) -> Option<usize>
+    ensures { result ≡ position (λ piece. not (sides_allowed piece.shape)) pieces.now }
+{
+    pieces.iter().position(|piece| !sides_allowed(piece.shape))
+}
+
+fn size_allowed(shape: Shape) -> bool
+    ensures { result ≡ size_allowed shape }
+{
+    let bytes = shape.bytes();
+    1 <= bytes && bytes <= 16_777_216
+}
+
+fn wrong_size(pieces: &[Piece]) -> Option<usize>
+    ensures { result ≡ position (λ piece. not (size_allowed piece.shape)) pieces.now }
+{
+    pieces.iter().position(|piece| !size_allowed(piece.shape))
+}
+
+fn rect_count(op: &Op<u32>) -> usize
+    ensures { result ≡ rect_count op.now }
+{
+    match op {
+        Op::Draw { rects, .. } => rects.len(),
+        _ => 0,
+    }
+}
+
+fn rects_of(item: &Item) -> usize
+    ensures { result ≡ rects_of item.now }
+{
+    match item {
+        Item::Command(op) => rect_count(op),
+        _ => 0,
+    }
+}
+
+fn spend_item(q: usize, b: usize, room: usize, k: usize, item: &Item) -> Result<usize, Place>
+    ensures { result ≡ spend_item q b room k item.now }
+{
+    let count = rects_of(item);
+    if room < count {
+        Err(Place::Item(q, b, k))
+    } else {
+        Ok(room - count)
+    }
+}
+
+#[tactic(auto, using(crate::proofs::Spending::spend_on, crate::proofs::Spending::spent_at))]
+fn spend_batch(q: usize, room: usize, b: usize, batch: &Batch) -> Result<usize, Place>
+    ensures { result ≡ spend_batch q room b batch.now }
+{
+    let mut left = room;
+    for (k, item) in batch.items.iter().enumerate() {
+        match spend_item(q, b, left, k, item) {
+            Ok(rest) => left = rest,
+            Err(place) => return Err(place),
+        }
+    }
+    Ok(left)
+}
+
+#[tactic(auto, using(crate::proofs::Spending::spend_on, crate::proofs::Spending::spent_at))]
+fn spend_queue(room: usize, q: usize, queue: &Queue) -> Result<usize, Place>
+    ensures { result ≡ spend_queue room q queue.now }
+{
+    let mut left = room;
+    for (b, batch) in queue.batches.iter().enumerate() {
+        match spend_batch(q, left, b, batch) {
+            Ok(rest) => left = rest,
+            Err(place) => return Err(place),
+        }
+    }
+    Ok(left)
+}
+
+#[tactic(auto, using(crate::proofs::Spending::spend_on, crate::proofs::Spending::spent_at))]
+fn rects_over(queues: &[Queue]) -> Option<Place>
+    ensures { result ≡ rects_over queues.now }
+{
+    let mut left = 4096;
+    for (q, queue) in queues.iter().enumerate() {
+        match spend_queue(left, q, queue) {
+            Ok(rest) => left = rest,
+            Err(place) => return Some(place),
+        }
+    }
+    None
+}
+
+fn spend_memory(room: u128, i: usize, memory: &Memory) -> Result<u128, Place>
+    ensures { result ≡ spend_memory room i memory.now }
+{
+    let bytes = memory_bytes(memory);
+    if room < bytes {
+        Err(Place::Memory(i))
+    } else {
+        Ok(room - bytes)
+    }
+}
+
+#[tactic(auto, using(crate::proofs::Spending::spend_on, crate::proofs::Spending::spent_at))]
+fn bytes_over(memories: &[Memory]) -> Option<Place>
+    ensures { result ≡ bytes_over memories.now }
+{
+    let mut left = 805_306_368;
+    for (i, memory) in memories.iter().enumerate() {
+        match spend_memory(left, i, memory) {
+            Ok(rest) => left = rest,
+            Err(place) => return Some(place),
+        }
+    }
+    None
+}
+
+// What the nodes of a batch leave of a room, where it lasts.
+fn after_batch(room: usize, batch: &Batch) -> Option<usize>
+    ensures some { IfSome result (λ left. left + batch_count batch.now ≡ room) }
+    ensures none { IfNone result (room < batch_count batch.now) }
+{
+    let waits = batch.waits.len();
+    let items = batch.items.len();
+    let signals = if batch.signal.is_some() { 1 } else { 0 };
+    if room < waits || room - waits < items || room - waits - items < signals {
+        return None;
+    }
+    Some(room - waits - items - signals)
+}
+
+#[tactic(auto, using(crate::proofs::Counting::batches_on))]
+fn after_batches(room: usize, batches: &[Batch]) -> Option<usize>
+    ensures some { IfSome result (λ left. left + batches_count batches.now ≡ room) }
+    ensures none { IfNone result (room < batches_count batches.now) }
+{
+    let mut left = room;
+    for batch in batches {
+        match after_batch(left, batch) {
+            Some(rest) => left = rest,
+            None => return None,
+        }
+    }
+    Some(left)
+}
+
+#[tactic(auto, using(crate::proofs::Counting::queues_on))]
+fn after_queues(room: usize, queues: &[Queue]) -> Option<usize>
+    ensures some { IfSome result (λ left. left + queues_count queues.now ≡ room) }
+    ensures none { IfNone result (room < queues_count queues.now) }
+{
+    let mut left = room;
+    for queue in queues {
+        match after_batches(left, &queue.batches) {
+            Some(rest) => left = rest,
+            None => return None,
+        }
+    }
+    Some(left)
+}
+
+#[tactic(auto, using(crate::proofs::Counting::nodes_count))]
+fn nodes_fit(program: &Program) -> bool
+    ensures { result ≡ nat_le (length (nodes_of program.now)) 20000 }
+{
+    match after_queues(20_000, &program.queues) {
+        Some(left) => program.readbacks.len() <= left,
+        None => false,
+    }
+}
+
+// The limits on what stands in the lists.
+fn count_broken(program: &Program) -> Option<Broken>
+    ensures { result ≡ count_broken program.now }
+{
+    if program.queues.len() < 1 || program.queues.len() > 4 {
+        return Some(over(Limit::Queues, Place::Queues));
+    }
+    if program.memories.len() > 512 {
+        return Some(over(Limit::Memories, Place::Memories));
+    }
+    if program.pieces.len() > 512 {
+        return Some(over(Limit::Pieces, Place::Pieces));
+    }
+    if !nodes_fit(program) {
+        return Some(over(Limit::Nodes, Place::Whole));
+    }
+    if let Some(place) = rects_over(&program.queues) {
+        return Some(over(Limit::Rects, place));
+    }
+    if program.readbacks.len() > 32 {
+        return Some(over(Limit::Readbacks, Place::Readbacks));
+    }
+    None
+}
+
+// The limits on each piece and on the bytes of all memories.
+fn size_broken(program: &Program) -> Option<Broken>
+    ensures { result ≡ size_broken program.now }
+{
+    if let Some(i) = wrong_sides(&program.pieces) {
+        return Some(over(Limit::Side, Place::Piece(i)));
+    }
+    if let Some(i) = wrong_size(&program.pieces) {
+        return Some(over(Limit::Size, Place::Piece(i)));
+    }
+    match bytes_over(&program.memories) {
+        Some(place) => Some(over(Limit::Total, place)),
+        None => None,
+    }
+}
+
+/// The first limit that is broken.
+pub(crate) fn limit_broken(program: &Program) -> Option<Broken>
+    ensures { result ≡ limit_broken program.now }
+{
+    if let Some(broken) = count_broken(program) {
+        return Some(broken);
+    }
+    size_broken(program)
+}

@@ -1,0 +1,30 @@
+//! Where a program breaks a rule, by positions.
+
+use fg_base::Limit;
+
+/// A place in a program.
+#[derive(Clone, Copy, Debug, PartialEq, Eq)]
+pub enum Place {
+    Whole,
+    Queues,
+    Memories,
+    Pieces,
+    Readbacks,
+    Memory(usize),
+    Piece(usize),
+    /// A wait of a batch of a queue.
+    Wait(usize, usize, usize),
+    /// An item of a batch of a queue.
+    Item(usize, usize, usize),
+    /// The signal of a batch of a queue.
+    Signal(usize, usize),
+    Readback(usize),
+}
+
+/// The first broken rule, with its place by positions.
+#[derive(Clone, Copy, Debug, PartialEq, Eq)]
+pub struct Broken {
+    pub number: u8,
+    pub limit: Option<Limit>,
+    pub place: Place,
+}

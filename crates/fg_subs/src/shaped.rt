@@ -1,0 +1,186 @@
+//! Programs that break no rule.
+
+ghost use Rattle.std.specs.Prelude.{◌≡◌, ◌<◌, IfOk, IfErr, length, None, Some, map, slice_get};
+ghost use Rattle.fg_subs.specs.FirstFault.{broken, rule_broken, form_broken, use_broken, rules_broken, first_broken, first_fault, Ends};
+ghost use Rattle.fg_subs.specs.Nodes.{nodes_of};
+ghost use Rattle.fg_subs.specs.Rules.{shapes_of};
+
+use crate::limits::limit_broken;
+use crate::nodes::nodes_of;
+use crate::path::told;
+use crate::place::{Broken, Place};
+use crate::rule::Rule;
+use crate::walk::broken_at;
+use crate::{NodeAt, Piece, Program, SubFault};
+use fg_base::{List, NoMemory, Shape};
+use std::alloc::Global;
+use std::marker::Model;
+
+/// A program that breaks no rule, with its nodes in the order of their numbers: queue by queue in the order of submission,
+/// and then the host reads.
+#[derive(Debug, Drop)]
+pub struct Shaped {
+    program: Program,
+    nodes: List<NodeAt>,
+}
+
+impl Model for Shaped {
+    ghost use Rattle.std.specs.Prelude.{◌≡◌, None};
+    ghost use Rattle.fg_subs.specs.FirstFault.{first_broken};
+    ghost use Rattle.fg_subs.specs.Nodes.{nodes_of};
+    ghost use Rattle.fg_subs.specs.declared.program.Program.{Program};
+
+    ghost Value = { Program };
+
+    ghost view = { λ s. s.program };
+
+    ghost invariant = { λ s. (first_broken s.program ≡ None) × (s.nodes ≡ nodes_of s.program) };
+}
+
+/// Why a program was not taken, and the program itself.
+#[derive(Debug, Drop)]
+pub enum ShapeEnd {
+    Refused(SubFault, Program),
+    NoMemory(Program),
+}
+
+fn broken(rule: Rule, place: Place) -> Broken
+    ensures { result ≡ broken rule place }
+{
+    Broken {
+        number: rule.number(),
+        limit: None,
+        place,
+    }
+}
+
+fn rule_broken(rule: Rule, program: &Program, shapes: &[Shape]) -> Option<Broken>
+    ensures { result ≡ rule_broken rule program.now shapes.now }
+{
+    match broken_at(rule, program, shapes) {
+        Some(place) => Some(broken(rule, place)),
+        None => None,
+    }
+}
+
+// The rules that numbers 2 to 5 stand for.
+fn form_broken(program: &Program, shapes: &[Shape]) -> Option<Broken>
+    ensures { result ≡ form_broken program.now shapes.now }
+{
+    if let Some(broken) = rule_broken(Rule::Range, program, shapes) {
+        return Some(broken);
+    }
+    if let Some(broken) = rule_broken(Rule::Known, program, shapes) {
+        return Some(broken);
+    }
+    if let Some(broken) = rule_broken(Rule::Stages, program, shapes) {
+        return Some(broken);
+    }
+    rule_broken(Rule::Ignored, program, shapes)
+}
+
+// The rules that numbers 6 to 9 stand for.
+fn use_broken(program: &Program, shapes: &[Shape]) -> Option<Broken>
+    ensures { result ≡ use_broken program.now shapes.now }
+{
+    if let Some(broken) = rule_broken(Rule::Supported, program, shapes) {
+        return Some(broken);
+    }
+    if let Some(broken) = rule_broken(Rule::OnQueue, program, shapes) {
+        return Some(broken);
+    }
+    if let Some(broken) = rule_broken(Rule::Runs, program, shapes) {
+        return Some(broken);
+    }
+    rule_broken(Rule::Timeline, program, shapes)
+}
+
+fn rules_broken(program: &Program, shapes: &[Shape]) -> Option<Broken>
+    ensures { result ≡ rules_broken program.now shapes.now }
+{
+    if let Some(broken) = form_broken(program, shapes) {
+        return Some(broken);
+    }
+    use_broken(program, shapes)
+}
+
+fn shapes_of(alloc: Global, pieces: &[Piece]) -> Result<List<Shape>, NoMemory>
+    ensures { IfOk result (λ shapes. shapes ≡ map (λ piece. piece.shape) pieces.now) }
+{
+    let mut shapes = List::new(alloc);
+    for piece in pieces {
+        shapes.push(piece.shape)?;
+    }
+    Ok(shapes)
+}
+
+// The limits come first, so that the shapes are few.
+fn first_broken(alloc: Global, program: &Program) -> Result<Option<Broken>, NoMemory>
+    ensures { IfOk result (λ found. found ≡ first_broken program.now) }
+{
+    if let Some(broken) = limit_broken(program) {
+        return Ok(Some(broken));
+    }
+    let shapes = shapes_of(alloc, &program.pieces)?;
+    Ok(rules_broken(program, &shapes))
+}
+
+/// The program with its nodes numbered, or the first rule that it breaks.
+pub fn shape(alloc: Global, program: Program) -> Result<Shaped, ShapeEnd>
+    ensures shaped { IfOk result (λ shaped. (shaped ≡ program) × (first_fault program ≡ None)) }
+    ensures refused { IfErr result (λ end. Ends program end) }
+{
+    match first_broken(alloc, &program) {
+        Ok(None) => numbered(alloc, program),
+        Ok(Some(broken)) => match told(alloc, broken) {
+            Ok(fault) => Err(ShapeEnd::Refused(fault, program)),
+            Err(NoMemory) => Err(ShapeEnd::NoMemory(program)),
+        },
+        Err(NoMemory) => Err(ShapeEnd::NoMemory(program)),
+    }
+}
+
+fn numbered(alloc: Global, program: Program) -> Result<Shaped, ShapeEnd>
+    requires { first_broken program ≡ None }
+    ensures shaped { IfOk result (λ shaped. shaped ≡ program) }
+    ensures refused { IfErr result (λ end. Ends program end) }
+{
+    match nodes_of(alloc, &program) {
+        Ok(nodes) => Ok(Shaped { program, nodes }),
+        Err(NoMemory) => Err(ShapeEnd::NoMemory(program)),
+    }
+}
+
+impl Shaped {
+    pub fn program(&self) -> &Program
+        ensures program { result.now ≡ self.now }
+        ensures shaped { first_fault self.now ≡ None }
+    {
+        &self.program
+    }
+
+    /// The program that was shaped.
+    pub fn into_program(self) -> Program
+        ensures program { result ≡ self }
+        ensures shaped { first_fault self ≡ None }
+    {
+        let Shaped { program, .. } = self;
+        program
+    }
+
+    /// The number of nodes.
+    #[tactic(auto, using(crate::proofs::Few::few_nodes))]
+    pub fn node_count(&self) -> u32
+        ensures { result ≡ length (nodes_of self.now) }
+    {
+        self.nodes.len() as u32
+    }
+
+    /// The node with the number `n`.
+    pub fn node(&self, n: u32) -> NodeAt
+        requires { n < length (nodes_of self.now) }
+        ensures { slice_get (nodes_of self.now) n ≡ Some result }
+    {
+        self.nodes[n as usize]
+    }
+}
