@@ -1,27 +1,33 @@
--- A program that breaks no rule has few nodes.
-use Rattle.std.proofs.Common.{◌≡◌, ◌≤◌, ℕ, Bool, true, false, nat_le, Option, Some, None, length, if◌then◌else◌, refl}
+-- A program that breaks no rule is small.
+use Rattle.std.proofs.Common.{◌≡◌, ◌≤◌, ◌+◌, ◌-◌, ℕ, suc, Bool, true, false, nat_le, nat_lt, not, List, [], ◌∷◌, Option, Some, None, Ok, Err, length, ◌&&◌, if◌then◌else◌, refl, arith}
+use Rattle.std.specs.List.{position}
 use Rattle.std.specs.Option.{option_or, option_map}
-use Rattle.std.proofs.lemmas.Bool.{leb-true}
+use Rattle.std.proofs.lemmas.Bool.{leb-true, ltb-false, and_parts}
 use Rattle.fg_base.specs.declared.limit.Limit.TheVariants as limits
+use Rattle.fg_subs.proofs.Absence.{or_first, or_second, map_none, has_it, all_pass}
 use Rattle.fg_subs.specs.FirstFault.{first_broken, rules_broken}
-use Rattle.fg_subs.specs.Limits.{over, is_between, rects_over, count_broken, size_broken, limit_broken}
+use Rattle.fg_subs.specs.Kept.{IsSmall}
+use Rattle.fg_subs.specs.Limits.{over, is_between, sides_allowed, size_allowed, memory_bytes, all_bytes, spend_memory, rects_over, bytes_over, count_broken, size_broken, limit_broken}
 use Rattle.fg_subs.specs.Nodes.{nodes_of}
+use Rattle.fg_subs.specs.Places.{go_on, spend_in, not_lasting}
 use Rattle.fg_subs.specs.Rules.{shapes_of}
 use Rattle.fg_subs.specs.declared.place.Broken.{Broken}
+use Rattle.fg_subs.specs.declared.place.Place.{Place}
 use Rattle.fg_subs.specs.declared.place.Place.TheVariants as at
+use Rattle.fg_subs.specs.declared.program.Memory.{Memory}
 use Rattle.fg_subs.specs.declared.program.Program.{Program}
 
-pub or_first : {X : Type 0} (a b : Option X) → option_or a b ≡ None → a ≡ None
-or_first None b e = refl
-or_first (Some x) b e = absurd cc
-
-pub or_second : {X : Type 0} (a b : Option X) → option_or a b ≡ None → b ≡ None
-or_second None b e = e
-or_second (Some x) b e = absurd cc
-
-has_it : {X : Type 0} (t : Bool) (x : X) → (if t then None else Some x) ≡ None → t ≡ true
-has_it true x e = refl
-has_it false x e = absurd cc
+-- what lasts is at most the room
+lasts : (memories : List Memory) (room i : ℕ) → not_lasting (spend_in spend_memory room i memories) ≡ None → all_bytes memories ≤ room
+lasts [] room i none = omega arith
+lasts (m ∷ ms) room i none = by_test (nat_lt room (memory_bytes m)) refl none (λ left. lasts ms (room - memory_bytes m) (suc i) left)
+  where
+    by_test : (b : Bool) → nat_lt room (memory_bytes m) ≡ b → not_lasting (go_on (λ left. spend_in spend_memory left (suc i) ms) (if b then Err (at.Memory i) else Ok (room - memory_bytes m))) ≡ None → (not_lasting (spend_in spend_memory (room - memory_bytes m) (suc i) ms) ≡ None → all_bytes ms ≤ room - memory_bytes m) → memory_bytes m + all_bytes ms ≤ room
+    by_test true e none more = absurd cc
+    by_test false e none more =
+        let fits : memory_bytes m ≤ room = ltb-false room (memory_bytes m) e in
+        let rest = more none in
+        omega arith
 
 -- the limits one after another
 module _ (program : Program) (none : first_broken program ≡ None) where
@@ -37,20 +43,60 @@ module _ (program : Program) (none : first_broken program ≡ None) where
   abbrev nodes : Option Broken
   nodes = if nat_le (length (nodes_of program)) 20000 then None else Some (over limits.Nodes at.Whole)
 
-  abbrev rest : Option Broken
-  rest = option_or (option_map (over limits.Rects) (rects_over program.queues)) (if nat_le (length program.readbacks) 32 then None else Some (over limits.Readbacks at.Readbacks))
+  abbrev rects : Option Broken
+  rects = option_map (over limits.Rects) (rects_over program.queues)
+
+  abbrev readbacks : Option Broken
+  readbacks = if nat_le (length program.readbacks) 32 then None else Some (over limits.Readbacks at.Readbacks)
+
+  abbrev sides : Option Broken
+  sides = option_map (λ i. over limits.Side (at.Piece i)) (position (λ piece. not (sides_allowed piece.shape)) program.pieces)
+
+  abbrev sizes : Option Broken
+  sizes = option_map (λ i. over limits.Size (at.Piece i)) (position (λ piece. not (size_allowed piece.shape)) program.pieces)
+
+  abbrev bytes : Option Broken
+  bytes = option_map (over limits.Total) (bytes_over program.memories)
+
+  no_limit : limit_broken program ≡ None
+  no_limit = or_first (limit_broken program) (rules_broken program (shapes_of program)) none
 
   counts : count_broken program ≡ None
-  counts = or_first (count_broken program) (size_broken program) (or_first (limit_broken program) (rules_broken program (shapes_of program)) none)
+  counts = or_first (count_broken program) (size_broken program) no_limit
 
-  after_queues : option_or memories (option_or pieces (option_or nodes rest)) ≡ None
-  after_queues = or_second queues (option_or memories (option_or pieces (option_or nodes rest))) counts
+  small : size_broken program ≡ None
+  small = or_second (count_broken program) (size_broken program) no_limit
 
-  after_memories : option_or pieces (option_or nodes rest) ≡ None
-  after_memories = or_second memories (option_or pieces (option_or nodes rest)) after_queues
+  after_queues : option_or memories (option_or pieces (option_or nodes (option_or rects readbacks))) ≡ None
+  after_queues = or_second queues (option_or memories (option_or pieces (option_or nodes (option_or rects readbacks)))) counts
 
-  nodes_none : nodes ≡ None
-  nodes_none = or_first nodes rest (or_second pieces (option_or nodes rest) after_memories)
+  after_memories : option_or pieces (option_or nodes (option_or rects readbacks)) ≡ None
+  after_memories = or_second memories (option_or pieces (option_or nodes (option_or rects readbacks))) after_queues
 
-  pub few_nodes : length (nodes_of program) ≤ 20000
-  few_nodes = leb-true (length (nodes_of program)) 20000 (has_it (nat_le (length (nodes_of program)) 20000) (over limits.Nodes at.Whole) nodes_none)
+  after_pieces : option_or nodes (option_or rects readbacks) ≡ None
+  after_pieces = or_second pieces (option_or nodes (option_or rects readbacks)) after_memories
+
+  after_nodes : option_or rects readbacks ≡ None
+  after_nodes = or_second nodes (option_or rects readbacks) after_pieces
+
+  after_sides : option_or sizes bytes ≡ None
+  after_sides = or_second sides (option_or sizes bytes) small
+
+  between : (nat_le 1 (length program.queues) ≡ true) × (nat_le (length program.queues) 4 ≡ true)
+  between = and_parts (nat_le 1 (length program.queues)) (nat_le (length program.queues) 4) (has_it (is_between 1 4 (length program.queues)) (over limits.Queues at.Queues) (or_first queues (option_or memories (option_or pieces (option_or nodes (option_or rects readbacks)))) counts))
+
+  pub is_small : IsSmall program
+  is_small = record {
+    some_queue = leb-true 1 (length program.queues) between.0;
+    queues = leb-true (length program.queues) 4 between.1;
+    memories = leb-true (length program.memories) 512 (has_it (nat_le (length program.memories) 512) (over limits.Memories at.Memories) (or_first memories (option_or pieces (option_or nodes (option_or rects readbacks))) after_queues));
+    pieces = leb-true (length program.pieces) 512 (has_it (nat_le (length program.pieces) 512) (over limits.Pieces at.Pieces) (or_first pieces (option_or nodes (option_or rects readbacks)) after_memories));
+    nodes = leb-true (length (nodes_of program)) 20000 (has_it (nat_le (length (nodes_of program)) 20000) (over limits.Nodes at.Whole) (or_first nodes (option_or rects readbacks) after_pieces));
+    readbacks = leb-true (length program.readbacks) 32 (has_it (nat_le (length program.readbacks) 32) (over limits.Readbacks at.Readbacks) (or_second rects readbacks after_nodes));
+    sides = all_pass (λ piece. sides_allowed piece.shape) program.pieces (map_none (λ i. over limits.Side (at.Piece i)) (position (λ piece. not (sides_allowed piece.shape)) program.pieces) (or_first sides (option_or sizes bytes) small));
+    sizes = all_pass (λ piece. size_allowed piece.shape) program.pieces (map_none (λ i. over limits.Size (at.Piece i)) (position (λ piece. not (size_allowed piece.shape)) program.pieces) (or_first sizes bytes after_sides));
+    bytes = lasts program.memories 805306368 0 (map_none (over limits.Total) (bytes_over program.memories) (or_second sizes bytes after_sides));
+  }
+
+pub few_nodes : (program : Program) → first_broken program ≡ None → length (nodes_of program) ≤ 20000
+few_nodes program none = (is_small program none).nodes

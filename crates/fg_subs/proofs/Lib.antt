@@ -1,7 +1,10 @@
+pub mod Absence
 pub mod Counting
 pub mod Few
 pub mod Growing
+pub mod Keeping
 pub mod Peaks
 pub mod Spending
+pub mod Standing
 pub mod Walks
 pub mod Within

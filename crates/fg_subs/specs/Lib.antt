@@ -2,6 +2,7 @@ pub mod Barriers
 pub mod Counts
 pub mod Faults
 pub mod FirstFault
+pub mod Kept
 pub mod Limits
 pub mod Nodes
 pub mod Numbers

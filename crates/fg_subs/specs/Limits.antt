@@ -1,5 +1,5 @@
 -- What a program may have at most.
-use Rattle.std.specs.Prelude.{ℕ, List, length, ◌-◌, ◌&&◌, nat_le, nat_lt, not, Bool, true, Option, Some, None, Ok, Err, if◌then◌else◌}
+use Rattle.std.specs.Prelude.{ℕ, List, [], ◌∷◌, ◌+◌, length, ◌-◌, ◌&&◌, nat_le, nat_lt, not, Bool, true, Option, Some, None, Ok, Err, if◌then◌else◌}
 use Rattle.std.specs.List.{position}
 use Rattle.std.specs.Option.{option_or, option_map}
 use Rattle.fg_base.specs.Shapes.{bytes_of}
@@ -41,6 +41,11 @@ size_allowed shape = is_between 1 16777216 (bytes_of shape)
 abbrev pub memory_bytes : Memory → ℕ
 memory_bytes (Plain size) = size
 memory_bytes (Import bytes) = length bytes
+
+-- of all memories together
+abbrev pub all_bytes : List Memory → ℕ
+all_bytes [] = 0
+all_bytes (memory ∷ memories) = memory_bytes memory + all_bytes memories
 
 abbrev pub rect_count : {R : Type 0} → Op R → ℕ
 rect_count (Draw dst clear rects) = length rects

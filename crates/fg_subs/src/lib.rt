@@ -19,3 +19,10 @@ pub use fg_base::{Limit, Path};
 pub use nodes::NodeAt;
 pub use program::{Batch, Item, Memory, Piece, Program, Queue, Signal, Transfer, WaitFor};
 pub use shaped::{ShapeEnd, Shaped, shape};
+
+#[cfg(test)]
+mod limit_tests;
+#[cfg(test)]
+mod queue_tests;
+#[cfg(test)]
+mod tests;

@@ -2,8 +2,10 @@
 
 ghost use Rattle.std.specs.Prelude.{◌≡◌, ◌<◌, IfOk, IfErr, length, None, Some, map, slice_get};
 ghost use Rattle.fg_subs.specs.FirstFault.{broken, rule_broken, form_broken, use_broken, rules_broken, first_broken, first_fault, Ends};
+ghost use Rattle.fg_subs.specs.Kept.{IsNode, IsSmall, Keeps};
 ghost use Rattle.fg_subs.specs.Nodes.{nodes_of};
 ghost use Rattle.fg_subs.specs.Rules.{shapes_of};
+ghost use Rattle.fg_subs.specs.declared.rule.Rule.{Rule};
 
 use crate::limits::limit_broken;
 use crate::nodes::nodes_of;
@@ -152,9 +154,12 @@ fn numbered(alloc: Global, program: Program) -> Result<Shaped, ShapeEnd>
 }
 
 impl Shaped {
+    #[tactic(auto, using(crate::proofs::Few::is_small))]
     pub fn program(&self) -> &Program
         ensures program { result.now ≡ self.now }
         ensures shaped { first_fault self.now ≡ None }
+        ensures small { IsSmall self.now }
+        ensures keeps { (rule : Rule) → Keeps rule self.now }
     {
         &self.program
     }
@@ -179,7 +184,8 @@ impl Shaped {
     /// The node with the number `n`.
     pub fn node(&self, n: u32) -> NodeAt
         requires { n < length (nodes_of self.now) }
-        ensures { slice_get (nodes_of self.now) n ≡ Some result }
+        ensures node { slice_get (nodes_of self.now) n ≡ Some result }
+        ensures stands { IsNode self.now result }
     {
         self.nodes[n as usize]
     }

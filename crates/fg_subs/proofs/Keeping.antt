@@ -1,0 +1,99 @@
+-- A program that breaks no rule keeps each.
+use Rattle.std.proofs.Common.{◌≡◌, ℕ, ◌+◌, List, length, slice_get, take, not, true, Bool, Option, None, Some, IfSome, refl, sym, ap, ◌∙◌, subst, arith, if◌then◌else◌}
+use Rattle.std.specs.List.{position}
+use Rattle.std.specs.Option.{option_or, option_map}
+use Rattle.fg_base.specs.declared.shape.Family.{Family}
+use Rattle.fg_base.specs.declared.shape.Shape.{Shape}
+use Rattle.fg_subs.proofs.Absence.{or_first, or_second, map_none, has_it, all_pass, none_from}
+use Rattle.fg_subs.specs.FirstFault.{broken, rule_broken, form_broken, use_broken, rules_broken, first_broken}
+use Rattle.fg_subs.specs.Kept.{BatchKeeps, BatchAt, Keeps}
+use Rattle.fg_subs.specs.Limits.{limit_broken}
+use Rattle.fg_subs.specs.Places.{first_in}
+use Rattle.fg_subs.specs.Rules.{piece_keeps, wait_keeps, item_keeps, signal_keeps, readback_keeps, signal_place, batch_place, next_place, queue_place, broken_at, shapes_of}
+use Rattle.fg_subs.specs.Timelines.{highest}
+use Rattle.fg_subs.specs.declared.place.Broken.{Broken}
+use Rattle.fg_subs.specs.declared.place.Place.{Place}
+use Rattle.fg_subs.specs.declared.place.Place.TheVariants as at
+use Rattle.fg_subs.specs.declared.program.Batch.{Batch}
+use Rattle.fg_subs.specs.declared.program.Program.{Program}
+use Rattle.fg_subs.specs.declared.program.Queue.{Queue}
+use Rattle.fg_subs.specs.declared.program.Signal.{Signal}
+use Rattle.fg_subs.specs.declared.rule.Rule.{Rule}
+use Rattle.fg_subs.specs.declared.rule.Rule.TheVariants as rules
+
+-- EACH RULE BY ITSELF
+
+module _ (program : Program) (none : first_broken program ≡ None) where
+  abbrev by : Rule → Option Broken
+  by rule = rule_broken rule program (shapes_of program)
+
+  all_none : rules_broken program (shapes_of program) ≡ None
+  all_none = or_second (limit_broken program) (rules_broken program (shapes_of program)) none
+
+  form_none : form_broken program (shapes_of program) ≡ None
+  form_none = or_first (form_broken program (shapes_of program)) (use_broken program (shapes_of program)) all_none
+
+  use_none : use_broken program (shapes_of program) ≡ None
+  use_none = or_second (form_broken program (shapes_of program)) (use_broken program (shapes_of program)) all_none
+
+  after_range : option_or (by rules.Known) (option_or (by rules.Stages) (by rules.Ignored)) ≡ None
+  after_range = or_second (by rules.Range) (option_or (by rules.Known) (option_or (by rules.Stages) (by rules.Ignored))) form_none
+
+  after_known : option_or (by rules.Stages) (by rules.Ignored) ≡ None
+  after_known = or_second (by rules.Known) (option_or (by rules.Stages) (by rules.Ignored)) after_range
+
+  after_supported : option_or (by rules.OnQueue) (option_or (by rules.Runs) (by rules.Timeline)) ≡ None
+  after_supported = or_second (by rules.Supported) (option_or (by rules.OnQueue) (option_or (by rules.Runs) (by rules.Timeline))) use_none
+
+  after_on_queue : option_or (by rules.Runs) (by rules.Timeline) ≡ None
+  after_on_queue = or_second (by rules.OnQueue) (option_or (by rules.Runs) (by rules.Timeline)) after_supported
+
+  each_none : (rule : Rule) → by rule ≡ None
+  each_none rules.Range = or_first (by rules.Range) (option_or (by rules.Known) (option_or (by rules.Stages) (by rules.Ignored))) form_none
+  each_none rules.Known = or_first (by rules.Known) (option_or (by rules.Stages) (by rules.Ignored)) after_range
+  each_none rules.Stages = or_first (by rules.Stages) (by rules.Ignored) after_known
+  each_none rules.Ignored = or_second (by rules.Stages) (by rules.Ignored) after_known
+  each_none rules.Supported = or_first (by rules.Supported) (option_or (by rules.OnQueue) (option_or (by rules.Runs) (by rules.Timeline))) use_none
+  each_none rules.OnQueue = or_first (by rules.OnQueue) (option_or (by rules.Runs) (by rules.Timeline)) after_supported
+  each_none rules.Runs = or_first (by rules.Runs) (by rules.Timeline) after_on_queue
+  each_none rules.Timeline = or_second (by rules.Runs) (by rules.Timeline) after_on_queue
+
+  no_place : (rule : Rule) → broken_at rule program (shapes_of program) ≡ None
+  no_place rule = map_none (broken rule) (broken_at rule program (shapes_of program)) (each_none rule)
+
+-- EACH PART
+
+signal_passes : (rule : Rule) (family : Family) (reached q b : ℕ) (signal : Option Signal) → signal_place rule family reached q b signal ≡ None → IfSome signal (λ s. signal_keeps rule family reached s ≡ true)
+signal_passes rule family reached q b None none = tt
+signal_passes rule family reached q b (Some signal) none = has_it (signal_keeps rule family reached signal) (at.Signal q b) none
+
+batch_passes : (rule : Rule) (program : Program) (queue : Queue) (q b : ℕ) (batch : Batch) → batch_place rule (length program.queues) (shapes_of program) queue.family (highest (take b queue.batches)) q b batch ≡ None → BatchKeeps rule program queue b batch
+batch_passes rule program queue q b batch none =
+    let waits = position (λ wait. not (wait_keeps rule (length program.queues) queue.family wait)) batch.waits in
+    let items = position (λ item. not (item_keeps rule (shapes_of program) queue.family item)) batch.items in
+    let signal = signal_place rule queue.family (highest (take b queue.batches)) q b batch.signal in
+    let after = or_second (option_map (λ k. at.Wait q b k) waits) (option_or (option_map (λ k. at.Item q b k) items) signal) none in
+    record {
+      waits = all_pass (wait_keeps rule (length program.queues) queue.family) batch.waits (map_none (λ k. at.Wait q b k) waits (or_first (option_map (λ k. at.Wait q b k) waits) (option_or (option_map (λ k. at.Item q b k) items) signal) none));
+      items = all_pass (item_keeps rule (shapes_of program) queue.family) batch.items (map_none (λ k. at.Item q b k) items (or_first (option_map (λ k. at.Item q b k) items) signal after));
+      signal = signal_passes rule queue.family (highest (take b queue.batches)) q b batch.signal (or_second (option_map (λ k. at.Item q b k) items) signal after);
+    }
+
+pub keeps : (program : Program) → first_broken program ≡ None → (rule : Rule) → Keeps rule program
+keeps program none rule =
+    let shapes = shapes_of program in
+    let count = length program.queues in
+    let pieces = option_map (λ i. at.Piece i) (position (λ piece. not (piece_keeps rule program.memories piece)) program.pieces) in
+    let queues = first_in (queue_place rule count shapes) 0 program.queues in
+    let readbacks = option_map (λ k. at.Readback k) (position (λ piece. not (readback_keeps rule shapes piece)) program.readbacks) in
+    let all = no_place program none rule in
+    let after = or_second pieces (option_or queues readbacks) all in
+    let no_queue = or_first queues readbacks after in
+    record {
+      pieces = all_pass (piece_keeps rule program.memories) program.pieces (map_none (λ i. at.Piece i) (position (λ piece. not (piece_keeps rule program.memories piece)) program.pieces) (or_first pieces (option_or queues readbacks) all));
+      batches = λ q b queue batch there.
+          let in_queue : queue_place rule count shapes q queue ≡ None = none_from (queue_place rule count shapes) program.queues no_queue q queue there.queue_is in
+          let in_batch : next_place rule count shapes queue.family q queue.batches b batch ≡ None = none_from (next_place rule count shapes queue.family q queue.batches) queue.batches in_queue b batch there.batch_is in
+          batch_passes rule program queue q b batch in_batch;
+      readbacks = all_pass (readback_keeps rule shapes) program.readbacks (map_none (λ k. at.Readback k) (position (λ piece. not (readback_keeps rule shapes piece)) program.readbacks) (or_second queues readbacks after));
+    }
