@@ -156,6 +156,14 @@ fn printed(alloc: Global, path: &Path) -> Result<List<u8>, NoMemory> {
     Ok(text)
 }
 
+fn fault_of(end: Result<Shaped, ShapeEnd>) -> Option<SubFault> {
+    match end {
+        Ok(_shaped) => None,
+        Err(ShapeEnd::Refused(fault, _program)) => Some(fault),
+        Err(ShapeEnd::NoMemory(_program)) => None,
+    }
+}
+
 pub(crate) fn judge(
     rt: &impl Abort,
     alloc: Global,
@@ -164,13 +172,13 @@ pub(crate) fn judge(
     limit: Option<Limit>,
     place: &str,
 ) -> Result<(), NoMemory> {
-    match shape(alloc, program) {
-        Err(ShapeEnd::Refused(fault, _)) => {
+    match fault_of(shape(alloc, program)) {
+        Some(fault) => {
             assert_eq!(rt; fault.number, number, "{place}");
             assert_eq!(rt; fault.limit, limit, "{place}");
             assert_eq!(rt; printed(alloc, &fault.place)?.as_slice(), place.as_bytes());
         }
-        _ => assert!(rt; false, "{place}"),
+        None => assert!(rt; false, "{place}"),
     }
     Ok(())
 }
