@@ -197,7 +197,10 @@ fn faults(rt: HostRuntime) -> Result<(), Fail> {
 fn at_every_limit(rt: HostRuntime) -> Result<(), Fail> {
     let alloc = rt.alloc();
     match well_formed(alloc, full(&rt, alloc)?) {
-        Ok(good) => assert_eq!(rt; good.reads(255).len(), 256),
+        Ok(good) => {
+            assert_eq!(rt; good.pass_count(), 256);
+            assert_eq!(rt; good.reads(255).len(), 256);
+        }
         Err(_) => Err(NoMemory)?,
     }
     Ok(())
@@ -212,6 +215,8 @@ fn readers(rt: HostRuntime) -> Result<(), Fail> {
     let Ok(good) = well_formed(alloc, sketched(&rt, alloc, line)?) else {
         return Err(NoMemory)?;
     };
+    assert_eq!(rt; good.queue_count(), 2);
+    assert_eq!(rt; good.pass_count(), 2);
     assert_eq!(rt; good.unit_count(), 6);
     assert_eq!(rt; good.shapes().len(), 6);
     assert_eq!(rt; good.exports(), [4u32, 2, 3].as_slice());
