@@ -34,7 +34,7 @@ pub use function::cut;
 pub use halve::halve_rows;
 pub use histogram::count_texels;
 pub use map::map_rows;
-pub use painting::paint;
+pub use painting::{paint, paint_framed};
 pub use ramp::ramp_rows;
 pub use repainting::{Area, repaint};
 pub use select::select_rows;

@@ -1,4 +1,4 @@
-use Rattle.std.proofs.Common.{◌≡◌, ℕ, ◌<◌, ◌%◌, ◌^◌, take, ◌==◌, length}
+use Rattle.std.proofs.Common.{◌≡◌, ℕ, ◌<◌, ◌%◌, ◌^◌, take, ◌==◌}
 use Rattle.std.specs.Prelude.{slice_index, count_by}
 use Rattle.fg_pixels.proofs.histogram.counts_of.Given as goal
 

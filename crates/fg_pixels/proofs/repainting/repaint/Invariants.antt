@@ -1,5 +1,5 @@
-use Rattle.std.proofs.Common.{◌≡◌, ℕ, ◌+◌, ◌*◌, ◌%◌, ◌<◌}
-use Rattle.fg_base.specs.Texels.{modulus, texel_at, picture}
+use Rattle.std.proofs.Common.{ℕ}
+use Rattle.fg_base.specs.Texels.{picture}
 use Rattle.fg_pixels.specs.Closures.{ChangesOnly}
 use Rattle.fg_pixels.proofs.Numbers.{AreBytes}
 use Rattle.fg_pixels.proofs.Areas.{IsReached}
