@@ -1,13 +1,12 @@
 -- Rectangles that are changed texel by texel, row by row.
-use Rattle.std.proofs.Common.{◌≡◌, ◌≢◌, ℕ, ◌+◌, ◌*◌, ◌%◌, ◌<◌, ◌≤◌, Bool, true, false, cond, arith, refl, sym, ap, ◌∙◌, inl, inr, List, zero-add}
-use Rattle.std.specs.Prelude.{◌||◌, ◌&&◌, if◌then◌else◌}
-use Rattle.std.proofs.lemmas.Bool.{cases_eq, cond-true, cond-false}
+use Rattle.std.proofs.Common.{◌≡◌, ◌≢◌, ℕ, ◌+◌, ◌*◌, ◌%◌, ◌<◌, Bool, true, false, arith, sym, ap, ◌∙◌, inl, inr, List, zero-add}
+use Rattle.std.specs.Prelude.{◌||◌, if◌then◌else◌}
+use Rattle.std.proofs.lemmas.Bool.{cases_eq}
 use Rattle.std.proofs.lemmas.Bool.Decides.{nat_tests}
 use Rattle.std.proofs.lemmas.Nat.{same_from_place}
 use Rattle.fg_base.specs.Kernels.{is_inside}
 use Rattle.fg_base.specs.Texels.{modulus, texel_at, picture}
 use Rattle.fg_base.specs.declared.grid.Grid.{Grid}
-use Rattle.fg_base.specs.declared.shape.Texel.{Texel}
 use Rattle.fg_pixels.proofs.Numbers.{AreBytes, whole_texel}
 use Rattle.fg_pixels.proofs.Rows.{IsImage}
 use Rattle.fg_pixels.specs.declared.repainting.Area.{Area}

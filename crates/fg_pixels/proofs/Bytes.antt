@@ -1,10 +1,10 @@
 -- Four bytes written one after another.
-use Rattle.std.proofs.Common.{◌≡◌, ◌≢◌, ℕ, ◌+◌, ◌*◌, ◌<◌, ◌≤◌, List, length, get_or, arith, refl, sym, ◌∙◌, ap}
+use Rattle.std.proofs.Common.{◌≡◌, ◌≢◌, ℕ, ◌+◌, ◌*◌, ◌<◌, ◌≤◌, List, length, get_or, arith, refl, sym, ◌∙◌}
 use Rattle.std.proofs.Math.ListN.{set}
 use Rattle.std.proofs.lemmas.Grind.{common_steps}
 use Rattle.fg_base.specs.Texels.{texel_at}
-use Rattle.fg_base.specs.declared.shape.Texel.TheVariants.{R8, R32}
-use Rattle.fg_pixels.proofs.Numbers.{byte_is, word_is}
+use Rattle.fg_base.specs.declared.shape.Texel.TheVariants.{R32}
+use Rattle.fg_pixels.proofs.Numbers.{word_is}
 
 record IsFour (ys xs : List ℕ) (k a b c d : ℕ) : Type 0 where
   first : get_or ys k 0 ≡ a

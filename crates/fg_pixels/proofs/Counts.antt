@@ -1,11 +1,6 @@
 -- How often each number stands in a list.
-use Rattle.std.proofs.Common.{◌≡◌, ◌≢◌, ℕ, ◌+◌, ◌%◌, ◌^◌, ◌<◌, List, Bool, true, false, length, get_or, take, cond, replicate, refl, sym, ap, ◌∙◌, arith, inl, inr, Fits, w32}
-use Rattle.std.proofs.Math.ListN.{set}
-use Rattle.std.specs.Prelude.{◌==◌, count_by, if◌then◌else◌}
-use Rattle.std.proofs.lemmas.Bool.{cases_eq}
-use Rattle.std.proofs.lemmas.Bool.Decides.{nat_tests}
-use Rattle.std.proofs.lemmas.Grind.{common_steps}
-use Rattle.std.proofs.lemmas.List.{get_or-set_same, get_or-set_other, get_or-replicate}
+use Rattle.std.proofs.Common.{◌≡◌, ℕ, ◌+◌, ◌<◌, List, Bool, true, false, length, get_or, take, refl, ◌∙◌, arith}
+use Rattle.std.specs.Prelude.{count_by, if◌then◌else◌}
 use Rattle.std.proofs.lemmas.List.Sums.{count_by_more_no, count_by_more_yes}
 
 count_more_by : (b : Bool) (p : ℕ → Bool) (xs : List ℕ) (i : ℕ) → i < length xs → p (get_or xs i 0) ≡ b → count_by p (take (i + 1) xs) ≡ count_by p (take i xs) + (if b then 1 else 0)

@@ -9,7 +9,6 @@ use Rattle.fg_base.specs.declared.shape.Shape.{Shape}
 use Rattle.fg_base.specs.declared.shape.Shape.TheVariants.{Buffer, Image}
 use Rattle.fg_base.specs.declared.shape.Texel.{Texel}
 use Rattle.fg_base.specs.declared.shape.Texel.TheVariants.{R8, R32}
-use Rattle.fg_pixels.specs.Bands.{HasRows}
 
 -- the bytes of a grid
 abbrev grid_size : Shape → ℕ

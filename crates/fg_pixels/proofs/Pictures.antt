@@ -1,9 +1,9 @@
 -- Bands of pictures: what is painted is read back, and what is alike is painted alike.
-use Rattle.std.proofs.Common.{◌≡◌, ℕ, zero, suc, ◌+◌, ◌*◌, ◌/◌, ◌%◌, ◌^◌, ◌-◌, ◌<◌, ◌≤◌, List, [], ◌∷◌, ◌++◌, length, get_or, take, drop, refl, sym, ap, ◌∙◌, arith, add-zero, zero-add}
-use Rattle.std.proofs.lemmas.List.{drop_at, take_at, drop-drop, length-append, take_all}
+use Rattle.std.proofs.Common.{◌≡◌, ℕ, zero, suc, ◌+◌, ◌*◌, ◌%◌, ◌<◌, ◌≤◌, List, ◌++◌, length, take, refl, sym, ap, ◌∙◌, arith, zero-add}
+use Rattle.std.proofs.lemmas.List.{drop_at, take_at, drop-drop, length-append}
 use Rattle.std.proofs.Math.Nat.{mul-le-mul_left}
 use Rattle.std.specs.List.{flat_map, range_with_len}
-use Rattle.std.specs.Simd.Lanes.{chunk, digits_l, number_l}
+use Rattle.std.specs.Simd.Lanes.{chunk, number_l}
 use Rattle.fg_base.specs.Shapes.{texel_bytes}
 use Rattle.fg_base.specs.Texels.{modulus, texel_at, low_bytes, band, painted, picture}
 use Rattle.fg_base.specs.declared.grid.Grid.{Grid}
@@ -11,7 +11,6 @@ use Rattle.fg_base.specs.declared.shape.Texel.{Texel}
 use Rattle.fg_base.specs.declared.shape.Texel.TheVariants.{R8, R32}
 use Rattle.fg_pixels.proofs.Numbers.{AreBytes, whole_texel}
 use Rattle.fg_pixels.proofs.Pieces.{band_from, low_same, inner}
-use Rattle.fg_pixels.proofs.Rows.{place_within}
 use Rattle.fg_pixels.specs.Bands.{HasRows}
 
 -- pieces that are the same

@@ -1,12 +1,12 @@
 -- Whole operations leave no old byte.
-use Rattle.std.proofs.Common.{◌≡◌, ℕ, ◌+◌, ◌*◌, ◌%◌, ◌-◌, ◌<◌, ◌≤◌, Bool, true, false, List, [], ◌∷◌, ◌++◌, Option, Some, None, length, take, drop, refl, sym, ap, ◌∙◌, arith}
+use Rattle.std.proofs.Common.{◌≡◌, ℕ, ◌+◌, ◌-◌, ◌<◌, true, false, List, [], Some, None, length, drop, refl, sym, ◌∙◌, arith}
 use Rattle.std.specs.Prelude.{◌&&◌, ◌==◌, if◌then◌else◌}
 use Rattle.std.proofs.lemmas.Bool.Decides.{nat_tests}
 use Rattle.std.proofs.lemmas.List.{drop_all, append-nil}
-use Rattle.fg_base.specs.Applied.{effect, replaced}
+use Rattle.fg_base.specs.Applied.{replaced}
 use Rattle.fg_base.specs.Kernels.{is_inside}
 use Rattle.fg_base.specs.Shapes.{bytes_of, has_sides}
-use Rattle.fg_base.specs.Texels.{canvas_of, modulus, painted, picture}
+use Rattle.fg_base.specs.Texels.{canvas_of, painted, picture}
 use Rattle.fg_base.specs.Wholes.{is_whole}
 use Rattle.fg_base.specs.declared.grid.Grid.{Grid}
 use Rattle.fg_base.specs.declared.op.Op.{Op}

@@ -1,4 +1,3 @@
-use Rattle.std.proofs.Common.{◌≡◌, ◌+◌, ◌-◌, min, arith}
 use Rattle.fg_base.specs.Kernels.{three, box3}
 use Rattle.fg_pixels.proofs.blur.edge_at.Goals as goal
 

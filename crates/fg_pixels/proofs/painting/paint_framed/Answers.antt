@@ -1,4 +1,4 @@
-use Rattle.std.proofs.Common.{◌≡◌, ◌≢◌, ℕ, ◌+◌, ◌-◌, ◌*◌, ◌%◌, ◌<◌, ◌∙◌, arith, ap, sym}
+use Rattle.std.proofs.Common.{◌≡◌, ℕ, ◌+◌, ◌-◌, ◌*◌, ◌%◌, ◌∙◌, arith, ap, sym}
 use Rattle.fg_base.specs.Texels.{modulus, texel_at}
 use Rattle.fg_pixels.proofs.Pieces.{band_from}
 use Rattle.fg_pixels.proofs.Rows.{place_fits, frame_goes_on, frame_ends}

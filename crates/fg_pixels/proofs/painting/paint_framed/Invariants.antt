@@ -1,4 +1,4 @@
-use Rattle.std.proofs.Common.{◌≡◌, ℕ, ◌+◌, ◌*◌, ◌%◌, ◌<◌}
+use Rattle.std.proofs.Common.{◌≡◌, ℕ, ◌+◌, ◌*◌, ◌%◌}
 use Rattle.fg_base.specs.Texels.{modulus, texel_at}
 use Rattle.fg_pixels.specs.Closures.{GivesOnly}
 use Rattle.fg_pixels.proofs.Numbers.{AreBytes}
