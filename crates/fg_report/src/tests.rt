@@ -1,7 +1,7 @@
 use super::*;
 use crate::export::add_export;
-use fg_base::{Family, Leg, Limit, List, Name, NoMemory, Shape, Text};
-use fg_frame::{Frame, FrameFault, GoodFrame, QueueDecl, Resource, Sharing, Spot, well_formed};
+use fg_base::{Leg, Limit, List, Name, NoMemory, Text};
+use fg_frame::{FrameFault, Spot};
 use std::alloc::Global;
 use std::process::Abort;
 use std::test::Fail;
@@ -49,49 +49,5 @@ fn layers(rt: HostRuntime) -> Result<(), Fail> {
     };
     add_export(&mut text, &unit, &[5, 7])?;
     is_printed(&rt, text, b"export im/1 2\n0507\n");
-    Ok(())
-}
-
-// A frame that exports an import.
-fn frame(rt: &impl Abort, alloc: Global) -> Result<Frame, NoMemory> {
-    let queue = QueueDecl {
-        name: named(rt, "g"),
-        family: Family::Graphics,
-    };
-    let unit = Spot {
-        name: named(rt, "in"),
-        layer: None,
-    };
-    let mut resources = List::new(alloc);
-    resources.push(Resource {
-        name: unit.name,
-        shape: Shape::Buffer { size: 1 },
-        layers: 1,
-        import: Some(List::from_slice(alloc, &[7])?),
-        sharing: Sharing::Exclusive,
-    })?;
-    Ok(Frame {
-        queues: List::from_slice(alloc, &[queue])?,
-        resources,
-        passes: List::new(alloc),
-        exports: List::from_slice(alloc, &[unit])?,
-    })
-}
-
-// The lines of export `k`, where there is one.
-fn exported(alloc: Global, good: &GoodFrame, k: u32, bytes: &[u8]) -> Result<Text, NoMemory> {
-    let mut text = List::new(alloc);
-    if (k as usize) < good.exports().len() {
-        export_text(&mut text, good, k, bytes)?;
-    }
-    Ok(text)
-}
-
-#[test]
-fn exports(rt: HostRuntime) -> Result<(), Fail> {
-    let alloc = rt.alloc();
-    let good = well_formed(alloc, frame(&rt, alloc)?).expect(&rt, "a good frame");
-    is_printed(&rt, exported(alloc, &good, 0, &[7])?, b"export in 1\n07\n");
-    is_printed(&rt, exported(alloc, &good, 1, &[7])?, b"");
     Ok(())
 }
