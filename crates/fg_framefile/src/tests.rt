@@ -51,7 +51,7 @@ fn written(alloc: Global, path: &Path) -> Result<String, AllocError> {
 }
 
 // Whole files.
-const FILES: [(&str, &str); 16] = [
+const FILES: [(&str, &str); 19] = [
     ("", "F1 $"),
     ("{\"format\":1", "F1 $"),
     ("{\"format\":1e999}", "F1 $"),
@@ -68,11 +68,25 @@ const FILES: [(&str, &str); 16] = [
     ("{\"queues\":0,\"a\":0,\"format\":3}", "F3 $.format"),
     ("{\"format\":1,\"format\":3}", "F3 $.format"),
     ("{\"format\":3,\"format\":1}", "F2 $.queues"),
+    (
+        "{\"format\":1,\"queues\":[],\"resources\":[{\"name\":\"b\",\"buffer\":1,\"sharing\":\"exclusive\"}]}",
+        "F2 $.resources[0].sharing",
+    ),
+    (
+        "{\"format\":1,\"queues\":[],\"resources\":[],\"passes\":[],\"exports\":[\"im\",\"im/0\"]}",
+        "F2 $.exports[1]",
+    ),
+    (
+        "{\"format\":1,\"queues\":[],\"resources\":[],\"passes\":[],\"exports\":[\"im\"]}",
+        "frame",
+    ),
 ];
 
 #[test]
 fn whole_files(rt: HostRuntime) -> Result<(), Fail> {
     let alloc = rt.alloc();
+    let no_text = b"{\"format\":\"\xff\"}";
+    assert_eq!(rt; judge_bytes(alloc, no_text)?.as_str(), "F1 $");
     for (file, answer) in FILES {
         assert_eq!(rt;
             judge_bytes(alloc, file.as_bytes())?.as_str(),
@@ -87,8 +101,9 @@ fn whole_files(rt: HostRuntime) -> Result<(), Fail> {
 type Row = (&'static str, &'static str, &'static str);
 
 // The frame and its queues.
-const FRAME: [Row; 18] = [
+const FRAME: [Row; 19] = [
     ("im/7", "im/1", "frame"),
+    ("\"format\":2", "\"format\":1", "F2 $.resources[1].layers"),
     ("\"queues\":[", "\"lines\":[", "F2 $.queues"),
     (
         "\"resources\":[",
