@@ -10,6 +10,3 @@ mod versions;
 pub use culling::cull;
 pub use kept::Kept;
 pub use versions::{Versions, versions_of};
-
-#[cfg(test)]
-mod tests;
