@@ -1,4 +1,5 @@
 pub mod Clashing
+pub mod Exports
 pub mod Faultless
 pub mod Flat
 pub mod Known

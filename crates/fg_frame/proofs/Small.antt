@@ -60,11 +60,17 @@ module _ (frame : Frame) (none : limit_broken frame ≡ None) where
   abbrev passes : Option Broken
   passes = if nat_le (length frame.passes) 256 then None else Some (over limits.Passes at.Passes)
 
+  abbrev ops : Option Broken
+  ops = option_map (λ p. over limits.Ops (at.Ops p)) (first_over op_count 256 0 frame.passes)
+
+  abbrev rects : Option Broken
+  rects = option_map (over limits.Rects) (rects_over 4096 0 frame.passes)
+
+  abbrev exports : Option Broken
+  exports = option_map (λ i. over limits.Exports at.Exports) (first_over (exported frame) 32 0 frame.exports)
+
   abbrev others : Option Broken
-  others =
-      option_or (option_map (λ p. over limits.Ops (at.Ops p)) (first_over op_count 256 0 frame.passes))
-      (option_or (option_map (over limits.Rects) (rects_over 4096 0 frame.passes))
-      (option_map (λ i. over limits.Exports at.Exports) (first_over (exported frame) 32 0 frame.exports)))
+  others = option_or ops (option_or rects exports)
 
   abbrev rest : Option Broken
   rest = option_or passes others
@@ -89,6 +95,9 @@ module _ (frame : Frame) (none : limit_broken frame ≡ None) where
 
   pub passes_few : length frame.passes ≤ 256
   passes_few = leb-true (length frame.passes) 256 (has_it (nat_le (length frame.passes) 256) (over limits.Passes at.Passes) (or_first passes others (or_second resources rest after_queues)))
+
+  pub exports_none : first_over (exported frame) 32 0 frame.exports ≡ None
+  exports_none = map_none (λ i. over limits.Exports at.Exports) (first_over (exported frame) 32 0 frame.exports) (or_second rects exports (or_second ops (option_or rects exports) (or_second passes others (or_second resources rest after_queues))))
 
   abbrev sides : Option Broken
   sides = option_map (λ i. over limits.Side (at.Resource i)) (position (λ r. not (sides_allowed r.shape)) frame.resources)

@@ -317,6 +317,7 @@ impl GoodFrame {
     /// The units that are read back after the frame, in the order of the exports.
     pub fn exports(&self) -> &[u32]
         ensures exports { result.now ≡ (numbered self.now).exports }
+        ensures few { length result.now ≤ 32 }
         ensures within { All (λ unit. unit < length (numbered self.now).units) result.now }
     {
         &self.parts.exports
