@@ -1,0 +1,163 @@
+-- Operations on the bytes of all units.
+use Rattle.std.proofs.Common.{subst, take, zero, suc, map, ◌≡◌, ◌≢◌, ℕ, ◌+◌, ◌<◌, ◌==◌, ◌++◌, List, [], ◌∷◌, length, get_or, slice_set, slice_index, slice_index_or, true, false, Option, refl, sym, ap, ap₂, ◌∙◌, arith, ⊎_elim}
+use Rattle.std.specs.List.{All}
+use Rattle.std.proofs.lemmas.Bool.Decides.{eqb_tells}
+use Rattle.std.proofs.lemmas.List.{length-set, length-append, get_or-set_same, get_or-set_other, get_or_append_left, set-set}
+use Rattle.std.proofs.Math.Seq.{get_or-append_seam, take-append_seam}
+use Rattle.std.proofs.lemmas.List.Elements.{All-head, All-tail}
+use Rattle.std.proofs.lemmas.List.Folds.{list_any_at}
+use Rattle.fg_base.specs.Applied.{applied}
+use Rattle.fg_base.specs.InPlace.{in_place}
+use Rattle.fg_base.specs.Operands.{sources_of, destination_of, operands_of, mapped}
+use Rattle.fg_base.specs.Shapes.{bytes_of, shape_at}
+use Rattle.fg_base.specs.declared.op.Op.{Op}
+use Rattle.fg_base.specs.declared.op.Op.TheVariants.{FillBuffer, ClearImage, CopyBuffer, CopyImage, BufferToImage, ImageToBuffer, Ramp, Map, Combine, Select, Convert, Box3, Halve, Histogram, Draw}
+use Rattle.fg_base.specs.declared.op.Rect.{Rect}
+use Rattle.fg_base.specs.declared.shape.Shape.{Shape}
+use Rattle.fg_meaning.specs.Meaning.{bytes_at, after_op}
+use Rattle.fg_meaning.specs.Sizes.{AreSized}
+use Rattle.fg_pixels.specs.Sources.{source_bytes, is_draw}
+
+no_some : false ≡ true → ⊥
+no_some e = cc
+
+-- OPERANDS
+
+sources_mapped : {R S : Type 0} (f : R → S) (op : Op R) → sources_of (mapped f op) ≡ map f (sources_of op)
+sources_mapped f (FillBuffer dst offset size word) = refl
+sources_mapped f (ClearImage dst value) = refl
+sources_mapped f (CopyBuffer src dst src_offset dst_offset size) = refl
+sources_mapped f (CopyImage src dst src_x src_y dst_x dst_y width height) = refl
+sources_mapped f (BufferToImage src dst offset) = refl
+sources_mapped f (ImageToBuffer src dst offset) = refl
+sources_mapped f (Ramp dst base dx dy) = refl
+sources_mapped f (Map src dst fun value) = refl
+sources_mapped f (Combine a b dst fun) = refl
+sources_mapped f (Select mask a b dst) = refl
+sources_mapped f (Convert src dst) = refl
+sources_mapped f (Box3 src dst) = refl
+sources_mapped f (Halve src dst) = refl
+sources_mapped f (Histogram src dst) = refl
+sources_mapped f (Draw dst clear rects) = refl
+
+pub destination_mapped : {R S : Type 0} (f : R → S) (op : Op R) → destination_of (mapped f op) ≡ f (destination_of op)
+destination_mapped f (FillBuffer dst offset size word) = refl
+destination_mapped f (ClearImage dst value) = refl
+destination_mapped f (CopyBuffer src dst src_offset dst_offset size) = refl
+destination_mapped f (CopyImage src dst src_x src_y dst_x dst_y width height) = refl
+destination_mapped f (BufferToImage src dst offset) = refl
+destination_mapped f (ImageToBuffer src dst offset) = refl
+destination_mapped f (Ramp dst base dx dy) = refl
+destination_mapped f (Map src dst fun value) = refl
+destination_mapped f (Combine a b dst fun) = refl
+destination_mapped f (Select mask a b dst) = refl
+destination_mapped f (Convert src dst) = refl
+destination_mapped f (Box3 src dst) = refl
+destination_mapped f (Halve src dst) = refl
+destination_mapped f (Histogram src dst) = refl
+destination_mapped f (Draw dst clear rects) = refl
+
+module _ (op : Op ℕ) where
+  one_more : length (operands_of op) ≡ length (sources_of op) + 1
+  one_more = length-append (sources_of op) (destination_of op ∷ [])
+
+  pub destination_within : (count : ℕ) → All (λ unit. unit < count) (operands_of op) → destination_of op < count
+  destination_within count within = subst (λ u. u < count) (get_or-append_seam (sources_of op) (destination_of op) [] (destination_of op)) (within (length (sources_of op)) (destination_of op) (omega (arith, one_more)))
+
+  pub source_within : (count : ℕ) → All (λ unit. unit < count) (operands_of op) → All (λ unit. unit < count) (sources_of op)
+  source_within count within = λ k d lt. subst (λ u. u < count) (get_or_append_left (sources_of op) (destination_of op ∷ []) d k lt) (within k d (omega (arith, one_more)))
+
+  -- no source is the destination
+  apart : in_place op ≡ false → All (λ unit. unit ≢ destination_of op) (sources_of op)
+  apart none = λ k d lt same. no_some (sym none ∙ list_any_at (λ source. source == destination_of op) (sources_of op) k d lt (equal (get_or (sources_of op) k d) same))
+    where
+      equal : (u : ℕ) → u ≡ destination_of op → (u == destination_of op) ≡ true
+      equal u same = ⊎_elim (λ h. h.0) (λ h. absurd (h.1 same)) (eqb_tells u (destination_of op))
+
+-- the bytes of a unit, when those of another are taken
+not_taken : (bytes : List (List ℕ)) (dst unit : ℕ) → unit ≢ dst → bytes_at (slice_set bytes dst []) unit ≡ bytes_at bytes unit
+not_taken bytes dst unit other = get_or-set_other bytes dst unit [] [] other
+
+map_same : {X Y : Type 0} (f g : X → Y) (xs : List X) → All (λ x. f x ≡ g x) xs → map f xs ≡ map g xs
+map_same f g [] same = refl
+map_same f g (x ∷ xs) same = ap₂ (λ y ys. y ∷ ys) (All-head (λ x. f x ≡ g x) x xs same) (map_same f g xs (All-tail (λ x. f x ≡ g x) x xs same))
+
+same_sources : (bytes : List (List ℕ)) (op : Op ℕ) → in_place op ≡ false → map (bytes_at (slice_set bytes (destination_of op) [])) (sources_of op) ≡ map (bytes_at bytes) (sources_of op)
+same_sources bytes op none = map_same (bytes_at (slice_set bytes (destination_of op) [])) (bytes_at bytes) (sources_of op) (λ k d lt. not_taken bytes (destination_of op) (get_or (sources_of op) k d) (apart op none k d lt))
+
+-- LENGTHS
+
+long : (shapes : List Shape) (bytes : List (List ℕ)) (xs : List ℕ) (k : ℕ) → All (λ unit. length (bytes_at bytes unit) ≡ bytes_of (shape_at shapes unit)) xs → length (get_or (map (bytes_at bytes) xs) k []) ≡ get_or (map bytes_of (map (shape_at shapes) xs)) k 0
+long shapes bytes [] k sized = refl
+long shapes bytes (x ∷ xs) zero sized = All-head (λ unit. length (bytes_at bytes unit) ≡ bytes_of (shape_at shapes unit)) x xs sized
+long shapes bytes (x ∷ xs) (suc k) sized = long shapes bytes xs k (All-tail (λ unit. length (bytes_at bytes unit) ≡ bytes_of (shape_at shapes unit)) x xs sized)
+
+pub source_long : (shapes : List Shape) (bytes : List (List ℕ)) (op : Op ℕ) (k : ℕ) (r : List ℕ) → All (λ unit. length (bytes_at bytes unit) ≡ bytes_of (shape_at shapes unit)) (sources_of op) → r ≡ slice_index_or (map (bytes_at bytes) (sources_of op)) k [] → length r ≡ source_bytes (mapped (shape_at shapes) op) k
+source_long shapes bytes op k r sized is = ap length is ∙ long shapes bytes (sources_of op) k sized ∙ ap (λ xs. slice_index (map bytes_of xs) k) (sym (sources_mapped (shape_at shapes) op))
+
+pub destination_long : (shapes : List Shape) (op : Op ℕ) (n : ℕ) → n ≡ bytes_of (shape_at shapes (destination_of op)) → n ≡ bytes_of (destination_of (mapped (shape_at shapes) op))
+destination_long shapes op n is = is ∙ ap bytes_of (sym (destination_mapped (shape_at shapes) op))
+
+-- ONE OPERATION
+
+pub not_draw : (op : Op ℕ) → ((dst : ℕ) (clear : Option ℕ) (rects : List Rect) → op ≢ Draw dst clear rects) → is_draw op ≡ false
+not_draw (FillBuffer dst offset size word) other = refl
+not_draw (ClearImage dst value) other = refl
+not_draw (CopyBuffer src dst src_offset dst_offset size) other = refl
+not_draw (CopyImage src dst src_x src_y dst_x dst_y width height) other = refl
+not_draw (BufferToImage src dst offset) other = refl
+not_draw (ImageToBuffer src dst offset) other = refl
+not_draw (Ramp dst base dx dy) other = refl
+not_draw (Map src dst fun value) other = refl
+not_draw (Combine a b dst fun) other = refl
+not_draw (Select mask a b dst) other = refl
+not_draw (Convert src dst) other = refl
+not_draw (Box3 src dst) other = refl
+not_draw (Halve src dst) other = refl
+not_draw (Histogram src dst) other = refl
+not_draw (Draw dst clear rects) other = absurd (other dst clear rects refl)
+
+-- what a vector holds when its slice was written
+pub written_back : (count : ℕ) (new more : List ℕ) → length new ≡ count → take count (new ++ more) ≡ new
+written_back count new more is = subst (λ n. take n (new ++ more) ≡ new) is (take-append_seam new more)
+
+module _ (shapes : List Shape) (old : List (List ℕ)) (op : Op ℕ) (sized : AreSized shapes old) (operands : All (λ unit. unit < length shapes) (operands_of op)) (none : in_place op ≡ false) where
+  abbrev dst : ℕ
+  dst = destination_of op
+
+  inside : dst < length shapes
+  inside = destination_within op (length shapes) operands
+
+  pub destination_fits : dst < length old
+  destination_fits = subst (λ m. dst < m) (sym sized.count) inside
+
+  pub taken_sized : (taken : List (List ℕ)) → taken ≡ slice_set old dst [] → All (λ unit. length (bytes_at taken unit) ≡ bytes_of (shape_at shapes unit)) (sources_of op)
+  taken_sized taken is = λ k d lt.
+      let unit = get_or (sources_of op) k d in
+      ap (λ b. length (bytes_at b unit)) is ∙ ap length (not_taken old dst unit (apart op none k d lt)) ∙ sized.sized unit (source_within op (length shapes) operands k d lt)
+
+  pub taken_count : (taken : List (List ℕ)) → taken ≡ slice_set old dst [] → length taken ≡ length shapes
+  taken_count taken is = ap length is ∙ length-set old dst [] ∙ sized.count
+
+  pub out_long : (was : List ℕ) → was ≡ bytes_at old dst → length was ≡ bytes_of (shape_at shapes dst)
+  out_long was is = ap length is ∙ sized.sized dst inside
+
+  pub op_done : (taken new : List (List ℕ)) (was out : List ℕ) → was ≡ bytes_at old dst → taken ≡ slice_set old dst [] → out ≡ applied shapes op (map (bytes_at taken) (sources_of op)) was → new ≡ slice_set taken dst out → new ≡ after_op shapes old op
+  op_done taken new was out had took gives put =
+      put
+      ∙ ap₂ (λ b o. slice_set b dst o) took (gives ∙ ap₂ (λ b w. applied shapes op (map (bytes_at b) (sources_of op)) w) took had ∙ ap (λ s. applied shapes op s (bytes_at old dst)) (same_sources old op none))
+      ∙ set-set old dst [] (applied shapes op (map (bytes_at old) (sources_of op)) (bytes_at old dst))
+
+  pub op_sized : (new : List (List ℕ)) (out : List ℕ) → new ≡ slice_set (slice_set old dst []) dst out → length out ≡ bytes_of (shape_at shapes dst) → AreSized shapes new
+  op_sized new out put size =
+      let is : new ≡ slice_set old dst out = put ∙ set-set old dst [] out in
+      subst (λ b. AreSized shapes b) (sym is) (record {
+        count = length-set old dst out ∙ sized.count;
+        sized = λ unit lt. ⊎_elim (same_unit unit) (other_unit unit lt) (eqb_tells unit dst);
+      })
+    where
+      same_unit : (unit : ℕ) → ((unit == dst) ≡ true) × (unit ≡ dst) → length (bytes_at (slice_set old dst out) unit) ≡ bytes_of (shape_at shapes unit)
+      same_unit unit h = subst (λ u. length (bytes_at (slice_set old dst out) u) ≡ bytes_of (shape_at shapes u)) (sym h.1) (ap length (get_or-set_same old dst out [] destination_fits) ∙ size)
+
+      other_unit : (unit : ℕ) → unit < length shapes → ((unit == dst) ≡ false) × (unit ≢ dst) → length (bytes_at (slice_set old dst out) unit) ≡ bytes_of (shape_at shapes unit)
+      other_unit unit lt h = ap length (get_or-set_other old dst unit out [] h.1) ∙ sized.sized unit lt

@@ -1,0 +1,12 @@
+use Rattle.std.proofs.Common.{◌≡◌, drop}
+use Rattle.fg_frame.specs.Good.{shapes_in}
+use Rattle.fg_frame.specs.Numbered.{numbered}
+use Rattle.fg_meaning.specs.Meaning.{after_passes, all_bytes}
+use Rattle.fg_meaning.specs.Sizes.{AreSized}
+use Rattle.fg_meaning.proofs.pictures.all_bytes.Given as goal
+
+abbrev pub invariant-loop-pass : goal.invariant-loop-pass
+invariant-loop-pass l = record {
+  bytes : after_passes (shapes_in (numbered l.frame)) l.bytes (drop l.pass (numbered l.frame).passes) ≡ all_bytes (numbered l.frame);
+  sized : AreSized (shapes_in (numbered l.frame)) l.bytes;
+}

@@ -1,0 +1,162 @@
+//! The bytes of all units.
+
+ghost use Rattle.std.specs.Prelude.{◌≡◌, ◌<◌, ◌+◌, true, false, [], map, replicate, length, IfOk, IfSome, slice_get, slice_set, slice_index_or};
+ghost use Rattle.std.specs.List.{All};
+ghost use Rattle.fg_base.specs.Applied.{applied};
+ghost use Rattle.fg_base.specs.Fits.{fits};
+ghost use Rattle.fg_base.specs.InPlace.{in_place};
+ghost use Rattle.fg_base.specs.Operands.{sources_of, destination_of, operands_of, mapped};
+ghost use Rattle.fg_base.specs.Shapes.{bytes_of, shape_at};
+ghost use Rattle.fg_frame.specs.Good.{IsGoodOp};
+ghost use Rattle.fg_frame.specs.Numbered.{numbered};
+ghost use Rattle.fg_meaning.specs.Meaning.{bytes_at, first_bytes, after_op, after_ops};
+ghost use Rattle.fg_meaning.specs.Sizes.{AreSized, IsRunnable};
+
+use crate::stored::destination;
+use fg_base::{List, NoMemory, Op, Shape};
+use fg_draw::draw;
+use fg_frame::GoodFrame;
+use fg_pixels::apply;
+use std::alloc::Global;
+use std::marker::Model;
+use std::mem;
+
+/// The bytes of each unit.
+#[derive(Drop)]
+pub(crate) struct Bytes {
+    units: Vec<List<u8>>,
+}
+
+impl Model for Bytes {
+    ghost use Rattle.std.specs.Prelude.{ℕ, List};
+
+    ghost Value = { List (List ℕ) };
+
+    ghost view = { λ b. b.units.items };
+}
+
+fn zeros(alloc: Global, count: u128) -> Result<List<u8>, NoMemory>
+    ensures { IfOk result (λ list. list ≡ replicate count 0) }
+{
+    let Ok(count) = usize::try_from(count) else {
+        return Err(NoMemory);
+    };
+    Ok(List::from_vec(vec![in alloc; 0u8; count]?))
+}
+
+fn shape_of(frame: &GoodFrame, unit: u32) -> Shape
+    requires { unit < length (numbered frame.now).units }
+    ensures { IfSome (slice_get (numbered frame.now).units unit) (λ u. result ≡ u.shape) }
+{
+    frame.shapes()[unit as usize]
+}
+
+// What a unit holds before the first pass.
+fn first_bytes(alloc: Global, frame: &GoodFrame, unit: u32) -> Result<List<u8>, NoMemory>
+    requires { unit < length (numbered frame.now).units }
+    ensures { IfOk result (λ bytes. IfSome (slice_get (numbered frame.now).units unit) (λ u. bytes ≡ first_bytes u)) }
+{
+    match frame.import(unit) {
+        Some(bytes) => List::from_slice(alloc, bytes),
+        None => zeros(alloc, shape_of(frame, unit).bytes()),
+    }
+}
+
+impl Bytes {
+    /// Those before the first pass.
+    pub fn new(alloc: Global, frame: &GoodFrame) -> Result<Bytes, NoMemory>
+        ensures { IfOk result (λ bytes. bytes ≡ map first_bytes (numbered frame.now).units) }
+    {
+        let mut units = Vec::new(alloc);
+        for unit in 0..frame.unit_count() {
+            units.push(first_bytes(alloc, frame, unit)?)?;
+        }
+        Ok(Bytes { units })
+    }
+
+    pub fn get(&self, unit: u32) -> &[u8]
+        requires { unit < length self.now }
+        ensures { result.now ≡ bytes_at self.now unit }
+    {
+        &self.units[unit as usize]
+    }
+
+    // Takes the bytes of a unit out.
+    fn take(&mut self, alloc: Global, unit: u32) -> List<u8>
+        requires { unit < length self.old }
+        ensures bytes { result ≡ bytes_at self.old unit }
+        ensures rest { self.new ≡ slice_set self.old unit [] }
+    {
+        mem::replace(&mut self.units[unit as usize], List::new(alloc))
+    }
+
+    fn put(&mut self, unit: u32, bytes: List<u8>)
+        requires { unit < length self.old }
+        ensures { self.new ≡ slice_set self.old unit bytes }
+    {
+        self.units[unit as usize] = bytes;
+    }
+
+    // The bytes of a source; none where the operation has no such source.
+    fn source(&self, op: &Op<u32>, k: u32) -> &[u8]
+        requires k { k < 3 }
+        requires operands { All (λ unit. unit < length self.now) (operands_of op.now) }
+        ensures { result.now ≡ slice_index_or (map (bytes_at self.now) (sources_of op.now)) k [] }
+    {
+        if k + 1 < op.touch_count() {
+            self.get(op.operand(k))
+        } else {
+            &[]
+        }
+    }
+
+    // What an operation leaves in `out`, which holds the destination's old bytes.
+    fn store(&self, shapes: &[Shape], op: &Op<u32>, out: &mut [u8])
+        requires count { length self.now ≡ length shapes.now }
+        requires operands { All (λ unit. unit < length shapes.now) (operands_of op.now) }
+        requires fits { fits (mapped (shape_at shapes.now) op.now) ≡ true }
+        requires sources { All (λ unit. length (bytes_at self.now unit) ≡ bytes_of (shape_at shapes.now unit)) (sources_of op.now) }
+        requires out { length out.old ≡ bytes_of (shape_at shapes.now (destination_of op.now)) }
+        ensures { out.new ≡ applied shapes.now op.now (map (bytes_at self.now) (sources_of op.now)) out.old }
+    {
+        if let Op::Draw { dst, clear, rects } = op {
+            draw(shapes[*dst as usize], *clear, rects, out)
+        } else {
+            apply(
+                op,
+                shapes,
+                self.source(op, 0),
+                self.source(op, 1),
+                self.source(op, 2),
+                out,
+            )
+        }
+    }
+
+    // Runs an operation.
+    fn run_op(&mut self, alloc: Global, shapes: &[Shape], op: &Op<u32>)
+        requires sized { AreSized shapes.now self.old }
+        requires operands { All (λ unit. unit < length shapes.now) (operands_of op.now) }
+        requires fits { fits (mapped (shape_at shapes.now) op.now) ≡ true }
+        requires apart { in_place op.now ≡ false }
+        ensures bytes { self.new ≡ after_op shapes.now self.old op.now }
+        ensures sized { AreSized shapes.now self.new }
+    {
+        let dst = destination(op);
+        let mut out = self.take(alloc, dst).into_vec();
+        self.store(shapes, op, &mut out);
+        self.put(dst, List::from_vec(out));
+    }
+
+    /// Runs operations in order.
+    pub fn run(&mut self, alloc: Global, shapes: &[Shape], ops: &[Op<u32>])
+        requires sized { AreSized shapes.now self.old }
+        requires ops { All (IsRunnable shapes.now) ops.now }
+        ensures bytes { self.new ≡ after_ops shapes.now self.old ops.now }
+        ensures sized { AreSized shapes.now self.new }
+    {
+        for op in ops {
+            self.run_op(alloc, shapes, op);
+        }
+    }
+}

@@ -1,0 +1,9 @@
+//! The sequential meaning of a frame.
+#![tactic(auto)]
+
+mod bytes;
+mod pictures;
+mod rules;
+mod stored;
+
+pub use pictures::{Pictures, meaning};

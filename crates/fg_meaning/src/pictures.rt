@@ -1,0 +1,82 @@
+//! What is in each unit after all passes.
+
+ghost use Rattle.std.specs.Prelude.{◌≡◌, ◌<◌, None, length, map, true, is_some, option_copied, IfOk, IfSome, slice_get, slice_index_or};
+ghost use Rattle.std.specs.List.{All, range_with_len};
+ghost use Rattle.fg_frame.specs.Good.{shapes_in};
+ghost use Rattle.fg_frame.specs.Numbered.{numbered};
+ghost use Rattle.fg_meaning.specs.Meaning.{all_bytes, meaning};
+ghost use Rattle.fg_meaning.specs.Sizes.{IsRunnable};
+
+use crate::bytes::Bytes;
+use crate::rules::rules;
+use crate::stored::stored;
+use fg_base::{List, NoMemory, Op};
+use fg_frame::GoodFrame;
+use std::alloc::Global;
+use std::marker::Model;
+
+/// The bytes of each unit after all passes. A unit that is no import and that nothing is stored to has none.
+#[derive(Drop)]
+pub struct Pictures {
+    bytes: Bytes,
+    stored: List<bool>,
+}
+
+impl Model for Pictures {
+    ghost use Rattle.std.specs.Prelude.{◌≡◌, ℕ, List, Option, length};
+    ghost use Rattle.fg_meaning.specs.Stored.{chosen};
+
+    ghost Value = { List (Option (List ℕ)) };
+
+    ghost view = { λ p. chosen p.stored p.bytes };
+
+    ghost invariant = { λ p. length p.stored ≡ length p.bytes };
+}
+
+impl Pictures {
+    pub fn get(&self, unit: u32) -> Option<&[u8]>
+        requires { unit < length self.now }
+        ensures { option_copied result ≡ slice_index_or self.now unit None }
+    {
+        if self.stored[unit as usize] {
+            Some(self.bytes.get(unit))
+        } else {
+            None
+        }
+    }
+}
+
+// The operations of a pass, which fit their units.
+fn ops_of(frame: &GoodFrame, pass: u32) -> &[Op<u32>]
+    requires { pass < length (numbered frame.now).passes }
+    ensures ops { IfSome (slice_get (numbered frame.now).passes pass) (λ p. result.now ≡ p.ops) }
+    ensures runnable { All (IsRunnable (shapes_in (numbered frame.now))) result.now }
+{
+    rules(frame);
+    frame.ops(pass)
+}
+
+fn all_bytes(alloc: Global, frame: &GoodFrame) -> Result<Bytes, NoMemory>
+    ensures bytes { IfOk result (λ bytes. bytes ≡ all_bytes (numbered frame.now)) }
+    ensures count { IfOk result (λ bytes. length bytes ≡ length (numbered frame.now).units) }
+{
+    rules(frame);
+    let mut bytes = Bytes::new(alloc, frame)?;
+    for pass in 0..frame.pass_count() {
+        bytes.run(alloc, frame.shapes(), ops_of(frame, pass));
+    }
+    Ok(bytes)
+}
+
+/// All operations of all passes in declared order, each unit having bytes of its own.
+pub fn meaning(alloc: Global, frame: &GoodFrame) -> Result<Pictures, NoMemory>
+    ensures pictures { IfOk result (λ pictures. pictures ≡ map (meaning (numbered frame.now)) (range_with_len 0 (length (numbered frame.now).units))) }
+    // What is exported has contents.
+    ensures exported { All (λ unit. is_some (meaning (numbered frame.now) unit) ≡ true) (numbered frame.now).exports }
+{
+    rules(frame);
+    Ok(Pictures {
+        bytes: all_bytes(alloc, frame)?,
+        stored: stored(alloc, frame)?,
+    })
+}

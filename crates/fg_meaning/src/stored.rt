@@ -1,0 +1,60 @@
+//! Which units have contents.
+
+ghost use Rattle.std.specs.Prelude.{◌≡◌, ◌<◌, map, is_some, length, IfOk, IfSome, slice_get};
+ghost use Rattle.std.specs.List.{All};
+ghost use Rattle.fg_base.specs.Operands.{destination_of, operands_of};
+ghost use Rattle.fg_frame.specs.Numbered.{numbered};
+ghost use Rattle.fg_meaning.specs.Stored.{marked_by, AreMarked};
+
+use crate::rules::rules;
+use fg_base::{List, NoMemory, Op};
+use fg_frame::GoodFrame;
+use std::alloc::Global;
+
+/// The unit that an operation stores to.
+pub(crate) fn destination(op: &Op<u32>) -> u32
+    ensures { result ≡ destination_of op.now }
+{
+    op.operand(op.touch_count() - 1)
+}
+
+fn is_import(frame: &GoodFrame, unit: u32) -> bool
+    requires { unit < length (numbered frame.now).units }
+    ensures { IfSome (slice_get (numbered frame.now).units unit) (λ u. result ≡ is_some u.imported) }
+{
+    match frame.import(unit) {
+        Some(_) => true,
+        None => false,
+    }
+}
+
+fn imports(alloc: Global, frame: &GoodFrame) -> Result<List<bool>, NoMemory>
+    ensures { IfOk result (λ marks. marks ≡ map (λ u. is_some u.imported) (numbered frame.now).units) }
+{
+    let mut marks = List::new(alloc);
+    for unit in 0..frame.unit_count() {
+        marks.push(is_import(frame, unit))?;
+    }
+    Ok(marks)
+}
+
+fn mark(marks: &mut List<bool>, ops: &[Op<u32>])
+    requires { All (λ op. All (λ unit. unit < length marks.old) (operands_of op)) ops.now }
+    ensures { marks.new ≡ marked_by ops.now marks.old }
+{
+    for op in ops {
+        marks.set(destination(op) as usize, true);
+    }
+}
+
+/// For each unit whether it is an import or an operation stores to it.
+pub(crate) fn stored(alloc: Global, frame: &GoodFrame) -> Result<List<bool>, NoMemory>
+    ensures { IfOk result (λ marks. AreMarked (numbered frame.now) marks) }
+{
+    rules(frame);
+    let mut marks = imports(alloc, frame)?;
+    for pass in 0..frame.pass_count() {
+        mark(&mut marks, frame.ops(pass));
+    }
+    Ok(marks)
+}
