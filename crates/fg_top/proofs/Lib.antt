@@ -1,6 +1,5 @@
 pub mod AnswerLemmas
+pub mod ExportLemmas
 pub mod KeptLemmas
 pub mod Known
-pub mod WordLemmas
 mod Rows
-pub mod SmallLemmas

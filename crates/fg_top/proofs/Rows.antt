@@ -1,22 +1,28 @@
 -- Worked rows: what the definitions come to on written-out values.
-use Rattle.std.proofs.Common.{◌≡◌, [], ◌∷◌, Some, codes, refl}
+use Rattle.std.proofs.Common.{◌≡◌, [], ◌∷◌, None, true, false, codes, refl, is_some}
 use Rattle.std.specs.Fmt.{digits}
 use Rattle.hex.proofs.OnLiterals.{hex_on_literals}
+use Rattle.fg_base.specs.declared.op.Op.TheVariants.{FillBuffer}
 use Rattle.fg_base.specs.declared.shape.Family.TheVariants.{Graphics}
-use Rattle.fg_top.specs.Meaning.{repeated, filled}
-use Rattle.fg_top.specs.Small.{small_frame}
-use Rattle.fg_top.specs.Texts.{printed}
-use Rattle.fg_top.specs.declared.small.Small.{Small}
+use Rattle.fg_base.specs.declared.shape.Shape.TheVariants.{Buffer}
+use Rattle.fg_bits.specs.declared.sharing.Sharing.TheVariants.{Exclusive}
+use Rattle.fg_frame.specs.Numbered.{numbered}
+use Rattle.fg_frame.specs.declared.frame.Frame.{Frame}
+use Rattle.fg_frame.specs.declared.frame.Spot.{Spot}
+use Rattle.fg_top.specs.Texts.{exports_from}
 
-lowest_byte_first : repeated 305419896 2 ≡ 120 ∷ 86 ∷ 52 ∷ 18 ∷ 120 ∷ 86 ∷ 52 ∷ 18 ∷ []
-lowest_byte_first = refl
+whole : Spot
+whole = record { name = codes "b"; layer = None }
 
-filled_inside : filled 4 4 1 (Some (9 ∷ 9 ∷ 9 ∷ 9 ∷ 9 ∷ 9 ∷ 9 ∷ 9 ∷ 8 ∷ [])) ≡ Some (9 ∷ 9 ∷ 9 ∷ 9 ∷ 1 ∷ 0 ∷ 0 ∷ 0 ∷ 8 ∷ [])
-filled_inside = refl
+-- one pass that fills one buffer
+one_fill : Frame
+one_fill = record {
+  queues = record { name = codes "g"; family = Graphics } ∷ [];
+  resources = record { name = codes "b"; shape = Buffer 16; layers = 1; import = None; sharing = Exclusive } ∷ [];
+  passes = record { name = codes "p"; queue = codes "g"; reads = []; writes = record { what = whole; fresh = true } ∷ []; ops = FillBuffer whole 0 16 7 ∷ []; side_effect = false } ∷ [];
+  exports = whole ∷ [];
+}
 
-one_fill : Small
-one_fill = record { queue = codes "g"; family = Graphics; buffer = codes "b"; size = 16; pass = codes "p"; word = 7 }
-
-one_fill_printed : printed (small_frame one_fill) ≡ Some (codes "export b 16\n07000000070000000700000007000000\n")
-unfolding one_fill hex_on_literals digits
-one_fill_printed = refl
+one_fill_exported : exports_from one_fill 0 (numbered one_fill).exports ≡ codes "export b 16\n07000000070000000700000007000000\n"
+unfolding one_fill whole hex_on_literals digits
+one_fill_exported = refl

@@ -1,8 +1,8 @@
 -- What a command answers to the bytes of its input.
-use Rattle.std.specs.Prelude.{◌≡◌, ℕ, ◌<◌, ◌≤◌, Bool, List, [], ◌++◌, length, Option, Some, option_map, Result, Ok, Err, codes}
+use Rattle.std.specs.Prelude.{◌≡◌, ℕ, ◌<◌, ◌≤◌, Bool, List, [], ◌++◌, length, Option, Result, Ok, Err, codes}
 use Rattle.std.specs.Io.KnownBytes.{Keeps}
 use Rattle.fg_base.specs.declared.limit.Limit.TheVariants.{Input}
-use Rattle.fg_frame.specs.Faults.{misshapen, over_limit}
+use Rattle.fg_frame.specs.Faults.{over_limit}
 use Rattle.fg_frame.specs.Numbered.{numbered}
 use Rattle.fg_frame.specs.declared.fault.FrameFault.{FrameFault}
 use Rattle.fg_frame.specs.declared.frame.Frame.{Frame}
@@ -11,15 +11,13 @@ use Rattle.fg_report.specs.Faults.{frame_fault_text}
 use Rattle.fg_report.specs.KeptLines.{run_text, cull_text}
 use Rattle.fg_top.specs.FrameFiles.{frame_file}
 use Rattle.fg_top.specs.Outcomes.{Tells, EndsAs}
-use Rattle.fg_top.specs.Small.{IsSmall}
-use Rattle.fg_top.specs.Texts.{printed}
+use Rattle.fg_top.specs.Texts.{AreExported}
 use Rattle.fg_top.specs.declared.answer.Answer.{Answer}
-use Rattle.fg_top.specs.declared.small.Small.{Small}
 use Rattle.fg_top.specs.declared.ended.Status.{Status}
 use Rattle.fg_top.specs.declared.ended.Status.TheVariants.{Done, Refused, ReadFault, NoMemory}
 use Rattle.fg_versions.specs.Culled.{AreKept}
 use Rattle.fg_words.specs.declared.command.Command.{Command}
-use Rattle.fg_words.specs.declared.command.Command.TheVariants.{Run, Cull, Migrate}
+use Rattle.fg_words.specs.declared.command.Command.TheVariants.{Run, Cull, Meaning, Migrate}
 
 -- 16 MiB
 abbrev pub input_limit : ℕ
@@ -32,12 +30,18 @@ refusal fault = record { status = Refused; text = frame_fault_text fault }
 pub record IsRunText (frame : Frame) (text : List ℕ) : Type 0 where
   pub kept : List Bool
   pub are_kept : AreKept (numbered frame) kept
-  pub whole : option_map (λ exports. run_text frame kept ++ exports) (printed frame) ≡ Some text
+  pub exports : List ℕ
+  pub are_exported : AreExported frame exports
+  pub whole : text ≡ run_text frame kept ++ exports
 
--- a small frame gives its text, and any other is so far refused as one that is not of the form
 pub record RunsFrame (frame : Frame) (answer : Answer) : Type 0 where
-  pub small : (small : Small) → IsSmall frame small → (answer.status ≡ Done) × IsRunText frame answer.text
-  pub other : ((small : Small) → ¬ IsSmall frame small) → answer ≡ refusal (misshapen [])
+  pub done : answer.status ≡ Done
+  pub text : IsRunText frame answer.text
+
+-- the exports alone
+pub record MeansFrame (frame : Frame) (answer : Answer) : Type 0 where
+  pub done : answer.status ≡ Done
+  pub text : AreExported frame answer.text
 
 -- what becomes of each pass
 pub record CullsFrame (frame : Frame) (answer : Answer) : Type 0 where
@@ -54,6 +58,7 @@ pub record MigratesFrame (frame : Frame) (answer : Answer) : Type 0 where
 abbrev pub AnswersFrame : Command → Frame → Answer → Type 0
 AnswersFrame Run frame answer = RunsFrame frame answer
 AnswersFrame Cull frame answer = CullsFrame frame answer
+AnswersFrame Meaning frame answer = MeansFrame frame answer
 AnswersFrame Migrate frame answer = MigratesFrame frame answer
 
 abbrev pub AnswersFile : Command → Result Frame FrameFault → Answer → Type 0

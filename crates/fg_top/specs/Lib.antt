@@ -3,10 +3,7 @@ pub mod AtRest
 pub mod Causes
 pub mod FrameFiles
 pub mod Intakes
-pub mod Meaning
 pub mod Outcomes
-pub mod Small
-pub mod SmallTest
 pub mod Statuses
 pub mod Texts
 pub mod Told

@@ -1,15 +1,17 @@
 -- The exports of a frame, as they are printed.
-use Rattle.std.specs.Prelude.{ℕ, List, [], ◌∷◌, ◌++◌, Option, Some, None, option_and_then, option_map}
+use Rattle.std.specs.Prelude.{◌≡◌, ℕ, suc, true, List, [], ◌∷◌, ◌++◌, is_some, unwrap_or}
+use Rattle.std.specs.List.{All}
+use Rattle.fg_frame.specs.Numbered.{numbered}
 use Rattle.fg_frame.specs.declared.frame.Frame.{Frame}
-use Rattle.fg_frame.specs.declared.frame.Spot.{Spot}
-use Rattle.fg_report.specs.Exports.{export_lines}
-use Rattle.fg_top.specs.Meaning.{Pictures, meaning}
+use Rattle.fg_meaning.specs.Meaning.{meaning}
+use Rattle.fg_report.specs.Exports.{export_text}
 
--- in their order; none where one has no bytes
-abbrev pub exports_text : Pictures → List Spot → Option (List ℕ)
-exports_text pictures [] = Some []
-exports_text pictures (spot ∷ spots) = option_and_then (λ bytes. option_map (λ text. export_lines spot bytes ++ text) (exports_text pictures spots)) (pictures spot.name)
+-- exports number k and on, which are these units, each with the bytes that it has after all passes
+abbrev pub exports_from : Frame → ℕ → List ℕ → List ℕ
+exports_from frame k [] = []
+exports_from frame k (unit ∷ units) = export_text frame k (unwrap_or (meaning (numbered frame) unit) []) ++ exports_from frame (suc k) units
 
--- with the bytes of the frame's meaning
-abbrev pub printed : Frame → Option (List ℕ)
-printed frame = option_and_then (λ pictures. exports_text pictures frame.exports) (meaning frame)
+-- the exports in their order; each is a unit with contents
+pub record AreExported (frame : Frame) (text : List ℕ) : Type 0 where
+  pub contents : All (λ unit. is_some (meaning (numbered frame) unit) ≡ true) (numbered frame).exports
+  pub whole : text ≡ exports_from frame 0 (numbered frame).exports

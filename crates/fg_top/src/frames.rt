@@ -10,6 +10,7 @@ use crate::Status;
 use crate::answer::{Answer, refusal};
 use crate::cull::cull_frame;
 use crate::intake::{Intake, read_input};
+use crate::meaning::mean_frame;
 use crate::migrate::migrate_frame;
 use crate::output::put;
 use crate::run::run_frame;
@@ -74,6 +75,7 @@ fn answer_frame(alloc: Global, command: Command, good: &GoodFrame) -> Result<Ans
     match command {
         Command::Run => run_frame(alloc, good),
         Command::Cull => cull_frame(alloc, good),
+        Command::Meaning => mean_frame(alloc, good),
         Command::Migrate => migrate_frame(alloc, good),
     }
 }

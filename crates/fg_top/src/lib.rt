@@ -4,19 +4,21 @@
 mod answer;
 mod cull;
 mod ended;
-mod fill;
+mod exports;
 mod frames;
 mod intake;
+mod meaning;
 mod migrate;
 mod output;
 mod rest;
 mod run;
-mod small;
 mod top;
 
 pub use ended::{Ended, Status};
 pub use rest::at_rest;
 pub use top::framec;
 
+#[cfg(test)]
+mod operation_tests;
 #[cfg(test)]
 mod tests;

@@ -10,6 +10,8 @@ pub enum Command {
     Run,
     /// Prints which passes of a frame are culled.
     Cull,
+    /// Prints the exports of a frame from its sequential meaning.
+    Meaning,
     /// Prints a frame's canonical text.
     Migrate,
 }
@@ -22,6 +24,7 @@ impl Command {
         match word {
             "run" => Some(Command::Run),
             "cull" => Some(Command::Cull),
+            "meaning" => Some(Command::Meaning),
             "migrate" => Some(Command::Migrate),
             _ => None,
         }

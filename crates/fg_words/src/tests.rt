@@ -14,10 +14,11 @@ fn words_of(alloc: Global, words: &[&str]) -> Result<Vec<String>, AllocError> {
 fn command_lines(rt: HostRuntime) -> Result<(), Fail> {
     let alloc = rt.alloc();
     let none: [&str; 0] = [];
-    let lines: [(&[&str], Option<Command>); 9] = [
+    let lines: [(&[&str], Option<Command>); 10] = [
         (&none, None),
         (&["run"], Some(Command::Run)),
         (&["--", "cull"], Some(Command::Cull)),
+        (&["meaning"], Some(Command::Meaning)),
         (&["migrate"], Some(Command::Migrate)),
         (&["Run"], None),
         (&["run", "run"], None),
