@@ -5,3 +5,4 @@ pub mod Needed
 pub mod Pop
 pub mod Reach
 pub mod Steps
+mod WorkedVersions

@@ -1,4 +1,4 @@
--- Where the versions of a pass stand.
+-- Where the versions of a pass and of a unit stand.
 use Rattle.std.proofs.Common.{subst, map, ◌≡◌, ℕ, ◌<◌, ◌++◌, List, [], ◌∷◌, length, slice_get, IfSome, sym, ap, refl, ◌∙◌, arith, suc}
 use Rattle.std.specs.List.{range_with_len}
 use Rattle.std.proofs.lemmas.List.{length-map}
@@ -28,3 +28,6 @@ written_pass n v p is lt = subst (λ m. p < m) (sym (ap (λ x. length x.writes) 
 
 pub written_row : (n : NumberedFrame) (v : Numbers) (p k : ℕ) (writes : List (Write ℕ)) → v ≡ numbers_of n → p < length n.passes → IfSome (slice_get n.passes p) (λ pass. writes ≡ pass.writes) → k < length writes → k < length (row_at v.writes p)
 written_row n v p k writes is lt says less = subst (λ m. k < m) (sym (ap length (row n (written_by n) v.writes p (ap (λ x. x.writes) is) lt) ∙ made-length n p [] (pass_at n p).writes ∙ ap length (sym (pass_got n p (λ pass. writes ≡ pass.writes) lt says)))) less
+
+pub unit_row : (n : NumberedFrame) (v : Numbers) (unit count : ℕ) → v ≡ numbers_of n → count ≡ length n.units → unit < count → unit < length v.makers
+unit_row n v unit count is count-is lt = subst (λ m. unit < m) (count-is ∙ sym (ap (λ x. length x.makers) is ∙ length-map-range_with_len (versions n (length n.passes)) 0 (length n.units))) lt

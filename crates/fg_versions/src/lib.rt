@@ -5,6 +5,8 @@ mod counts;
 mod culling;
 mod kept;
 mod makers;
+#[cfg(test)]
+mod tests;
 mod versions;
 
 pub use culling::cull;
