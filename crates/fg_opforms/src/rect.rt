@@ -1,7 +1,10 @@
 //! Rectangles of draws.
 
-ghost use Rattle.std.specs.Prelude.{◌≡◌};
+ghost use Rattle.std.specs.Prelude.{◌≡◌, IfOk};
+ghost use Rattle.fg_forms.specs.Leaves.{text_data};
+ghost use Rattle.fg_opforms.specs.Mixes.{mix_text};
 ghost use Rattle.fg_opforms.specs.Rects.{rect_at, rect_data, FitsRect};
+ghost use Rattle.serde_json.specs.View.{view};
 
 use crate::MixForm;
 use fg_base::{Mix, Rect};
@@ -52,6 +55,14 @@ impl Writer for RectForm {
 
     fn write(alloc: Global, rect: &Rect) -> Result<Value, AllocError> {
         let mix = MixForm::write(alloc, &rect.mix)?;
-        json!(in alloc; {"height": rect.height, "mix": mix, "value": rect.value, "width": rect.width, "x": rect.x, "y": rect.y})
+        rect_object(alloc, rect, mix)
     }
+}
+
+// All members; the text of `mix` is given.
+fn rect_object(alloc: Global, rect: &Rect, mix: Value) -> Result<Value, AllocError>
+    requires { view mix ≡ text_data mix_text rect.now.mix }
+    ensures { IfOk result (λ json. view json ≡ rect_data rect.now) }
+{
+    json!(in alloc; {"height": rect.height, "mix": mix, "value": rect.value, "width": rect.width, "x": rect.x, "y": rect.y})
 }
