@@ -5,5 +5,7 @@ mod bytes;
 mod pictures;
 mod rules;
 mod stored;
+#[cfg(test)]
+mod tests;
 
 pub use pictures::{Pictures, meaning};
