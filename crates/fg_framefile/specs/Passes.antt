@@ -1,5 +1,5 @@
 -- Passes: `name`, `queue`; and optional, `reads`, `writes`, `ops`, `side_effect`.
-use Rattle.std.specs.Prelude.{ℕ, [], ◌∷◌, false, Ok, unwrap_or, codes}
+use Rattle.std.specs.Prelude.{ℕ, Bool, [], ◌∷◌, false, Ok, unwrap_or, codes}
 use Rattle.std.specs.List.{AllByRecursion}
 use Rattle.fg_base.specs.Names.{IsName}
 use Rattle.fg_forms.specs.Leaves.{name_at, text_data, same_bytes}
@@ -27,15 +27,18 @@ pass_at format at d = do
   Ok (record { name = name; queue = queue; reads = unwrap_or reads []; writes = unwrap_or writes []; ops = unwrap_or ops []; side_effect = unwrap_or side_effect false })
 
 -- each member is written
-abbrev pub pass_data : Pass → Data
-pass_data pass = object (members_in (
-    (codes "name", text_data same_bytes pass.name) ∷
-    (codes "ops", array_of (op_data spot_data) pass.ops) ∷
-    (codes "queue", text_data same_bytes pass.queue) ∷
-    (codes "reads", array_of spot_data pass.reads) ∷
-    (codes "side_effect", flag_data pass.side_effect) ∷
-    (codes "writes", array_of write_data pass.writes) ∷
+abbrev pub pass_object : Data → Data → Data → Data → Bool → Data → Data
+pass_object name ops queue reads side_effect writes = object (members_in (
+    (codes "name", name) ∷
+    (codes "ops", ops) ∷
+    (codes "queue", queue) ∷
+    (codes "reads", reads) ∷
+    (codes "side_effect", flag_data side_effect) ∷
+    (codes "writes", writes) ∷
     []))
+
+abbrev pub pass_data : Pass → Data
+pass_data pass = pass_object (text_data same_bytes pass.name) (array_of (op_data spot_data) pass.ops) (text_data same_bytes pass.queue) (array_of spot_data pass.reads) pass.side_effect (array_of write_data pass.writes)
 
 -- what the format says of a pass, whichever file it comes from
 pub record FitsPass (pass : Pass) : Type 0 where

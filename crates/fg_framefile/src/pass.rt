@@ -1,7 +1,8 @@
 //! Passes in a file.
 
-ghost use Rattle.std.specs.Prelude.{◌≡◌};
-ghost use Rattle.fg_framefile.specs.Passes.{pass_at, pass_data, FitsPass};
+ghost use Rattle.std.specs.Prelude.{◌≡◌, IfOk};
+ghost use Rattle.fg_framefile.specs.Passes.{pass_at, pass_object, pass_data, FitsPass};
+ghost use Rattle.serde_json.specs.View.{view};
 
 use crate::flag::FlagForm;
 use crate::spot::SpotForm;
@@ -62,7 +63,22 @@ impl<const FORMAT: u32> Writer for PassForm<FORMAT> {
         let reads = <ListForm<SpotForm<FORMAT>>>::write(alloc, &pass.reads)?;
         let writes = <ListForm<WriteForm<FORMAT>>>::write(alloc, &pass.writes)?;
         let ops = <ListForm<OpForm<SpotForm<FORMAT>>>>::write(alloc, &pass.ops)?;
-        let side_effect = pass.side_effect;
-        json!(in alloc; {"name": name, "ops": ops, "queue": queue, "reads": reads, "side_effect": side_effect, "writes": writes})
+        pass_object(alloc, name, ops, queue, reads, pass.side_effect, writes)
     }
+}
+
+// A pass from what its members are written as.
+fn pass_object(
+    alloc: Global,
+    name: Value,
+    ops: Value,
+    queue: Value,
+    reads: Value,
+    side_effect: bool,
+    writes: Value,
+) -> Result<Value, AllocError>
+    ensures { IfOk result (λ json. view json
+        ≡ pass_object (view name) (view ops) (view queue) (view reads) side_effect (view writes)) }
+{
+    json!(in alloc; {"name": name, "ops": ops, "queue": queue, "reads": reads, "side_effect": side_effect, "writes": writes})
 }
