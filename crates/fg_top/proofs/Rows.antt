@@ -1,7 +1,8 @@
 -- Worked rows: what the definitions come to on written-out values.
-use Rattle.std.proofs.Common.{◌≡◌, [], ◌∷◌, None, true, false, codes, refl, is_some}
+use Rattle.std.proofs.Common.{◌≡◌, [], ◌∷◌, None, true, false, codes, refl}
 use Rattle.std.specs.Fmt.{digits}
 use Rattle.hex.proofs.OnLiterals.{hex_on_literals}
+use Rattle.fg_base.specs.Texels.{band, low_bytes}
 use Rattle.fg_base.specs.declared.op.Op.TheVariants.{FillBuffer}
 use Rattle.fg_base.specs.declared.shape.Family.TheVariants.{Graphics}
 use Rattle.fg_base.specs.declared.shape.Shape.TheVariants.{Buffer}
@@ -24,5 +25,5 @@ one_fill = record {
 }
 
 one_fill_exported : exports_from one_fill 0 (numbered one_fill).exports ≡ codes "export b 16\n07000000070000000700000007000000\n"
-unfolding one_fill whole hex_on_literals digits
+unfolding one_fill whole band low_bytes hex_on_literals digits
 one_fill_exported = refl
