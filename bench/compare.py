@@ -1,0 +1,167 @@
+#!/usr/bin/env python3
+"""Times two programs that know the same words, in turn, on the same frames.
+
+    bench/compare.py OURS OTHER [--runs 5] [--case NAME ..]
+
+First whole commands: `run`, `meaning` and `cull` of the deferred frame of examples/, and `cull` of 256 passes that read and
+change each of 256 buffers. Then each operation: a frame applies it again and again to images of 1920 by 1080 texels and
+exports one texel, so that little is printed; a frame without it is timed too, and its time is taken off. For each case one
+line: the medians of the processor time in both programs in milliseconds, of the command or of one operation, their ratio,
+and the ratio of the most memory that the programs took. The texts of both have to be the same.
+"""
+
+import argparse
+import json
+import os
+import statistics
+import subprocess
+import sys
+import tempfile
+from pathlib import Path
+
+WIDTH, HEIGHT = 1920, 1080
+TIMES = 12
+
+
+def image(name, texel, width=WIDTH, height=HEIGHT):
+    return {"name": name, "image": [width, height], "texel": texel}
+
+
+def frame(texel, ops, resources, final):
+    """Sources a, b and mask m are ramps; `final` is the image that the exported texel comes from."""
+    sources = [image(name, texel) for name in "abm"]
+    spot = {"name": "spot", "image": [1, 1], "texel": final[1]}
+    make = [
+        {"op": "ramp", "dst": "a", "base": 1, "dx": 3, "dy": 77777},
+        {"op": "ramp", "dst": "b", "base": 5, "dx": 999999, "dy": 7},
+        {"op": "ramp", "dst": "m", "base": 0, "dx": 1, "dy": 1},
+        {"op": "ramp", "dst": final[0], "base": 0, "dx": 1, "dy": 1},
+    ]
+    if final[1] is None:
+        spot = {"name": "spot", "buffer": 1024}
+        make[3] = {"op": "fill_buffer", "dst": final[0], "offset": 0, "size": 1024, "word": 0}
+        last = {"op": "copy_buffer", "src": final[0], "dst": "spot", "src_offset": 0, "dst_offset": 0, "size": 1024}
+    else:
+        last = {"op": "copy_image", "src": final[0], "dst": "spot", "src_x": 0, "src_y": 0, "dst_x": 0, "dst_y": 0, "width": 1, "height": 1}
+    names = ["a", "b", "m", final[0]]
+    return {
+        "format": 1,
+        "queues": [{"name": "g", "family": "graphics"}],
+        "resources": sources + resources + [spot],
+        "passes": [
+            {"name": "make", "queue": "g", "writes": [{"new": name} for name in names], "ops": make},
+            {"name": "work", "queue": "g", "reads": ["a", "b", "m"], "writes": [{"change": final[0]}], "ops": ops},
+            {"name": "take", "queue": "g", "reads": [final[0]], "writes": [{"new": "spot"}], "ops": [last]},
+        ],
+        "exports": ["spot"],
+    }
+
+
+def cases():
+    """Name, texel of the sources, the operation, the resource that it stores to and that one's texel."""
+    for texel in ("r32", "r8"):
+        out, full = image("out", texel), ("out", texel)
+        other = "r8" if texel == "r32" else "r32"
+        area = {"src_x": 0, "src_y": 0, "dst_x": 7, "dst_y": 3, "width": 1900, "height": 1070}
+        rect = {"x": 10, "y": 10, "width": 1900, "height": 1060, "mix": "xor", "value": 77}
+        yield f"clear_image {texel}", texel, {"op": "clear_image", "dst": "out", "value": 9}, out, full
+        yield f"ramp {texel}", texel, {"op": "ramp", "dst": "out", "base": 1, "dx": 2, "dy": 3}, out, full
+        yield f"copy_image {texel}", texel, {"op": "copy_image", "src": "a", "dst": "out", **area}, out, full
+        for fun in ("add", "mul", "min", "shr"):
+            yield f"map {fun} {texel}", texel, {"op": "map", "src": "a", "dst": "out", "fun": fun, "value": 5}, out, full
+        for fun in ("sub", "max", "xor", "shl"):
+            yield f"combine {fun} {texel}", texel, {"op": "combine", "a": "a", "b": "b", "dst": "out", "fun": fun}, out, full
+        yield f"select {texel}", texel, {"op": "select", "mask": "m", "a": "a", "b": "b", "dst": "out"}, out, full
+        yield f"convert {texel} to {other}", texel, {"op": "convert", "src": "a", "dst": "out"}, image("out", other), ("out", other)
+        yield f"box3 {texel}", texel, {"op": "box3", "src": "a", "dst": "out"}, out, full
+        yield f"halve {texel}", texel, {"op": "halve", "src": "a", "dst": "out"}, image("out", texel, WIDTH // 2, HEIGHT // 2), full
+        yield f"draw {texel}", texel, {"op": "draw", "dst": "out", "clear": 3, "rects": [rect]}, out, full
+    table = {"name": "out", "buffer": 1024}
+    yield "histogram", "r8", {"op": "histogram", "src": "a", "dst": "out"}, table, ("out", None)
+
+
+def wide():
+    """As many passes and buffers as there can be, each pass with each buffer."""
+    names = [f"b{k}" for k in range(256)]
+    one = {"queue": "g", "reads": names, "writes": [{"change": name} for name in names]}
+    return {
+        "format": 1,
+        "queues": [{"name": "g", "family": "graphics"}],
+        "resources": [{"name": name, "buffer": 4, "import": "00000000"} for name in names],
+        "passes": [{"name": f"p{k}", **one} for k in range(256)],
+        "exports": ["b0"],
+    }
+
+
+def once(program, word, path):
+    """Processor time in milliseconds, most memory in KiB, and the text."""
+    with open(path, "rb") as text:
+        child = subprocess.Popen([program, word], stdin=text, stdout=subprocess.PIPE)
+        printed = child.stdout.read()
+        child.stdout.close()
+        _, status, usage = os.wait4(child.pid, 0)
+    child.returncode = os.waitstatus_to_exitcode(status)
+    return (usage.ru_utime + usage.ru_stime) * 1e3, usage.ru_maxrss, (child.returncode, printed)
+
+
+def measured(programs, word, runs, path):
+    took = [[], []]
+    most = [0, 0]
+    texts = [None, None]
+    for _ in range(runs):
+        for k, program in enumerate(programs):
+            ms, kib, texts[k] = once(program, word, path)
+            took[k].append(ms)
+            most[k] = max(most[k], kib)
+    if texts[0] != texts[1]:
+        sys.exit(f"{path}: the programs differ: {texts[0]!r} and {texts[1]!r}"[:400])
+    return [statistics.median(ms) for ms in took], most
+
+
+def row(name, own, other, most):
+    print(f"{name:24} {own:8.2f} {other:8.2f} {own / other:6.2f} {most[0] / most[1]:6.2f}", flush=True)
+
+
+def written(folder, name, value):
+    path = os.path.join(folder, name)
+    with open(path, "w", encoding="utf-8") as file:
+        json.dump(value, file)
+    return path
+
+
+def commands(folder):
+    """Name, word and file."""
+    deferred = Path(__file__).resolve().parent.parent / "examples" / "deferred.json"
+    for word in ("run", "meaning", "cull"):
+        yield f"{word} deferred", word, deferred
+    yield "cull 256 passes", "cull", written(folder, "wide.json", wide())
+
+
+def main():
+    parser = argparse.ArgumentParser(description=__doc__, formatter_class=argparse.RawDescriptionHelpFormatter)
+    parser.add_argument("programs", nargs=2, metavar="PROGRAM")
+    parser.add_argument("--runs", type=int, default=5)
+    parser.add_argument("--case", nargs="*", default=[])
+    options = parser.parse_args()
+
+    def wanted(name):
+        return not options.case or any(name.startswith(word) for word in options.case)
+
+    print(f"{'case':24} {'ms':>8} {'other':>8} {'ratio':>6} {'memory':>6}")
+    with tempfile.TemporaryDirectory() as folder:
+        for name, word, path in commands(folder):
+            if wanted(name):
+                (own, other), most = measured(options.programs, word, options.runs, path)
+                row(name, own, other, most)
+        for name, texel, op, out, final in cases():
+            if wanted(name):
+                idle_path = written(folder, "idle.json", frame(texel, [], [out], final))
+                busy_path = written(folder, "busy.json", frame(texel, [op] * TIMES, [out], final))
+                idle, _ = measured(options.programs, "meaning", options.runs, idle_path)
+                busy, most = measured(options.programs, "meaning", options.runs, busy_path)
+                own, other = [max(b - i, 0.001) / TIMES for b, i in zip(busy, idle)]
+                row(name, own, other, most)
+
+
+if __name__ == "__main__":
+    main()
