@@ -1,0 +1,21 @@
+-- What tables of nodes keep.
+use Rattle.std.specs.Prelude.{◌≡◌, ◌≤◌, ℕ, List, length, map, Option, None}
+use Rattle.std.specs.List.{range_with_len}
+use Rattle.fg_hb.specs.Edges.{node_at, next_signal, meeting}
+use Rattle.fg_hb.specs.declared.edges.Edges.TheInside.{Inside}
+use Rattle.fg_hb.specs.declared.kind.Kind.{Kind}
+use Rattle.fg_hb.specs.declared.kind.Kind.TheVariants.{Command, Barrier, Wait, Signal, Host}
+use Rattle.fg_hb.specs.declared.node.Node.{Node}
+
+-- of a signal the next one of its queue, of a wait the signal that meets it
+abbrev pub link_of : List Node → ℕ → Kind → Option ℕ
+link_of nodes n (Signal value) = next_signal nodes n
+link_of nodes n (Wait queue value) = meeting nodes (Wait queue value)
+link_of nodes n kind = None
+
+abbrev pub links_until : List Node → ℕ → List (Option ℕ)
+links_until nodes count = map (λ n. link_of nodes n (node_at nodes n).kind) (range_with_len 0 count)
+
+pub record IsKept (edges : Inside) : Type 0 where
+  pub few : length edges.nodes ≤ 20000
+  pub links : edges.links ≡ links_until edges.nodes (length edges.nodes)

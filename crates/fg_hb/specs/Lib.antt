@@ -1,0 +1,5 @@
+pub mod Edges
+pub mod Kept
+pub mod Nodes
+pub mod Orders
+pub mod Queues

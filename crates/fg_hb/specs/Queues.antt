@@ -1,0 +1,58 @@
+-- Queues of nodes, and the next node of each.
+use Rattle.std.specs.Prelude.{◌≡◌, ℕ, zero, suc, ◌+◌, ◌-◌, ◌<◌, ◌≤◌, Bool, false, ◌&&◌, ◌||◌, nat_le, nat_lt, not, List, length, get_or, Option, Some, None}
+use Rattle.std.specs.List.{position_or_len}
+use Rattle.fg_hb.specs.Edges.{is_wait, node_at, meeting}
+use Rattle.fg_hb.specs.declared.node.Node.{Node}
+
+-- the queue of each node, where each queue begins, whether a node waits, and the signal that meets it
+pub record Queues : Type 0 where
+  pub queue : ℕ → ℕ
+  pub start : ℕ → ℕ
+  pub waits : ℕ → Bool
+  pub met : ℕ → Option ℕ
+
+-- nodes are numbered queue by queue
+pub record Numbered (Q : Queues) (queues count : ℕ) : Type 0 where
+  pub last : Q.start queues ≡ count
+  pub rising : (q r : ℕ) → q ≤ r → r ≤ queues → Q.start q ≤ Q.start r
+  pub within : (n : ℕ) → n < count → (Q.queue n < queues) × (Q.start (Q.queue n) ≤ n) × (n < Q.start (Q.queue n + 1))
+  pub only : (n q : ℕ) → q < queues → Q.start q ≤ n → n < Q.start (q + 1) → Q.queue n ≡ q
+  pub meets : (n x : ℕ) → Q.met n ≡ Some x → x < count
+  pub idle : (n : ℕ) → Q.waits n ≡ false → Q.met n ≡ None
+
+-- the signal is taken, where each queue's next node is known
+abbrev pub taken : Queues → List ℕ → Option ℕ → Bool
+taken Q next None = false
+taken Q next (Some x) = nat_lt x (get_or next (Q.queue x) 0)
+
+-- node n waits for nothing, or for a signal that is taken
+abbrev pub is_open : Queues → List ℕ → ℕ → Bool
+is_open Q next n = not (Q.waits n) || taken Q next (Q.met n)
+
+-- the queue has a node left, and it may come next
+abbrev pub goes_on : Queues → List ℕ → ℕ → Bool
+goes_on Q next q = nat_lt (get_or next q 0) (Q.start (q + 1)) && is_open Q next (get_or next q 0)
+
+-- how many nodes the first queues have left
+abbrev pub left_of : Queues → List ℕ → ℕ → ℕ
+left_of Q next zero = 0
+left_of Q next (suc q) = (Q.start (q + 1) - get_or next q 0) + left_of Q next q
+
+-- the first node that is of no queue below q
+abbrev pub start_of : List Node → ℕ → ℕ
+start_of nodes q = position_or_len (λ node. nat_le q node.queue) nodes
+
+abbrev pub queues_of : List Node → Queues
+queues_of nodes = record {
+  queue = λ n. (node_at nodes n).queue;
+  start = start_of nodes;
+  waits = λ n. is_wait (node_at nodes n).kind;
+  met = λ n. meeting nodes (node_at nodes n).kind;
+}
+
+-- the nodes of so many queues, and a table of where each queue begins
+pub record Ready (nodes : List Node) (starts : List ℕ) (queues : ℕ) : Type 0 where
+  pub few : length nodes ≤ 20000
+  pub numbered : Numbered (queues_of nodes) queues (start_of nodes queues)
+  pub size : length starts ≡ queues + 1
+  pub begins : (q : ℕ) → q ≤ queues → get_or starts q 0 ≡ start_of nodes q

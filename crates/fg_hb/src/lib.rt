@@ -1,0 +1,11 @@
+//! What is ordered before what in a program, and the order in which its nodes are taken.
+#![tactic(auto)]
+
+mod edges;
+mod kind;
+mod node;
+mod signals;
+
+pub use edges::{Edges, direct};
+pub use kind::Kind;
+pub use node::Node;
