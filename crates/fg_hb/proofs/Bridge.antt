@@ -4,9 +4,9 @@ use Rattle.std.proofs.lemmas.Bool.{cases_eq, cases_lt, cases_Bool, false≢true,
 use Rattle.std.specs.List.{range_with_len}
 use Rattle.std.specs.Option.{is_none}
 use Rattle.fg_bits.specs.Sets.{meets}
-use Rattle.fg_hb.specs.Edges.{is_wait, is_host, is_signal, is_sync, is_at, holds_back, next_signal, meeting, node_at, edge}
+use Rattle.fg_hb.specs.Edges.{is_wait, is_host, is_signal, is_sync, is_at, holds_back, next_signal, meeting, node_at, goes_to, signalled, edge}
 use Rattle.fg_hb.specs.Orders.{Among, Distinct, before_in, Earlier, is_queued, InTurn, Front, Order, NotAbove, IsLeast, IsStuck}
-use Rattle.fg_hb.specs.Queues.{Queues, Numbered, start_of, queues_of}
+use Rattle.fg_hb.specs.Queues.{Lined, queues_of}
 use Rattle.fg_hb.specs.declared.kind.Kind.{Kind}
 use Rattle.fg_hb.specs.declared.kind.Kind.TheVariants.{Command, Barrier, Wait, Signal, Host}
 use Rattle.fg_hb.specs.declared.node.Node.{Node}
@@ -78,20 +78,12 @@ never_false : (w : Bool) (o : Option ℕ) → (w ≡ true → (x : ℕ) × (o �
 never_false false o f = refl
 never_false true o f = let t = f refl in ap (λ z. is_none z) t.1
 
-met_wait : (nodes : List Node) (kind : Kind) (x : ℕ) → meeting nodes kind ≡ Some x → is_wait kind ≡ true
+pub met_wait : (nodes : List Node) (kind : Kind) (x : ℕ) → meeting nodes kind ≡ Some x → is_wait kind ≡ true
 met_wait nodes Command x e = absurd cc
 met_wait nodes Barrier x e = absurd cc
 met_wait nodes (Wait queue value) x e = refl
 met_wait nodes (Signal value) x e = absurd cc
 met_wait nodes Host x e = absurd cc
-
--- what the nodes of a program keep, the first `count` of which are of queues
-pub record Lined (nodes : List Node) (queues count : ℕ) : Type 0 where
-  pub fewer : count ≤ length nodes
-  pub queued : (n : ℕ) → is_queued nodes n ≡ nat_lt n count
-  pub numbered : Numbered (queues_of nodes) queues count
-  pub within : (n : ℕ) → is_sync (node_at nodes n).kind ≡ true → n < count
-  pub next : (x n : ℕ) → next_signal nodes x ≡ Some n → (x < n) × ((node_at nodes x).queue ≡ (node_at nodes n).queue)
 
 abbrev pub all_needs : List Node → ℕ → Needs
 all_needs nodes count = record {
@@ -103,14 +95,14 @@ all_needs nodes count = record {
 some_same : (x y : ℕ) → Some x ≡ Some y → x ≡ y
 some_same x y e = eqb-true x y (ap (λ o. is_at o y) e ∙ eq-eqb y y refl)
 
-signal_sync : (kind : Kind) → is_signal kind ≡ true → is_sync kind ≡ true
+pub signal_sync : (kind : Kind) → is_signal kind ≡ true → is_sync kind ≡ true
 signal_sync (Signal value) h = refl
 signal_sync Command h = absurd (clash h)
 signal_sync Barrier h = absurd (clash h)
 signal_sync (Wait queue value) h = absurd (clash h)
 signal_sync Host h = absurd (clash h)
 
-wait_sync : (kind : Kind) → is_wait kind ≡ true → is_sync kind ≡ true
+pub wait_sync : (kind : Kind) → is_wait kind ≡ true → is_sync kind ≡ true
 wait_sync (Wait queue value) h = refl
 wait_sync Command h = absurd (clash h)
 wait_sync Barrier h = absurd (clash h)
@@ -125,32 +117,24 @@ EdgeCase nodes x y =
     ⊎ ((meeting nodes (node_at nodes y).kind ≡ Some x)
     ⊎ ((is_host (node_at nodes y).kind ≡ true) × (is_signal (node_at nodes x).kind ≡ true))))
 
-cases_of : (a signal host : Bool) (next met : Option ℕ) (x y : ℕ) → (a || ((signal && is_at next y) || (is_at met x || (host && (signal && is_none next))))) ≡ true → (a ≡ true) ⊎ (((signal ≡ true) × (next ≡ Some y)) ⊎ ((met ≡ Some x) ⊎ ((host ≡ true) × (signal ≡ true))))
-cases_of a signal host next met x y h = ⊎_elim
-    (λ e. inl e)
-    (λ e. inr (⊎_elim
-    (λ b. let p = and_parts signal (is_at next y) b in inl (p.0, is_same next y p.1))
-    (λ b. inr (⊎_elim
-    (λ c. inl (is_same met x c))
-    (λ c. let p = and_parts host (signal && is_none next) c in inr (p.0, (and_parts signal (is_none next) p.1).0))
-    (or_cases (is_at met x) (host && (signal && is_none next)) b)))
-    (or_cases (signal && is_at next y) (is_at met x || (host && (signal && is_none next))) e)))
-    (or_cases a ((signal && is_at next y) || (is_at met x || (host && (signal && is_none next)))) h)
+signal_cases : (nodes : List Node) (x y : ℕ) (signal : Bool) (next : Option ℕ) → (signal && goes_to nodes y next) ≡ true → ((signal ≡ true) × (next ≡ Some y)) ⊎ ((is_host (node_at nodes y).kind ≡ true) × (signal ≡ true))
+signal_cases nodes x y signal (Some n) h = let p = and_parts signal (n == y) h in inl (p.0, ap (λ z. Some z) (eqb-true n y p.1))
+signal_cases nodes x y signal None h = let p = and_parts signal (is_host (node_at nodes y).kind) h in inr (p.1, p.0)
 
 pub edge_cases : (nodes : List Node) (x y : ℕ) → edge nodes x y ≡ true → EdgeCase nodes x y
 edge_cases nodes x y h = ⊎_elim
     (λ a. let p = and_parts (nat_lt x y) (holds_back (node_at nodes x) (node_at nodes y)) a in inl (ltb-true x y p.0, p.1))
-    (λ a. inr a)
-    (cases_of (nat_lt x y && holds_back (node_at nodes x) (node_at nodes y)) (is_signal (node_at nodes x).kind) (is_host (node_at nodes y).kind) (next_signal nodes x) (meeting nodes (node_at nodes y).kind) x y h)
-
-met_case : (a signal host : Bool) (next met : Option ℕ) (x y : ℕ) → met ≡ Some x → (a || ((signal && is_at next y) || (is_at met x || (host && (signal && is_none next))))) ≡ true
-met_case a signal host next met x y e =
-    or_right a ((signal && is_at next y) || (is_at met x || (host && (signal && is_none next))))
-    (or_right (signal && is_at next y) (is_at met x || (host && (signal && is_none next))) (or_left (is_at met x) (host && (signal && is_none next)) (at_it met x e)))
+    (λ a. inr (⊎_elim
+        (λ b. ⊎_elim (λ c. inl c) (λ c. inr (inr c)) (signal_cases nodes x y (is_signal (node_at nodes x).kind) (next_signal nodes x) b))
+        (λ b. inr (inl (is_same (meeting nodes (node_at nodes y).kind) x b)))
+        (or_cases (signalled nodes x y) (is_at (meeting nodes (node_at nodes y).kind) x) a)))
+    (or_cases (nat_lt x y && holds_back (node_at nodes x) (node_at nodes y)) (signalled nodes x y || is_at (meeting nodes (node_at nodes y).kind) x) h)
 
 -- a wait and the signal that meets it
-meets_edge : (nodes : List Node) (x y : ℕ) → meeting nodes (node_at nodes y).kind ≡ Some x → edge nodes x y ≡ true
-meets_edge nodes x y e = met_case (nat_lt x y && holds_back (node_at nodes x) (node_at nodes y)) (is_signal (node_at nodes x).kind) (is_host (node_at nodes y).kind) (next_signal nodes x) (meeting nodes (node_at nodes y).kind) x y e
+pub meets_edge : (nodes : List Node) (x y : ℕ) → meeting nodes (node_at nodes y).kind ≡ Some x → edge nodes x y ≡ true
+meets_edge nodes x y e =
+    or_right (nat_lt x y && holds_back (node_at nodes x) (node_at nodes y)) (signalled nodes x y || is_at (meeting nodes (node_at nodes y).kind) x)
+    (or_right (signalled nodes x y) (is_at (meeting nodes (node_at nodes y).kind) x) (at_it (meeting nodes (node_at nodes y).kind) x e))
 
 module _ (nodes : List Node) (queues count : ℕ) (L : Lined nodes queues count) where
   abbrev N : Needs

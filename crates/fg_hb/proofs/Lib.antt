@@ -1,6 +1,9 @@
 pub mod Bridge
+pub mod Drained
 pub mod Going
 pub mod Hosts
+pub mod Lines
+pub mod Placed
 pub mod Queues
 pub mod Steps
 pub mod Tables

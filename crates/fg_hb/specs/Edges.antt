@@ -1,5 +1,5 @@
 -- Which node is held back by which at once: the direct edges.
-use Rattle.std.specs.Prelude.{ℕ, ◌+◌, ◌==◌, ◌&&◌, ◌||◌, nat_lt, nat_le, Bool, true, false, List, length, drop, get_or, Option, Some, None, is_none}
+use Rattle.std.specs.Prelude.{ℕ, ◌+◌, ◌==◌, ◌&&◌, ◌||◌, nat_lt, nat_le, Bool, true, false, List, length, drop, get_or, Option, Some, None}
 use Rattle.std.specs.List.{position}
 use Rattle.std.specs.Option.{option_map}
 use Rattle.fg_bits.specs.Sets.{meets}
@@ -60,11 +60,17 @@ is_at (Some m) n = m == n
 abbrev pub holds_back : Node → Node → Bool
 holds_back a b = (a.queue == b.queue) && ((is_sync a.kind || is_sync b.kind) && meets a.outs.0 b.ins.0)
 
--- node x has a direct edge to node y: on one queue by their stages, from a signal to the next one of its queue, from a
--- signal to a wait that it meets, and from a queue's last signal to each host read
+-- x is a signal, and y the next one of its queue, or x the last one and y a host read
+abbrev pub goes_to : List Node → ℕ → Option ℕ → Bool
+goes_to nodes y (Some next) = next == y
+goes_to nodes y None = is_host (node_at nodes y).kind
+
+abbrev pub signalled : List Node → ℕ → ℕ → Bool
+signalled nodes x y = is_signal (node_at nodes x).kind && goes_to nodes y (next_signal nodes x)
+
+-- node x has a direct edge to node y: on one queue by their stages, from a signal to the next one of its queue or, from
+-- the last one, to each host read, and from a signal to a wait that it meets
 abbrev pub edge : List Node → ℕ → ℕ → Bool
 edge nodes x y =
     (nat_lt x y && holds_back (node_at nodes x) (node_at nodes y))
-    || ((is_signal (node_at nodes x).kind && is_at (next_signal nodes x) y)
-    || (is_at (meeting nodes (node_at nodes y).kind) x
-    || (is_host (node_at nodes y).kind && (is_signal (node_at nodes x).kind && is_none (next_signal nodes x)))))
+    || (signalled nodes x y || is_at (meeting nodes (node_at nodes y).kind) x)

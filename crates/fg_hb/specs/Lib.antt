@@ -1,3 +1,4 @@
+pub mod Answers
 pub mod Edges
 pub mod Kept
 pub mod Nodes

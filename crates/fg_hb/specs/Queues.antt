@@ -1,7 +1,8 @@
 -- Queues of nodes, and the next node of each.
-use Rattle.std.specs.Prelude.{◌≡◌, ℕ, zero, suc, ◌+◌, ◌-◌, ◌<◌, ◌≤◌, Bool, false, ◌&&◌, ◌||◌, nat_le, nat_lt, not, List, length, get_or, Option, Some, None}
+use Rattle.std.specs.Prelude.{◌≡◌, ℕ, zero, suc, ◌+◌, ◌-◌, ◌<◌, ◌≤◌, Bool, true, false, ◌&&◌, ◌||◌, nat_le, nat_lt, not, List, length, get_or, Option, Some, None}
 use Rattle.std.specs.List.{position_or_len}
-use Rattle.fg_hb.specs.Edges.{is_wait, node_at, meeting}
+use Rattle.fg_hb.specs.Edges.{is_wait, is_sync, node_at, next_signal, meeting}
+use Rattle.fg_hb.specs.Orders.{is_queued}
 use Rattle.fg_hb.specs.declared.node.Node.{Node}
 
 -- the queue of each node, where each queue begins, whether a node waits, and the signal that meets it
@@ -50,9 +51,17 @@ queues_of nodes = record {
   met = λ n. meeting nodes (node_at nodes n).kind;
 }
 
+-- what the nodes of a program keep, the first `count` of which are of queues
+pub record Lined (nodes : List Node) (queues count : ℕ) : Type 0 where
+  pub fewer : count ≤ length nodes
+  pub queued : (n : ℕ) → is_queued nodes n ≡ nat_lt n count
+  pub numbered : Numbered (queues_of nodes) queues count
+  pub within : (n : ℕ) → is_sync (node_at nodes n).kind ≡ true → n < count
+  pub next : (x n : ℕ) → next_signal nodes x ≡ Some n → (x < n) × ((node_at nodes x).queue ≡ (node_at nodes n).queue)
+
 -- the nodes of so many queues, and a table of where each queue begins
 pub record Ready (nodes : List Node) (starts : List ℕ) (queues : ℕ) : Type 0 where
   pub few : length nodes ≤ 20000
-  pub numbered : Numbered (queues_of nodes) queues (start_of nodes queues)
+  pub lined : Lined nodes queues (start_of nodes queues)
   pub size : length starts ≡ queues + 1
   pub begins : (q : ℕ) → q ≤ queues → get_or starts q 0 ≡ start_of nodes q

@@ -1,11 +1,11 @@
 //! The direct edges of a program.
 
-ghost use Rattle.std.specs.Prelude.{◌≡◌, ◌<◌, length, IfOk};
-ghost use Rattle.fg_hb.specs.Edges.{edge, node_at, is_at};
+ghost use Rattle.std.specs.Prelude.{◌≡◌, ◌<◌, ◌≤◌, length, true, IfOk};
+ghost use Rattle.fg_hb.specs.Edges.{edge, node_at, is_at, is_signal, next_signal, meeting, signalled};
 ghost use Rattle.fg_hb.specs.Kept.{link_of};
 ghost use Rattle.fg_hb.specs.Nodes.{program_nodes};
 
-use crate::Node;
+use crate::{Kind, Node};
 use crate::node::program_nodes;
 use crate::signals::links_of;
 use fg_base::{List, NoMemory};
@@ -43,28 +43,70 @@ pub fn direct(alloc: Global, program: &Shaped) -> Result<Edges, NoMemory>
     Ok(Edges { nodes, links })
 }
 
-fn is_at(link: Option<usize>, n: u32) -> bool
+fn is_at(link: Option<usize>, n: usize) -> bool
     ensures { result ≡ is_at link n }
 {
     match link {
-        Some(m) => m == n as usize,
+        Some(m) => m == n,
         None => false,
     }
 }
 
 impl Edges {
-    fn node(&self, n: u32) -> Node
+    pub(crate) fn count(&self) -> usize
+        ensures count { result ≡ length self.now }
+        ensures few { result ≤ 20000 }
+    {
+        self.nodes.len()
+    }
+
+    pub(crate) fn node(&self, n: usize) -> Node
         requires n { n < length self.now }
         ensures { result ≡ node_at self.now n }
     {
-        self.nodes[n as usize]
+        self.nodes[n]
     }
 
-    fn link(&self, n: u32) -> Option<usize>
+    fn link(&self, n: usize) -> Option<usize>
         requires n { n < length self.now }
         ensures { result ≡ link_of self.now n (node_at self.now n).kind }
     {
-        self.links[n as usize]
+        self.links[n]
+    }
+
+    /// The next signal of a signal's queue.
+    pub(crate) fn next(&self, n: usize) -> Option<usize>
+        requires n { n < length self.now }
+        requires signal { is_signal (node_at self.now n).kind ≡ true }
+        ensures { result ≡ next_signal self.now n }
+    {
+        self.link(n)
+    }
+
+    /// The signal that meets a wait.
+    pub(crate) fn met(&self, n: usize) -> Option<usize>
+        requires n { n < length self.now }
+        ensures { result ≡ meeting self.now (node_at self.now n).kind }
+    {
+        match self.node(n).kind {
+            Kind::Wait { .. } => self.link(n),
+            _ => None,
+        }
+    }
+
+    // Whether `to` is the next signal, or `from` the last one and `to` a host read.
+    fn signals(&self, from: usize, to: usize) -> bool
+        requires from { from < length self.now }
+        requires to { to < length self.now }
+        ensures { result ≡ signalled self.now from to }
+    {
+        if !self.node(from).kind.is_signal() {
+            return false;
+        }
+        match self.next(from) {
+            Some(next) => next == to,
+            None => self.node(to).kind.is_host(),
+        }
     }
 
     /// Whether node `x` has a direct edge to node `y`.
@@ -73,11 +115,9 @@ impl Edges {
         requires y { y < length self.now }
         ensures { result ≡ edge self.now x y }
     {
-        let from = self.node(x);
-        let to = self.node(y);
-        x < y && from.holds_back(&to)
-            || from.kind.is_signal() && is_at(self.link(x), y)
-            || to.kind.is_wait() && is_at(self.link(y), x)
-            || to.kind.is_host() && from.kind.is_signal() && self.link(x).is_none()
+        let (x, y) = (x as usize, y as usize);
+        x < y && self.node(x).holds_back(&self.node(y))
+            || self.signals(x, y)
+            || is_at(self.met(y), x)
     }
 }

@@ -1,11 +1,13 @@
 //! What is ordered before what in a program, and the order in which its nodes are taken.
 #![tactic(auto)]
 
+mod drain;
 mod edges;
 mod kind;
 mod node;
 mod signals;
 
+pub use drain::{Drain, drain_of};
 pub use edges::{Edges, direct};
 pub use kind::Kind;
 pub use node::Node;

@@ -1,0 +1,158 @@
+//! The order in which nodes are taken.
+
+ghost use Rattle.std.specs.Prelude.{◌≡◌, ◌<◌, ◌≤◌, ◌+◌, ◌-◌, ◌++◌, ℕ, length, true, false, get_or, IfOk, OnOk, MatchOption, IfSome};
+ghost use Rattle.std.specs.List.{range_with_len};
+ghost use Rattle.fg_hb.specs.Answers.{Answers};
+ghost use Rattle.fg_hb.specs.Nodes.{program_nodes};
+ghost use Rattle.fg_hb.specs.Queues.{Numbered, Ready, queues_of, start_of, is_open, goes_on};
+
+use crate::Edges;
+use fg_base::{List, NoMemory};
+use fg_subs::Shaped;
+use std::alloc::Global;
+
+/// The order in which nodes are taken: again and again the next node of the lowest queue whose next node is no wait for a
+/// signal that is not taken, and at last the host reads.
+#[derive(Debug, Drop)]
+pub enum Drain {
+    /// The least order of all nodes, compared place by place.
+    Whole(List<u32>),
+    /// No order exists: each queue that has a node left stands before a wait. The lowest such queue and its next node,
+    /// the least one that nothing reaches.
+    Stuck { queue: u32, node: u32 },
+}
+
+// Whether the node waits for nothing, or for a signal that is taken.
+fn is_open(edges: &Edges, queues: usize, next: &[usize], n: usize) -> bool
+    requires numbered { Numbered (queues_of edges.now) queues (start_of edges.now queues) }
+    requires next { length next.now ≡ queues }
+    requires n { n < length edges.now }
+    ensures { result ≡ is_open (queues_of edges.now) next.now n }
+{
+    if !edges.node(n).kind.is_wait() {
+        return true;
+    }
+    match edges.met(n) {
+        Some(signal) => signal < next[edges.node(signal).queue as usize],
+        None => false,
+    }
+}
+
+// Whether the queue has a node left that may come next.
+fn goes_on(edges: &Edges, starts: &[usize], queues: usize, next: &[usize], q: usize) -> bool
+    requires ready { Ready edges.now starts.now queues }
+    requires next { length next.now ≡ queues }
+    requires q { q < queues }
+    ensures { result ≡ goes_on (queues_of edges.now) next.now q }
+{
+    let n = next[q];
+    n < starts[q + 1] && is_open(edges, queues, next, n)
+}
+
+// The lowest queue that can go on.
+fn pick(edges: &Edges, starts: &[usize], queues: usize, next: &[usize]) -> Option<usize>
+    requires ready { Ready edges.now starts.now queues }
+    requires next { length next.now ≡ queues }
+    ensures first { MatchOption result ((q : ℕ) → q < queues → goes_on (queues_of edges.now) next.now q ≡ false) (λ q. (r : ℕ) → r < q → goes_on (queues_of edges.now) next.now r ≡ false) }
+    ensures some { IfSome result (λ q. (q < queues) × (goes_on (queues_of edges.now) next.now q ≡ true)) }
+{
+    for q in 0..queues {
+        if goes_on(edges, starts, queues, next, q) {
+            return Some(q);
+        }
+    }
+    None
+}
+
+// The lowest queue that has a node left.
+fn unfinished(starts: &[usize], queues: usize, next: &[usize]) -> Option<usize>
+    requires starts { length starts.now ≡ queues + 1 }
+    requires next { length next.now ≡ queues }
+    ensures first { MatchOption result ((q : ℕ) → q < queues → get_or starts.now (q + 1) 0 ≤ get_or next.now q 0) (λ q. (r : ℕ) → r < q → get_or starts.now (r + 1) 0 ≤ get_or next.now r 0) }
+    ensures some { IfSome result (λ q. (q < queues) × (get_or next.now q 0 < get_or starts.now (q + 1) 0)) }
+{
+    for q in 0..queues {
+        if next[q] < starts[q + 1] {
+            return Some(q);
+        }
+    }
+    None
+}
+
+fn first_nodes(alloc: Global, starts: &[usize], queues: usize) -> Result<Vec<usize>, NoMemory>
+    requires starts { queues < length starts.now }
+    ensures length { IfOk result (λ next. length next.items ≡ queues) }
+    ensures starts { IfOk result (λ next. (q : ℕ) → q < queues → get_or next.items q 0 ≡ get_or starts.now q 0) }
+{
+    let mut next = Vec::new(alloc);
+    for q in 0..queues {
+        next.push(starts[q])?;
+    }
+    Ok(next)
+}
+
+// The host reads, which are the numbers from `from` on, below `count`.
+fn push_hosts(mut order: List<u32>, from: usize, count: usize) -> Result<List<u32>, NoMemory>
+    requires from { from ≤ count }
+    requires few { count ≤ 20000 }
+    ensures { IfOk result (λ all. all ≡ order ++ range_with_len from (count - from)) }
+{
+    for n in from..count {
+        order.push(n as u32)?;
+    }
+    Ok(order)
+}
+
+fn drained(alloc: Global, edges: &Edges, starts: &[usize], queues: usize) -> Result<Drain, NoMemory>
+    requires ready { Ready edges.now starts.now queues }
+    requires few { queues ≤ 4 }
+    ensures { IfOk result (λ drain. Answers edges.now drain) }
+{
+    let mut next = first_nodes(alloc, starts, queues)?;
+    let mut order = List::new(alloc);
+    'nodes: while let Some(q) = pick(edges, starts, queues, &next) {
+        order.push(next[q] as u32)?;
+        next[q] += 1;
+    }
+    match unfinished(starts, queues, &next) {
+        None => Ok(Drain::Whole(push_hosts(order, starts[queues], edges.count())?)),
+        Some(q) => Ok(Drain::Stuck {
+            queue: q as u32,
+            node: next[q] as u32,
+        }),
+    }
+}
+
+// The first node that is of no queue below `queue`.
+fn start_of(edges: &Edges, queue: usize) -> usize
+    ensures { result ≡ start_of edges.now queue }
+{
+    for n in 0..edges.count() {
+        if queue <= edges.node(n).queue as usize {
+            return n;
+        }
+    }
+    edges.count()
+}
+
+fn starts_of(alloc: Global, edges: &Edges, queues: usize) -> Result<Vec<usize>, NoMemory>
+    requires few { queues ≤ 4 }
+    ensures length { IfOk result (λ starts. length starts.items ≡ queues + 1) }
+    ensures begins { IfOk result (λ starts. (q : ℕ) → q ≤ queues → get_or starts.items q 0 ≡ start_of edges.now q) }
+{
+    let mut starts = Vec::new(alloc);
+    for q in 0..queues + 1 {
+        starts.push(start_of(edges, q))?;
+    }
+    Ok(starts)
+}
+
+/// The least order of a program's nodes, or where it is stuck. The edges are those of the program.
+pub fn drain_of(alloc: Global, program: &Shaped, edges: &Edges) -> Result<Drain, NoMemory>
+    requires edges { edges.now ≡ program_nodes program.now }
+    ensures { IfOk result (λ drain. Answers (program_nodes program.now) drain) }
+{
+    let queues = program.program().queues.len();
+    let starts = starts_of(alloc, edges, queues)?;
+    drained(alloc, edges, &starts, queues)
+}
