@@ -125,9 +125,9 @@ pub edge_cases : (nodes : List Node) (x y : ℕ) → edge nodes x y ≡ true →
 edge_cases nodes x y h = ⊎_elim
     (λ a. let p = and_parts (nat_lt x y) (holds_back (node_at nodes x) (node_at nodes y)) a in inl (ltb-true x y p.0, p.1))
     (λ a. inr (⊎_elim
-        (λ b. ⊎_elim (λ c. inl c) (λ c. inr (inr c)) (signal_cases nodes x y (is_signal (node_at nodes x).kind) (next_signal nodes x) b))
-        (λ b. inr (inl (is_same (meeting nodes (node_at nodes y).kind) x b)))
-        (or_cases (signalled nodes x y) (is_at (meeting nodes (node_at nodes y).kind) x) a)))
+    (λ b. ⊎_elim (λ c. inl c) (λ c. inr (inr c)) (signal_cases nodes x y (is_signal (node_at nodes x).kind) (next_signal nodes x) b))
+    (λ b. inr (inl (is_same (meeting nodes (node_at nodes y).kind) x b)))
+    (or_cases (signalled nodes x y) (is_at (meeting nodes (node_at nodes y).kind) x) a)))
     (or_cases (nat_lt x y && holds_back (node_at nodes x) (node_at nodes y)) (signalled nodes x y || is_at (meeting nodes (node_at nodes y).kind) x) h)
 
 -- a wait and the signal that meets it

@@ -60,6 +60,6 @@ module _ (nodes : List Node) (starts : List ℕ) (queues : ℕ) (R : Ready nodes
   pub all_stuck : (next list : List ℕ) (q v : ℕ) → Going Q queues count next list → ((q : ℕ) → q < queues → goes_on Q next q ≡ false) → ((r : ℕ) → r < q → get_or starts (r + 1) 0 ≤ get_or next r 0) → (q < queues) × (get_or next q 0 < get_or starts (q + 1) 0) → v ≡ get_or next q v → IsStuck nodes q v
   all_stuck next list q v G none before left e =
       let t = stuck-at Q queues count R.lined.numbered next list G none q v
-          (λ r lt. subst (λ z. z ≤ get_or next r 0) (R.begins (r + 1) (omega (arith, lt, left.0))) (before r lt))
-          (left.0, subst (λ z. get_or next q 0 < z) (R.begins (q + 1) (omega (arith, left.0))) left.1) e in
+      (λ r lt. subst (λ z. z ≤ get_or next r 0) (R.begins (r + 1) (omega (arith, lt, left.0))) (before r lt))
+      (left.0, subst (λ z. get_or next q 0 < z) (R.begins (q + 1) (omega (arith, left.0))) left.1) e in
       stuck nodes queues count R.lined q v t.0 t.1

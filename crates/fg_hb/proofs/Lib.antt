@@ -1,9 +1,11 @@
 pub mod Bridge
 pub mod Drained
+pub mod Filling
 pub mod Going
 pub mod Hosts
 pub mod Lines
 pub mod Placed
+pub mod Places
 pub mod Queues
 pub mod Steps
 pub mod Tables

@@ -103,9 +103,9 @@ module _ (nodes : List Node) (queues : ℕ) (L : Lines nodes queues) where
       let b = below queues n lt in
       both (lt-ltb n (length nodes) in_list) (L.host n in_list ∙ le-leb_false b) ∙ sym (lt-ltb n count lt))
       (λ (ge : count ≤ n). ⊎_elim
-          (λ (in_list : n < length nodes). second (L.host n in_list ∙ le-leb queues (node_at nodes n).queue (above queues n ge in_list)) ∙ sym (le-ltb n count ge))
-          (λ (out : length nodes ≤ n). ap (λ t. t && not (is_host (node_at nodes n).kind)) (le-ltb n (length nodes) out) ∙ sym (le-ltb n count ge))
-          (cases_lt n (length nodes)))
+      (λ (in_list : n < length nodes). second (L.host n in_list ∙ le-leb queues (node_at nodes n).queue (above queues n ge in_list)) ∙ sym (le-ltb n count ge))
+      (λ (out : length nodes ≤ n). ap (λ t. t && not (is_host (node_at nodes n).kind)) (le-ltb n (length nodes) out) ∙ sym (le-ltb n count ge))
+      (cases_lt n (length nodes)))
       (cases_lt n count)
     where
       both : nat_lt n (length nodes) ≡ true → is_host (node_at nodes n).kind ≡ false → is_queued nodes n ≡ true
@@ -135,10 +135,11 @@ module _ (nodes : List Node) (queues : ℕ) (L : Lines nodes queues) where
     rising = λ q r le lt. ⊎_elim (λ g. absurd (let a = above r (start_of nodes r) (omega arith) (omega (arith, g, start_fits nodes q)) in let b = below q (start_of nodes r) g in omega (arith, a, b, le))) (λ l. l) (cases_lt (start_of nodes r) (start_of nodes q));
     within = λ n lt.
         let fits : n < length nodes = omega (arith, lt, start_fits nodes queues) in
-        let k = (node_at nodes n).queue in
-        (below queues n lt,
-        ⊎_elim (λ l. let b = below k n l in absurd (omega (arith, b))) (λ g. g) (cases_lt n (start_of nodes k)),
-        ⊎_elim (λ l. l) (λ g. let a = above (k + 1) n g fits in absurd (omega (arith, a))) (cases_lt n (start_of nodes (k + 1))));
+        let k = (node_at nodes n).queue in (
+          below queues n lt,
+          ⊎_elim (λ l. let b = below k n l in absurd (omega (arith, b))) (λ g. g) (cases_lt n (start_of nodes k)),
+          ⊎_elim (λ l. l) (λ g. let a = above (k + 1) n g fits in absurd (omega (arith, a))) (cases_lt n (start_of nodes (k + 1))),
+        );
     only = λ n q lt low high.
         let fits : n < length nodes = omega (arith, high, start_fits nodes (q + 1)) in
         let a = above q n low fits in

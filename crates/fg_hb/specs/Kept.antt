@@ -1,7 +1,9 @@
 -- What tables of nodes keep.
-use Rattle.std.specs.Prelude.{◌≡◌, ◌≤◌, ℕ, List, length, map, Option, None}
+use Rattle.std.specs.Prelude.{◌≡◌, ◌<◌, ◌≤◌, ℕ, List, length, map, Option, None}
 use Rattle.std.specs.List.{range_with_len}
+use Rattle.fg_hb.specs.Before.{Reached, place}
 use Rattle.fg_hb.specs.Edges.{node_at, next_signal, meeting}
+use Rattle.fg_hb.specs.declared.before.Before.TheInside as before
 use Rattle.fg_hb.specs.declared.edges.Edges.TheInside.{Inside}
 use Rattle.fg_hb.specs.declared.kind.Kind.{Kind}
 use Rattle.fg_hb.specs.declared.kind.Kind.TheVariants.{Command, Barrier, Wait, Signal, Host}
@@ -19,3 +21,9 @@ links_until nodes count = map (λ n. link_of nodes n (node_at nodes n).kind) (ra
 pub record IsKept (edges : Inside) : Type 0 where
   pub few : length edges.nodes ≤ 20000
   pub links : edges.links ≡ links_until edges.nodes (length edges.nodes)
+
+abbrev pub reached_by : before.Inside → Reached
+reached_by rows = record { pairs = rows.rows; places = rows.places.items }
+
+pub record IsPlaced (kept : before.Inside) : Type 0 where
+  pub below : (n : ℕ) → n < length kept.places.items → place kept.places.items n < kept.rows.count

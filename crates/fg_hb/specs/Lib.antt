@@ -1,4 +1,5 @@
 pub mod Answers
+pub mod Before
 pub mod Edges
 pub mod Kept
 pub mod Nodes

@@ -5,9 +5,9 @@ ghost use Rattle.fg_hb.specs.Edges.{edge, node_at, is_at, is_signal, next_signal
 ghost use Rattle.fg_hb.specs.Kept.{link_of};
 ghost use Rattle.fg_hb.specs.Nodes.{program_nodes};
 
-use crate::{Kind, Node};
 use crate::node::program_nodes;
 use crate::signals::links_of;
+use crate::{Kind, Node};
 use fg_base::{List, NoMemory};
 use fg_subs::Shaped;
 use std::alloc::Global;

@@ -1,12 +1,14 @@
 //! What is ordered before what in a program, and the order in which its nodes are taken.
 #![tactic(auto)]
 
+mod before;
 mod drain;
 mod edges;
 mod kind;
 mod node;
 mod signals;
 
+pub use before::{Before, before_of};
 pub use drain::{Drain, drain_of};
 pub use edges::{Edges, direct};
 pub use kind::Kind;

@@ -1,6 +1,7 @@
 //! A node as edges see it.
 
 ghost use Rattle.std.specs.Prelude.{◌≡◌, ◌≤◌, IfOk, length};
+ghost use Rattle.fg_hb.specs.Before.{takes_over};
 ghost use Rattle.fg_hb.specs.Edges.{signals, reaches, holds_back};
 ghost use Rattle.fg_hb.specs.Nodes.{command_stage, node, wait_node, barrier_node, item_node, signal_node, host_node, nowhere, batch_node, queued_node, node_in, program_nodes};
 ghost use Rattle.fg_hb.specs.declared.kind.Kind.TheVariants as kinds;
@@ -46,6 +47,13 @@ impl Node {
         self.queue == other.queue
             && (self.kind.is_sync() || other.kind.is_sync())
             && self.outs.intersects(other.ins)
+    }
+
+    /// Whether it is a barrier, wait or signal that holds back all that the other does.
+    pub(crate) fn takes_over(&self, other: &Node) -> bool
+        ensures { result ≡ takes_over self.now other.now }
+    {
+        self.kind.is_sync() && self.outs.contains(other.outs)
     }
 }
 

@@ -1,0 +1,11 @@
+use Rattle.std.proofs.Common.{◌≡◌, ◌<◌, ℕ, true}
+use Rattle.fg_hb.specs.Before.{Filling, Added, joined}
+use Rattle.fg_hb.specs.Edges.{is_host, node_at}
+use Rattle.fg_hb.proofs.before.add_hosts.Given as goal
+
+abbrev pub invariant-loop-y : goal.invariant-loop-y
+invariant-loop-y l = record {
+  filling : Filling l.edges l.places l.rows;
+  added : Added l.initial.rows l.rows;
+  done : (k : ℕ) → k < l.y → is_host (node_at l.edges k).kind ≡ true → joined l.rows l.places l.x k ≡ true;
+}
