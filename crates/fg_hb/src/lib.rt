@@ -5,6 +5,7 @@ mod before;
 mod drain;
 mod edges;
 mod kind;
+mod laws;
 mod node;
 mod signals;
 
@@ -12,4 +13,5 @@ pub use before::{Before, before_of};
 pub use drain::{Drain, drain_of};
 pub use edges::{Edges, direct};
 pub use kind::Kind;
+pub use laws::before_laws;
 pub use node::Node;

@@ -1,0 +1,12 @@
+use Rattle.fg_hb.proofs.InOrder.{goes_forward, comes_never_back}
+use Rattle.fg_hb.proofs.laws.before_laws.Goals as goal
+use Rattle.fg_reach.specs.Paths.{then_on}
+
+pub returns-clause-forward : goal.returns-clause-forward
+returns-clause-forward c = λ nodes order O x y p. goes_forward nodes order O x y p
+
+pub returns-clause-transitive : goal.returns-clause-transitive
+returns-clause-transitive c = λ nodes x y z p q. then_on p q
+
+pub returns-clause-irreflexive : goal.returns-clause-irreflexive
+returns-clause-irreflexive c = λ nodes order O x p. comes_never_back nodes order O x p

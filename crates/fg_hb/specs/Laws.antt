@@ -1,0 +1,17 @@
+-- Laws of happens-before: a path of direct edges.
+use Rattle.std.specs.Prelude.{ℕ, List}
+use Rattle.fg_hb.specs.Edges.{edge}
+use Rattle.fg_hb.specs.Orders.{Earlier, Order}
+use Rattle.fg_hb.specs.declared.node.Node.{Node}
+use Rattle.fg_reach.specs.Paths.{Path}
+
+-- what happens before a node stands before it in every order
+abbrev pub GoesForward : List Node → Type 0
+GoesForward nodes = (order : List ℕ) → Order nodes order → (x y : ℕ) → Path (edge nodes) x y → Earlier order x y
+
+abbrev pub IsTransitive : List Node → Type 0
+IsTransitive nodes = (x y z : ℕ) → Path (edge nodes) x y → Path (edge nodes) y z → Path (edge nodes) x z
+
+-- no node happens before itself, where an order exists
+abbrev pub IsIrreflexive : List Node → Type 0
+IsIrreflexive nodes = (order : List ℕ) → Order nodes order → (x : ℕ) → Path (edge nodes) x x → ⊥
