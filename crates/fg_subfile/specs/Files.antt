@@ -1,0 +1,35 @@
+-- The program that bytes are, or the first fault.
+use Rattle.std.specs.Prelude.{◌≡◌, ℕ, List, [], Option, Some, None, Result, Ok, Err}
+use Rattle.fg_forms.specs.Json.{json_of}
+use Rattle.fg_forms.specs.Reading.{Reading}
+use Rattle.fg_subs.specs.Faults.{not_json, misshapen}
+use Rattle.fg_subs.specs.declared.fault.SubFault.{SubFault}
+use Rattle.fg_subs.specs.declared.program.Program.{Program}
+use Rattle.serde_json.specs.Data.{Data}
+use Rattle.serde_json.specs.Written.{compact_text}
+use Rattle.fg_subfile.specs.Programs.{program_at, program_data}
+use Rattle.fg_subfile.specs.declared.file.SubReadEnd.{SubReadEnd}
+use Rattle.fg_subfile.specs.declared.file.SubReadEnd.TheVariants as ends
+
+-- a first fault of form is G11 at its path
+abbrev pub shaped : Reading Program → Result Program SubFault
+shaped (Ok program) = Ok program
+shaped (Err path) = Err (misshapen path)
+
+-- bytes that are no JSON value are G10
+abbrev pub file_of : Option Data → Result Program SubFault
+file_of None = Err not_json
+file_of (Some d) = shaped (program_at [] d)
+
+abbrev pub program_of : List ℕ → Result Program SubFault
+program_of bytes = file_of (json_of bytes)
+
+-- what a function returned is this program or fault, unless memory ran out
+abbrev pub ProgramGives : Result Program SubReadEnd → Result Program SubFault → Type 0
+ProgramGives (Ok program) found = found ≡ Ok program
+ProgramGives (Err ends.NoMemory) found = Unit {0}
+ProgramGives (Err (ends.Refused fault)) found = found ≡ Err fault
+
+-- the canonical text of a program
+abbrev pub program_text : Program → List ℕ
+program_text program = compact_text (program_data program)

@@ -1,0 +1,14 @@
+pub mod BarrierMasks
+pub mod Batches
+pub mod Files
+pub mod ItemKinds
+pub mod Items
+pub mod LayoutWords
+pub mod Masks
+pub mod Memories
+pub mod Pieces
+pub mod Programs
+pub mod Timelines
+pub mod Transfers
+pub mod Typed
+pub mod Values

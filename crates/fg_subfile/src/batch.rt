@@ -1,0 +1,56 @@
+//! Batches in a file.
+
+ghost use Rattle.std.specs.Prelude.{◌≡◌};
+ghost use Rattle.fg_subfile.specs.Batches.{batch_at, batch_data, FitsBatch};
+
+use crate::item::ItemForm;
+use crate::signal::SignalForm;
+use crate::wait::WaitForm;
+use fg_base::List;
+use fg_forms::{ListForm, Place, ReadEnd, Reader, Writer, object, optional, others};
+use fg_subs::Batch;
+use serde_json::{Value, json};
+use std::alloc::{AllocError, Global};
+
+/// An entry of `batches`.
+pub struct BatchForm;
+
+impl Reader for BatchForm {
+    type Out = Batch;
+
+    ghost reads = { batch_at };
+
+    ghost Fits = { FitsBatch };
+
+    #[tactic(auto, unfolding(crate::specs::Batches::batch_at))]
+    fn read(alloc: Global, at: &Place<'_>, json: &Value) -> Result<Batch, ReadEnd> {
+        object(alloc, at, json)?;
+        let waits = optional::<ListForm<WaitForm>>(alloc, at, "waits", json)?;
+        let items = optional::<ListForm<ItemForm>>(alloc, at, "items", json)?;
+        let signal = optional::<SignalForm>(alloc, at, "signal", json)?;
+        others(alloc, at, &["waits", "items", "signal"], json)?;
+        Ok(Batch {
+            waits: waits.unwrap_or(List::new(alloc)),
+            items: items.unwrap_or(List::new(alloc)),
+            signal,
+        })
+    }
+}
+
+impl Writer for BatchForm {
+    type In = Batch;
+
+    ghost writes = { batch_data };
+
+    fn write(alloc: Global, batch: &Batch) -> Result<Value, AllocError> {
+        let waits = <ListForm<WaitForm>>::write(alloc, &batch.waits)?;
+        let items = <ListForm<ItemForm>>::write(alloc, &batch.items)?;
+        match &batch.signal {
+            None => json!(in alloc; {"items": items, "waits": waits}),
+            Some(signal) => {
+                let signal = SignalForm::write(alloc, signal)?;
+                json!(in alloc; {"items": items, "signal": signal, "waits": waits})
+            }
+        }
+    }
+}

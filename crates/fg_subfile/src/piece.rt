@@ -1,0 +1,83 @@
+//! Pieces as they are written.
+
+ghost use Rattle.std.specs.Prelude.{◌≡◌, IfOk};
+ghost use Rattle.fg_subfile.specs.Pieces.{buffer_data, image_data, piece_data};
+ghost use Rattle.serde_json.specs.View.{view};
+
+use fg_base::{Shape, Texel};
+use fg_bits::Sharing;
+use fg_forms::{TextForm, Writer};
+use fg_shapeforms::TexelWord;
+use fg_subs::Piece;
+use serde_json::{Value, json};
+use std::alloc::{AllocError, Global};
+
+/// A piece as an entry of its own. `sharing` is written where it is concurrent, and `layers` never.
+pub struct PieceForm;
+
+fn buffer_value(
+    alloc: Global,
+    size: u32,
+    memory: u32,
+    offset: u32,
+    sharing: Sharing,
+) -> Result<Value, AllocError>
+    ensures { IfOk result (λ json. view json ≡ buffer_data size memory offset sharing) }
+{
+    match sharing {
+        Sharing::Exclusive => {
+            json!(in alloc; {"buffer": size, "memory": memory, "offset": offset})
+        }
+        Sharing::Concurrent => {
+            json!(in alloc; {"buffer": size, "memory": memory, "offset": offset, "sharing": "concurrent"})
+        }
+    }
+}
+
+fn image_value(
+    alloc: Global,
+    sides: (u32, u32),
+    texel: Texel,
+    memory: u32,
+    offset: u32,
+    sharing: Sharing,
+) -> Result<Value, AllocError>
+    ensures { IfOk result (λ json. view json ≡ image_data sides.0 sides.1 texel memory offset sharing) }
+{
+    let sides = json!(in alloc; [sides.0, sides.1])?;
+    let texel = <TextForm<TexelWord>>::write(alloc, &texel)?;
+    match sharing {
+        Sharing::Exclusive => {
+            json!(in alloc; {"image": sides, "memory": memory, "offset": offset, "texel": texel})
+        }
+        Sharing::Concurrent => {
+            json!(in alloc; {"image": sides, "memory": memory, "offset": offset, "sharing": "concurrent", "texel": texel})
+        }
+    }
+}
+
+impl Writer for PieceForm {
+    type In = Piece;
+
+    ghost writes = { piece_data };
+
+    fn write(alloc: Global, piece: &Piece) -> Result<Value, AllocError> {
+        match piece.shape {
+            Shape::Buffer { size } => {
+                buffer_value(alloc, size, piece.memory, piece.offset, piece.sharing)
+            }
+            Shape::Image {
+                width,
+                height,
+                texel,
+            } => image_value(
+                alloc,
+                (width, height),
+                texel,
+                piece.memory,
+                piece.offset,
+                piece.sharing,
+            ),
+        }
+    }
+}

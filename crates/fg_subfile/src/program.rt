@@ -1,0 +1,78 @@
+//! The program that a JSON value is.
+
+ghost use Rattle.std.specs.Prelude.{◌≡◌, IfOk};
+ghost use Rattle.fg_forms.specs.Places.{legs};
+ghost use Rattle.fg_forms.specs.Reading.{Gives};
+ghost use Rattle.fg_subfile.specs.Programs.{parts_at, program_at, program_data, FitsProgram};
+ghost use Rattle.serde_json.specs.View.{view};
+
+use crate::entry::PiecesForm;
+use crate::memory::MemoryForm;
+use crate::piece::PieceForm;
+use crate::queue::QueueForm;
+use fg_forms::{
+    ListForm, NumberForm, Place, RangeForm, ReadEnd, Reader, Writer, object, others, required,
+};
+use fg_subs::Program;
+use serde_json::{Value, json};
+use std::alloc::{AllocError, Global};
+
+/// A whole submission file.
+pub struct ProgramForm;
+
+// The members after `format`, in a file of this format.
+#[tactic(auto, unfolding(crate::specs::Programs::parts_at))]
+fn parts<const FORMAT: u32>(alloc: Global, at: &Place<'_>, json: &Value) -> Result<Program, ReadEnd>
+    ensures gives { Gives result (parts_at FORMAT (legs at.now) (view json.now)) }
+    ensures fits { IfOk result FitsProgram }
+{
+    let memories = required::<ListForm<MemoryForm>>(alloc, at, "memories", json)?;
+    let pieces = required::<PiecesForm<FORMAT>>(alloc, at, "pieces", json)?;
+    let queues = required::<ListForm<QueueForm>>(alloc, at, "queues", json)?;
+    let readbacks = required::<ListForm<NumberForm>>(alloc, at, "readbacks", json)?;
+    others(
+        alloc,
+        at,
+        &["format", "memories", "pieces", "queues", "readbacks"],
+        json,
+    )?;
+    Ok(Program {
+        memories,
+        pieces,
+        queues,
+        readbacks,
+    })
+}
+
+impl Reader for ProgramForm {
+    type Out = Program;
+
+    ghost reads = { program_at };
+
+    ghost Fits = { FitsProgram };
+
+    #[tactic(auto, unfolding(crate::specs::Programs::program_at))]
+    fn read(alloc: Global, at: &Place<'_>, json: &Value) -> Result<Program, ReadEnd> {
+        object(alloc, at, json)?;
+        let format = required::<RangeForm<1, 2>>(alloc, at, "format", json)?;
+        if format == 1 {
+            parts::<1>(alloc, at, json)
+        } else {
+            parts::<2>(alloc, at, json)
+        }
+    }
+}
+
+impl Writer for ProgramForm {
+    type In = Program;
+
+    ghost writes = { program_data };
+
+    fn write(alloc: Global, program: &Program) -> Result<Value, AllocError> {
+        let memories = <ListForm<MemoryForm>>::write(alloc, &program.memories)?;
+        let pieces = <ListForm<PieceForm>>::write(alloc, &program.pieces)?;
+        let queues = <ListForm<QueueForm>>::write(alloc, &program.queues)?;
+        let readbacks = <ListForm<NumberForm>>::write(alloc, &program.readbacks)?;
+        json!(in alloc; {"format": 2u32, "memories": memories, "pieces": pieces, "queues": queues, "readbacks": readbacks})
+    }
+}

@@ -1,0 +1,43 @@
+//! Queues in a file.
+
+ghost use Rattle.std.specs.Prelude.{◌≡◌};
+ghost use Rattle.fg_subfile.specs.Batches.{queue_at, queue_data, FitsQueue};
+
+use crate::batch::BatchForm;
+use fg_forms::{ListForm, Place, ReadEnd, Reader, TextForm, Writer, object, others, required};
+use fg_shapeforms::FamilyWord;
+use fg_subs::Queue;
+use serde_json::{Value, json};
+use std::alloc::{AllocError, Global};
+
+/// An entry of `queues`.
+pub struct QueueForm;
+
+impl Reader for QueueForm {
+    type Out = Queue;
+
+    ghost reads = { queue_at };
+
+    ghost Fits = { FitsQueue };
+
+    #[tactic(auto, unfolding(crate::specs::Batches::queue_at))]
+    fn read(alloc: Global, at: &Place<'_>, json: &Value) -> Result<Queue, ReadEnd> {
+        object(alloc, at, json)?;
+        let family = required::<TextForm<FamilyWord>>(alloc, at, "family", json)?;
+        let batches = required::<ListForm<BatchForm>>(alloc, at, "batches", json)?;
+        others(alloc, at, &["family", "batches"], json)?;
+        Ok(Queue { family, batches })
+    }
+}
+
+impl Writer for QueueForm {
+    type In = Queue;
+
+    ghost writes = { queue_data };
+
+    fn write(alloc: Global, queue: &Queue) -> Result<Value, AllocError> {
+        let family = <TextForm<FamilyWord>>::write(alloc, &queue.family)?;
+        let batches = <ListForm<BatchForm>>::write(alloc, &queue.batches)?;
+        json!(in alloc; {"batches": batches, "family": family})
+    }
+}

@@ -1,0 +1,42 @@
+//! Signals in a file.
+
+ghost use Rattle.std.specs.Prelude.{◌≡◌};
+ghost use Rattle.fg_subfile.specs.Timelines.{signal_at, signal_data, FitsSignal};
+
+use crate::mask::StagesForm;
+use crate::value::ValueForm;
+use fg_forms::{Place, ReadEnd, Reader, Writer, object, others, required};
+use fg_subs::Signal;
+use serde_json::{Value, json};
+use std::alloc::{AllocError, Global};
+
+/// The member `signal` of a batch.
+pub struct SignalForm;
+
+impl Reader for SignalForm {
+    type Out = Signal;
+
+    ghost reads = { signal_at };
+
+    ghost Fits = { FitsSignal };
+
+    #[tactic(auto, unfolding(crate::specs::Timelines::signal_at))]
+    fn read(alloc: Global, at: &Place<'_>, json: &Value) -> Result<Signal, ReadEnd> {
+        object(alloc, at, json)?;
+        let value = required::<ValueForm>(alloc, at, "value", json)?;
+        let stages = required::<StagesForm>(alloc, at, "stage", json)?;
+        others(alloc, at, &["value", "stage"], json)?;
+        Ok(Signal { value, stages })
+    }
+}
+
+impl Writer for SignalForm {
+    type In = Signal;
+
+    ghost writes = { signal_data };
+
+    fn write(alloc: Global, signal: &Signal) -> Result<Value, AllocError> {
+        let stages = StagesForm::write(alloc, &signal.stages)?;
+        json!(in alloc; {"stage": stages, "value": signal.value})
+    }
+}
