@@ -1,11 +1,11 @@
 -- Fronts and orders, and walks that take one node after another.
 use Rattle.std.proofs.Common.{◌≡◌, ◌⊎◌, inl, inr, ℕ, ◌+◌, ◌<◌, ◌≤◌, Bool, true, false, ◌||◌, ◌&&◌, ◌==◌, nat_lt, not, Option, Some, None, List, [], ◌∷◌, ◌++◌, length, refl, sym, ap, ◌∙◌, subst, ⊎_elim, eq-eqb, ne_eqb, eqb-true, cond, arith}
-use Rattle.std.proofs.lemmas.Bool.{cases_eq, cases_lt, cases_Bool, false≢true, and_parts, and_from, or_cases, or_left, or_right, lt-ltb, le-ltb, ltb-true}
+use Rattle.std.proofs.lemmas.Bool.{cases_Bool, false≢true, and_parts, and_from, or_cases, or_left, or_right, lt-ltb, ltb-true}
 use Rattle.std.specs.List.{range_with_len}
 use Rattle.std.specs.Option.{is_none}
 use Rattle.fg_bits.specs.Sets.{meets}
 use Rattle.fg_hb.specs.Edges.{is_wait, is_host, is_signal, is_sync, is_at, holds_back, next_signal, meeting, node_at, goes_to, signalled, edge}
-use Rattle.fg_hb.specs.Orders.{Among, Distinct, before_in, Earlier, is_queued, InTurn, Front, Order, NotAbove, IsLeast, IsStuck}
+use Rattle.fg_hb.specs.Orders.{Among, Distinct, before_in, Earlier, is_queued, InTurn, Front, Order, IsLeast, IsStuck}
 use Rattle.fg_hb.specs.Queues.{Lined, queues_of}
 use Rattle.fg_hb.specs.declared.kind.Kind.{Kind}
 use Rattle.fg_hb.specs.declared.kind.Kind.TheVariants.{Command, Barrier, Wait, Signal, Host}
@@ -13,7 +13,7 @@ use Rattle.fg_hb.specs.declared.node.Node.{Node}
 use Rattle.fg_hb.proofs.Going.{clash}
 use Rattle.fg_hb.proofs.Hosts.{Wider, drain-whole, none-all}
 use Rattle.fg_hb.proofs.Queues.{needs_of}
-use Rattle.fg_hb.proofs.Steps.{Needs, add, nothing, Available, Walk, Greedy, placed_by, Whole, WholeWalk, LeastWalk, NoWalk, placed-in, placed-split, walk-earlier, walk-once, walk-met, walk-small}
+use Rattle.fg_hb.proofs.Steps.{Needs, add, nothing, Available, Walk, Greedy, placed_by, Whole, WholeWalk, NoWalk, placed-in, placed-split, walk-earlier, walk-once, walk-met, walk-small}
 
 -- what stands before the first of a list that n is not in
 past : (done rest : List ℕ) (n : ℕ) → (Among n done → ⊥) → before_in (done ++ n ∷ rest) n ≡ done

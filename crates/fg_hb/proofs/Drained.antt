@@ -1,16 +1,13 @@
 -- What the drain's loop comes to.
-use Rattle.std.proofs.Common.{◌≡◌, ◌⊎◌, inl, inr, ℕ, zero, suc, ◌+◌, ◌-◌, ◌<◌, ◌≤◌, Bool, true, false, nat_lt, List, [], ◌∷◌, ◌++◌, length, get_or, slice_set, refl, sym, ap, ◌∙◌, subst, ⊎_elim, append_assoc, add-one, arith}
+use Rattle.std.proofs.Common.{◌≡◌, ℕ, zero, suc, ◌+◌, ◌-◌, ◌<◌, ◌≤◌, true, false, nat_lt, List, [], ◌∷◌, ◌++◌, length, get_or, sym, ap, ◌∙◌, subst, append_assoc, arith}
 use Rattle.std.proofs.lemmas.Bool.{and_parts, ltb-true}
 use Rattle.std.specs.List.{range_with_len}
-use Rattle.fg_hb.specs.Edges.{node_at}
-use Rattle.fg_hb.specs.Nodes.{program_nodes}
 use Rattle.fg_hb.specs.Orders.{IsLeast, IsStuck}
-use Rattle.fg_hb.specs.Queues.{Queues, Numbered, Lined, Ready, start_of, queues_of, is_open, goes_on, left_of}
+use Rattle.fg_hb.specs.Queues.{Queues, Ready, start_of, queues_of, is_open, goes_on}
 use Rattle.fg_hb.specs.declared.node.Node.{Node}
 use Rattle.fg_hb.proofs.Bridge.{least, stuck}
 use Rattle.fg_hb.proofs.Going.{Going, whole, at_index, stuck-at}
 use Rattle.fg_hb.proofs.Lines.{start_fits}
-use Rattle.fg_hb.proofs.Queues.{needs_of}
 
 -- one number more
 range_more : (a m n : ℕ) → a + m ≡ n → range_with_len a (suc m) ≡ range_with_len a m ++ n ∷ []

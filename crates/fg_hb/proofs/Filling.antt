@@ -1,19 +1,19 @@
 -- Edges are added to the rows, one by one.
-use Rattle.std.proofs.Common.{◌≡◌, ◌⊎◌, ◌↔◌, inl, inr, ℕ, zero, suc, ◌+◌, ◌<◌, ◌≤◌, Bool, true, false, ◌||◌, ◌&&◌, ◌==◌, nat_lt, not, Option, Some, None, List, length, drop, get_or, bit_and, refl, sym, ap, ◌∙◌, subst, ⊎_elim, eq-eqb, eqb-true, arith}
-use Rattle.std.proofs.lemmas.Bool.{cases_Bool, cases_lt, false≢true, and_parts, and_from, or_cases, or_left, or_right, lt-ltb, ltb-true}
+use Rattle.std.proofs.Common.{◌≡◌, ◌↔◌, inl, inr, ℕ, zero, suc, ◌+◌, ◌<◌, Bool, true, false, ◌||◌, ◌&&◌, ◌==◌, nat_lt, not, Option, Some, None, List, length, drop, bit_and, refl, sym, ap, ◌∙◌, subst, ⊎_elim, eq-eqb, eqb-true, arith}
+use Rattle.std.proofs.lemmas.Bool.{cases_Bool, cases_lt, and_parts, and_from, or_cases, or_left, or_right, lt-ltb, ltb-true}
 use Rattle.std.proofs.lemmas.List.{get_or_past, length-drop}
 use Rattle.std.proofs.lemmas.List.Quantifiers.{position-Some}
 use Rattle.std.proofs.lemmas.Nat.{and_comm, and_assoc}
 use Rattle.std.specs.List.{position}
 use Rattle.std.specs.Option.{option_map}
 use Rattle.fg_bits.specs.Sets as sets
-use Rattle.fg_hb.specs.Before.{place, joined, Tabled, IsEdge, AllEdges, Filling, Added, Covered, takes_over, Passes, LineDone, NodeDone}
+use Rattle.fg_hb.specs.Before.{place, joined, Tabled, AllEdges, Filling, Added, Covered, takes_over, Passes, LineDone, NodeDone}
 use Rattle.fg_hb.specs.Edges.{is_wait, is_host, is_signal, is_sync, is_at, signals, holds_back, next_signal, meeting, node_at, goes_to, signalled, edge}
 use Rattle.fg_hb.specs.Nodes.{nowhere}
 use Rattle.fg_hb.specs.declared.kind.Kind.{Kind}
-use Rattle.fg_hb.specs.declared.kind.Kind.TheVariants.{Command, Barrier, Wait, Signal, Host}
+use Rattle.fg_hb.specs.declared.kind.Kind.TheVariants.{Command}
 use Rattle.fg_hb.specs.declared.node.Node.{Node}
-use Rattle.fg_hb.proofs.Bridge.{EdgeCase, edge_cases, meets_edge, met_wait, signal_sync, wait_sync}
+use Rattle.fg_hb.proofs.Bridge.{EdgeCase, edge_cases, met_wait}
 use Rattle.fg_hb.proofs.Going.{clash}
 use Rattle.fg_hb.proofs.Lines.{met_sync}
 use Rattle.fg_reach.specs.Pairs.{Pairs, has}

@@ -1,26 +1,19 @@
 -- The nodes of a program stand in line: queue by queue, and the host reads last.
-use Rattle.std.proofs.Common.{◌≡◌, ◌⊎◌, inl, inr, ℕ, zero, suc, ◌+◌, ◌<◌, ◌≤◌, Bool, true, false, ◌&&◌, ◌==◌, nat_lt, nat_le, not, Option, Some, None, List, [], ◌∷◌, ◌++◌, length, map, drop, get_or, refl, sym, ap, ◌∙◌, subst, ⊎_elim, eqb-true, arith}
-use Rattle.std.proofs.lemmas.Bool.{cases_eq, cases_lt, cases_Bool, false≢true, and_parts, lt-ltb, le-ltb, ltb-true, ltb-false, leb-true, le-leb, lt-leb}
-use Rattle.std.proofs.lemmas.List.{get_or-map, get_or-drop, get_or_past, length-map}
+use Rattle.std.proofs.Common.{◌≡◌, ℕ, ◌+◌, ◌<◌, ◌≤◌, Bool, true, false, ◌&&◌, ◌==◌, nat_lt, nat_le, not, Option, Some, None, List, length, drop, get_or, refl, sym, ap, ◌∙◌, subst, ⊎_elim, eqb-true, arith}
+use Rattle.std.proofs.lemmas.Bool.{cases_lt, cases_Bool, and_parts, lt-ltb, le-ltb, ltb-true, leb-true, le-leb}
+use Rattle.std.proofs.lemmas.List.{get_or-drop, get_or_past}
 use Rattle.std.proofs.lemmas.List.Quantifiers.{position-Some}
 use Rattle.std.proofs.lemmas.List.Sums.{position_or_len_is, fails_before_first, passes_at_first, prefix_len-le-length}
-use Rattle.std.specs.List.{position, range_with_len}
-use Rattle.std.specs.Option.{option_map, option_map_or}
-use Rattle.fg_hb.specs.Edges.{is_wait, is_host, is_signal, is_sync, has_value, signals, reaches, next_signal, meeting, node_at}
-use Rattle.fg_hb.specs.Nodes.{wait_node, item_node, signal_node, nowhere, batch_node, queued_node, node_in, program_nodes}
+use Rattle.std.specs.List.{position}
+use Rattle.std.specs.Option.{option_map}
+use Rattle.fg_hb.specs.Edges.{is_wait, is_host, is_signal, is_sync, has_value, signals, reaches, meeting, node_at}
+use Rattle.fg_hb.specs.Nodes.{nowhere}
 use Rattle.fg_hb.specs.Orders.{is_queued}
-use Rattle.fg_hb.specs.Queues.{Queues, Numbered, Lined, start_of, queues_of}
+use Rattle.fg_hb.specs.Queues.{Numbered, Lined, start_of, queues_of}
 use Rattle.fg_hb.specs.declared.kind.Kind.{Kind}
 use Rattle.fg_hb.specs.declared.kind.Kind.TheVariants.{Command, Barrier, Wait, Signal, Host}
 use Rattle.fg_hb.specs.declared.node.Node.{Node}
 use Rattle.fg_hb.proofs.Going.{clash}
-use Rattle.fg_subs.specs.Nodes.{signal_nodes, batch_nodes, queue_nodes, nodes_of}
-use Rattle.fg_subs.specs.Places.{all_in}
-use Rattle.fg_subs.specs.declared.nodes.NodeAt.{NodeAt}
-use Rattle.fg_subs.specs.declared.nodes.NodeAt.TheVariants as at
-use Rattle.fg_subs.specs.declared.program.Batch.{Batch}
-use Rattle.fg_subs.specs.declared.program.Program.{Program}
-use Rattle.fg_subs.specs.declared.program.Queue.{Queue}
 
 -- the numbers of queues rise, and host reads have a number past all queues
 pub record Lines (nodes : List Node) (queues : ℕ) : Type 0 where

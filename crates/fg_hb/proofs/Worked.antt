@@ -1,13 +1,13 @@
 -- Worked rows: what the definitions come to on written-out nodes.
-use Rattle.std.proofs.Common.{◌≡◌, ℕ, List, [], ◌∷◌, true, false, Some, None, refl}
-use Rattle.fg_bits.specs.Stages.{copy, compute_shader, all_commands, host, expand}
+use Rattle.std.proofs.Common.{◌≡◌, List, [], ◌∷◌, true, false, Some, None, refl}
+use Rattle.fg_bits.specs.Stages.{copy, compute_shader, host}
 use Rattle.fg_hb.specs.Edges.{edge, next_signal, meeting}
 use Rattle.fg_hb.specs.Nodes.{node, host_node}
 use Rattle.fg_hb.specs.Orders.{NotAbove, before_in}
 use Rattle.fg_hb.specs.Queues.{start_of}
 use Rattle.fg_hb.specs.declared.kind.Kind.TheVariants.{Command, Barrier, Wait, Signal}
 use Rattle.fg_hb.specs.declared.node.Node.{Node}
-use Rattle.std.proofs.Common.{◌⊎◌, inl, inr, arith}
+use Rattle.std.proofs.Common.{inl, inr, arith}
 
 -- queue 0: a copy, a barrier from copies to kernels, a copy, a kernel, signals of 3 and 5; queue 1: a wait for 4 that
 -- holds back kernels, a kernel; then a host read

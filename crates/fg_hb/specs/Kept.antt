@@ -6,7 +6,7 @@ use Rattle.fg_hb.specs.Edges.{node_at, next_signal, meeting}
 use Rattle.fg_hb.specs.declared.before.Before.TheInside as before
 use Rattle.fg_hb.specs.declared.edges.Edges.TheInside.{Inside}
 use Rattle.fg_hb.specs.declared.kind.Kind.{Kind}
-use Rattle.fg_hb.specs.declared.kind.Kind.TheVariants.{Command, Barrier, Wait, Signal, Host}
+use Rattle.fg_hb.specs.declared.kind.Kind.TheVariants.{Wait, Signal}
 use Rattle.fg_hb.specs.declared.node.Node.{Node}
 
 -- of a signal the next one of its queue, of a wait the signal that meets it

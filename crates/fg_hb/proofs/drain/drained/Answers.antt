@@ -1,7 +1,7 @@
-use Rattle.std.proofs.Common.{rules, arith, sym, ◌∙◌}
+use Rattle.std.proofs.Common.{rules, arith}
 use Rattle.fg_hb.specs.Queues.{start_of, queues_of}
 use Rattle.fg_hb.proofs.Drained.{next_fits, stuck_fits, hosts_from, all_least, all_stuck}
-use Rattle.fg_hb.proofs.Going.{going-step, left-step, going-first}
+use Rattle.fg_hb.proofs.Going.{going-step, left-step}
 use Rattle.fg_hb.proofs.drain.drained.Goals as goal
 
 pub overflow_cast-index : goal.overflow_cast-index

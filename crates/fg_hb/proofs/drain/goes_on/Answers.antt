@@ -1,4 +1,3 @@
-use Rattle.std.proofs.Common.{arith}
 use Rattle.fg_hb.proofs.Drained.{next_in_list}
 use Rattle.fg_hb.proofs.drain.goes_on.Goals as goal
 
