@@ -20,7 +20,7 @@ use Rattle.fg_bits.specs.declared.sharing.Sharing.{Sharing}
 use Rattle.fg_bits.specs.declared.sharing.Sharing.TheVariants.{Exclusive, Concurrent}
 use Rattle.fg_bits.specs.declared.stages.Stages.{Stages}
 use Rattle.fg_forms.proofs.Again.{number_again, list_again, text_again}
-use Rattle.fg_forms.specs.Leaves.{whole_at, greatest, number_at, number_data, text_at, text_data, FitsWhole, FitsRange}
+use Rattle.fg_forms.specs.Leaves.{whole_at, greatest, number_data, text_at, text_data, FitsWhole}
 use Rattle.fg_forms.specs.Parts.{below, entries_at, array_of}
 use Rattle.fg_opforms.proofs.Beside.{holds_beside, others_beside}
 use Rattle.fg_opforms.proofs.OpAgain.{parts_again}

@@ -1,5 +1,5 @@
 -- Sets of bits: what unions keep.
-use Rattle.std.proofs.Common.{◌≡◌, ◌==◌, ◌*◌, ◌^◌, ◌<◌, ℕ, zero, suc, false, refl, sym, ap, ap₂, ◌∙◌, arith, min, max}
+use Rattle.std.proofs.Common.{◌≡◌, ◌==◌, ◌*◌, ◌^◌, ◌<◌, ℕ, zero, suc, false, refl, sym, ap, ap₂, ◌∙◌, arith, min}
 use Rattle.std.specs.Int.RustNames.{bit_and, bit_or}
 use Rattle.std.specs.Int.{bit_at}
 use Rattle.std.proofs.lemmas.Bool.{eqb-false}

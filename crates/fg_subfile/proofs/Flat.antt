@@ -21,7 +21,7 @@ use Rattle.fg_subs.specs.declared.program.Queue.{Queue}
 use Rattle.fg_subs.specs.declared.program.Signal.{Signal}
 use Rattle.fg_subs.specs.declared.program.Transfer as transfers
 use Rattle.fg_subs.specs.declared.program.WaitFor.{WaitFor}
-use Rattle.serde_json.specs.Data.{Data, string, object, put, depth, items_depth, members_depth}
+use Rattle.serde_json.specs.Data.{Data, string, put, depth, items_depth, members_depth}
 use Rattle.serde_json.specs.View.{items_of}
 use Rattle.serde_json.specs.Written.{has_float, items_have_float}
 use Rattle.fg_subfile.specs.Batches.{batch_data, queue_data}
@@ -29,7 +29,7 @@ use Rattle.fg_subfile.specs.Items.{item_data, command_data}
 use Rattle.fg_subfile.specs.Memories.{memory_data}
 use Rattle.fg_subfile.specs.Pieces.{piece_data, shape_data}
 use Rattle.fg_subfile.specs.Programs.{program_data}
-use Rattle.fg_subfile.specs.Timelines.{wait_data, signal_data}
+use Rattle.fg_subfile.specs.Timelines.{wait_data}
 use Rattle.fg_subfile.specs.Transfers.{transfer_data}
 
 -- a value with no float that nests so deep at most

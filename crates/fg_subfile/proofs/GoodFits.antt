@@ -1,6 +1,6 @@
 -- A program that breaks no rule fits the format, where its parts are what their types say.
-use Rattle.std.proofs.Common.{◌≡◌, ℕ, zero, suc, Bool, true, false, arith, List, [], ◌∷◌, length, take, slice_get, Option, Some, None, IfSome, if◌then◌else◌, refl, ap, eqb-true, eq-eqb}
-use Rattle.std.specs.Prelude.{◌&&◌, not, nat_le}
+use Rattle.std.proofs.Common.{◌≡◌, ℕ, zero, suc, Bool, true, false, arith, List, [], ◌∷◌, length, take, slice_get, Option, Some, None, IfSome, if◌then◌else◌, refl, eqb-true, eq-eqb}
+use Rattle.std.specs.Prelude.{not, nat_le}
 use Rattle.std.specs.List.{All, AllByRecursion}
 use Rattle.std.specs.Int.RustNames.{bit_and, bit_or}
 use Rattle.std.proofs.lemmas.Bool.{and_parts, leb-true}
@@ -22,7 +22,7 @@ use Rattle.fg_subs.proofs.Few.{is_small}
 use Rattle.fg_subs.proofs.Keeping.{keeps}
 use Rattle.fg_subs.specs.Barriers.{both_supported, both_on_family, on_queue}
 use Rattle.fg_subs.specs.FirstFault.{first_broken, first_fault}
-use Rattle.fg_subs.specs.Kept.{BatchKeeps, BatchAt, Keeps}
+use Rattle.fg_subs.specs.Kept.{BatchKeeps, BatchAt}
 use Rattle.fg_subs.specs.Limits.{is_between, sides_allowed, size_allowed}
 use Rattle.fg_subs.specs.Paths.{told}
 use Rattle.fg_subs.specs.Ranges.{family_number}

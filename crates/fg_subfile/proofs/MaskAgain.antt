@@ -1,5 +1,5 @@
 -- A written mask is read again.
-use Rattle.std.proofs.Common.{◌≡◌, ◌==◌, ◌||◌, ◌^◌, ℕ, Bool, true, false, cond, List, [], ◌∷◌, ◌++◌, length, Option, Some, if◌then◌else◌, refl, sym, ap, ◌∙◌, eqb-true, arith}
+use Rattle.std.proofs.Common.{◌≡◌, ◌==◌, ◌||◌, ◌^◌, ℕ, Bool, true, false, cond, List, [], ◌∷◌, ◌++◌, length, Some, if◌then◌else◌, refl, sym, ap, ◌∙◌, eqb-true, arith}
 use Rattle.std.specs.List.{list_any, slice_split, onto_first, AllByRecursion}
 use Rattle.std.specs.Option.{option_and_then, option_map}
 use Rattle.std.specs.Int.RustNames.{bit_and, bit_or}

@@ -1,5 +1,5 @@
 use Rattle.fg_subfile.specs.Pieces.{FitsPiece}
-use Rattle.fg_subfile.proofs.Rows.{all_flat}
+use Rattle.fg_subfile.proofs.Layers.{all_flat}
 use Rattle.fg_subfile.proofs.entry.PiecesFormReader.read.Goals as goal
 
 pub returns-clause-fits : goal.returns-clause-fits
