@@ -1,5 +1,5 @@
 -- Numbers modulo those of texels.
-use Rattle.std.proofs.Common.{◌≡◌, ℕ, ◌+◌, ◌-◌, ◌*◌, ◌/◌, ◌%◌, ◌^◌, ◌<◌, arith}
+use Rattle.std.proofs.Common.{◌≡◌, ℕ, ◌+◌, ◌-◌, ◌%◌, ◌^◌, ◌<◌, arith}
 use Rattle.fg_base.specs.Texels.{modulus}
 use Rattle.fg_base.specs.declared.shape.Texel.{Texel}
 use Rattle.fg_base.specs.declared.shape.Texel.TheVariants.{R8, R32}
@@ -17,7 +17,3 @@ kept_difference R32 a b d ha hb e = omega arith
 pub kept_twice : (t : Texel) (m n : ℕ) → m ≡ n % 2 ^ 32 → m % modulus t ≡ n % modulus t
 kept_twice R8 m n e = omega arith
 kept_twice R32 m n e = omega arith
-
--- a ninth by halves of 16 bits
-pub ninth_of : (low high : ℕ) → high / 9 * 65536 + (high % 9 * 65536 + low) / 9 ≡ (low + 65536 * high) / 9
-ninth_of low high = omega arith

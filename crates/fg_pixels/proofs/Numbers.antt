@@ -1,5 +1,7 @@
 -- Texels by the bytes that hold them.
-use Rattle.std.proofs.Common.{◌≡◌, ℕ, zero, suc, ◌+◌, ◌*◌, ◌%◌, ◌<◌, List, [], ◌∷◌, get_or, take, drop, refl, arith, Fits, w8}
+use Rattle.std.proofs.Common.{◌≡◌, ℕ, zero, suc, ◌+◌, ◌*◌, ◌%◌, ◌<◌, List, [], ◌∷◌, get_or, take, drop, refl, ap, ◌∙◌, ◌/◌, arith, Fits, w8, w16}
+use Rattle.std.proofs.lemmas.List.{get_or-take, get_or-drop}
+use Rattle.std.specs.Int.{from_le_bytes}
 use Rattle.std.specs.Simd.Lanes.{number_l}
 use Rattle.fg_base.specs.Texels.{modulus, texel_at}
 use Rattle.fg_base.specs.declared.shape.Texel.{Texel}
@@ -49,3 +51,15 @@ whole_texel R32 bytes i fit =
     let c : get_or bytes (4 * i + 2) 0 < 256 = (fit (4 * i + 2)).fits in
     let d : get_or bytes (4 * i + 3) 0 < 256 = (fit (4 * i + 3)).fits in
     omega (arith, word_is bytes i)
+
+-- two bytes side by side, read as one number
+pub pair_sum : (bytes pair : List ℕ) (i both : ℕ) → AreBytes bytes → pair ≡ take 2 (drop i bytes) → both ≡ from_le_bytes w16 pair → both % 256 + both / 256 ≡ texel_at R8 bytes i + texel_at R8 bytes (i + 1)
+pair_sum bytes pair i both fit is read =
+    let low : get_or pair 0 0 ≡ get_or bytes i 0 =
+    let z : i + 0 ≡ i = omega arith in
+    ap (λ (l : List ℕ). get_or l 0 0) is ∙ get_or-take 2 (drop i bytes) 0 0 (omega arith) ∙ get_or-drop i bytes 0 0 ∙ ap (λ (k : ℕ). get_or bytes k 0) z in
+    let high : get_or pair 1 0 ≡ get_or bytes (i + 1) 0 =
+    ap (λ (l : List ℕ). get_or l 1 0) is ∙ get_or-take 2 (drop i bytes) 1 0 (omega arith) ∙ get_or-drop i bytes 1 0 in
+    let a : get_or bytes i 0 < 256 = (fit i).fits in
+    let b : get_or bytes (i + 1) 0 < 256 = (fit (i + 1)).fits in
+    omega (arith, read, low, high, byte_is bytes i, byte_is bytes (i + 1))

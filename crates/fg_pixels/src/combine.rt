@@ -5,10 +5,11 @@ ghost use Rattle.fg_base.specs.Kernels.{fun_of};
 ghost use Rattle.fg_base.specs.Texels.{modulus, picture, band};
 ghost use Rattle.fg_pixels.specs.Bands.{HasRows};
 
-use crate::function::{by_constant, fun_at};
+use crate::constants::{by_function, by_texel};
+use crate::function::fun_at;
 use crate::painting::paint;
 use crate::texels::pick;
-use fg_base::{Fun, Grid};
+use fg_base::{Fun, Grid, Texel};
 
 #[inline(always)]
 fn combine_by(grid: Grid, fun: Fun, a: &[u8], b: &[u8], first: u32, count: u32, out: &mut [u8])
@@ -47,5 +48,5 @@ pub fn combine_rows(
     requires rows { first + count ≤ grid.height }
     ensures { out.new ≡ band grid.texel grid.width first count (λ x y. fun_of grid.texel fun (picture grid a.now x y) (picture grid b.now x y)) }
 {
-    by_constant!(combine_by(grid, fun, a, b, first, count, out))
+    by_function!(combine_by(grid, fun, a, b, first, count, out))
 }

@@ -6,26 +6,6 @@ ghost use Rattle.fg_base.specs.Texels.{modulus, texel_bits};
 
 use fg_base::{Fun, Texel};
 
-/// The call, with a constant in the place of `fun`: a loop over texels in it needs no branch for the function.
-macro_rules! by_constant {
-    ($call:ident($grid:expr, $fun:expr, $($rest:expr),*)) => {
-        match $fun {
-            Fun::Add => $call($grid, Fun::Add, $($rest),*),
-            Fun::Sub => $call($grid, Fun::Sub, $($rest),*),
-            Fun::Mul => $call($grid, Fun::Mul, $($rest),*),
-            Fun::And => $call($grid, Fun::And, $($rest),*),
-            Fun::Or => $call($grid, Fun::Or, $($rest),*),
-            Fun::Xor => $call($grid, Fun::Xor, $($rest),*),
-            Fun::Min => $call($grid, Fun::Min, $($rest),*),
-            Fun::Max => $call($grid, Fun::Max, $($rest),*),
-            Fun::Shl => $call($grid, Fun::Shl, $($rest),*),
-            Fun::Shr => $call($grid, Fun::Shr, $($rest),*),
-        }
-    };
-}
-
-pub(crate) use by_constant;
-
 /// A number cut to the texel.
 #[inline(always)]
 pub fn cut(texel: Texel, value: u32) -> u32

@@ -6,6 +6,7 @@ mod apply_op;
 mod blur;
 mod clear;
 mod combine;
+mod constants;
 mod convert;
 mod copies;
 mod fill;
