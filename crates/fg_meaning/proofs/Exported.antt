@@ -15,7 +15,7 @@ use Rattle.fg_frame.specs.Uses.{touches, stores_whole, starts_whole}
 use Rattle.fg_frame.specs.declared.numbered.NumberedPass.{NumberedPass}
 use Rattle.fg_meaning.specs.Meaning.{stores_to, has_picture, meaning, bytes_at, all_bytes}
 
-and_left : (a b : Bool) → (a && b) ≡ true → a ≡ true
+pub and_left : (a b : Bool) → (a && b) ≡ true → a ≡ true
 and_left true b e = refl
 and_left false b e = absurd cc
 

@@ -61,11 +61,15 @@ module _ (op : Op ℕ) where
   one_more : length (operands_of op) ≡ length (sources_of op) + 1
   one_more = length-append (sources_of op) (destination_of op ∷ [])
 
-  pub destination_within : (count : ℕ) → All (λ unit. unit < count) (operands_of op) → destination_of op < count
-  destination_within count within = subst (λ u. u < count) (get_or-append_seam (sources_of op) (destination_of op) [] (destination_of op)) (within (length (sources_of op)) (destination_of op) (omega (arith, one_more)))
+  -- what holds of all operands
+  pub at_destination : (P : ℕ → Type 0) → All P (operands_of op) → P (destination_of op)
+  at_destination P all = subst P (get_or-append_seam (sources_of op) (destination_of op) [] (destination_of op)) (all (length (sources_of op)) (destination_of op) (omega (arith, one_more)))
 
-  pub source_within : (count : ℕ) → All (λ unit. unit < count) (operands_of op) → All (λ unit. unit < count) (sources_of op)
-  source_within count within = λ k d lt. subst (λ u. u < count) (get_or_append_left (sources_of op) (destination_of op ∷ []) d k lt) (within k d (omega (arith, one_more)))
+  pub at_sources : (P : ℕ → Type 0) → All P (operands_of op) → All P (sources_of op)
+  at_sources P all = λ k d lt. subst P (get_or_append_left (sources_of op) (destination_of op ∷ []) d k lt) (all k d (omega (arith, one_more)))
+
+  pub destination_within : (count : ℕ) → All (λ unit. unit < count) (operands_of op) → destination_of op < count
+  destination_within count within = at_destination (λ unit. unit < count) within
 
   -- no source is the destination
   apart : in_place op ≡ false → All (λ unit. unit ≢ destination_of op) (sources_of op)
@@ -78,7 +82,7 @@ module _ (op : Op ℕ) where
 not_taken : (bytes : List (List ℕ)) (dst unit : ℕ) → unit ≢ dst → bytes_at (slice_set bytes dst []) unit ≡ bytes_at bytes unit
 not_taken bytes dst unit other = get_or-set_other bytes dst unit [] [] other
 
-map_same : {X Y : Type 0} (f g : X → Y) (xs : List X) → All (λ x. f x ≡ g x) xs → map f xs ≡ map g xs
+pub map_same : {X Y : Type 0} (f g : X → Y) (xs : List X) → All (λ x. f x ≡ g x) xs → map f xs ≡ map g xs
 map_same f g [] same = refl
 map_same f g (x ∷ xs) same = ap₂ (λ y ys. y ∷ ys) (All-head (λ x. f x ≡ g x) x xs same) (map_same f g xs (All-tail (λ x. f x ≡ g x) x xs same))
 
@@ -121,7 +125,14 @@ not_draw (Draw dst clear rects) other = absurd (other dst clear rects refl)
 pub written_back : (count : ℕ) (new more : List ℕ) → length new ≡ count → take count (new ++ more) ≡ new
 written_back count new more is = subst (λ n. take n (new ++ more) ≡ new) is (take-append_seam new more)
 
-module _ (shapes : List Shape) (old : List (List ℕ)) (op : Op ℕ) (sized : AreSized shapes old) (operands : All (λ unit. unit < length shapes) (operands_of op)) (none : in_place op ≡ false) where
+-- the length of a unit's bytes
+abbrev IsLong : List Shape → List (List ℕ) → ℕ → Type 0
+IsLong shapes bytes unit = length (bytes_at bytes unit) ≡ bytes_of (shape_at shapes unit)
+
+pub operands_long : (shapes : List Shape) (bytes : List (List ℕ)) (op : Op ℕ) → AreSized shapes bytes → All (λ unit. unit < length shapes) (operands_of op) → All (λ unit. length (bytes_at bytes unit) ≡ bytes_of (shape_at shapes unit)) (operands_of op)
+operands_long shapes bytes op S within = λ k d lt. S.sized (get_or (operands_of op) k d) (within k d lt)
+
+module _ (shapes : List Shape) (old : List (List ℕ)) (op : Op ℕ) (count : length old ≡ length shapes) (sized : All (λ unit. length (bytes_at old unit) ≡ bytes_of (shape_at shapes unit)) (operands_of op)) (operands : All (λ unit. unit < length shapes) (operands_of op)) (none : in_place op ≡ false) where
   abbrev dst : ℕ
   dst = destination_of op
 
@@ -129,18 +140,18 @@ module _ (shapes : List Shape) (old : List (List ℕ)) (op : Op ℕ) (sized : Ar
   inside = destination_within op (length shapes) operands
 
   pub destination_fits : dst < length old
-  destination_fits = subst (λ m. dst < m) (sym sized.count) inside
+  destination_fits = subst (λ m. dst < m) (sym count) inside
 
   pub taken_sized : (taken : List (List ℕ)) → taken ≡ slice_set old dst [] → All (λ unit. length (bytes_at taken unit) ≡ bytes_of (shape_at shapes unit)) (sources_of op)
   taken_sized taken is = λ k d lt.
       let unit = get_or (sources_of op) k d in
-      ap (λ b. length (bytes_at b unit)) is ∙ ap length (not_taken old dst unit (apart op none k d lt)) ∙ sized.sized unit (source_within op (length shapes) operands k d lt)
+      ap (λ b. length (bytes_at b unit)) is ∙ ap length (not_taken old dst unit (apart op none k d lt)) ∙ at_sources op (IsLong shapes old) sized k d lt
 
   pub taken_count : (taken : List (List ℕ)) → taken ≡ slice_set old dst [] → length taken ≡ length shapes
-  taken_count taken is = ap length is ∙ length-set old dst [] ∙ sized.count
+  taken_count taken is = ap length is ∙ length-set old dst [] ∙ count
 
   pub out_long : (was : List ℕ) → was ≡ bytes_at old dst → length was ≡ bytes_of (shape_at shapes dst)
-  out_long was is = ap length is ∙ sized.sized dst inside
+  out_long was is = ap length is ∙ at_destination op (IsLong shapes old) sized
 
   pub op_done : (taken new : List (List ℕ)) (was out : List ℕ) → was ≡ bytes_at old dst → taken ≡ slice_set old dst [] → out ≡ applied shapes op (map (bytes_at taken) (sources_of op)) was → new ≡ slice_set taken dst out → new ≡ after_op shapes old op
   op_done taken new was out had took gives put =
@@ -148,16 +159,22 @@ module _ (shapes : List Shape) (old : List (List ℕ)) (op : Op ℕ) (sized : Ar
       ∙ ap₂ (λ b o. slice_set b dst o) took (gives ∙ ap₂ (λ b w. applied shapes op (map (bytes_at b) (sources_of op)) w) took had ∙ ap (λ s. applied shapes op s (bytes_at old dst)) (same_sources old op none))
       ∙ set-set old dst [] (applied shapes op (map (bytes_at old) (sources_of op)) (bytes_at old dst))
 
-  pub op_sized : (new : List (List ℕ)) (out : List ℕ) → new ≡ slice_set (slice_set old dst []) dst out → length out ≡ bytes_of (shape_at shapes dst) → AreSized shapes new
-  op_sized new out put size =
-      let is : new ≡ slice_set old dst out = put ∙ set-set old dst [] out in
-      subst (λ b. AreSized shapes b) (sym is) (record {
-        count = length-set old dst out ∙ sized.count;
-        sized = λ unit lt. ⊎_elim (same_unit unit) (other_unit unit lt) (eqb_tells unit dst);
-      })
-    where
-      same_unit : (unit : ℕ) → ((unit == dst) ≡ true) × (unit ≡ dst) → length (bytes_at (slice_set old dst out) unit) ≡ bytes_of (shape_at shapes unit)
-      same_unit unit h = subst (λ u. length (bytes_at (slice_set old dst out) u) ≡ bytes_of (shape_at shapes u)) (sym h.1) (ap length (get_or-set_same old dst out [] destination_fits) ∙ size)
+  pub put_long : (new : List (List ℕ)) (out : List ℕ) → new ≡ slice_set (slice_set old dst []) dst out → length out ≡ bytes_of (shape_at shapes dst) → length (bytes_at new dst) ≡ bytes_of (shape_at shapes dst)
+  put_long new out put size = ap (λ b. length (bytes_at b dst)) (put ∙ set-set old dst [] out) ∙ ap length (get_or-set_same old dst out [] destination_fits) ∙ size
 
-      other_unit : (unit : ℕ) → unit < length shapes → ((unit == dst) ≡ false) × (unit ≢ dst) → length (bytes_at (slice_set old dst out) unit) ≡ bytes_of (shape_at shapes unit)
-      other_unit unit lt h = ap length (get_or-set_other old dst unit out [] h.1) ∙ sized.sized unit lt
+-- all units keep their lengths where the destination does
+module _ (shapes : List Shape) (old new : List (List ℕ)) (op : Op ℕ) (S : AreSized shapes old) (is : new ≡ after_op shapes old op) (size : length (bytes_at new (destination_of op)) ≡ bytes_of (shape_at shapes (destination_of op))) where
+  abbrev stored : List ℕ
+  stored = applied shapes op (map (bytes_at old) (sources_of op)) (bytes_at old (destination_of op))
+
+  same_unit : (unit : ℕ) → ((unit == destination_of op) ≡ true) × (unit ≡ destination_of op) → length (bytes_at new unit) ≡ bytes_of (shape_at shapes unit)
+  same_unit unit h = subst (λ u. length (bytes_at new u) ≡ bytes_of (shape_at shapes u)) (sym h.1) size
+
+  other_unit : (unit : ℕ) → unit < length shapes → ((unit == destination_of op) ≡ false) × (unit ≢ destination_of op) → length (bytes_at new unit) ≡ bytes_of (shape_at shapes unit)
+  other_unit unit lt h = ap (λ b. length (bytes_at b unit)) is ∙ ap length (get_or-set_other old (destination_of op) unit stored [] h.1) ∙ S.sized unit lt
+
+  pub op_sized : AreSized shapes new
+  op_sized = record {
+    count = ap length is ∙ length-set old (destination_of op) stored ∙ S.count;
+    sized = λ unit lt. ⊎_elim (same_unit unit) (other_unit unit lt) (eqb_tells unit (destination_of op));
+  }

@@ -1,3 +1,4 @@
+pub mod Held
 pub mod Meaning
 pub mod Sizes
 pub mod Stored

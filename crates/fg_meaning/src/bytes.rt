@@ -51,8 +51,8 @@ fn shape_of(frame: &GoodFrame, unit: u32) -> Shape
     frame.shapes()[unit as usize]
 }
 
-// What a unit holds before the first pass.
-fn first_bytes(alloc: Global, frame: &GoodFrame, unit: u32) -> Result<List<u8>, NoMemory>
+/// What a unit holds before the first pass.
+pub(crate) fn first_bytes(alloc: Global, frame: &GoodFrame, unit: u32) -> Result<List<u8>, NoMemory>
     requires { unit < length (numbered frame.now).units }
     ensures { IfOk result (λ bytes. IfSome (slice_get (numbered frame.now).units unit) (λ u. bytes ≡ first_bytes u)) }
 {
@@ -74,6 +74,17 @@ impl Bytes {
         Ok(Bytes { units })
     }
 
+    /// No bytes in any unit.
+    pub fn none(alloc: Global, count: u32) -> Result<Bytes, NoMemory>
+        ensures { IfOk result (λ bytes. bytes ≡ replicate count []) }
+    {
+        let mut units = Vec::new(alloc);
+        for _ in 0..count {
+            units.push(List::new(alloc))?;
+        }
+        Ok(Bytes { units })
+    }
+
     pub fn get(&self, unit: u32) -> &[u8]
         requires { unit < length self.now }
         ensures { result.now ≡ bytes_at self.now unit }
@@ -81,8 +92,8 @@ impl Bytes {
         &self.units[unit as usize]
     }
 
-    // Takes the bytes of a unit out.
-    fn take(&mut self, alloc: Global, unit: u32) -> List<u8>
+    /// Takes the bytes of a unit out.
+    pub fn take(&mut self, alloc: Global, unit: u32) -> List<u8>
         requires { unit < length self.old }
         ensures bytes { result ≡ bytes_at self.old unit }
         ensures rest { self.new ≡ slice_set self.old unit [] }
@@ -90,7 +101,7 @@ impl Bytes {
         mem::replace(&mut self.units[unit as usize], List::new(alloc))
     }
 
-    fn put(&mut self, unit: u32, bytes: List<u8>)
+    pub fn put(&mut self, unit: u32, bytes: List<u8>)
         requires { unit < length self.old }
         ensures { self.new ≡ slice_set self.old unit bytes }
     {
@@ -133,14 +144,15 @@ impl Bytes {
         }
     }
 
-    // Runs an operation.
-    fn run_op(&mut self, alloc: Global, shapes: &[Shape], op: &Op<u32>)
-        requires sized { AreSized shapes.now self.old }
+    /// Runs an operation on units that hold all their bytes.
+    pub fn run_op(&mut self, alloc: Global, shapes: &[Shape], op: &Op<u32>)
+        requires count { length self.old ≡ length shapes.now }
+        requires sized { All (λ unit. length (bytes_at self.old unit) ≡ bytes_of (shape_at shapes.now unit)) (operands_of op.now) }
         requires operands { All (λ unit. unit < length shapes.now) (operands_of op.now) }
         requires fits { fits (mapped (shape_at shapes.now) op.now) ≡ true }
         requires apart { in_place op.now ≡ false }
         ensures bytes { self.new ≡ after_op shapes.now self.old op.now }
-        ensures sized { AreSized shapes.now self.new }
+        ensures sized { length (bytes_at self.new (destination_of op.now)) ≡ bytes_of (shape_at shapes.now (destination_of op.now)) }
     {
         let dst = destination(op);
         let mut out = self.take(alloc, dst).into_vec();

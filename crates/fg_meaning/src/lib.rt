@@ -2,10 +2,15 @@
 #![tactic(auto)]
 
 mod bytes;
+mod exports;
+mod held;
+mod ops;
 mod pictures;
 mod rules;
 mod stored;
 #[cfg(test)]
 mod tests;
+mod wanted;
 
+pub use exports::{Exports, exports_of};
 pub use pictures::{Pictures, meaning};

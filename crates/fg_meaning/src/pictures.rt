@@ -1,16 +1,15 @@
 //! What is in each unit after all passes.
 
-ghost use Rattle.std.specs.Prelude.{◌≡◌, ◌<◌, None, length, map, true, is_some, option_copied, IfOk, IfSome, slice_get, slice_index_or};
+ghost use Rattle.std.specs.Prelude.{◌≡◌, ◌<◌, None, length, map, true, is_some, option_copied, IfOk, slice_index_or};
 ghost use Rattle.std.specs.List.{All, range_with_len};
-ghost use Rattle.fg_frame.specs.Good.{shapes_in};
 ghost use Rattle.fg_frame.specs.Numbered.{numbered};
 ghost use Rattle.fg_meaning.specs.Meaning.{all_bytes, meaning};
-ghost use Rattle.fg_meaning.specs.Sizes.{IsRunnable};
 
 use crate::bytes::Bytes;
+use crate::ops::ops_of;
 use crate::rules::rules;
 use crate::stored::stored;
-use fg_base::{List, NoMemory, Op};
+use fg_base::{List, NoMemory};
 use fg_frame::GoodFrame;
 use std::alloc::Global;
 use std::marker::Model;
@@ -44,16 +43,6 @@ impl Pictures {
             None
         }
     }
-}
-
-// The operations of a pass, which fit their units.
-fn ops_of(frame: &GoodFrame, pass: u32) -> &[Op<u32>]
-    requires { pass < length (numbered frame.now).passes }
-    ensures ops { IfSome (slice_get (numbered frame.now).passes pass) (λ p. result.now ≡ p.ops) }
-    ensures runnable { All (IsRunnable (shapes_in (numbered frame.now))) result.now }
-{
-    rules(frame);
-    frame.ops(pass)
 }
 
 fn all_bytes(alloc: Global, frame: &GoodFrame) -> Result<Bytes, NoMemory>

@@ -1,0 +1,65 @@
+//! Which units are still wanted.
+
+ghost use Rattle.std.specs.Prelude.{◌≡◌, ◌<◌, ◌≤◌, ◌+◌, ◌==◌, drop, length};
+ghost use Rattle.std.specs.List.{list_any};
+ghost use Rattle.fg_frame.specs.Numbered.{numbered};
+ghost use Rattle.fg_frame.specs.Uses.{touches};
+ghost use Rattle.fg_meaning.specs.Held.{all_ops, is_wanted, ops_at, ops_from};
+
+use crate::ops::ops_of;
+use crate::rules::rules;
+use fg_base::Op;
+use fg_frame::GoodFrame;
+
+fn touches(op: &Op<u32>, unit: u32) -> bool
+    ensures { result ≡ touches unit op.now }
+{
+    for j in 0..op.touch_count() {
+        if op.operand(j) == unit {
+            return true;
+        }
+    }
+    false
+}
+
+// Whether one of these operations names a unit.
+fn is_touched(ops: &[Op<u32>], unit: u32) -> bool
+    ensures { result ≡ list_any (touches unit) ops.now }
+{
+    ops.iter().any(|op| touches(op, unit))
+}
+
+// Whether an operation of the passes from `first` on names a unit.
+fn is_touched_from(frame: &GoodFrame, first: u32, unit: u32) -> bool
+    requires { first ≤ length (numbered frame.now).passes }
+    ensures { result ≡ list_any (touches unit) (all_ops (drop first (numbered frame.now).passes)) }
+{
+    for pass in first..frame.pass_count() {
+        if is_touched(ops_of(frame, pass), unit) {
+            return true;
+        }
+    }
+    false
+}
+
+fn is_exported(frame: &GoodFrame, unit: u32) -> bool
+    ensures { result ≡ list_any (λ export. export == unit) (numbered frame.now).exports }
+{
+    frame.exports().contains(&unit)
+}
+
+/// Whether an operation of `pass` from `next` on, or one of a later pass, names a unit, or it is exported.
+pub(crate) fn is_wanted(frame: &GoodFrame, pass: u32, next: usize, unit: u32) -> bool
+    requires pass { pass < length (numbered frame.now).passes }
+    requires next { next ≤ length (ops_at (numbered frame.now).passes pass) }
+    ensures { result ≡ is_wanted (numbered frame.now).exports (ops_from (numbered frame.now).passes pass next) unit }
+{
+    rules(frame);
+    if is_touched(&ops_of(frame, pass)[next..], unit) {
+        return true;
+    }
+    if is_touched_from(frame, pass + 1, unit) {
+        return true;
+    }
+    is_exported(frame, unit)
+}
