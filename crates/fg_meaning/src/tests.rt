@@ -1,4 +1,4 @@
-use crate::meaning;
+use crate::{exports_of, meaning};
 use fg_base::{Family, Fun, List, Mix, Name, NoMemory, Op, Rect, Shape, Texel};
 use fg_frame::{Frame, GoodFrame, Pass, QueueDecl, Resource, Sharing, Spot, Write, well_formed};
 use std::alloc::Global;
@@ -206,12 +206,21 @@ fn queues(rt: &impl Abort, alloc: Global) -> Result<List<QueueDecl>, NoMemory> {
     Ok(list)
 }
 
+// c is made for the second layer alone.
+fn exports(rt: &impl Abort, alloc: Global) -> Result<List<Spot>, NoMemory> {
+    let mut list = List::new(alloc);
+    list.push(layer(rt, "im", 1))?;
+    list.push(spot(rt, "in"))?;
+    list.push(spot(rt, "b"))?;
+    Ok(list)
+}
+
 fn frame(rt: &impl Abort, alloc: Global) -> Result<Frame, NoMemory> {
     Ok(Frame {
         queues: queues(rt, alloc)?,
         resources: resources(rt, alloc)?,
         passes: passes(rt, alloc)?,
-        exports: List::new(alloc),
+        exports: exports(rt, alloc)?,
     })
 }
 
@@ -242,8 +251,30 @@ fn compare(rt: &impl Abort, alloc: Global, good: &GoodFrame) -> Result<(), Fail>
     Ok(())
 }
 
+// The exported units hold what they hold among all pictures, and the others nothing.
+const HELD: [&str; 6] = [
+    "[1, 0, 0, 0]",
+    "[3, 4, 0, 0]",
+    "[]",
+    "[]",
+    "[]",
+    "[3, 250, 0, 255]",
+];
+
+fn compare_exports(rt: &impl Abort, alloc: Global, good: &GoodFrame) -> Result<(), Fail> {
+    let exports = exports_of(alloc, good)?;
+    assert_eq!(rt; good.unit_count(), 6);
+    for unit in 0..6 {
+        let found = format!(in alloc; "{:?}", exports.get(unit))?;
+        assert_eq!(rt; found.as_str(), HELD[unit as usize], "{unit}");
+    }
+    Ok(())
+}
+
 #[test]
 fn pictures(rt: HostRuntime) -> Result<(), Fail> {
     let alloc = rt.alloc();
-    compare(&rt, alloc, &good(&rt, alloc)?)
+    let good = good(&rt, alloc)?;
+    compare(&rt, alloc, &good)?;
+    compare_exports(&rt, alloc, &good)
 }
