@@ -1,5 +1,5 @@
 -- What is held when units get their first bytes, when an operation runs on them, and when bytes are let go.
-use Rattle.std.proofs.Common.{subst, zero, suc, map, drop, slice_get, ◌+◌, ◌≡◌, ◌≢◌, ℕ, ◌<◌, ◌≤◌, ◌==◌, ◌&&◌, ◌||◌, ◌⊎◌, inl, inr, List, [], ◌∷◌, length, get_or, replicate, slice_set, Bool, true, false, Some, None, is_some, if◌then◌else◌, refl, sym, ap, ap₂, ◌∙◌, arith, ⊎_elim}
+use Rattle.std.proofs.Common.{subst, zero, suc, map, drop, slice_get, ◌+◌, ◌≡◌, ◌≢◌, ℕ, ◌<◌, ◌≤◌, ◌==◌, ◌||◌, inl, inr, List, [], ◌∷◌, length, get_or, replicate, slice_set, Bool, true, false, Some, None, is_some, if◌then◌else◌, refl, sym, ap, ap₂, ◌∙◌, arith, ⊎_elim}
 use Rattle.std.specs.List.{All, list_any}
 use Rattle.std.proofs.lemmas.Bool.{leb-true}
 use Rattle.std.proofs.lemmas.Bool.Decides.{eqb_tells}
@@ -18,7 +18,7 @@ use Rattle.fg_frame.specs.Units.{Unit}
 use Rattle.fg_frame.specs.Uses.{touches}
 use Rattle.fg_meaning.specs.Held.{IsAt, Stands, all_ops, all_released, all_settled, first_at, is_wanted, released, settled}
 use Rattle.fg_meaning.specs.Meaning.{bytes_at, first_bytes, after_op, all_bytes, has_picture, meaning}
-use Rattle.fg_meaning.specs.Sizes.{AreSized, IsRunnable}
+use Rattle.fg_meaning.specs.Sizes.{AreSized}
 use Rattle.fg_meaning.proofs.Exported.{and_left, exported}
 use Rattle.fg_meaning.proofs.Lists.{item_first}
 use Rattle.fg_meaning.proofs.Remaining.{as_ops}
