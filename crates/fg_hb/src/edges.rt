@@ -53,14 +53,16 @@ fn is_at(link: Option<usize>, n: usize) -> bool
 }
 
 impl Edges {
-    pub(crate) fn count(&self) -> usize
+    /// The number of nodes.
+    pub fn count(&self) -> usize
         ensures count { result ≡ length self.now }
         ensures few { result ≤ 20000 }
     {
         self.nodes.len()
     }
 
-    pub(crate) fn node(&self, n: usize) -> Node
+    /// The node with the number `n`.
+    pub fn node(&self, n: usize) -> Node
         requires n { n < length self.now }
         ensures { result ≡ node_at self.now n }
     {
