@@ -1,5 +1,5 @@
--- Bands of pictures: what is painted is read back, and what is alike is painted alike.
-use Rattle.std.proofs.Common.{◌≡◌, ℕ, zero, suc, ◌+◌, ◌*◌, ◌%◌, ◌<◌, ◌≤◌, List, ◌++◌, length, take, refl, sym, ap, ◌∙◌, arith, zero-add}
+-- Bands of pictures: what is painted is read back, what is alike is painted alike, and rows are painted one after another.
+use Rattle.std.proofs.Common.{◌≡◌, ℕ, zero, suc, ◌+◌, ◌*◌, ◌%◌, ◌<◌, ◌≤◌, List, [], ◌++◌, length, take, refl, sym, ap, ◌∙◌, append_assoc, arith, zero-add}
 use Rattle.std.proofs.lemmas.List.{drop_at, take_at, drop-drop, length-append}
 use Rattle.std.proofs.Math.Nat.{mul-le-mul_left}
 use Rattle.std.specs.List.{flat_map, range_with_len}
@@ -29,6 +29,24 @@ same_band t w first count f g alike =
     same_pieces (λ x. low_bytes t (f x (first + y))) (λ x. low_bytes t (g x (first + y))) w 0 (λ x hx.
     let z : 0 + x ≡ x = omega arith in
     rw z (low_same t (f x (first + y)) (g x (first + y)) (alike x y hx hy))))
+
+pieces_more : (h : ℕ → List ℕ) (n a : ℕ) → flat_map h (range_with_len a (suc n)) ≡ flat_map h (range_with_len a n) ++ flat_map h (range_with_len (a + n) 1)
+pieces_more h zero a = let z : a + 0 ≡ a = omega arith in rw z refl
+pieces_more h (suc n) a =
+    let s : a + 1 + n ≡ a + suc n = omega arith in
+    ap (λ l. h a ++ l) (rw s at (pieces_more h n (a + 1)))
+    ∙ sym (append_assoc (h a) (flat_map h (range_with_len (a + 1) n)) (flat_map h (range_with_len (a + suc n) 1)))
+
+-- one more row
+pub band_more : (t : Texel) (w first n : ℕ) (f : ℕ → ℕ → ℕ) → band t w first (n + 1) f ≡ band t w first n f ++ band t w (first + n) 1 f
+unfolding band
+band_more t w first n f =
+    let e : n + 1 ≡ suc n = omega arith in
+    rw e (pieces_more (λ y. flat_map (λ x. low_bytes t (f x y)) (range_with_len 0 w)) n first)
+
+pub band_none : (t : Texel) (w first : ℕ) (f : ℕ → ℕ → ℕ) → band t w first 0 f ≡ []
+unfolding band
+band_none t w first f = refl
 
 -- the bytes of a picture are painted by it
 pub painted_back : (g : Grid) (bytes : List ℕ) → AreBytes bytes → HasRows g g.height bytes → bytes ≡ painted g (picture g bytes)

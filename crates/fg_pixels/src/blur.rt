@@ -1,41 +1,17 @@
 //! The mean of nine texels.
 
-ghost use Rattle.std.specs.Prelude.{◌≡◌, ◌+◌, ◌-◌, ◌*◌, ◌/◌, ◌%◌, ◌^◌, ◌<◌, ◌≤◌, min};
+ghost use Rattle.std.specs.Prelude.{◌≡◌, ◌+◌, ◌/◌, ◌<◌, ◌≤◌};
 ghost use Rattle.fg_base.specs.Kernels.{three, box3};
-ghost use Rattle.fg_base.specs.Texels.{modulus, picture, band};
+ghost use Rattle.fg_base.specs.Texels.{picture, band};
 ghost use Rattle.fg_pixels.specs.Bands.{HasRows};
 
+use crate::byte_blur::{WIDEST, byte_rows};
+use crate::columns::{after, column_sum};
 use crate::constants::by_texel;
 use crate::painting::paint_framed;
-use crate::texels::pick;
 use fg_base::{Grid, Texel};
 
-// The coordinate after this one, held to the image.
-#[inline(always)]
-fn after(n: u32, k: u32) -> u32
-    requires { k < n }
-    ensures value { result ≡ min (k + 1) (n - 1) }
-    ensures within { result < n }
-{
-    (k + 1).min(n - 1)
-}
-
-// Three texels of a row.
-#[inline(always)]
-fn three_of(grid: Grid, src: &[u8], left: u32, x: u32, right: u32, row: u32) -> u64
-    requires size { HasRows grid grid.height src.now }
-    requires columns { (left < grid.width) × (x < grid.width) × (right < grid.width) }
-    requires row { row < grid.height }
-    ensures sum { result ≡ picture grid src.now left row + picture grid src.now x row + picture grid src.now right row }
-    ensures small { result ≤ 3 * (2 ^ 32 - 1) }
-{
-    let a = pick(grid, src, left, row);
-    let b = pick(grid, src, x, row);
-    let c = pick(grid, src, right, row);
-    u64::from(a) + u64::from(b) + u64::from(c)
-}
-
-// The mean of three columns and the three rows round y.
+// The mean of three columns, round row y.
 #[inline(always)]
 #[tactic(auto, unfolding(fg_base::specs::Kernels::three))]
 fn mean_at(grid: Grid, src: &[u8], left: u32, x: u32, right: u32, y: u32) -> u32
@@ -44,10 +20,10 @@ fn mean_at(grid: Grid, src: &[u8], left: u32, x: u32, right: u32, y: u32) -> u32
     requires y { y < grid.height }
     ensures { result ≡ three grid.height (λ row. picture grid src.now left row + picture grid src.now x row + picture grid src.now right row) y / 9 }
 {
-    let above = three_of(grid, src, left, x, right, y.saturating_sub(1));
-    let here = three_of(grid, src, left, x, right, y);
-    let below = three_of(grid, src, left, x, right, after(grid.height, y));
-    ((above + here + below) / 9) as u32
+    let sum = column_sum(grid, src, left, y)
+        + column_sum(grid, src, x, y)
+        + column_sum(grid, src, right, y);
+    (sum / 9) as u32
 }
 
 #[inline(always)]
@@ -101,5 +77,8 @@ pub fn box3_rows(grid: Grid, src: &[u8], first: u32, count: u32, out: &mut [u8])
     requires rows { first + count ≤ grid.height }
     ensures { out.new ≡ band grid.texel grid.width first count (box3 grid.width grid.height (picture grid src.now)) }
 {
-    by_texel!(means(grid, src, first, count, out))
+    match grid.texel {
+        Texel::R8 if grid.width as usize <= WIDEST => byte_rows(grid, src, first, count, out),
+        _ => by_texel!(means(grid, src, first, count, out)),
+    }
 }

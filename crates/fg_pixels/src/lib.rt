@@ -4,7 +4,9 @@
 mod anew;
 mod apply_op;
 mod blur;
+mod byte_blur;
 mod clear;
+mod columns;
 mod combine;
 mod constants;
 mod convert;

@@ -63,6 +63,30 @@ fn means_are_rounded_down(rt: HostRuntime) {
 }
 
 #[test]
+fn means_of_wide_rows(rt: HostRuntime) {
+    let op = Op::Box3 { src: 0, dst: 1 };
+    let mut row = [90u8; 4097];
+    row[4095] = 0;
+    row[4096] = 0;
+    let kept = Shape::Image {
+        width: 4096,
+        height: 1,
+        texel: Texel::R8,
+    };
+    let mut out = [0u8; 4096];
+    apply(&op, &[kept, kept], &row[..4096], &[], &[], &mut out);
+    assert_eq!(&rt; (out[0], out[4093], out[4094], out[4095]), (90, 90, 60, 30));
+    let wide = Shape::Image {
+        width: 4097,
+        height: 1,
+        texel: Texel::R8,
+    };
+    let mut out = [0u8; 4097];
+    apply(&op, &[wide, wide], &row, &[], &[], &mut out);
+    assert_eq!(&rt; (out[0], out[4094], out[4095], out[4096]), (90, 60, 30, 0));
+}
+
+#[test]
 fn rectangle_goes_across(rt: HostRuntime) {
     let op = Op::CopyImage {
         src: 0,

@@ -1,0 +1,35 @@
+//! Three texels that stand above one another.
+
+ghost use Rattle.std.specs.Prelude.{◌≡◌, ◌+◌, ◌-◌, ◌*◌, ◌<◌, ◌≤◌, min};
+ghost use Rattle.fg_base.specs.Kernels.{three};
+ghost use Rattle.fg_base.specs.Texels.{modulus, picture};
+ghost use Rattle.fg_pixels.specs.Bands.{HasRows};
+
+use crate::texels::pick;
+use fg_base::Grid;
+
+/// The coordinate after this one, held to the image.
+#[inline(always)]
+pub(crate) fn after(n: u32, k: u32) -> u32
+    requires { k < n }
+    ensures value { result ≡ min (k + 1) (n - 1) }
+    ensures within { result < n }
+{
+    (k + 1).min(n - 1)
+}
+
+/// The sum of column `x` over row `y` and the rows beside it.
+#[inline(always)]
+#[tactic(auto, unfolding(fg_base::specs::Kernels::three))]
+pub(crate) fn column_sum(grid: Grid, src: &[u8], x: u32, y: u32) -> u64
+    requires size { HasRows grid grid.height src.now }
+    requires x { x < grid.width }
+    requires y { y < grid.height }
+    ensures sum { result ≡ three grid.height (picture grid src.now x) y }
+    ensures small { result + 3 ≤ 3 * modulus grid.texel }
+{
+    let above = pick(grid, src, x, y.saturating_sub(1));
+    let here = pick(grid, src, x, y);
+    let below = pick(grid, src, x, after(grid.height, y));
+    u64::from(above) + u64::from(here) + u64::from(below)
+}
