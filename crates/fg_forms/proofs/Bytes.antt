@@ -1,7 +1,8 @@
 -- Which bytes are JSON.
-use Rattle.std.proofs.Common.{◌≡◌, ℕ, Bool, true, false, List, None, refl, sym, ap}
+use Rattle.std.proofs.Common.{◌≡◌, ℕ, Bool, true, false, List, Option, None, refl, sym, ap}
 use Rattle.std.specs.Str.{IsUtf8, is_utf8}
 use Rattle.std.proofs.lemmas.Str.{IsUtf8-from_is_utf8, is_utf8-from_IsUtf8}
+use Rattle.serde_json.specs.Data.{Data}
 use Rattle.serde_json.specs.Read.{read}
 use Rattle.fg_forms.specs.Json.{json_of}
 
@@ -14,3 +15,6 @@ json_of-no_text bytes isnt = rw (no_test bytes _ refl isnt) refl
 
 pub json_of-text : (bytes text : List ℕ) → text ≡ bytes → IsUtf8 bytes → json_of bytes ≡ read text
 json_of-text bytes text same valid = rw (is_utf8-from_IsUtf8 bytes valid) (ap read (sym same))
+
+pub json_of-written : (text : List ℕ) (d : Option Data) → IsUtf8 text → read text ≡ d → json_of text ≡ d
+json_of-written text d valid reads = rw (is_utf8-from_IsUtf8 text valid) reads

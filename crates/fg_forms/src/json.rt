@@ -1,7 +1,13 @@
-//! The JSON value of a file.
+//! The JSON value of a file, and the text of one.
 
+ghost use Rattle.std.specs.Prelude.{◌≡◌, ◌≤◌, false, Some, IfOk};
 ghost use Rattle.fg_forms.specs.Json.{json_of, JsonGives};
+ghost use Rattle.serde_json.specs.Data.{depth};
+ghost use Rattle.serde_json.specs.Read.{max_depth};
+ghost use Rattle.serde_json.specs.Written.{has_float, compact_text};
 
+use crate::Writer;
+use fg_base::{List, NoMemory, Text};
 use serde_json::Value;
 use std::alloc::Global;
 use std::str;
@@ -30,4 +36,14 @@ pub fn read_json(alloc: Global, bytes: &[u8]) -> Result<Value, JsonEnd>
             Err(JsonEnd::NotJson)
         },
     }
+}
+
+/// The compact text of what a value is written as, from which the same JSON is read.
+pub fn write_json<F: Writer>(alloc: Global, value: &F::In) -> Result<Text, NoMemory>
+    ensures text { IfOk result (λ text. has_float (F.writes value.now) ≡ false → text ≡ compact_text (F.writes value.now)) }
+    ensures again { IfOk result (λ text. depth (F.writes value.now) ≤ max_depth → json_of text ≡ Some (F.writes value.now)) }
+{
+    let json = F::write(alloc, value)?;
+    let text = json.to_vec(alloc)?;
+    Ok(List::from_vec(text))
 }

@@ -12,9 +12,11 @@ mod place;
 mod read_end;
 mod reader;
 mod text;
+mod typed;
 mod writer;
+mod written;
 
-pub use json::{JsonEnd, read_json};
+pub use json::{JsonEnd, read_json, write_json};
 pub use list::ListForm;
 pub use members::{object, optional, others, required};
 pub use number::{NumberForm, RangeForm};
@@ -22,7 +24,9 @@ pub use place::Place;
 pub use read_end::ReadEnd;
 pub use reader::Reader;
 pub use text::{NameForm, NameWord, TextForm, Word};
+pub use typed::Typed;
 pub use writer::Writer;
+pub use written::{Members, with_member, with_text};
 
 #[cfg(test)]
 mod tests;

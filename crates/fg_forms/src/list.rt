@@ -7,7 +7,7 @@ ghost use Rattle.fg_forms.specs.Places.{legs};
 ghost use Rattle.fg_forms.specs.Reading.{Gives};
 ghost use Rattle.serde_json.specs.View.{view, items_view};
 
-use crate::{Place, ReadEnd, Reader, Writer};
+use crate::{Place, ReadEnd, Reader, Typed, Writer};
 use fg_base::List;
 use serde_json::Value;
 use std::alloc::{AllocError, Global};
@@ -65,5 +65,18 @@ impl<F: Writer> Writer for ListForm<F> {
             values.push(F::write(alloc, entry)?)?;
         }
         Ok(Value::Array(values))
+    }
+}
+
+impl<F: Typed> Typed for ListForm<F> {
+    type Of = List<F::Of>;
+
+    ghost Says = { AllByRecursion F.Says };
+
+    fn look(list: &List<F::Of>) {
+        let entries = list.as_slice();
+        for entry in entries {
+            F::look(entry);
+        }
     }
 }

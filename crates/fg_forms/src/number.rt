@@ -1,9 +1,9 @@
 //! Whole numbers.
 
 ghost use Rattle.std.specs.Prelude.{◌≡◌};
-ghost use Rattle.fg_forms.specs.Leaves.{number_at, number_data, within, FitsRange};
+ghost use Rattle.fg_forms.specs.Leaves.{number_at, number_data, within, FitsRange, FitsWhole};
 
-use crate::{Place, ReadEnd, Reader, Writer};
+use crate::{Place, ReadEnd, Reader, Typed, Writer};
 use serde_json::Value;
 use std::alloc::{AllocError, Global};
 
@@ -47,5 +47,15 @@ impl<const LEAST: u32, const MOST: u32> Writer for RangeForm<LEAST, MOST> {
 
     fn write(_alloc: Global, number: &u32) -> Result<Value, AllocError> {
         Ok(Value::from(*number))
+    }
+}
+
+impl<const LEAST: u32, const MOST: u32> Typed for RangeForm<LEAST, MOST> {
+    type Of = u32;
+
+    ghost Says = { FitsWhole };
+
+    fn look(number: &u32) {
+        let _number = *number;
     }
 }

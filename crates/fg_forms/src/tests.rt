@@ -1,6 +1,6 @@
 use super::*;
 use fg_base::{Leg, List, Name, Path};
-use serde_json::Value;
+use serde_json::{Map, Value};
 use std::alloc::Global;
 use std::fmt::Write;
 use std::str;
@@ -112,12 +112,25 @@ fn reads_and_writes(rt: HostRuntime) -> Result<(), Fail> {
         "no JSON"
     );
     let list = List::from_slice(alloc, &[7, 0, 4294967295])?;
-    let text = <ListForm<NumberForm> as Writer>::write(alloc, &list)?.to_string(alloc)?;
-    assert_eq!(rt; text.as_str(), "[7,0,4294967295]");
+    <ListForm<NumberForm>>::look(&list);
+    let text = write_json::<ListForm<NumberForm>>(alloc, &list)?;
+    assert_eq!(rt; str::from_utf8(text.as_slice())?, "[7,0,4294967295]");
     let text = <NumberForm as Writer>::write(alloc, &4294967295)?.to_string(alloc)?;
     assert_eq!(rt; text.as_str(), "4294967295");
     let name = Name::read(b"a.b-c_9").ok_or("no name")?;
+    NameForm::look(&name);
     let text = <NameForm as Writer>::write(alloc, &name)?.to_string(alloc)?;
     assert_eq!(rt; text.as_str(), "\"a.b-c_9\"");
+    Ok(())
+}
+
+#[test]
+fn members_in_byte_order(rt: HostRuntime) -> Result<(), Fail> {
+    let alloc = rt.alloc();
+    let members = with_text(alloc, Map::new(alloc), "b", "x")?;
+    let members = with_member(alloc, members, "a", Value::from(1u32))?;
+    let members = with_text(alloc, members, "b", "y")?;
+    let text = Value::Object(members).to_string(alloc)?;
+    assert_eq!(rt; text.as_str(), r#"{"a":1,"b":"y"}"#);
     Ok(())
 }

@@ -4,7 +4,7 @@ ghost use Rattle.std.specs.Prelude.{◌≡◌, ℕ, List, Some, IfSome, option_m
 ghost use Rattle.fg_base.specs.Names.{IsName, name_of};
 ghost use Rattle.fg_forms.specs.Leaves.{text_at, text_data, same_bytes, name_again};
 
-use crate::{Place, ReadEnd, Reader, Writer};
+use crate::{Place, ReadEnd, Reader, Typed, Writer};
 use fg_base::Name;
 use serde_json::Value;
 use std::alloc::{AllocError, Global};
@@ -92,5 +92,15 @@ impl Word for NameWord {
 
     fn text(value: &Name) -> &str {
         value.as_str()
+    }
+}
+
+impl Typed for TextForm<NameWord> {
+    type Of = Name;
+
+    ghost Says = { IsName };
+
+    fn look(name: &Name) {
+        name.as_bytes();
     }
 }
