@@ -4,7 +4,6 @@ use Rattle.std.specs.Prelude.{◌==◌, IfSome}
 use Rattle.std.specs.List.{AllByRecursion}
 use Rattle.std.proofs.lemmas.Bool.{cases_eq, ne_eqb}
 use Rattle.hex.specs.Hex.{IsBytes}
-use Rattle.hex.proofs.HexLemmas.{decode_of-encode_lower}
 use Rattle.fg_base.specs.Names.{IsName, name_of}
 use Rattle.fg_base.specs.declared.op.Op.{Op}
 use Rattle.fg_base.specs.declared.path.Leg.{Leg}
@@ -15,7 +14,7 @@ use Rattle.fg_base.specs.declared.shape.Texel.{Texel}
 use Rattle.fg_bits.specs.declared.sharing.Sharing.{Sharing}
 use Rattle.fg_bits.specs.declared.sharing.Sharing.TheVariants.{Exclusive, Concurrent}
 use Rattle.fg_forms.proofs.Again.{number_again, list_again, text_again}
-use Rattle.fg_forms.specs.Leaves.{name_at, name_again, text_at, text_data, same_bytes, greatest, FitsRange}
+use Rattle.fg_forms.specs.Leaves.{name_at, name_again, text_data, same_bytes, greatest, FitsRange}
 use Rattle.fg_forms.specs.Parts.{below, list_at, array_of}
 use Rattle.fg_frame.specs.declared.frame.Frame.{Frame}
 use Rattle.fg_frame.specs.declared.frame.Pass.{Pass}
@@ -27,10 +26,8 @@ use Rattle.fg_opforms.proofs.OpAgain.{op_again}
 use Rattle.fg_opforms.specs.OpFits.{FitsOp}
 use Rattle.fg_opforms.specs.OpReading.{op_at}
 use Rattle.fg_opforms.specs.OpWriting.{op_data}
+use Rattle.fg_shapeforms.proofs.Again.{bytes_again, family_again, texel_again}
 use Rattle.fg_shapeforms.specs.Bodies.{FitsLayers}
-use Rattle.fg_shapeforms.specs.Families.{family_of, family_text, family_again}
-use Rattle.fg_shapeforms.specs.Hexadecimal.{hex_at, hex_data}
-use Rattle.fg_shapeforms.specs.Texels.{texel_of, texel_text, texel_again}
 use Rattle.fg_framefile.specs.Frames.{format_at, frame_at, frame_data, FitsFrame}
 use Rattle.fg_framefile.specs.Passes.{pass_at, pass_data, FitsPass}
 use Rattle.fg_framefile.specs.Queues.{queue_at, queue_data, FitsQueue}
@@ -44,12 +41,6 @@ module _ (at : List Leg) where
   name_member : (member name : List ℕ) → IsName name → name_at (below at member) (text_data same_bytes name) ≡ Ok name
   name_member member name fits = text_again name_of same_bytes (below at member) name (name_again name fits)
 
-  bytes_member : (bytes : List ℕ) → IsBytes bytes → hex_at (below at (codes "import")) (hex_data bytes) ≡ Ok bytes
-  bytes_member bytes fits = rw (decode_of-encode_lower bytes fits) refl
-
-  texel_member : (texel : Texel) → text_at texel_of (below at (codes "texel")) (text_data texel_text texel) ≡ Ok texel
-  texel_member texel = text_again texel_of texel_text (below at (codes "texel")) texel (texel_again texel tt)
-
   spots_member : (member : List ℕ) (spots : List Spot) → AllByRecursion FitsSpot spots → list_at (spot_at 2) (below at member) (array_of spot_data spots) ≡ Ok spots
   spots_member member spots fits = list_again (spot_at 2) spot_data FitsSpot spot_again (below at member) spots fits
 
@@ -58,7 +49,7 @@ unfolding queue_at
 queue_again at queue fits =
     rw (
       name_member at (codes "name") queue.name fits,
-      text_again family_of family_text (below at (codes "family")) queue.family (family_again queue.family tt),
+      family_again (below at (codes "family")) queue.family,
     ) refl
 
 module _ (at : List Leg) (name : List ℕ) (fits : IsName name) where
@@ -67,22 +58,22 @@ module _ (at : List Leg) (name : List ℕ) (fits : IsName name) where
   unfolding resource_at
   buffer_again size None Exclusive s i = rw (name_member at (codes "name") name fits, number_again 1 greatest (below at (codes "buffer")) size s) refl
   buffer_again size None Concurrent s i = rw (name_member at (codes "name") name fits, number_again 1 greatest (below at (codes "buffer")) size s) refl
-  buffer_again size (Some bytes) Exclusive s i = rw (name_member at (codes "name") name fits, number_again 1 greatest (below at (codes "buffer")) size s, bytes_member at bytes i) refl
-  buffer_again size (Some bytes) Concurrent s i = rw (name_member at (codes "name") name fits, number_again 1 greatest (below at (codes "buffer")) size s, bytes_member at bytes i) refl
+  buffer_again size (Some bytes) Exclusive s i = rw (name_member at (codes "name") name fits, number_again 1 greatest (below at (codes "buffer")) size s, bytes_again (below at (codes "import")) bytes i) refl
+  buffer_again size (Some bytes) Concurrent s i = rw (name_member at (codes "name") name fits, number_again 1 greatest (below at (codes "buffer")) size s, bytes_again (below at (codes "import")) bytes i) refl
 
   -- an image with one layer, which is not written, and one with more
   module _ (width height : ℕ) (texel : Texel) (w : FitsRange 1 greatest width) (h : FitsRange 1 greatest height) where
     one_layer : (sharing : Sharing)
         → resource_at 2 at (resource_data (record { name = name; shape = Image width height texel; layers = 1; import = None; sharing = sharing })) ≡ Ok (record { name = name; shape = Image width height texel; layers = 1; import = None; sharing = sharing })
     unfolding resource_at
-    one_layer Exclusive = rw (name_member at (codes "name") name fits, number_again 1 greatest (below at (codes "image") ++ leg.Position 0 ∷ []) width w, number_again 1 greatest (below at (codes "image") ++ leg.Position 1 ∷ []) height h, texel_member at texel) refl
-    one_layer Concurrent = rw (name_member at (codes "name") name fits, number_again 1 greatest (below at (codes "image") ++ leg.Position 0 ∷ []) width w, number_again 1 greatest (below at (codes "image") ++ leg.Position 1 ∷ []) height h, texel_member at texel) refl
+    one_layer Exclusive = rw (name_member at (codes "name") name fits, number_again 1 greatest (below at (codes "image") ++ leg.Position 0 ∷ []) width w, number_again 1 greatest (below at (codes "image") ++ leg.Position 1 ∷ []) height h, texel_again (below at (codes "texel")) texel) refl
+    one_layer Concurrent = rw (name_member at (codes "name") name fits, number_again 1 greatest (below at (codes "image") ++ leg.Position 0 ∷ []) width w, number_again 1 greatest (below at (codes "image") ++ leg.Position 1 ∷ []) height h, texel_again (below at (codes "texel")) texel) refl
 
     more_layers : (layers : ℕ) (sharing : Sharing) → (layers == 1) ≡ false → FitsRange 1 8 layers
         → resource_at 2 at (resource_data (record { name = name; shape = Image width height texel; layers = layers; import = None; sharing = sharing })) ≡ Ok (record { name = name; shape = Image width height texel; layers = layers; import = None; sharing = sharing })
     unfolding resource_at
-    more_layers layers Exclusive e l = rw (e, name_member at (codes "name") name fits, number_again 1 greatest (below at (codes "image") ++ leg.Position 0 ∷ []) width w, number_again 1 greatest (below at (codes "image") ++ leg.Position 1 ∷ []) height h, texel_member at texel, number_again 1 8 (below at (codes "layers")) layers l) refl
-    more_layers layers Concurrent e l = rw (e, name_member at (codes "name") name fits, number_again 1 greatest (below at (codes "image") ++ leg.Position 0 ∷ []) width w, number_again 1 greatest (below at (codes "image") ++ leg.Position 1 ∷ []) height h, texel_member at texel, number_again 1 8 (below at (codes "layers")) layers l) refl
+    more_layers layers Exclusive e l = rw (e, name_member at (codes "name") name fits, number_again 1 greatest (below at (codes "image") ++ leg.Position 0 ∷ []) width w, number_again 1 greatest (below at (codes "image") ++ leg.Position 1 ∷ []) height h, texel_again (below at (codes "texel")) texel, number_again 1 8 (below at (codes "layers")) layers l) refl
+    more_layers layers Concurrent e l = rw (e, name_member at (codes "name") name fits, number_again 1 greatest (below at (codes "image") ++ leg.Position 0 ∷ []) width w, number_again 1 greatest (below at (codes "image") ++ leg.Position 1 ∷ []) height h, texel_again (below at (codes "texel")) texel, number_again 1 8 (below at (codes "layers")) layers l) refl
 
     image_again : (layers : ℕ) (sharing : Sharing) → FitsRange 1 8 layers
         → resource_at 2 at (resource_data (record { name = name; shape = Image width height texel; layers = layers; import = None; sharing = sharing })) ≡ Ok (record { name = name; shape = Image width height texel; layers = layers; import = None; sharing = sharing })

@@ -14,7 +14,8 @@ use Rattle.fg_base.specs.declared.op.Op.{Op}
 use Rattle.fg_base.specs.declared.op.Op.TheVariants.{FillBuffer, ClearImage, CopyBuffer, CopyImage, BufferToImage, ImageToBuffer, Ramp, Map, Combine, Select, Convert, Box3, Halve, Histogram, Draw}
 use Rattle.fg_base.specs.declared.shape.Shape.{Shape}
 use Rattle.fg_base.specs.declared.shape.Shape.TheVariants.{Buffer, Image}
-use Rattle.fg_forms.specs.Leaves.{greatest, FitsRange}
+use Rattle.fg_forms.proofs.Ranges.{in_range}
+use Rattle.fg_forms.specs.Leaves.{greatest}
 use Rattle.fg_frame.proofs.Known.{all_known, or_first, or_second, map_none, first_none, has_it}
 use Rattle.fg_frame.specs.FirstFault.{broken, shapes_of, imports_of, name_broken, misfit_broken, first_broken, first_fault}
 use Rattle.fg_frame.specs.Limits.{over, is_between, layers_allowed, sides_allowed, size_allowed, all_bytes, op_count, rects_over, exported, count_broken, size_broken, limit_broken}
@@ -47,15 +48,9 @@ use Rattle.fg_framefile.specs.Writes.{FitsWrite}
 
 -- RESOURCES
 
-between : (least most n : ℕ) → is_between least most n ≡ true → (least ≤ n) × (n ≤ most)
-between least most n e = let parts = and_parts (nat_le least n) (nat_le n most) e in (leb-true least n parts.0, leb-true n most parts.1)
-
-side_fits : (n : ℕ) → is_between 1 4096 n ≡ true → FitsRange 1 greatest n
-side_fits n e = let b = between 1 4096 n e in (b.0, omega (arith, b.1))
-
 layers_fit : (shape : Shape) (layers : ℕ) → (if is_buffer shape then layers == 1 else is_between 1 8 layers) ≡ true → sides_allowed shape ≡ true → size_allowed shape ≡ true → FitsLayers shape layers
-layers_fit (Buffer size) layers l sides bytes = let b = between 1 16777216 size bytes in ((b.0, omega (arith, b.1)), eqb-true layers 1 l)
-layers_fit (Image width height texel) layers l sides bytes = let s = and_parts (is_between 1 4096 width) (is_between 1 4096 height) sides in (side_fits width s.0, side_fits height s.1, between 1 8 layers l)
+layers_fit (Buffer size) layers l sides bytes = (in_range 1 16777216 greatest size bytes (omega arith), eqb-true layers 1 l)
+layers_fit (Image width height texel) layers l sides bytes = let s = and_parts (is_between 1 4096 width) (is_between 1 4096 height) sides in (in_range 1 4096 greatest width s.0 (omega arith), in_range 1 4096 greatest height s.1 (omega arith), in_range 1 8 8 layers l (omega arith))
 
 few_layers : (shape : Shape) (layers : ℕ) → FitsLayers shape layers → layers ≤ 8
 few_layers (Buffer size) layers fits = let one = fits.1 in omega (arith, one)

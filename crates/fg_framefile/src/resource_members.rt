@@ -8,26 +8,11 @@ ghost use Rattle.serde_json.specs.Data.{no_members, put};
 ghost use Rattle.serde_json.specs.View.{view, members_view};
 
 use fg_base::{List, Name, Shape};
-use fg_forms::{NameForm, TextForm, Writer};
+use fg_forms::{Members, NameForm, TextForm, Writer, with_member};
 use fg_frame::{Resource, Sharing};
 use fg_shapeforms::{HexForm, SharingWord, TexelWord};
 use serde_json::{Map, Value, json};
 use std::alloc::{AllocError, Global};
-
-type Members = Map<String, Value>;
-
-// The members with one more.
-fn with(
-    alloc: Global,
-    mut members: Members,
-    name: &str,
-    value: Value,
-) -> Result<Members, AllocError>
-    ensures { IfOk result (λ more. members_view more.entries ≡ put name.now (view value) (members_view members.entries)) }
-{
-    members.insert(String::from_str(alloc, name)?, value)?;
-    Ok(members)
-}
 
 fn with_maybe(
     alloc: Global,
@@ -39,7 +24,7 @@ fn with_maybe(
 {
     match value {
         None => Ok(members),
-        Some(value) => with(alloc, members, name, value),
+        Some(value) => with_member(alloc, members, name, value),
     }
 }
 
@@ -47,23 +32,23 @@ fn with_name(alloc: Global, members: Members, name: &Name) -> Result<Members, Al
     ensures { IfOk result (λ more. members_view more.entries ≡ put (codes "name") (text_data same_bytes name.now) (members_view members.entries)) }
 {
     let value = NameForm::write(alloc, name)?;
-    with(alloc, members, "name", value)
+    with_member(alloc, members, "name", value)
 }
 
 fn with_shape(alloc: Global, members: Members, shape: Shape) -> Result<Members, AllocError>
     ensures { IfOk result (λ more. members_view more.entries ≡ shape_members shape (members_view members.entries)) }
 {
     match shape {
-        Shape::Buffer { size } => with(alloc, members, "buffer", Value::from(size)),
+        Shape::Buffer { size } => with_member(alloc, members, "buffer", Value::from(size)),
         Shape::Image {
             width,
             height,
             texel,
         } => {
             let texel = <TextForm<TexelWord>>::write(alloc, &texel)?;
-            let members = with(alloc, members, "texel", texel)?;
+            let members = with_member(alloc, members, "texel", texel)?;
             let sides = json!(in alloc; [width, height])?;
-            with(alloc, members, "image", sides)
+            with_member(alloc, members, "image", sides)
         }
     }
 }

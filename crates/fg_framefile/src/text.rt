@@ -6,9 +6,8 @@ ghost use Rattle.fg_framefile.specs.Files.{frame_of, frame_text};
 ghost use Rattle.fg_framefile.specs.Frames.{FitsFrame};
 
 use crate::frame::FrameForm;
-use crate::typed::Typed;
-use fg_base::{List, NoMemory, Text};
-use fg_forms::Writer;
+use fg_base::{NoMemory, Text};
+use fg_forms::{Typed, write_json};
 use fg_frame::Frame;
 use std::alloc::Global;
 
@@ -19,8 +18,6 @@ pub fn write_frame(alloc: Global, frame: &Frame) -> Result<Text, NoMemory>
     ensures again { IfOk result (λ text. FitsFrame frame.now → frame_of text ≡ Ok frame.now) }
     ensures good { IfOk result (λ text. first_fault frame.now ≡ None → frame_of text ≡ Ok frame.now) }
 {
-    frame.look();
-    let value = <FrameForm<2>>::write(alloc, frame)?;
-    let text = value.to_vec(alloc)?;
-    Ok(List::from_vec(text))
+    <FrameForm<2>>::look(frame);
+    write_json::<FrameForm<2>>(alloc, frame)
 }

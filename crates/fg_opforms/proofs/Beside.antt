@@ -1,5 +1,5 @@
--- An operation in an object with one more member is read again, and such an object has no float and nests as little.
-use Rattle.std.proofs.Common.{◌≡◌, ℕ, ◌≤◌, Bool, true, false, arith, Ordering, Less, Equal, Greater, List, ◌∷◌, Ok, Err, if◌then◌else◌, refl, sym, ap, ◌∙◌, true≢false}
+-- An operation in an object with one more member is read again.
+use Rattle.std.proofs.Common.{◌≡◌, ℕ, Bool, true, false, Ordering, Less, Equal, Greater, List, ◌∷◌, Ok, Err, if◌then◌else◌, refl, sym, ap, ◌∙◌, true≢false}
 use Rattle.std.specs.Prelude.{◌||◌}
 use Rattle.std.specs.Ordering.{nat_cmp, match_ordering}
 use Rattle.std.specs.Cmp.Lexicographic.{slice_cmp}
@@ -11,22 +11,12 @@ use Rattle.fg_forms.specs.Parts.{below, others_at, unknown_in}
 use Rattle.fg_opforms.proofs.OpAgain.{Holds, op_others}
 use Rattle.fg_opforms.specs.Kinds.{is_in, members_of, op_kind}
 use Rattle.fg_opforms.specs.OpWriting.{op_members}
-use Rattle.serde_json.specs.Data.{Data, object, Members, no_members, member, put, depth, members_depth}
-use Rattle.serde_json.specs.Written.{has_float, members_have_float}
+use Rattle.serde_json.specs.Data.{Data, object, Members, no_members, member, put}
 use Rattle.serde_json.proofs.Views.{get_member-put_other}
 
 or_true : (b : Bool) → (b || true) ≡ true
 or_true true = refl
 or_true false = refl
-
--- neither of two tests
-first : (a b : Bool) → (a || b) ≡ false → a ≡ false
-first true b e = absurd cc
-first false b e = refl
-
-second : (a b : Bool) → (a || b) ≡ false → b ≡ false
-second true b e = absurd cc
-second false b e = e
 
 same_bytes : (k : List ℕ) → bytes_eq k k ≡ true
 same_bytes k = (bytes_eq-Decides k k).1 refl
@@ -51,24 +41,6 @@ module _ (k : List ℕ) (v : Data) where
     unknown_in-put : (ms : Members) → unknown_in known at ms ≡ Ok tt → unknown_in (k ∷ known) at (put k v ms) ≡ Ok tt
     unknown_in-put no_members e = rw (same_bytes k) refl
     unknown_in-put (member l d ms) e = put_at (slice_cmp nat_cmp k l) l d ms e (unknown_in-put ms (passes (is_in known l) l ms e).1)
-
-  plain_at : (o : Ordering) (l : List ℕ) (d : Data) (ms : Members) → has_float v ≡ false → members_have_float (member l d ms) ≡ false → members_have_float (put k v ms) ≡ false → members_have_float (match_ordering o (member k v (member l d ms)) (member l v ms) (member l d (put k v ms))) ≡ false
-  plain_at Less l d ms one e later = rw (one, e) refl
-  plain_at Equal l d ms one e later = rw (one, second (has_float d) _ e) refl
-  plain_at Greater l d ms one e later = rw (first (has_float d) _ e, later) refl
-
-  pub plain_put : (ms : Members) → has_float v ≡ false → members_have_float ms ≡ false → members_have_float (put k v ms) ≡ false
-  plain_put no_members one e = rw one refl
-  plain_put (member l d ms) one e = plain_at (slice_cmp nat_cmp k l) l d ms one e (plain_put ms one (second (has_float d) _ e))
-
-  shallow_at : (o : Ordering) (l : List ℕ) (d : Data) (ms : Members) (n : ℕ) → depth v ≤ n → members_depth (member l d ms) ≤ n → members_depth (put k v ms) ≤ n → members_depth (match_ordering o (member k v (member l d ms)) (member l v ms) (member l d (put k v ms))) ≤ n
-  shallow_at Less l d ms n one e later = omega (arith, one, e)
-  shallow_at Equal l d ms n one e later = omega (arith, one, e)
-  shallow_at Greater l d ms n one e later = omega (arith, e, later)
-
-  pub shallow_put : (ms : Members) (n : ℕ) → depth v ≤ n → members_depth ms ≤ n → members_depth (put k v ms) ≤ n
-  shallow_put no_members n one e = omega (arith, one)
-  shallow_put (member l d ms) n one e = shallow_at (slice_cmp nat_cmp k l) l d ms n one e (shallow_put ms n one (omega (arith, e)))
 
   module _ {R : Type 0} (writes : R → Data) (o : Op R) where
     pub holds_beside : is_in (members_of (op_kind o)) k ≡ false → Holds writes o (object (put k v (op_members writes o)))

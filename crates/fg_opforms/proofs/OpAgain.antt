@@ -7,8 +7,8 @@ use Rattle.fg_base.specs.declared.op.Op.{Op}
 use Rattle.fg_base.specs.declared.op.Op.TheVariants as op
 use Rattle.fg_base.specs.declared.op.Rect.{Rect}
 use Rattle.fg_base.specs.declared.path.Leg.{Leg}
-use Rattle.fg_forms.proofs.Again.{number_again, list_again, text_again}
-use Rattle.fg_forms.specs.Leaves.{whole_at, greatest, number_data, text_at, text_data, FitsWhole}
+use Rattle.fg_forms.proofs.Again.{whole_again, list_again, text_again}
+use Rattle.fg_forms.specs.Leaves.{text_at, text_data}
 use Rattle.fg_forms.specs.Parts.{Reader, below, unknown_in}
 use Rattle.fg_opforms.specs.Funs.{fun_of, fun_text, fun_again}
 use Rattle.fg_opforms.specs.Kinds.{is_in, members_of, op_kind}
@@ -22,9 +22,6 @@ use Rattle.serde_json.specs.Find.{get}
 
 -- the parts below a place
 module _ (at : List Leg) where
-  whole_again : (name : List ℕ) (n : ℕ) → FitsWhole n → whole_at (below at name) (number_data n) ≡ Ok n
-  whole_again name n fits = number_again 0 greatest (below at name) n fits
-
   fun_again_at : (f : Fun) → text_at fun_of (below at (codes "fun")) (text_data fun_text f) ≡ Ok f
   fun_again_at f = text_again fun_of fun_text (below at (codes "fun")) f (fun_again f tt)
 
@@ -35,12 +32,12 @@ pub rect_again : (at : List Leg) (r : Rect) → FitsRect r → rect_at at (rect_
 unfolding rect_at
 rect_again at r fits =
     rw (
-      whole_again at (codes "x") r.x fits.x,
-      whole_again at (codes "y") r.y fits.y,
-      whole_again at (codes "width") r.width fits.width,
-      whole_again at (codes "height") r.height fits.height,
+      whole_again (below at (codes "x")) r.x fits.x,
+      whole_again (below at (codes "y")) r.y fits.y,
+      whole_again (below at (codes "width")) r.width fits.width,
+      whole_again (below at (codes "height")) r.height fits.height,
       mix_again_at at r.mix,
-      whole_again at (codes "value") r.value fits.value,
+      whole_again (below at (codes "value")) r.value fits.value,
     ) refl
 
 -- the members of an operation stand in an object as they are written
@@ -77,9 +74,9 @@ module _ {R : Type 0} (reads : Reader R) (writes : R → Data) (Fits : R → Typ
         h (codes "size") refl,
         h (codes "word") refl,
         again (below at (codes "dst")) dst fits.0,
-        whole_again at (codes "offset") offset fits.1,
-        whole_again at (codes "size") size fits.2,
-        whole_again at (codes "word") word fits.3,
+        whole_again (below at (codes "offset")) offset fits.1,
+        whole_again (below at (codes "size")) size fits.2,
+        whole_again (below at (codes "word")) word fits.3,
       ) refl
   parts_again at (op.ClearImage dst value) d h fits =
       rw (
@@ -87,7 +84,7 @@ module _ {R : Type 0} (reads : Reader R) (writes : R → Data) (Fits : R → Typ
         h (codes "dst") refl,
         h (codes "value") refl,
         again (below at (codes "dst")) dst fits.0,
-        whole_again at (codes "value") value fits.1,
+        whole_again (below at (codes "value")) value fits.1,
       ) refl
   parts_again at (op.CopyBuffer src dst src_offset dst_offset size) d h fits =
       rw (
@@ -99,9 +96,9 @@ module _ {R : Type 0} (reads : Reader R) (writes : R → Data) (Fits : R → Typ
         h (codes "size") refl,
         again (below at (codes "src")) src fits.0,
         again (below at (codes "dst")) dst fits.1,
-        whole_again at (codes "src_offset") src_offset fits.2,
-        whole_again at (codes "dst_offset") dst_offset fits.3,
-        whole_again at (codes "size") size fits.4,
+        whole_again (below at (codes "src_offset")) src_offset fits.2,
+        whole_again (below at (codes "dst_offset")) dst_offset fits.3,
+        whole_again (below at (codes "size")) size fits.4,
       ) refl
   parts_again at (op.CopyImage src dst src_x src_y dst_x dst_y width height) d h fits =
       rw (
@@ -116,12 +113,12 @@ module _ {R : Type 0} (reads : Reader R) (writes : R → Data) (Fits : R → Typ
         h (codes "height") refl,
         again (below at (codes "src")) src fits.0,
         again (below at (codes "dst")) dst fits.1,
-        whole_again at (codes "src_x") src_x fits.2,
-        whole_again at (codes "src_y") src_y fits.3,
-        whole_again at (codes "dst_x") dst_x fits.4,
-        whole_again at (codes "dst_y") dst_y fits.5,
-        whole_again at (codes "width") width fits.6,
-        whole_again at (codes "height") height fits.7,
+        whole_again (below at (codes "src_x")) src_x fits.2,
+        whole_again (below at (codes "src_y")) src_y fits.3,
+        whole_again (below at (codes "dst_x")) dst_x fits.4,
+        whole_again (below at (codes "dst_y")) dst_y fits.5,
+        whole_again (below at (codes "width")) width fits.6,
+        whole_again (below at (codes "height")) height fits.7,
       ) refl
   parts_again at (op.BufferToImage src dst offset) d h fits =
       rw (
@@ -131,7 +128,7 @@ module _ {R : Type 0} (reads : Reader R) (writes : R → Data) (Fits : R → Typ
         h (codes "offset") refl,
         again (below at (codes "src")) src fits.0,
         again (below at (codes "dst")) dst fits.1,
-        whole_again at (codes "offset") offset fits.2,
+        whole_again (below at (codes "offset")) offset fits.2,
       ) refl
   parts_again at (op.ImageToBuffer src dst offset) d h fits =
       rw (
@@ -141,7 +138,7 @@ module _ {R : Type 0} (reads : Reader R) (writes : R → Data) (Fits : R → Typ
         h (codes "offset") refl,
         again (below at (codes "src")) src fits.0,
         again (below at (codes "dst")) dst fits.1,
-        whole_again at (codes "offset") offset fits.2,
+        whole_again (below at (codes "offset")) offset fits.2,
       ) refl
   parts_again at (op.Ramp dst base dx dy) d h fits =
       rw (
@@ -151,9 +148,9 @@ module _ {R : Type 0} (reads : Reader R) (writes : R → Data) (Fits : R → Typ
         h (codes "dx") refl,
         h (codes "dy") refl,
         again (below at (codes "dst")) dst fits.0,
-        whole_again at (codes "base") base fits.1,
-        whole_again at (codes "dx") dx fits.2,
-        whole_again at (codes "dy") dy fits.3,
+        whole_again (below at (codes "base")) base fits.1,
+        whole_again (below at (codes "dx")) dx fits.2,
+        whole_again (below at (codes "dy")) dy fits.3,
       ) refl
   parts_again at (op.Map src dst fun value) d h fits =
       rw (
@@ -165,7 +162,7 @@ module _ {R : Type 0} (reads : Reader R) (writes : R → Data) (Fits : R → Typ
         again (below at (codes "src")) src fits.0,
         again (below at (codes "dst")) dst fits.1,
         fun_again_at at fun,
-        whole_again at (codes "value") value fits.2,
+        whole_again (below at (codes "value")) value fits.2,
       ) refl
   parts_again at (op.Combine a b dst fun) d h fits =
       rw (
@@ -239,7 +236,7 @@ module _ {R : Type 0} (reads : Reader R) (writes : R → Data) (Fits : R → Typ
         h (codes "clear") refl,
         h (codes "rects") refl,
         again (below at (codes "dst")) dst fits.0,
-        whole_again at (codes "clear") clear fits.1,
+        whole_again (below at (codes "clear")) clear fits.1,
         list_again rect_at rect_data FitsRect rect_again (below at (codes "rects")) rects fits.2,
       ) refl
 

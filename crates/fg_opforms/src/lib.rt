@@ -6,6 +6,7 @@
 
 mod fun;
 mod kind;
+mod looking;
 mod mix;
 mod op;
 mod reading;

@@ -5,11 +5,12 @@ ghost use Rattle.fg_opforms.specs.OpFits.{FitsOp};
 ghost use Rattle.fg_opforms.specs.OpReading.{op_at};
 ghost use Rattle.fg_opforms.specs.OpWriting.{op_data};
 
+use crate::looking::look_at_op;
 use crate::reading::parts;
 use crate::writing::op_value;
 use crate::{members, op_kind};
 use fg_base::Op;
-use fg_forms::{Place, ReadEnd, Reader, Writer, object, others};
+use fg_forms::{Place, ReadEnd, Reader, Typed, Writer, object, others};
 use serde_json::Value;
 use std::alloc::{AllocError, Global};
 use std::marker::PhantomData;
@@ -42,5 +43,15 @@ impl<F: Writer> Writer for OpForm<F> {
 
     fn write(alloc: Global, op: &Op<F::In>) -> Result<Value, AllocError> {
         op_value::<F>(alloc, op)
+    }
+}
+
+impl<F: Typed> Typed for OpForm<F> {
+    type Of = Op<F::Of>;
+
+    ghost Says = { FitsOp F.Says };
+
+    fn look(op: &Op<F::Of>) {
+        look_at_op::<F>(op);
     }
 }

@@ -8,7 +8,9 @@ ghost use Rattle.serde_json.specs.View.{view};
 
 use crate::MixForm;
 use fg_base::{Mix, Rect};
-use fg_forms::{NumberForm, Place, ReadEnd, Reader, Writer, object, optional, others, required};
+use fg_forms::{
+    NumberForm, Place, ReadEnd, Reader, Typed, Writer, object, optional, others, required,
+};
 use serde_json::{Value, json};
 use std::alloc::{AllocError, Global};
 
@@ -65,4 +67,18 @@ fn rect_object(alloc: Global, rect: &Rect, mix: Value) -> Result<Value, AllocErr
     ensures { IfOk result (λ json. view json ≡ rect_data rect.now) }
 {
     json!(in alloc; {"height": rect.height, "mix": mix, "value": rect.value, "width": rect.width, "x": rect.x, "y": rect.y})
+}
+
+impl Typed for RectForm {
+    type Of = Rect;
+
+    ghost Says = { FitsRect };
+
+    fn look(rect: &Rect) {
+        NumberForm::look(&rect.x);
+        NumberForm::look(&rect.y);
+        NumberForm::look(&rect.width);
+        NumberForm::look(&rect.height);
+        NumberForm::look(&rect.value);
+    }
 }

@@ -2,7 +2,7 @@
 
 use crate::OpForm;
 use fg_base::{Leg, Path};
-use fg_forms::{NameForm, Place, ReadEnd, Reader, Writer};
+use fg_forms::{NameForm, Place, ReadEnd, Reader, Typed, Writer};
 use serde_json::Value;
 use std::alloc::{AllocError, Global};
 use std::test::Fail;
@@ -112,6 +112,7 @@ const REFUSED: [(&str, &str); 12] = [
 fn again(alloc: Global, text: &str) -> Result<String, Fail> {
     let json = Value::from_str(alloc, text)?;
     let op = OpForm::<NameForm>::read(alloc, &Place::Top, &json)?;
+    OpForm::<NameForm>::look(&op);
     let written = OpForm::<NameForm>::write(alloc, &op)?;
     Ok(written.to_string(alloc)?)
 }

@@ -5,7 +5,7 @@ ghost use Rattle.hex.specs.Hex.{IsBytes};
 ghost use Rattle.fg_shapeforms.specs.Hexadecimal.{hex_at, hex_data, hex_of, HexGives};
 
 use fg_base::List;
-use fg_forms::{Place, ReadEnd, Reader, Writer};
+use fg_forms::{Place, ReadEnd, Reader, Typed, Writer};
 use hex::FromHexError;
 use serde_json::Value;
 use std::alloc::{AllocError, Global};
@@ -58,5 +58,19 @@ impl Writer for HexForm {
     fn write(alloc: Global, bytes: &List<u8>) -> Result<Value, AllocError> {
         let text = hex::encode(alloc, bytes.as_slice())?;
         Ok(Value::String(text))
+    }
+}
+
+fn look_at_bytes(bytes: &[u8])
+    ensures { IsBytes bytes.now }
+{}
+
+impl Typed for HexForm {
+    type Of = List<u8>;
+
+    ghost Says = { IsBytes };
+
+    fn look(bytes: &List<u8>) {
+        look_at_bytes(bytes.as_slice());
     }
 }

@@ -1,7 +1,7 @@
 use crate::{Body, FamilyWord, HexForm, SharingWord, TexelWord, read_body, read_sharing};
 use fg_base::{Family, Shape, Texel};
 use fg_bits::Sharing;
-use fg_forms::{Place, Reader, TextForm, Writer};
+use fg_forms::{Place, Reader, TextForm, Typed, Writer};
 use serde_json::Value;
 use std::test::Fail;
 
@@ -52,6 +52,7 @@ fn bytes_and_words(rt: HostRuntime) -> Result<(), Fail> {
         &Value::from_str(alloc, r#""00fFA07e""#)?,
     )?;
     assert_eq!(rt; bytes.as_slice(), [0, 255, 160, 126].as_slice());
+    HexForm::look(&bytes);
     let text = HexForm::write(alloc, &bytes)?.to_string(alloc)?;
     assert_eq!(rt; text.as_str(), r#""00ffa07e""#);
     let text = <TextForm<FamilyWord>>::write(alloc, &Family::Transfer)?.to_string(alloc)?;

@@ -2,8 +2,6 @@
 use Rattle.std.proofs.Common.{◌≡◌, ℕ, suc, false, List, [], ◌∷◌, ◌++◌, map, Option, Some, None, Ok, refl, ap, codes}
 use Rattle.std.specs.Prelude.{IfSome}
 use Rattle.std.specs.List.{AllByRecursion}
-use Rattle.hex.specs.Hex.{IsBytes}
-use Rattle.hex.proofs.HexLemmas.{decode_of-encode_lower}
 use Rattle.fg_base.specs.declared.op.Op.{Op}
 use Rattle.fg_base.specs.declared.path.Leg.{Leg}
 use Rattle.fg_base.specs.declared.path.Leg.TheVariants as leg
@@ -19,7 +17,7 @@ use Rattle.fg_bits.specs.declared.masks.Masks.{Masks}
 use Rattle.fg_bits.specs.declared.sharing.Sharing.{Sharing}
 use Rattle.fg_bits.specs.declared.sharing.Sharing.TheVariants.{Exclusive, Concurrent}
 use Rattle.fg_bits.specs.declared.stages.Stages.{Stages}
-use Rattle.fg_forms.proofs.Again.{number_again, list_again, text_again}
+use Rattle.fg_forms.proofs.Again.{number_again, whole_again, list_again, text_again}
 use Rattle.fg_forms.specs.Leaves.{whole_at, greatest, number_data, text_at, text_data, FitsWhole}
 use Rattle.fg_forms.specs.Parts.{below, entries_at, array_of}
 use Rattle.fg_opforms.proofs.Beside.{holds_beside, others_beside}
@@ -29,10 +27,8 @@ use Rattle.fg_opforms.specs.OpFits.{FitsOp}
 use Rattle.fg_opforms.specs.OpWriting.{op_members}
 use Rattle.fg_opforms.specs.declared.kind.Kind.{Kind}
 use Rattle.fg_opforms.specs.declared.kind.Kind.TheVariants as kinds
+use Rattle.fg_shapeforms.proofs.Again.{bytes_again, family_again, texel_again}
 use Rattle.fg_shapeforms.specs.Bodies.{FitsLayers}
-use Rattle.fg_shapeforms.specs.Families.{family_of, family_text, family_again}
-use Rattle.fg_shapeforms.specs.Hexadecimal.{hex_at, hex_data}
-use Rattle.fg_shapeforms.specs.Texels.{texel_of, texel_text, texel_again}
 use Rattle.fg_subs.specs.declared.program.Batch.{Batch}
 use Rattle.fg_subs.specs.declared.program.Item.{Item}
 use Rattle.fg_subs.specs.declared.program.Item.TheVariants as items
@@ -63,20 +59,8 @@ use Rattle.fg_subfile.proofs.MaskAgain.{stages_again, accesses_again}
 
 -- the members of an object at a place
 module _ (at : List Leg) where
-  whole_member : (member : List ℕ) (n : ℕ) → FitsWhole n → whole_at (below at member) (number_data n) ≡ Ok n
-  whole_member member n fits = number_again 0 greatest (below at member) n fits
-
-  family_member : (member : List ℕ) (family : Family) → text_at family_of (below at member) (text_data family_text family) ≡ Ok family
-  family_member member family = text_again family_of family_text (below at member) family (family_again family tt)
-
   layout_member : (member : List ℕ) (layout : Layout) → text_at layout_of (below at member) (text_data layout_name layout) ≡ Ok layout
   layout_member member layout = text_again layout_of layout_name (below at member) layout (layout_again layout tt)
-
-  texel_member : (texel : Texel) → text_at texel_of (below at (codes "texel")) (text_data texel_text texel) ≡ Ok texel
-  texel_member texel = text_again texel_of texel_text (below at (codes "texel")) texel (texel_again texel tt)
-
-  bytes_member : (bytes : List ℕ) → IsBytes bytes → hex_at (below at (codes "import")) (hex_data bytes) ≡ Ok bytes
-  bytes_member bytes fits = rw (decode_of-encode_lower bytes fits) refl
 
   stages_member : (member : List ℕ) (set : Stages) → FitsStages set → stages_at (below at member) (stages_data set) ≡ Ok set
   stages_member member set fits = text_again stages_of stages_text (below at member) set (stages_again set fits)
@@ -88,7 +72,7 @@ module _ (at : List Leg) where
 
 pub wait_again : (at : List Leg) (wait : WaitFor) → FitsWait wait → wait_at at (wait_data wait) ≡ Ok wait
 unfolding wait_at
-wait_again at wait fits = rw (whole_member at (codes "queue") wait.queue fits.queue, stages_member at (codes "stage") wait.stages fits.stages) refl
+wait_again at wait fits = rw (whole_again (below at (codes "queue")) wait.queue fits.queue, stages_member at (codes "stage") wait.stages fits.stages) refl
 
 pub signal_again : (at : List Leg) (signal : Signal) → FitsSignal signal → signal_at at (signal_data signal) ≡ Ok signal
 unfolding signal_at
@@ -104,18 +88,18 @@ module _ (at : List Leg) (masks : Masks) (fits : FitsMasks masks) where
   module _ (piece : ℕ) (p : FitsWhole piece) where
     buffer_again : item_at at (item_data (items.BufferBarrier piece masks)) ≡ Ok (items.BufferBarrier piece masks)
     unfolding item_at kind_at buffer_at masks_at
-    buffer_again = rw (whole_member at (codes "piece") piece p, stages_member at (codes "src_stage") masks.src_stages fits.src_stages, accesses_member at (codes "src_access") masks.src_accesses fits.src_accesses, stages_member at (codes "dst_stage") masks.dst_stages fits.dst_stages, accesses_member at (codes "dst_access") masks.dst_accesses fits.dst_accesses) refl
+    buffer_again = rw (whole_again (below at (codes "piece")) piece p, stages_member at (codes "src_stage") masks.src_stages fits.src_stages, accesses_member at (codes "src_access") masks.src_accesses fits.src_accesses, stages_member at (codes "dst_stage") masks.dst_stages fits.dst_stages, accesses_member at (codes "dst_access") masks.dst_accesses fits.dst_accesses) refl
 
     image_again : (layouts : Layouts) → item_at at (item_data (items.ImageBarrier piece layouts masks)) ≡ Ok (items.ImageBarrier piece layouts masks)
     unfolding item_at kind_at image_at both_at masks_at
-    image_again layouts = rw (whole_member at (codes "piece") piece p, layout_member at (codes "from") layouts.from, layout_member at (codes "to") layouts.to, stages_member at (codes "src_stage") masks.src_stages fits.src_stages, accesses_member at (codes "src_access") masks.src_accesses fits.src_accesses, stages_member at (codes "dst_stage") masks.dst_stages fits.dst_stages, accesses_member at (codes "dst_access") masks.dst_accesses fits.dst_accesses) refl
+    image_again layouts = rw (whole_again (below at (codes "piece")) piece p, layout_member at (codes "from") layouts.from, layout_member at (codes "to") layouts.to, stages_member at (codes "src_stage") masks.src_stages fits.src_stages, accesses_member at (codes "src_access") masks.src_accesses fits.src_accesses, stages_member at (codes "dst_stage") masks.dst_stages fits.dst_stages, accesses_member at (codes "dst_access") masks.dst_accesses fits.dst_accesses) refl
 
     -- the object of a release or an acquire, but for its word
     module _ (item : List ℕ) (from_family to_family : Family) where
       transfer_with : (layouts : Option Layouts) → transfer_at at (transfer_data item (record { piece = piece; from_family = from_family; to_family = to_family; layouts = layouts; masks = masks })) ≡ Ok (record { piece = piece; from_family = from_family; to_family = to_family; layouts = layouts; masks = masks })
       unfolding transfer_at layouts_at both_at masks_at
-      transfer_with None = rw (whole_member at (codes "piece") piece p, family_member at (codes "from_family") from_family, family_member at (codes "to_family") to_family, stages_member at (codes "src_stage") masks.src_stages fits.src_stages, accesses_member at (codes "src_access") masks.src_accesses fits.src_accesses, stages_member at (codes "dst_stage") masks.dst_stages fits.dst_stages, accesses_member at (codes "dst_access") masks.dst_accesses fits.dst_accesses) refl
-      transfer_with (Some layouts) = rw (whole_member at (codes "piece") piece p, family_member at (codes "from_family") from_family, family_member at (codes "to_family") to_family, layout_member at (codes "from") layouts.from, layout_member at (codes "to") layouts.to, stages_member at (codes "src_stage") masks.src_stages fits.src_stages, accesses_member at (codes "src_access") masks.src_accesses fits.src_accesses, stages_member at (codes "dst_stage") masks.dst_stages fits.dst_stages, accesses_member at (codes "dst_access") masks.dst_accesses fits.dst_accesses) refl
+      transfer_with None = rw (whole_again (below at (codes "piece")) piece p, family_again (below at (codes "from_family")) from_family, family_again (below at (codes "to_family")) to_family, stages_member at (codes "src_stage") masks.src_stages fits.src_stages, accesses_member at (codes "src_access") masks.src_accesses fits.src_accesses, stages_member at (codes "dst_stage") masks.dst_stages fits.dst_stages, accesses_member at (codes "dst_access") masks.dst_accesses fits.dst_accesses) refl
+      transfer_with (Some layouts) = rw (whole_again (below at (codes "piece")) piece p, family_again (below at (codes "from_family")) from_family, family_again (below at (codes "to_family")) to_family, layout_member at (codes "from") layouts.from, layout_member at (codes "to") layouts.to, stages_member at (codes "src_stage") masks.src_stages fits.src_stages, accesses_member at (codes "src_access") masks.src_accesses fits.src_accesses, stages_member at (codes "dst_stage") masks.dst_stages fits.dst_stages, accesses_member at (codes "dst_access") masks.dst_accesses fits.dst_accesses) refl
 
 transfer_again : (at : List Leg) (item : List ℕ) (t : transfers.Transfer) → FitsTransfer t → transfer_at at (transfer_data item t) ≡ Ok t
 transfer_again at item t fits = transfer_with at t.masks fits.masks t.piece fits.piece item t.from_family t.to_family t.layouts
@@ -134,9 +118,6 @@ unfolding item_at kind_at
 acquire_again at t fits = rw (word_of_transfer (codes "acquire") t t.layouts, transfer_again at (codes "acquire") t fits) refl
 
 -- COMMANDS
-
-number_operand : (at : List Leg) (n : ℕ) → FitsWhole n → whole_at at (number_data n) ≡ Ok n
-number_operand at n fits = number_again 0 greatest at n fits
 
 item_is_new : (op : Op ℕ) → is_in (members_of (op_kind op)) (codes "item") ≡ false
 item_is_new op = by_kind (op_kind op)
@@ -163,7 +144,7 @@ unfolding item_at kind_at command_at
 command_again at op fits =
     rw (
       get_member-put (codes "item") (string (codes "command")) (op_members number_data op),
-      parts_again whole_at number_data FitsWhole number_operand at op (command_data op) (holds_beside (codes "item") (string (codes "command")) number_data op (item_is_new op)) fits,
+      parts_again whole_at number_data FitsWhole whole_again at op (command_data op) (holds_beside (codes "item") (string (codes "command")) number_data op (item_is_new op)) fits,
       others_beside (codes "item") (string (codes "command")) number_data op at,
     ) refl
 
@@ -188,22 +169,22 @@ batch_again at batch fits = batch_with at batch.waits batch.items fits.waits fit
 
 pub queue_again : (at : List Leg) (queue : Queue) → FitsQueue queue → queue_at at (queue_data queue) ≡ Ok queue
 unfolding queue_at
-queue_again at queue fits = rw (family_member at (codes "family") queue.family, list_again batch_at batch_data FitsBatch batch_again (below at (codes "batches")) queue.batches fits) refl
+queue_again at queue fits = rw (family_again (below at (codes "family")) queue.family, list_again batch_at batch_data FitsBatch batch_again (below at (codes "batches")) queue.batches fits) refl
 
 -- MEMORIES AND PIECES
 
 pub memory_again : (at : List Leg) (memory : Memory) → FitsMemory memory → memory_at at (memory_data memory) ≡ Ok memory
 unfolding memory_at plain_at import_at
-memory_again at (memories.Plain size) fits = rw (whole_member at (codes "size") size fits) refl
-memory_again at (memories.Import bytes) fits = rw (bytes_member at bytes fits) refl
+memory_again at (memories.Plain size) fits = rw (whole_again (below at (codes "size")) size fits) refl
+memory_again at (memories.Import bytes) fits = rw (bytes_again (below at (codes "import")) bytes fits) refl
 
 module _ (at : List Leg) (memory offset : ℕ) (m : FitsWhole memory) (o : FitsWhole offset) where
   shape_again : (shape : Shape) (sharing : Sharing) → FitsLayers shape 1 → entry_at 2 at (pieces.shape_data shape memory offset sharing) ≡ Ok (record { shape = shape; memory = memory; offset = offset; sharing = sharing } ∷ [])
   unfolding entry_at
-  shape_again (shapes.Buffer size) Exclusive s = rw (number_again 1 greatest (below at (codes "buffer")) size s.0, whole_member at (codes "memory") memory m, whole_member at (codes "offset") offset o) refl
-  shape_again (shapes.Buffer size) Concurrent s = rw (number_again 1 greatest (below at (codes "buffer")) size s.0, whole_member at (codes "memory") memory m, whole_member at (codes "offset") offset o) refl
-  shape_again (shapes.Image width height texel) Exclusive s = rw (number_again 1 greatest (below at (codes "image") ++ leg.Position 0 ∷ []) width s.0, number_again 1 greatest (below at (codes "image") ++ leg.Position 1 ∷ []) height s.1, texel_member at texel, whole_member at (codes "memory") memory m, whole_member at (codes "offset") offset o) refl
-  shape_again (shapes.Image width height texel) Concurrent s = rw (number_again 1 greatest (below at (codes "image") ++ leg.Position 0 ∷ []) width s.0, number_again 1 greatest (below at (codes "image") ++ leg.Position 1 ∷ []) height s.1, texel_member at texel, whole_member at (codes "memory") memory m, whole_member at (codes "offset") offset o) refl
+  shape_again (shapes.Buffer size) Exclusive s = rw (number_again 1 greatest (below at (codes "buffer")) size s.0, whole_again (below at (codes "memory")) memory m, whole_again (below at (codes "offset")) offset o) refl
+  shape_again (shapes.Buffer size) Concurrent s = rw (number_again 1 greatest (below at (codes "buffer")) size s.0, whole_again (below at (codes "memory")) memory m, whole_again (below at (codes "offset")) offset o) refl
+  shape_again (shapes.Image width height texel) Exclusive s = rw (number_again 1 greatest (below at (codes "image") ++ leg.Position 0 ∷ []) width s.0, number_again 1 greatest (below at (codes "image") ++ leg.Position 1 ∷ []) height s.1, texel_again (below at (codes "texel")) texel, whole_again (below at (codes "memory")) memory m, whole_again (below at (codes "offset")) offset o) refl
+  shape_again (shapes.Image width height texel) Concurrent s = rw (number_again 1 greatest (below at (codes "image") ++ leg.Position 0 ∷ []) width s.0, number_again 1 greatest (below at (codes "image") ++ leg.Position 1 ∷ []) height s.1, texel_again (below at (codes "texel")) texel, whole_again (below at (codes "memory")) memory m, whole_again (below at (codes "offset")) offset o) refl
 
 -- a piece that was written is an entry of one piece
 entry_again : (at : List Leg) (piece : Piece) → FitsPiece piece → entry_at 2 at (piece_data piece) ≡ Ok (piece ∷ [])
@@ -233,5 +214,5 @@ program_again at program fits =
       list_again memory_at memory_data FitsMemory memory_again (below at (codes "memories")) program.memories fits.memories,
       pieces_again (below at (codes "pieces")) program.pieces fits.pieces,
       list_again queue_at queue_data FitsQueue queue_again (below at (codes "queues")) program.queues fits.queues,
-      list_again whole_at number_data FitsWhole number_operand (below at (codes "readbacks")) program.readbacks fits.readbacks,
+      list_again whole_at number_data FitsWhole whole_again (below at (codes "readbacks")) program.readbacks fits.readbacks,
     ) refl

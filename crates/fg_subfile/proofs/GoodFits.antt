@@ -15,7 +15,8 @@ use Rattle.fg_bits.specs.Sets.{meets, union_from}
 use Rattle.fg_bits.specs.Stages.{expand, host, stage_names}
 use Rattle.fg_bits.specs.Support.{supported, supported_part, supports}
 use Rattle.fg_bits.specs.declared.masks.Masks.{Masks}
-use Rattle.fg_forms.specs.Leaves.{greatest, FitsRange}
+use Rattle.fg_forms.proofs.Ranges.{in_range}
+use Rattle.fg_forms.specs.Leaves.{greatest}
 use Rattle.fg_shapeforms.specs.Bodies.{FitsLayers}
 use Rattle.fg_subs.proofs.Absence.{map_none}
 use Rattle.fg_subs.proofs.Few.{is_small}
@@ -107,15 +108,9 @@ queue_stages family set on = stages_named family set (and_parts (on_family set (
 
 -- PIECES
 
-between : (least most n : ℕ) → is_between least most n ≡ true → FitsRange least most n
-between least most n e = let parts = and_parts (nat_le least n) (nat_le n most) e in (leb-true least n parts.0, leb-true n most parts.1)
-
-side_fits : (n : ℕ) → is_between 1 4096 n ≡ true → FitsRange 1 greatest n
-side_fits n e = let b = between 1 4096 n e in (b.0, omega (arith, b.1))
-
 shape_fits : (shape : Shape) → sides_allowed shape ≡ true → size_allowed shape ≡ true → FitsLayers shape 1
-shape_fits (shapes.Buffer size) sides bytes = let b = between 1 16777216 size bytes in ((b.0, omega (arith, b.1)), refl)
-shape_fits (shapes.Image width height texel) sides bytes = let s = and_parts (is_between 1 4096 width) (is_between 1 4096 height) sides in (side_fits width s.0, side_fits height s.1, (omega arith, omega arith))
+shape_fits (shapes.Buffer size) sides bytes = (in_range 1 16777216 greatest size bytes (omega arith), refl)
+shape_fits (shapes.Image width height texel) sides bytes = let s = and_parts (is_between 1 4096 width) (is_between 1 4096 height) sides in (in_range 1 4096 greatest width s.0 (omega arith), in_range 1 4096 greatest height s.1 (omega arith), (omega arith, omega arith))
 
 pieces_fit : (pieces : List Piece) → All (λ piece. sides_allowed piece.shape ≡ true) pieces → All (λ piece. size_allowed piece.shape ≡ true) pieces → AllByRecursion IsTypedPiece pieces → AllByRecursion FitsPiece pieces
 pieces_fit [] sides sizes typed = tt

@@ -7,9 +7,8 @@ ghost use Rattle.fg_subfile.specs.BarrierMasks.{masks_at, mask_members, piece_me
 ghost use Rattle.serde_json.specs.View.{view, members_view};
 
 use crate::mask::{AccessesForm, StagesForm};
-use crate::members::{Members, with, with_text};
 use fg_bits::Masks;
-use fg_forms::{Place, ReadEnd, Writer, required};
+use fg_forms::{Members, Place, ReadEnd, Writer, required, with_member, with_text};
 use serde_json::{Map, Value};
 use std::alloc::{AllocError, Global};
 
@@ -37,13 +36,13 @@ pub fn mask_members(alloc: Global, masks: &Masks) -> Result<Members, AllocError>
     ensures { IfOk result (λ members. members_view members.entries ≡ mask_members masks.now) }
 {
     let src_stage = StagesForm::write(alloc, &masks.src_stages)?;
-    let members = with(alloc, Map::new(alloc), "src_stage", src_stage)?;
+    let members = with_member(alloc, Map::new(alloc), "src_stage", src_stage)?;
     let src_access = AccessesForm::write(alloc, &masks.src_accesses)?;
-    let members = with(alloc, members, "src_access", src_access)?;
+    let members = with_member(alloc, members, "src_access", src_access)?;
     let dst_stage = StagesForm::write(alloc, &masks.dst_stages)?;
-    let members = with(alloc, members, "dst_stage", dst_stage)?;
+    let members = with_member(alloc, members, "dst_stage", dst_stage)?;
     let dst_access = AccessesForm::write(alloc, &masks.dst_accesses)?;
-    with(alloc, members, "dst_access", dst_access)
+    with_member(alloc, members, "dst_access", dst_access)
 }
 
 /// The members of a barrier on a piece: the word of the item, the piece's number, and the masks.
@@ -56,5 +55,5 @@ pub fn piece_members(
     ensures { IfOk result (λ members. members_view members.entries ≡ piece_members item.now piece masks.now) }
 {
     let members = with_text(alloc, mask_members(alloc, masks)?, "item", item)?;
-    with(alloc, members, "piece", Value::from(piece))
+    with_member(alloc, members, "piece", Value::from(piece))
 }

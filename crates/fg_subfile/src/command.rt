@@ -7,9 +7,8 @@ ghost use Rattle.fg_opforms.specs.Kinds.{members_of};
 ghost use Rattle.fg_subfile.specs.Items.{command_at, command_data, FitsItem};
 ghost use Rattle.serde_json.specs.View.{view};
 
-use crate::members::with_text;
 use fg_base::{NoMemory, Op};
-use fg_forms::{NumberForm, Place, ReadEnd, Writer, others};
+use fg_forms::{NumberForm, Place, ReadEnd, Writer, others, with_text};
 use fg_opforms::{Kind, OpForm, members, op_kind, parts};
 use fg_subs::Item;
 use serde_json::Value;

@@ -10,7 +10,6 @@ mod item;
 mod item_kind;
 mod layout;
 mod mask;
-mod members;
 mod memory;
 mod piece;
 mod program;

@@ -8,10 +8,11 @@ ghost use Rattle.serde_json.specs.View.{view, members_view};
 
 use crate::barrier_masks::{piece_members, read_masks};
 use crate::layout::LayoutForm;
-use crate::members::{Members, with};
 use fg_base::Family;
 use fg_bits::Layouts;
-use fg_forms::{NumberForm, Place, ReadEnd, TextForm, Writer, others, required};
+use fg_forms::{
+    Members, NumberForm, Place, ReadEnd, TextForm, Writer, others, required, with_member,
+};
 use fg_shapeforms::FamilyWord;
 use fg_subs::Transfer;
 use serde_json::Value;
@@ -86,9 +87,9 @@ pub fn with_both(alloc: Global, members: Members, layouts: &Layouts) -> Result<M
     ensures { IfOk result (λ more. members_view more.entries ≡ with_layouts (Some layouts.now) (members_view members.entries)) }
 {
     let from = LayoutForm::write(alloc, &layouts.from)?;
-    let members = with(alloc, members, "from", from)?;
+    let members = with_member(alloc, members, "from", from)?;
     let to = LayoutForm::write(alloc, &layouts.to)?;
-    with(alloc, members, "to", to)
+    with_member(alloc, members, "to", to)
 }
 
 fn with_families(
@@ -100,9 +101,9 @@ fn with_families(
     ensures { IfOk result (λ more. members_view more.entries ≡ with_families from.now to.now (members_view members.entries)) }
 {
     let from = <TextForm<FamilyWord>>::write(alloc, from)?;
-    let members = with(alloc, members, "from_family", from)?;
+    let members = with_member(alloc, members, "from_family", from)?;
     let to = <TextForm<FamilyWord>>::write(alloc, to)?;
-    with(alloc, members, "to_family", to)
+    with_member(alloc, members, "to_family", to)
 }
 
 /// A release or an acquire, by its word.

@@ -1,237 +1,101 @@
-//! What types say of the parts of a program.
-//!
-//! A clause sees a number as any natural number. Each call here goes over a part once, so that its caller knows of each
-//! number in it that a `u32` holds it.
+//! What the types of a program's parts say of them.
 
-ghost use Rattle.std.specs.Prelude.{◌≡◌};
-ghost use Rattle.std.specs.List.{AllByRecursion};
-ghost use Rattle.hex.specs.Hex.{IsBytes};
-ghost use Rattle.fg_forms.specs.Leaves.{FitsWhole};
-ghost use Rattle.fg_opforms.specs.OpFits.{FitsOp};
-ghost use Rattle.fg_opforms.specs.Rects.{FitsRect};
 ghost use Rattle.fg_subfile.specs.Memories.{FitsMemory};
 ghost use Rattle.fg_subfile.specs.Typed.{IsTypedPiece, IsTypedWait, IsTypedItem, IsTypedBatch, IsTypedQueue, IsTypedProgram};
 
-use fg_base::{Op, Rect};
+use crate::batch::BatchForm;
+use crate::item::ItemForm;
+use crate::memory::MemoryForm;
+use crate::piece::PieceForm;
+use crate::program::ProgramForm;
+use crate::queue::QueueForm;
+use crate::wait::WaitForm;
+use fg_forms::{ListForm, NumberForm, Typed};
+use fg_opforms::OpForm;
+use fg_shapeforms::HexForm;
 use fg_subs::{Batch, Item, Memory, Piece, Program, Queue, WaitFor};
 
-/// A part of a program, and what its type says of it.
-pub trait Typed {
-    ghost Says: { Self → Type 0 };
+impl Typed for MemoryForm {
+    type Of = Memory;
 
-    fn look(&self)
-        ensures { Says self.now };
-}
-
-// Each entry of a list.
-fn look_at_all<T: Typed>(entries: &[T])
-    ensures { AllByRecursion T.Says entries.now }
-{
-    for entry in entries {
-        entry.look();
-    }
-}
-
-fn look_at_bytes(bytes: &[u8])
-    ensures { IsBytes bytes.now }
-{}
-
-fn look_at_number(number: u32)
-    ensures { FitsWhole number }
-{}
-
-impl Typed for u32 {
-    ghost Says = { FitsWhole };
-
-    fn look(&self) {
-        look_at_number(*self);
-    }
-}
-
-impl Typed for Rect {
-    ghost Says = { FitsRect };
-
-    fn look(&self) {
-        look_at_number(self.x);
-        look_at_number(self.y);
-        look_at_number(self.width);
-        look_at_number(self.height);
-        look_at_number(self.value);
-    }
-}
-
-impl<R: Typed> Typed for Op<R> {
-    ghost Says = { FitsOp R.Says };
-
-    fn look(&self) {
-        match self {
-            Op::FillBuffer {
-                dst,
-                offset,
-                size,
-                word,
-            } => {
-                dst.look();
-                let _numbers = (*offset, *size, *word);
-            }
-            Op::ClearImage { dst, value } => {
-                dst.look();
-                let _number = *value;
-            }
-            Op::CopyBuffer {
-                src,
-                dst,
-                src_offset,
-                dst_offset,
-                size,
-            } => {
-                src.look();
-                dst.look();
-                let _numbers = (*src_offset, *dst_offset, *size);
-            }
-            Op::CopyImage {
-                src,
-                dst,
-                src_x,
-                src_y,
-                dst_x,
-                dst_y,
-                width,
-                height,
-            } => {
-                src.look();
-                dst.look();
-                let _numbers = (*src_x, *src_y, *dst_x, *dst_y, *width, *height);
-            }
-            Op::BufferToImage { src, dst, offset } => {
-                src.look();
-                dst.look();
-                let _number = *offset;
-            }
-            Op::ImageToBuffer { src, dst, offset } => {
-                src.look();
-                dst.look();
-                let _number = *offset;
-            }
-            Op::Ramp { dst, base, dx, dy } => {
-                dst.look();
-                let _numbers = (*base, *dx, *dy);
-            }
-            Op::Map {
-                src,
-                dst,
-                value,
-                ..
-            } => {
-                src.look();
-                dst.look();
-                let _number = *value;
-            }
-            Op::Combine { a, b, dst, .. } => {
-                a.look();
-                b.look();
-                dst.look();
-            }
-            Op::Select { mask, a, b, dst } => {
-                mask.look();
-                a.look();
-                b.look();
-                dst.look();
-            }
-            Op::Convert { src, dst } => {
-                src.look();
-                dst.look();
-            }
-            Op::Box3 { src, dst } => {
-                src.look();
-                dst.look();
-            }
-            Op::Halve { src, dst } => {
-                src.look();
-                dst.look();
-            }
-            Op::Histogram { src, dst } => {
-                src.look();
-                dst.look();
-            }
-            Op::Draw { dst, clear, rects } => {
-                dst.look();
-                if let Some(value) = clear {
-                    let _number = *value;
-                }
-                look_at_all(rects.as_slice());
-            }
-        }
-    }
-}
-
-impl Typed for Memory {
     ghost Says = { FitsMemory };
 
-    fn look(&self) {
-        match self {
-            Memory::Plain { size } => look_at_number(*size),
-            Memory::Import { bytes } => look_at_bytes(bytes.as_slice()),
+    fn look(memory: &Memory) {
+        match memory {
+            Memory::Plain { size } => NumberForm::look(size),
+            Memory::Import { bytes } => HexForm::look(bytes),
         }
     }
 }
 
-impl Typed for Piece {
+impl Typed for PieceForm {
+    type Of = Piece;
+
     ghost Says = { IsTypedPiece };
 
-    fn look(&self) {
-        look_at_number(self.memory);
-        look_at_number(self.offset);
+    fn look(piece: &Piece) {
+        NumberForm::look(&piece.memory);
+        NumberForm::look(&piece.offset);
     }
 }
 
-impl Typed for WaitFor {
+impl Typed for WaitForm {
+    type Of = WaitFor;
+
     ghost Says = { IsTypedWait };
 
-    fn look(&self) {
-        look_at_number(self.queue);
+    fn look(wait: &WaitFor) {
+        NumberForm::look(&wait.queue);
     }
 }
 
-impl Typed for Item {
+impl Typed for ItemForm {
+    type Of = Item;
+
     ghost Says = { IsTypedItem };
 
-    fn look(&self) {
-        match self {
-            Item::Command(op) => op.look(),
+    fn look(item: &Item) {
+        match item {
+            Item::Command(op) => OpForm::<NumberForm>::look(op),
             Item::Global(_) => (),
-            Item::BufferBarrier(piece, _) => look_at_number(*piece),
-            Item::ImageBarrier(piece, _, _) => look_at_number(*piece),
-            Item::Release(transfer) => look_at_number(transfer.piece),
-            Item::Acquire(transfer) => look_at_number(transfer.piece),
+            Item::BufferBarrier(piece, _) => NumberForm::look(piece),
+            Item::ImageBarrier(piece, _, _) => NumberForm::look(piece),
+            Item::Release(transfer) => NumberForm::look(&transfer.piece),
+            Item::Acquire(transfer) => NumberForm::look(&transfer.piece),
         }
     }
 }
 
-impl Typed for Batch {
+impl Typed for BatchForm {
+    type Of = Batch;
+
     ghost Says = { IsTypedBatch };
 
-    fn look(&self) {
-        look_at_all(self.waits.as_slice());
-        look_at_all(self.items.as_slice());
+    fn look(batch: &Batch) {
+        <ListForm<WaitForm>>::look(&batch.waits);
+        <ListForm<ItemForm>>::look(&batch.items);
     }
 }
 
-impl Typed for Queue {
+impl Typed for QueueForm {
+    type Of = Queue;
+
     ghost Says = { IsTypedQueue };
 
-    fn look(&self) {
-        look_at_all(self.batches.as_slice());
+    fn look(queue: &Queue) {
+        <ListForm<BatchForm>>::look(&queue.batches);
     }
 }
 
-impl Typed for Program {
+impl Typed for ProgramForm {
+    type Of = Program;
+
     ghost Says = { IsTypedProgram };
 
-    fn look(&self) {
-        look_at_all(self.memories.as_slice());
-        look_at_all(self.pieces.as_slice());
-        look_at_all(self.queues.as_slice());
-        look_at_all(self.readbacks.as_slice());
+    fn look(program: &Program) {
+        <ListForm<MemoryForm>>::look(&program.memories);
+        <ListForm<PieceForm>>::look(&program.pieces);
+        <ListForm<QueueForm>>::look(&program.queues);
+        <ListForm<NumberForm>>::look(&program.readbacks);
     }
 }

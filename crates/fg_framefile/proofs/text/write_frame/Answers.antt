@@ -1,21 +1,19 @@
-use Rattle.std.proofs.Common.{◌∙◌, ap, arith}
-use Rattle.serde_json.specs.Written.{compact_text}
+use Rattle.std.proofs.Common.{arith}
+use Rattle.std.proofs.lemmas.Result.{IfOk-weaker}
 use Rattle.fg_framefile.proofs.Flat.{frame_flat}
 use Rattle.fg_framefile.proofs.GoodFits.{good_fits}
 use Rattle.fg_framefile.proofs.ReadBack.{read_back}
 use Rattle.fg_framefile.proofs.text.write_frame.Goals as goal
 
 pub returns-clause-text : goal.returns-clause-text
-returns-clause-text c =
-    let f = c.args.frame.now in
-    c.from_vec.ensures ∙ c.in_ok-text.ensures.text (rw c.in_ok-value.ensures (frame_flat f).plain) ∙ ap compact_text c.in_ok-value.ensures
+returns-clause-text c = IfOk-weaker c.write_json.result _ _ (λ text is. is (frame_flat c.args.frame.now).plain) c.write_json.ensures.text
 
 pub returns-clause-again : goal.returns-clause-again
-returns-clause-again c = λ fits.
+returns-clause-again c =
     let f = c.args.frame.now in
-    rw c.from_vec.ensures (read_back f _ fits c.in_ok-text.ensures.utf8 (rw (← c.in_ok-value.ensures) (c.in_ok-text.ensures.reads_back (rw c.in_ok-value.ensures (omega (arith, (frame_flat f).shallow))))))
+    IfOk-weaker c.write_json.result _ _ (λ text reads fits. read_back f text fits (reads (omega (arith, (frame_flat f).shallow)))) c.write_json.ensures.again
 
 pub returns-clause-good : goal.returns-clause-good
-returns-clause-good c = λ none.
+returns-clause-good c =
     let f = c.args.frame.now in
-    rw c.from_vec.ensures (read_back f _ (good_fits f none c.look.ensures) c.in_ok-text.ensures.utf8 (rw (← c.in_ok-value.ensures) (c.in_ok-text.ensures.reads_back (rw c.in_ok-value.ensures (omega (arith, (frame_flat f).shallow))))))
+    IfOk-weaker c.write_json.result _ _ (λ text reads none. read_back f text (good_fits f none c.look.ensures) (reads (omega (arith, (frame_flat f).shallow)))) c.write_json.ensures.again
