@@ -4,7 +4,7 @@ use Rattle.std.specs.Prelude.{◌&&◌, ◌==◌, nat_le, IfSome}
 use Rattle.std.specs.List.{All, AllByRecursion, position}
 use Rattle.std.specs.Option.{option_or, option_map, option_map_or, option_and_then}
 use Rattle.std.specs.Str.{bytes_eq}
-use Rattle.std.proofs.lemmas.Bool.{false≢true, and_parts, ltb-true, leb-true, eqb-true}
+use Rattle.std.proofs.lemmas.Bool.{false≢true, and_parts, ltb-true, eqb-true}
 use Rattle.hex.specs.Hex.{IsBytes}
 use Rattle.fg_base.specs.Names.{IsName}
 use Rattle.fg_base.specs.Operands.{operands_of}

@@ -8,7 +8,6 @@ use Rattle.fg_base.specs.declared.path.Leg.TheVariants as leg
 use Rattle.fg_base.specs.declared.shape.Family.{Family}
 use Rattle.fg_base.specs.declared.shape.Shape.{Shape}
 use Rattle.fg_base.specs.declared.shape.Shape.TheVariants as shapes
-use Rattle.fg_base.specs.declared.shape.Texel.{Texel}
 use Rattle.fg_bits.specs.Layouts.{layout_name, layout_of}
 use Rattle.fg_bits.specs.declared.accesses.Accesses.{Accesses}
 use Rattle.fg_bits.specs.declared.layout.Layout.{Layout}

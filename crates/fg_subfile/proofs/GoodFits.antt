@@ -1,9 +1,9 @@
 -- A program that breaks no rule fits the format, where its parts are what their types say.
 use Rattle.std.proofs.Common.{◌≡◌, ℕ, zero, suc, Bool, true, false, arith, List, [], ◌∷◌, length, take, slice_get, Option, Some, None, IfSome, if◌then◌else◌, refl, eqb-true, eq-eqb}
-use Rattle.std.specs.Prelude.{not, nat_le}
+use Rattle.std.specs.Prelude.{not}
 use Rattle.std.specs.List.{All, AllByRecursion}
 use Rattle.std.specs.Int.RustNames.{bit_and, bit_or}
-use Rattle.std.proofs.lemmas.Bool.{and_parts, leb-true}
+use Rattle.std.proofs.lemmas.Bool.{and_parts}
 use Rattle.std.proofs.lemmas.List.Elements.{All-head, All-tail}
 use Rattle.fg_base.specs.declared.shape.Family.{Family}
 use Rattle.fg_base.specs.declared.shape.Family.TheVariants.{Graphics, Compute, Transfer}
