@@ -11,9 +11,7 @@ use crate::command::{command_value, read_command};
 use crate::item_kind::{ItemKind, ItemKindForm};
 use crate::transfer::{read_both, read_transfer, transfer_value, with_both};
 use fg_bits::{Layouts, Masks};
-use fg_forms::{
-    NumberForm, Place, ReadEnd, Reader, Writer, object, others, required, with_text,
-};
+use fg_forms::{NumberForm, Place, ReadEnd, Reader, Writer, object, others, required, with_text};
 use fg_subs::Item;
 use serde_json::Value;
 use std::alloc::{AllocError, Global};
