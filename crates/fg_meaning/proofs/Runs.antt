@@ -78,16 +78,16 @@ module _ (op : Op ℕ) where
       equal : (u : ℕ) → u ≡ destination_of op → (u == destination_of op) ≡ true
       equal u same = ⊎_elim (λ h. h.0) (λ h. absurd (h.1 same)) (eqb_tells u (destination_of op))
 
--- the bytes of a unit, when those of another are taken
-not_taken : (bytes : List (List ℕ)) (dst unit : ℕ) → unit ≢ dst → bytes_at (slice_set bytes dst []) unit ≡ bytes_at bytes unit
-not_taken bytes dst unit other = get_or-set_other bytes dst unit [] [] other
+-- the bytes of a unit, when another has these
+elsewhere : (bytes : List (List ℕ)) (dst unit : ℕ) (put : List ℕ) → unit ≢ dst → bytes_at (slice_set bytes dst put) unit ≡ bytes_at bytes unit
+elsewhere bytes dst unit put other = get_or-set_other bytes dst unit put [] other
 
 pub map_same : {X Y : Type 0} (f g : X → Y) (xs : List X) → All (λ x. f x ≡ g x) xs → map f xs ≡ map g xs
 map_same f g [] same = refl
 map_same f g (x ∷ xs) same = ap₂ (λ y ys. y ∷ ys) (All-head (λ x. f x ≡ g x) x xs same) (map_same f g xs (All-tail (λ x. f x ≡ g x) x xs same))
 
-same_sources : (bytes : List (List ℕ)) (op : Op ℕ) → in_place op ≡ false → map (bytes_at (slice_set bytes (destination_of op) [])) (sources_of op) ≡ map (bytes_at bytes) (sources_of op)
-same_sources bytes op none = map_same (bytes_at (slice_set bytes (destination_of op) [])) (bytes_at bytes) (sources_of op) (λ k d lt. not_taken bytes (destination_of op) (get_or (sources_of op) k d) (apart op none k d lt))
+pub same_sources : (bytes : List (List ℕ)) (op : Op ℕ) (put : List ℕ) → in_place op ≡ false → map (bytes_at (slice_set bytes (destination_of op) put)) (sources_of op) ≡ map (bytes_at bytes) (sources_of op)
+same_sources bytes op put none = map_same (bytes_at (slice_set bytes (destination_of op) put)) (bytes_at bytes) (sources_of op) (λ k d lt. elsewhere bytes (destination_of op) (get_or (sources_of op) k d) put (apart op none k d lt))
 
 -- LENGTHS
 
@@ -145,7 +145,7 @@ module _ (shapes : List Shape) (old : List (List ℕ)) (op : Op ℕ) (count : le
   pub taken_sized : (taken : List (List ℕ)) → taken ≡ slice_set old dst [] → All (λ unit. length (bytes_at taken unit) ≡ bytes_of (shape_at shapes unit)) (sources_of op)
   taken_sized taken is = λ k d lt.
       let unit = get_or (sources_of op) k d in
-      ap (λ b. length (bytes_at b unit)) is ∙ ap length (not_taken old dst unit (apart op none k d lt)) ∙ at_sources op (IsLong shapes old) sized k d lt
+      ap (λ b. length (bytes_at b unit)) is ∙ ap length (elsewhere old dst unit [] (apart op none k d lt)) ∙ at_sources op (IsLong shapes old) sized k d lt
 
   pub taken_count : (taken : List (List ℕ)) → taken ≡ slice_set old dst [] → length taken ≡ length shapes
   taken_count taken is = ap length is ∙ length-set old dst [] ∙ count
@@ -156,25 +156,22 @@ module _ (shapes : List Shape) (old : List (List ℕ)) (op : Op ℕ) (count : le
   pub op_done : (taken new : List (List ℕ)) (was out : List ℕ) → was ≡ bytes_at old dst → taken ≡ slice_set old dst [] → out ≡ applied shapes op (map (bytes_at taken) (sources_of op)) was → new ≡ slice_set taken dst out → new ≡ after_op shapes old op
   op_done taken new was out had took gives put =
       put
-      ∙ ap₂ (λ b o. slice_set b dst o) took (gives ∙ ap₂ (λ b w. applied shapes op (map (bytes_at b) (sources_of op)) w) took had ∙ ap (λ s. applied shapes op s (bytes_at old dst)) (same_sources old op none))
+      ∙ ap₂ (λ b o. slice_set b dst o) took (gives ∙ ap₂ (λ b w. applied shapes op (map (bytes_at b) (sources_of op)) w) took had ∙ ap (λ s. applied shapes op s (bytes_at old dst)) (same_sources old op [] none))
       ∙ set-set old dst [] (applied shapes op (map (bytes_at old) (sources_of op)) (bytes_at old dst))
 
   pub put_long : (new : List (List ℕ)) (out : List ℕ) → new ≡ slice_set (slice_set old dst []) dst out → length out ≡ bytes_of (shape_at shapes dst) → length (bytes_at new dst) ≡ bytes_of (shape_at shapes dst)
   put_long new out put size = ap (λ b. length (bytes_at b dst)) (put ∙ set-set old dst [] out) ∙ ap length (get_or-set_same old dst out [] destination_fits) ∙ size
 
--- all units keep their lengths where the destination does
-module _ (shapes : List Shape) (old new : List (List ℕ)) (op : Op ℕ) (S : AreSized shapes old) (is : new ≡ after_op shapes old op) (size : length (bytes_at new (destination_of op)) ≡ bytes_of (shape_at shapes (destination_of op))) where
-  abbrev stored : List ℕ
-  stored = applied shapes op (map (bytes_at old) (sources_of op)) (bytes_at old (destination_of op))
-
-  same_unit : (unit : ℕ) → ((unit == destination_of op) ≡ true) × (unit ≡ destination_of op) → length (bytes_at new unit) ≡ bytes_of (shape_at shapes unit)
+-- all units keep their lengths where one does
+module _ (shapes : List Shape) (old new : List (List ℕ)) (dst : ℕ) (put : List ℕ) (S : AreSized shapes old) (is : new ≡ slice_set old dst put) (size : length (bytes_at new dst) ≡ bytes_of (shape_at shapes dst)) where
+  same_unit : (unit : ℕ) → ((unit == dst) ≡ true) × (unit ≡ dst) → length (bytes_at new unit) ≡ bytes_of (shape_at shapes unit)
   same_unit unit h = subst (λ u. length (bytes_at new u) ≡ bytes_of (shape_at shapes u)) (sym h.1) size
 
-  other_unit : (unit : ℕ) → unit < length shapes → ((unit == destination_of op) ≡ false) × (unit ≢ destination_of op) → length (bytes_at new unit) ≡ bytes_of (shape_at shapes unit)
-  other_unit unit lt h = ap (λ b. length (bytes_at b unit)) is ∙ ap length (get_or-set_other old (destination_of op) unit stored [] h.1) ∙ S.sized unit lt
+  other_unit : (unit : ℕ) → unit < length shapes → ((unit == dst) ≡ false) × (unit ≢ dst) → length (bytes_at new unit) ≡ bytes_of (shape_at shapes unit)
+  other_unit unit lt h = ap (λ b. length (bytes_at b unit)) is ∙ ap length (elsewhere old dst unit put h.1) ∙ S.sized unit lt
 
-  pub op_sized : AreSized shapes new
-  op_sized = record {
-    count = ap length is ∙ length-set old (destination_of op) stored ∙ S.count;
-    sized = λ unit lt. ⊎_elim (same_unit unit) (other_unit unit lt) (eqb_tells unit (destination_of op));
+  pub still_sized : AreSized shapes new
+  still_sized = record {
+    count = ap length is ∙ length-set old dst put ∙ S.count;
+    sized = λ unit lt. ⊎_elim (same_unit unit) (other_unit unit lt) (eqb_tells unit dst);
   }

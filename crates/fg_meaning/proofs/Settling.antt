@@ -22,7 +22,7 @@ use Rattle.fg_meaning.specs.Sizes.{AreSized}
 use Rattle.fg_meaning.proofs.Exported.{and_left, exported}
 use Rattle.fg_meaning.proofs.Lists.{item_first}
 use Rattle.fg_meaning.proofs.Remaining.{as_ops}
-use Rattle.fg_meaning.proofs.Runs.{at_destination, at_sources, map_same, op_sized}
+use Rattle.fg_meaning.proofs.Runs.{at_destination, at_sources, map_same, still_sized}
 use Rattle.fg_meaning.proofs.Steps.{are_sized}
 
 equal : (u v : ℕ) → u ≡ v → (u == v) ≡ true
@@ -78,7 +78,7 @@ all_settled-length units (u ∷ us) held = all_settled-length units us (settled 
 pub settle_on : (units : List Unit) (us : List ℕ) (j u : ℕ) (held more total : List (List ℕ)) → j < length us → slice_get us j ≡ Some u → more ≡ settled units held u → all_settled units held (drop j us) ≡ total → all_settled units more (drop (j + 1) us) ≡ total
 settle_on units us j u held more total lt got is so_far = ap (λ h. all_settled units h (drop (j + 1) us)) is ∙ sym (ap (all_settled units held) (item_first us j u lt (get_or_from_slice_get us j u u got))) ∙ so_far
 
-carried : (units : List Unit) (held bytes more next : List (List ℕ)) (v : ℕ) → Stands units held bytes v → bytes_at more v ≡ bytes_at held v → bytes_at next v ≡ bytes_at bytes v → Stands units more next v
+pub carried : (units : List Unit) (held bytes more next : List (List ℕ)) (v : ℕ) → Stands units held bytes v → bytes_at more v ≡ bytes_at held v → bytes_at next v ≡ bytes_at bytes v → Stands units more next v
 carried units held bytes more next v (inl same) m n = inl (m ∙ same ∙ sym n)
 carried units held bytes more next v (inr (none, first)) m n = inr (m ∙ none, n ∙ first)
 
@@ -231,7 +231,7 @@ module _ (n : NumberedFrame) (good : IsGood n) (op : Op ℕ) (rest : List (Op �
     pub stepped : (new : List (List ℕ)) → new ≡ all_released (is_wanted n.exports rest) run (operands_of op) → IsAt n rest new
     stepped new lets_go = record {
       bytes = next;
-      sized = op_sized (shapes_in n) at.bytes next op at.sized refl (sym (ap length stored_same) ∙ long);
+      sized = still_sized (shapes_in n) at.bytes next (destination_of op) (given at.bytes) at.sized refl (sym (ap length stored_same) ∙ long);
       count = ap length lets_go ∙ all_released-length (is_wanted n.exports rest) (operands_of op) run ∙ run-length;
       stand = λ v lt wants. carried n.units run next new next v (run_stands v lt wants) (ap (λ b. bytes_at b v) lets_go ∙ all_released-at (is_wanted n.exports rest) (operands_of op) run v wants) refl;
       leads = at.leads;

@@ -7,11 +7,12 @@ ghost use Rattle.fg_base.specs.Fits.{fits};
 ghost use Rattle.fg_base.specs.InPlace.{in_place};
 ghost use Rattle.fg_base.specs.Operands.{sources_of, destination_of, operands_of, mapped};
 ghost use Rattle.fg_base.specs.Shapes.{bytes_of, shape_at};
-ghost use Rattle.fg_frame.specs.Good.{IsGoodOp};
+ghost use Rattle.fg_frame.specs.Good.{shapes_in};
 ghost use Rattle.fg_frame.specs.Numbered.{numbered};
 ghost use Rattle.fg_meaning.specs.Meaning.{bytes_at, first_bytes, after_op, after_ops};
 ghost use Rattle.fg_meaning.specs.Sizes.{AreSized, IsRunnable};
 
+use crate::spare::{Spare, zeros};
 use crate::stored::destination;
 use fg_base::{List, NoMemory, Op, Shape};
 use fg_draw::draw;
@@ -25,6 +26,7 @@ use std::mem;
 #[derive(Drop)]
 pub(crate) struct Bytes {
     units: Vec<List<u8>>,
+    spare: Spare,
 }
 
 impl Model for Bytes {
@@ -35,18 +37,10 @@ impl Model for Bytes {
     ghost view = { λ b. b.units.items };
 }
 
-fn zeros(alloc: Global, count: u128) -> Result<List<u8>, NoMemory>
-    ensures { IfOk result (λ list. list ≡ replicate count 0) }
-{
-    let Ok(count) = usize::try_from(count) else {
-        return Err(NoMemory);
-    };
-    Ok(List::from_vec(vec![in alloc; 0u8; count]?))
-}
-
-fn shape_of(frame: &GoodFrame, unit: u32) -> Shape
+pub(crate) fn shape_of(frame: &GoodFrame, unit: u32) -> Shape
     requires { unit < length (numbered frame.now).units }
-    ensures { IfSome (slice_get (numbered frame.now).units unit) (λ u. result ≡ u.shape) }
+    ensures unit { IfSome (slice_get (numbered frame.now).units unit) (λ u. result ≡ u.shape) }
+    ensures at { result ≡ shape_at (shapes_in (numbered frame.now)) unit }
 {
     frame.shapes()[unit as usize]
 }
@@ -71,7 +65,10 @@ impl Bytes {
         for unit in 0..frame.unit_count() {
             units.push(first_bytes(alloc, frame, unit)?)?;
         }
-        Ok(Bytes { units })
+        Ok(Bytes {
+            units,
+            spare: Spare::new(alloc),
+        })
     }
 
     /// No bytes in any unit.
@@ -82,7 +79,10 @@ impl Bytes {
         for _ in 0..count {
             units.push(List::new(alloc))?;
         }
-        Ok(Bytes { units })
+        Ok(Bytes {
+            units,
+            spare: Spare::new(alloc),
+        })
     }
 
     pub fn get(&self, unit: u32) -> &[u8]
@@ -106,6 +106,23 @@ impl Bytes {
         ensures { self.new ≡ slice_set self.old unit bytes }
     {
         self.units[unit as usize] = bytes;
+    }
+
+    /// Leaves a unit without bytes. Their memory serves `room`.
+    pub fn clear(&mut self, alloc: Global, unit: u32)
+        requires { unit < length self.old }
+        ensures { self.new ≡ slice_set self.old unit [] }
+    {
+        let bytes = self.take(alloc, unit);
+        self.spare.keep(bytes);
+    }
+
+    /// So many bytes, whatever they are.
+    pub fn room(&mut self, alloc: Global, count: u128) -> Result<List<u8>, NoMemory>
+        ensures count { IfOk result (λ bytes. length bytes ≡ count) }
+        ensures same { self.new ≡ self.old }
+    {
+        self.spare.room(alloc, count)
     }
 
     // The bytes of a source; none where the operation has no such source.

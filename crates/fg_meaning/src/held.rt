@@ -1,17 +1,22 @@
 //! Units that hold bytes only while they are wanted.
 
-ghost use Rattle.std.specs.Prelude.{◌≡◌, ◌<◌, ◌≤◌, ◌+◌, drop, length, OnOk};
+ghost use Rattle.std.specs.Prelude.{◌≡◌, ◌<◌, ◌≤◌, ◌+◌, ◌∷◌, ℕ, List, drop, length, OnOk};
 ghost use Rattle.std.specs.List.{All};
 ghost use Rattle.fg_base.specs.Operands.{operands_of};
+ghost use Rattle.fg_base.specs.declared.op.Op.{Op};
+ghost use Rattle.fg_frame.specs.Good.{shapes_in};
 ghost use Rattle.fg_frame.specs.Numbered.{numbered};
 ghost use Rattle.fg_meaning.specs.Held.{IsAt, all_ops, all_released, all_settled, is_wanted, ops_at, ops_from, released, settled};
+ghost use Rattle.fg_meaning.specs.Sizes.{IsRunnable};
 
-use crate::bytes::{Bytes, first_bytes};
+use crate::bytes::{Bytes, first_bytes, shape_of};
 use crate::ops::ops_of;
 use crate::rules::rules;
+use crate::stored::{destination, is_whole};
 use crate::wanted::is_wanted;
 use fg_base::{NoMemory, Op};
 use fg_frame::GoodFrame;
+use fg_pixels::whole_leaves_nothing_old;
 use std::alloc::Global;
 
 impl Bytes {
@@ -46,6 +51,27 @@ impl Bytes {
         Ok(())
     }
 
+    // Where an operation leaves no old byte, a destination that holds none gets any bytes in place of its first ones.
+    fn make_room(
+        &mut self,
+        alloc: Global,
+        frame: &GoodFrame,
+        op: &Op<u32>,
+    ) -> Result<(), NoMemory>
+        requires runnable { IsRunnable (shapes_in (numbered frame.now)) op.now }
+        requires count { length self.old ≡ length (numbered frame.now).units }
+        ensures { OnOk result ((rest : List (Op ℕ)) → IsAt (numbered frame.now) (op.now ∷ rest) self.old → IsAt (numbered frame.now) (op.now ∷ rest) self.new) }
+    {
+        whole_leaves_nothing_old();
+        let unit = destination(op);
+        if !self.get(unit).is_empty() || !is_whole(op, frame.shapes()) {
+            return Ok(());
+        }
+        let bytes = self.room(alloc, shape_of(frame, unit).bytes())?;
+        self.put(unit, bytes);
+        Ok(())
+    }
+
     // Takes the bytes of a unit that is not wanted from `next` on.
     fn release(&mut self, alloc: Global, frame: &GoodFrame, pass: u32, next: usize, unit: u32)
         requires pass { pass < length (numbered frame.now).passes }
@@ -56,7 +82,7 @@ impl Bytes {
         if is_wanted(frame, pass, next, unit) {
             return;
         }
-        let _freed = self.take(alloc, unit);
+        self.clear(alloc, unit);
     }
 
     fn release_operands(
@@ -93,6 +119,7 @@ impl Bytes {
         rules(frame);
         let ops = ops_of(frame, pass);
         let op = &ops[k];
+        self.make_room(alloc, frame, op)?;
         self.settle_operands(alloc, frame, op)?;
         self.run_op(alloc, frame.shapes(), op);
         self.release_operands(alloc, frame, pass, k + 1, op);

@@ -7,6 +7,7 @@ mod held;
 mod ops;
 mod pictures;
 mod rules;
+mod spare;
 mod stored;
 #[cfg(test)]
 mod tests;

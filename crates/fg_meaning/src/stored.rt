@@ -2,12 +2,14 @@
 
 ghost use Rattle.std.specs.Prelude.{◌≡◌, ◌<◌, map, is_some, length, IfOk, IfSome, slice_get};
 ghost use Rattle.std.specs.List.{All};
-ghost use Rattle.fg_base.specs.Operands.{destination_of, operands_of};
+ghost use Rattle.fg_base.specs.Operands.{destination_of, operands_of, mapped};
+ghost use Rattle.fg_base.specs.Shapes.{shape_at};
+ghost use Rattle.fg_base.specs.Wholes.{is_whole};
 ghost use Rattle.fg_frame.specs.Numbered.{numbered};
 ghost use Rattle.fg_meaning.specs.Stored.{marked_by, AreMarked};
 
 use crate::rules::rules;
-use fg_base::{List, NoMemory, Op};
+use fg_base::{List, NoMemory, Op, Shape};
 use fg_frame::GoodFrame;
 use std::alloc::Global;
 
@@ -16,6 +18,14 @@ pub(crate) fn destination(op: &Op<u32>) -> u32
     ensures { result ≡ destination_of op.now }
 {
     op.operand(op.touch_count() - 1)
+}
+
+/// Whether an operation leaves no old byte of the unit that it stores to.
+pub(crate) fn is_whole(op: &Op<u32>, shapes: &[Shape]) -> bool
+    requires { All (λ unit. unit < length shapes.now) (operands_of op.now) }
+    ensures { result ≡ is_whole (mapped (shape_at shapes.now) op.now) }
+{
+    op.touch(op.touch_count() - 1, shapes).whole
 }
 
 fn is_import(frame: &GoodFrame, unit: u32) -> bool

@@ -1,9 +1,9 @@
 use Rattle.std.proofs.Common.{◌<◌, ◌+◌, length, drop, subst, sym, ap, ◌∙◌}
 use Rattle.std.specs.List.{All}
-use Rattle.fg_base.specs.Operands.{operands_of}
+use Rattle.fg_base.specs.Operands.{destination_of, operands_of}
 use Rattle.fg_meaning.specs.Meaning.{after_ops}
 use Rattle.fg_meaning.proofs.Lists.{item_first}
-use Rattle.fg_meaning.proofs.Runs.{operands_long, op_sized}
+use Rattle.fg_meaning.proofs.Runs.{operands_long, still_sized}
 use Rattle.fg_meaning.proofs.bytes.Bytes.run.Goals as goal
 
 pub run_op-requires-clause-sized : goal.run_op-requires-clause-sized
@@ -12,5 +12,5 @@ run_op-requires-clause-sized c = operands_long c.args.shapes.now c.loop-op.self 
 pub loop-op-preserved : goal.loop-op-preserved
 loop-op-preserved c = record {
   bytes = ap (λ b. after_ops c.args.shapes.now b (drop (c.loop-op.op-index + 1) c.args.ops.now)) c.run_op.ensures.bytes ∙ sym (ap (after_ops c.args.shapes.now c.loop-op.self) (item_first c.args.ops.now c.loop-op.op-index c.op-item.result c.loop-op-test.true (sym c.op-item.is))) ∙ c.loop-op.invariant.bytes;
-  sized = op_sized c.args.shapes.now c.loop-op.self c.run_op.new.self c.op-item.result c.loop-op.invariant.sized c.run_op.ensures.bytes c.run_op.ensures.sized;
+  sized = still_sized c.args.shapes.now c.loop-op.self c.run_op.new.self (destination_of c.op-item.result) _ c.loop-op.invariant.sized c.run_op.ensures.bytes c.run_op.ensures.sized;
 }
