@@ -6,7 +6,6 @@ use Rattle.fg_base.specs.Applied.{applied}
 use Rattle.fg_base.specs.Operands.{sources_of, destination_of, mapped}
 use Rattle.fg_base.specs.Shapes.{bytes_of, shape_at}
 use Rattle.fg_base.specs.declared.op.Op.{Op}
-use Rattle.fg_base.specs.declared.shape.Shape.{Shape}
 use Rattle.fg_frame.specs.Good.{shapes_in}
 use Rattle.fg_frame.specs.Numbered.{NumberedFrame}
 use Rattle.fg_meaning.specs.Held.{IsAt, Stands, is_wanted}
@@ -42,8 +41,8 @@ module _ (n : NumberedFrame) (op : Op ℕ) (room : List ℕ) (runnable : IsRunna
 
       forgotten : applied (shapes_in n) op (map (bytes_at bytes) (sources_of op)) (bytes_at (with_room bytes) dst) ≡ applied (shapes_in n) op (map (bytes_at bytes) (sources_of op)) (bytes_at bytes dst)
       forgotten = ignores (slice_index_or (map (bytes_at bytes) (sources_of op)) 0 []) (slice_index_or (map (bytes_at bytes) (sources_of op)) 1 []) (slice_index_or (map (bytes_at bytes) (sources_of op)) 2 []) (bytes_at (with_room bytes) dst) (bytes_at bytes dst)
-        (destination_long (shapes_in n) op (length (bytes_at (with_room bytes) dst)) (ap length (roomy bytes S.count) ∙ long))
-        (destination_long (shapes_in n) op (length (bytes_at bytes dst)) (S.sized dst inside))
+          (destination_long (shapes_in n) op (length (bytes_at (with_room bytes) dst)) (ap length (roomy bytes S.count) ∙ long))
+          (destination_long (shapes_in n) op (length (bytes_at bytes dst)) (S.sized dst inside))
 
   pub room_serves : (rest : List (Op ℕ)) (held new : List (List ℕ)) → new ≡ with_room held → IsAt n (op ∷ rest) held → IsAt n (op ∷ rest) new
   room_serves rest held new is at = record {

@@ -52,12 +52,7 @@ impl Bytes {
     }
 
     // Where an operation leaves no old byte, a destination that holds none gets any bytes in place of its first ones.
-    fn make_room(
-        &mut self,
-        alloc: Global,
-        frame: &GoodFrame,
-        op: &Op<u32>,
-    ) -> Result<(), NoMemory>
+    fn make_room(&mut self, alloc: Global, frame: &GoodFrame, op: &Op<u32>) -> Result<(), NoMemory>
         requires runnable { IsRunnable (shapes_in (numbered frame.now)) op.now }
         requires count { length self.old ≡ length (numbered frame.now).units }
         ensures { OnOk result ((rest : List (Op ℕ)) → IsAt (numbered frame.now) (op.now ∷ rest) self.old → IsAt (numbered frame.now) (op.now ∷ rest) self.new) }
