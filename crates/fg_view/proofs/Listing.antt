@@ -1,0 +1,86 @@
+-- The accesses that an order lists.
+use Rattle.std.proofs.Common.{◌≡◌, ◌⊎◌, inl, inr, ◌<◌, ◌+◌, ◌++◌, ℕ, zero, suc, true, List, [], ◌∷◌, length, map, get_or, slice_get, Option, Some, None, refl, sym, ap, ◌∙◌, subst, ⊎_elim, arith}
+use Rattle.std.specs.List.{All}
+use Rattle.std.specs.Option.{option_map}
+use Rattle.std.proofs.lemmas.List.Elements.{All-nil, All-cons, All-map}
+use Rattle.std.proofs.lemmas.Option.{slice_get-map, slice_get-get_or, slice_get_within}
+use Rattle.fg_hb.specs.Orders.{Among, Distinct, Order}
+use Rattle.fg_hb.specs.declared.node.Node.{Node}
+use Rattle.fg_view.proofs.Entries.{entry_of, each_of}
+use Rattle.fg_view.specs.Deeds.{changes, transfers}
+use Rattle.fg_view.specs.Shapely.{Shapely, Has, ActAt, Listed}
+use Rattle.fg_view.specs.Views.{View, accesses_of, act, acts_of}
+use Rattle.fg_view.specs.declared.access.Access.{Access}
+use Rattle.fg_view.specs.declared.act.Act.{Act}
+
+-- what holds of each number among those of a list
+pub all_among : (P : ℕ → Type 0) (xs : List ℕ) → ((n : ℕ) → Among n xs → P n) → All P xs
+all_among P [] h = All-nil P
+all_among P (x ∷ xs) h = All-cons P x xs (h x (inl refl)) (all_among P xs (λ n m. h n (inr m)))
+
+-- the numbers of an order are those of nodes, and so there are uses with these numbers
+pub all_there : (nodes : List Node) (count : ℕ) (order : List ℕ) → count ≡ length nodes → Order nodes order → All (λ n. n < count) order
+all_there nodes count order same O = all_among (λ n. n < count) order (λ n m. subst (λ k. n < k) (sym same) (O.only n m))
+
+-- ONE NODE AND THE OTHERS
+
+in_one_part : {X : Type 0} (xs ys : List X) (i : ℕ) (x : X) → slice_get (xs ++ ys) i ≡ Some x → (slice_get xs i ≡ Some x) ⊎ ((k : ℕ) × (i ≡ length xs + k) × (slice_get ys k ≡ Some x))
+in_one_part [] ys i x e = inr (i, omega arith, e)
+in_one_part (z ∷ xs) ys zero x e = inl e
+in_one_part (z ∷ xs) ys (suc i) x e = ⊎_elim (λ f. inl f) (λ f. let later : i ≡ length xs + f.0 = f.1 in inr (f.0, omega (arith, later), f.2)) (in_one_part xs ys i x e)
+
+made_of : (n : ℕ) (o : Option Access) (a : Act) → option_map (act n) o ≡ Some a → (a.node ≡ n) × (o ≡ Some a.access)
+made_of n None a e = absurd cc
+made_of n (Some x) a e =
+    let same : act n x ≡ a = cc in
+    (ap (λ b. b.node) (sym same), ap (λ b. Some b.access) same)
+
+of_node : (n : ℕ) (xs : List Access) (i : ℕ) (a : Act) → ActAt (map (act n) xs) i a → (a.node ≡ n) × (slice_get xs i ≡ Some a.access)
+of_node n xs i a e = made_of n (slice_get xs i) a (sym (slice_get-map (act n) xs i) ∙ e)
+
+each_act : (V : View) (P : Act → Type 0) (order : List ℕ) → All (λ n. All (λ x. P (act n x)) (accesses_of V n)) order → All P (acts_of V order)
+each_act V P order all = each_of P (λ n. map (act n) (accesses_of V n)) order (λ k d lt. All-map P (act (get_or order k d)) (accesses_of V (get_or order k d)) (all k d lt))
+
+of_order : (V : View) (order : List ℕ) (i : ℕ) (a : Act) → ActAt (acts_of V order) i a → Among a.node order
+of_order V order i a e =
+    entry_of (λ b. Among b.node order) (acts_of V order) i a
+    (each_act V (λ b. Among b.node order) order (all_among (λ n. All (λ x. Among n order) (accesses_of V n)) order (λ n m. λ k d lt. m))) e
+
+module _ (V : View) (S : Shapely V) where
+  abbrev LastChange : List Act → Type 0
+  LastChange acts = (i j : ℕ) (a b : Act) → ActAt acts i a → ActAt acts j b → i < j → a.node ≡ b.node → changes a.access.deed ≡ true → transfers b.access.deed ≡ true
+
+  last_changes : (order : List ℕ) → Distinct order → LastChange (acts_of V order)
+  last_changes [] once i j a b e f lt same c = absurd cc
+  last_changes (n ∷ rest) once i j a b e f lt same c =
+      let own = map (act n) (accesses_of V n) in
+      let others = acts_of V rest in
+      ⊎_elim
+      (λ (e_own : slice_get own i ≡ Some a).
+      let of_a = of_node n (accesses_of V n) i a e_own in
+      ⊎_elim
+      (λ (f_own : slice_get own j ≡ Some b).
+      S.last n i j a.access b.access of_a.1 (of_node n (accesses_of V n) j b f_own).1 lt c)
+      (λ (f_other : (k : ℕ) × (j ≡ length own + k) × (slice_get others k ≡ Some b)).
+      absurd (once.0 (subst (λ m. Among m rest) (sym same ∙ of_a.0) (of_order V rest f_other.0 b f_other.2))))
+      (in_one_part own others j b f))
+      (λ (e_other : (k : ℕ) × (i ≡ length own + k) × (slice_get others k ≡ Some a)).
+      ⊎_elim
+      (λ (f_own : slice_get own j ≡ Some b).
+      let before : j < length own = slice_get_within own j b f_own in
+      let after : i ≡ length own + e_other.0 = e_other.1 in
+      absurd (omega (arith, before, after, lt)))
+      (λ (f_other : (k : ℕ) × (j ≡ length own + k) × (slice_get others k ≡ Some b)).
+      let p : i ≡ length own + e_other.0 = e_other.1 in
+      let q : j ≡ length own + f_other.0 = f_other.1 in
+      last_changes rest once.1 e_other.0 f_other.0 a b e_other.2 f_other.2 (omega (arith, p, q, lt)) same c)
+      (in_one_part own others j b f))
+      (in_one_part own others i a e)
+
+  pub listed : (order : List ℕ) → Distinct order → ((n : ℕ) → Among n order → n < length V.nodes) → Listed V (acts_of V order)
+  listed order once there = record {
+    node = λ i a e. there a.node (of_order V order i a e);
+    has = λ i a e. entry_of (λ b. Has V b.node b.access) (acts_of V order) i a
+        (each_act V (λ b. Has V b.node b.access) order (λ m d lt. λ k x below. (k, slice_get-get_or (accesses_of V (get_or order m d)) k x below))) e;
+    last = last_changes order once;
+  }

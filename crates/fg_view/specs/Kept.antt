@@ -1,0 +1,12 @@
+-- What a view keeps.
+use Rattle.fg_view.specs.Views.{View}
+use Rattle.fg_view.specs.declared.view.View.TheInside.{Inside}
+
+abbrev pub view_in : Inside → View
+view_in inside = record {
+  nodes = inside.edges;
+  uses = inside.uses;
+  pieces = inside.pieces;
+  imported = inside.imported;
+  families = inside.families;
+}

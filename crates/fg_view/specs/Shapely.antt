@@ -1,0 +1,61 @@
+-- What the rules on programs give of a view.
+use Rattle.std.specs.Prelude.{◌≡◌, ◌⊎◌, ℕ, ◌<◌, ◌≤◌, List, length, slice_get, true, false, Some, None}
+use Rattle.fg_base.specs.Shapes.{bytes_of}
+use Rattle.fg_base.specs.declared.shape.Family.{Family}
+use Rattle.fg_hb.specs.Edges.{is_host, is_sync, node_at}
+use Rattle.fg_hb.specs.declared.kind.Kind.TheVariants.{Command}
+use Rattle.fg_view.specs.Deeds.{changes, transfers}
+use Rattle.fg_view.specs.Views.{View, accesses_of, queue_at, family_at, piece_at, flushes, shows}
+use Rattle.fg_view.specs.declared.access.Access.{Access}
+use Rattle.fg_view.specs.declared.access.Agent.{Agent}
+use Rattle.fg_view.specs.declared.access.Agent.TheVariants as agent
+use Rattle.fg_view.specs.declared.access.Deed.{Deed}
+use Rattle.fg_view.specs.declared.act.Act.{Act}
+use Rattle.fg_view.specs.declared.access.Deed.TheVariants.{Load, Store, Keep, Discard, Release, Acquire}
+
+-- a load or a store by an agent of the queue
+abbrev pub IsOf : ℕ → Deed → Type 0
+IsOf q (Load (agent.Of queue bit) layout) = queue ≡ q
+IsOf q (Store (agent.Of queue bit) layout) = queue ≡ q
+IsOf q (Load agent.Host layout) = ⊥
+IsOf q (Store agent.Host layout) = ⊥
+IsOf q (Keep layouts) = ⊥
+IsOf q (Discard layout) = ⊥
+IsOf q (Release handover) = ⊥
+IsOf q (Acquire handover) = ⊥
+
+abbrev pub AccessAt : View → ℕ → ℕ → Access → Type 0
+AccessAt V n i a = slice_get (accesses_of V n) i ≡ Some a
+
+pub record Shapely (V : View) : Type 0 where
+  pub few_nodes : length V.nodes ≤ 20000
+  pub few_pieces : length V.pieces ≤ 512
+  pub uses : length V.uses ≡ length V.nodes
+  pub imported : length V.imported ≡ length V.pieces
+  -- pieces are there, and have bytes
+  pub known : (n i : ℕ) (a : Access) → AccessAt V n i a → a.piece < length V.pieces
+  pub some : (p : ℕ) → p < length V.pieces → 0 < bytes_of (piece_at V p).shape
+  -- after a node's change comes nothing but its half of a transfer
+  pub last : (n i j : ℕ) (a b : Access) → AccessAt V n i a → AccessAt V n j b → i < j → changes a.deed ≡ true → transfers b.deed ≡ true
+  -- commands load and store by agents of their queue, barriers turn and transfer, a host read loads, and all else does nothing
+  pub command : (n i : ℕ) (a : Access) → AccessAt V n i a → (node_at V.nodes n).kind ≡ Command → IsOf (queue_at V n) a.deed
+  pub sync : (n i : ℕ) (a : Access) → AccessAt V n i a → is_sync (node_at V.nodes n).kind ≡ true → (changes a.deed ≡ true) ⊎ (transfers a.deed ≡ true)
+  pub host : (n i : ℕ) (a : Access) → AccessAt V n i a → is_host (node_at V.nodes n).kind ≡ true → a.deed ≡ Load agent.Host None
+  -- only barriers, waits and signals make memory available or visible
+  pub flush : (n p : ℕ) (agent : Agent) → flushes V n agent p ≡ true → is_sync (node_at V.nodes n).kind ≡ true
+  pub show : (n p : ℕ) (agent : Agent) → shows V n agent p ≡ true → is_sync (node_at V.nodes n).kind ≡ true
+  -- a node of a queue has a family
+  pub family : (n : ℕ) → n < length V.nodes → is_host (node_at V.nodes n).kind ≡ false → (f : Family) × (family_at V n ≡ Some f)
+
+abbrev pub Has : View → ℕ → Access → Type 0
+Has V n a = (i : ℕ) × AccessAt V n i a
+
+abbrev pub ActAt : List Act → ℕ → Act → Type 0
+ActAt acts i a = slice_get acts i ≡ Some a
+
+-- accesses of nodes that are there, as an order lists them
+pub record Listed (V : View) (acts : List Act) : Type 0 where
+  pub node : (i : ℕ) (a : Act) → ActAt acts i a → a.node < length V.nodes
+  pub has : (i : ℕ) (a : Act) → ActAt acts i a → Has V a.node a.access
+  -- after a node's change comes nothing of that node but its half of a transfer
+  pub last : (i j : ℕ) (a b : Act) → ActAt acts i a → ActAt acts j b → i < j → a.node ≡ b.node → changes a.access.deed ≡ true → transfers b.access.deed ≡ true

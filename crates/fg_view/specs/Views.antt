@@ -1,0 +1,130 @@
+-- A program as it is checked, by the numbers of its nodes and pieces.
+use Rattle.std.specs.Prelude.{ℕ, List, ◌+◌, ◌==◌, ◌&&◌, ◌||◌, nat_lt, map, get_or, slice_get, Bool, true, false, Option}
+use Rattle.std.specs.List.{flat_map}
+use Rattle.std.specs.Option.{option_map_or}
+use Rattle.fg_base.specs.Shapes.{bytes_of, is_buffer}
+use Rattle.fg_base.specs.declared.shape.Family.{Family}
+use Rattle.fg_base.specs.declared.shape.Shape.TheVariants.{Buffer}
+use Rattle.fg_bits.specs.Sets.{meets}
+use Rattle.fg_bits.specs.declared.sharing.Sharing.{Sharing}
+use Rattle.fg_bits.specs.declared.sharing.Sharing.TheVariants.{Exclusive, Concurrent}
+use Rattle.fg_hb.specs.Edges.{node_at}
+use Rattle.fg_hb.specs.Nodes.{program_nodes}
+use Rattle.fg_hb.specs.declared.node.Node.{Node}
+use Rattle.fg_subs.specs.Nodes.{nodes_of}
+use Rattle.fg_subs.specs.Rules.{shapes_of}
+use Rattle.fg_subs.specs.declared.program.Memory.{Memory}
+use Rattle.fg_subs.specs.declared.program.Memory.TheVariants.{Plain, Import}
+use Rattle.fg_subs.specs.declared.program.Piece.{Piece}
+use Rattle.fg_subs.specs.declared.program.Program.{Program}
+use Rattle.fg_view.specs.Deeds.{changes, transfers}
+use Rattle.fg_view.specs.Uses.{use_in, no_use}
+use Rattle.fg_view.specs.declared.access.Access.{Access}
+use Rattle.fg_view.specs.declared.access.Agent.{Agent}
+use Rattle.fg_view.specs.declared.access.Agent.TheVariants as agent
+use Rattle.fg_view.specs.declared.act.Act.{Act}
+use Rattle.fg_view.specs.declared.use_of.Scope.{Scope}
+use Rattle.fg_view.specs.declared.use_of.Scope.TheVariants as scopes
+use Rattle.fg_view.specs.declared.use_of.Use.{Use}
+
+-- nodes and what they do by their numbers, pieces and whether they begin with an import's bytes, families of queues
+pub record View : Type 0 where
+  pub nodes : List Node
+  pub uses : List Use
+  pub pieces : List Piece
+  pub imported : List Bool
+  pub families : List Family
+
+abbrev pub is_import : Memory → Bool
+is_import (Plain size) = false
+is_import (Import bytes) = true
+
+-- a buffer in an import memory
+abbrev pub piece_imported : List Memory → Piece → Bool
+piece_imported memories piece = is_buffer piece.shape && option_map_or is_import (slice_get memories piece.memory) false
+
+abbrev pub view_of : Program → View
+view_of program = record {
+  nodes = program_nodes program;
+  uses = map (use_in (shapes_of program) program) (nodes_of program);
+  pieces = program.pieces;
+  imported = map (piece_imported program.memories) program.pieces;
+  families = map (λ queue. queue.family) program.queues;
+}
+
+-- NODES
+
+abbrev pub use_at : View → ℕ → Use
+use_at V n = get_or V.uses n no_use
+
+abbrev pub accesses_of : View → ℕ → List Access
+accesses_of V n = (use_at V n).accesses
+
+abbrev pub queue_at : View → ℕ → ℕ
+queue_at V n = (node_at V.nodes n).queue
+
+-- the family of a node's queue; a host read has none
+abbrev pub family_at : View → ℕ → Option Family
+family_at V n = slice_get V.families (queue_at V n)
+
+-- agents of a queue and the host, as a set, have the agent
+abbrev pub has_agent : ℕ → ℕ → Agent → Bool
+has_agent q set (agent.Of queue bit) = (queue == q) && meets set bit
+has_agent q set agent.Host = meets set 256
+
+abbrev pub is_on : ℕ → Scope → Bool
+is_on p scopes.Everywhere = true
+is_on p (scopes.Piece piece) = piece == p
+
+-- node n makes the agent's stores to the piece available
+abbrev pub flushes : View → ℕ → Agent → ℕ → Bool
+flushes V n agent p = has_agent (queue_at V n) (use_at V n).available agent && is_on p (use_at V n).scope
+
+-- node n makes the piece's memory visible to the agent
+abbrev pub shows : View → ℕ → Agent → ℕ → Bool
+shows V n agent p = has_agent (queue_at V n) (use_at V n).visible agent && is_on p (use_at V n).scope
+
+-- PIECES
+
+-- a piece of no bytes, where there is none with the number
+abbrev pub no_piece : Piece
+no_piece = record { shape = Buffer 0; memory = 0; offset = 0; sharing = Exclusive }
+
+abbrev pub piece_at : View → ℕ → Piece
+piece_at V p = get_or V.pieces p no_piece
+
+abbrev pub is_before_end : Piece → Piece → Bool
+is_before_end a b = nat_lt a.offset (b.offset + bytes_of b.shape)
+
+-- in one memory, and with bytes in common
+abbrev pub pieces_overlap : Piece → Piece → Bool
+pieces_overlap a b = (a.memory == b.memory) && (is_before_end a b && is_before_end b a)
+
+abbrev pub overlap : View → ℕ → ℕ → Bool
+overlap V p q = pieces_overlap (piece_at V p) (piece_at V q)
+
+abbrev pub is_shared : Sharing → Bool
+is_shared Exclusive = false
+is_shared Concurrent = true
+
+abbrev pub shared_at : View → ℕ → Bool
+shared_at V p = is_shared (piece_at V p).sharing
+
+abbrev pub imported_at : View → ℕ → Bool
+imported_at V p = get_or V.imported p false
+
+-- ACCESSES IN AN ORDER
+
+abbrev pub act : ℕ → Access → Act
+act n access = record { node = n; access = access }
+
+-- node by node, and each node's in their order
+abbrev pub acts_of : View → List ℕ → List Act
+acts_of V order = flat_map (λ n. map (act n) (accesses_of V n)) order
+
+-- two accesses that may not be in either order: a change and what touches the same bytes, or a transfer and what touches the
+-- same piece
+abbrev pub clash : View → Access → Access → Bool
+clash V a b =
+    (overlap V a.piece b.piece && (changes a.deed || changes b.deed))
+    || ((a.piece == b.piece) && (transfers a.deed || transfers b.deed))

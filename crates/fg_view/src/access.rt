@@ -1,0 +1,127 @@
+//! Accesses of nodes to memory.
+
+ghost use Rattle.std.specs.Prelude.{◌≡◌};
+ghost use Rattle.fg_view.specs.Deeds.{changes, loads, stores, turns, gives, transfers, wanted};
+
+use fg_base::Family;
+use fg_bits::{Layout, Layouts};
+
+/// Who loads or stores, and may hold bytes that others do not see: an agent of a queue, as one bit of `fg_bits::agents`, or
+/// the host.
+#[derive(Clone, Copy, Debug, PartialEq, Eq)]
+pub enum Agent {
+    Of { queue: u32, bit: u16 },
+    Host,
+}
+
+/// What a transfer of ownership hands over: from which family, to which, and an image in which layouts.
+#[derive(Clone, Copy, Debug, PartialEq, Eq)]
+pub struct Handover {
+    pub from: Family,
+    pub to: Family,
+    pub layouts: Option<Layouts>,
+}
+
+/// What an access does to its piece.
+#[derive(Clone, Copy, Debug, PartialEq, Eq)]
+pub enum Deed {
+    /// By an agent; an image has to be in the layout.
+    Load {
+        agent: Agent,
+        layout: Option<Layout>,
+    },
+    /// As a load.
+    Store {
+        agent: Agent,
+        layout: Option<Layout>,
+    },
+    /// A transition that keeps the texels: a load and a store at once.
+    Keep(Layouts),
+    /// A transition out of `UNDEFINED` into this layout.
+    Discard(Layout),
+    /// The first half of a transfer of ownership.
+    Release(Handover),
+    /// The second half.
+    Acquire(Handover),
+}
+
+/// One access of a node.
+#[derive(Clone, Copy, Debug, PartialEq, Eq)]
+pub struct Access {
+    /// The number of the piece.
+    pub piece: u32,
+    pub deed: Deed,
+}
+
+impl Deed {
+    /// Whether bytes may change: a store, a keeping transition or a discard.
+    pub fn changes(self) -> bool
+        ensures { result ≡ changes self }
+    {
+        match self {
+            Deed::Store { .. } | Deed::Keep(_) | Deed::Discard(_) => true,
+            _ => false,
+        }
+    }
+
+    /// Whether old bytes matter: a load or a keeping transition.
+    pub fn loads(self) -> bool
+        ensures { result ≡ loads self }
+    {
+        match self {
+            Deed::Load { .. } | Deed::Keep(_) => true,
+            _ => false,
+        }
+    }
+
+    /// Whether bytes are there afterwards: a store or a keeping transition.
+    pub fn stores(self) -> bool
+        ensures { result ≡ stores self }
+    {
+        match self {
+            Deed::Store { .. } | Deed::Keep(_) => true,
+            _ => false,
+        }
+    }
+
+    /// Whether it leaves a layout: a keeping transition or a discard.
+    pub fn turns(self) -> bool
+        ensures { result ≡ turns self }
+    {
+        match self {
+            Deed::Keep(_) | Deed::Discard(_) => true,
+            _ => false,
+        }
+    }
+
+    /// Whether it is half of a transfer of ownership.
+    pub fn transfers(self) -> bool
+        ensures { result ≡ transfers self }
+    {
+        match self {
+            Deed::Release(_) | Deed::Acquire(_) => true,
+            _ => false,
+        }
+    }
+
+    /// Whether it decides who owns the piece: a discard or half of a transfer.
+    pub fn gives(self) -> bool
+        ensures { result ≡ gives self }
+    {
+        match self {
+            Deed::Discard(_) | Deed::Release(_) | Deed::Acquire(_) => true,
+            _ => false,
+        }
+    }
+
+    /// The layout that it has to find.
+    pub fn wanted(self) -> Option<Layout>
+        ensures { result ≡ wanted self }
+    {
+        match self {
+            Deed::Load { layout, .. } | Deed::Store { layout, .. } => layout,
+            Deed::Keep(layouts) => Some(layouts.from),
+            _ => None,
+        }
+    }
+}

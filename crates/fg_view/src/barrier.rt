@@ -1,0 +1,92 @@
+//! What a barrier does to its piece.
+
+ghost use Rattle.std.specs.Prelude.{◌≡◌, [], option_to_list, IfOk};
+ghost use Rattle.std.specs.Option.{option_map_or};
+ghost use Rattle.fg_subs.specs.Ranges.{is_undefined};
+ghost use Rattle.fg_view.specs.Uses.{access, kept_through, turned_by, handover_of, acquire_accesses};
+ghost use Rattle.fg_view.specs.declared.access.Deed.TheVariants as deeds;
+
+use crate::command::push_some;
+use crate::{Access, Deed, Handover};
+use fg_base::{List, NoMemory};
+use fg_bits::{Layout, Layouts};
+use fg_subs::Transfer;
+use std::alloc::Global;
+
+fn is_undefined(layout: Layout) -> bool
+    ensures { result ≡ is_undefined layout }
+{
+    match layout {
+        Layout::Undefined => true,
+        _ => false,
+    }
+}
+
+fn kept_through(piece: u32, layouts: Layouts) -> Option<Access>
+    ensures { option_to_list result ≡ kept_through piece layouts }
+{
+    if is_undefined(layouts.from) || layouts.from.number() == layouts.to.number() {
+        None
+    } else {
+        Some(Access {
+            piece,
+            deed: Deed::Keep(layouts),
+        })
+    }
+}
+
+/// What the transition of an image barrier does.
+pub(crate) fn turned_by(piece: u32, layouts: Layouts) -> Option<Access>
+    ensures { option_to_list result ≡ turned_by piece layouts }
+{
+    if is_undefined(layouts.from) {
+        Some(Access {
+            piece,
+            deed: Deed::Discard(layouts.to),
+        })
+    } else {
+        kept_through(piece, layouts)
+    }
+}
+
+fn handover_of(transfer: &Transfer) -> Handover
+    ensures { result ≡ handover_of transfer.now }
+{
+    Handover {
+        from: transfer.from_family,
+        to: transfer.to_family,
+        layouts: transfer.layouts,
+    }
+}
+
+/// What a release does.
+pub(crate) fn released(transfer: &Transfer) -> Access
+    ensures { result ≡ access transfer.now.piece (deeds.Release (handover_of transfer.now)) }
+{
+    Access {
+        piece: transfer.piece,
+        deed: Deed::Release(handover_of(transfer)),
+    }
+}
+
+fn acquired_through(transfer: &Transfer) -> Option<Access>
+    ensures { option_to_list result ≡ option_map_or (kept_through transfer.now.piece) transfer.now.layouts [] }
+{
+    match transfer.layouts {
+        Some(layouts) => kept_through(transfer.piece, layouts),
+        None => None,
+    }
+}
+
+/// An acquire makes an image's transition, if there is one.
+pub(crate) fn acquire_accesses(alloc: Global, transfer: &Transfer) -> Result<List<Access>, NoMemory>
+    ensures { IfOk result (λ accesses. accesses ≡ acquire_accesses transfer.now) }
+{
+    let mut accesses = List::new(alloc);
+    push_some(&mut accesses, acquired_through(transfer))?;
+    accesses.push(Access {
+        piece: transfer.piece,
+        deed: Deed::Acquire(handover_of(transfer)),
+    })?;
+    Ok(accesses)
+}

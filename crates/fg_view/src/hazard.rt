@@ -1,0 +1,59 @@
+//! What is wrong with a program.
+
+use fg_base::Family;
+use fg_bits::Layout;
+
+/// What a program does that no order of its nodes allows, or that depends on caches. Nodes, pieces and queues are named by
+/// their numbers.
+#[derive(Clone, Copy, Debug, PartialEq, Eq)]
+pub enum Hazard {
+    /// H1: no queue can go on. The lowest queue that has a node left, and its next node.
+    Stuck {
+        queue: u32,
+        node: u32,
+    },
+    /// H2: two nodes touch the same memory in no order.
+    Unordered {
+        first: u32,
+        second: u32,
+    },
+    /// H3: the first node's store is not made available before the second.
+    NotAvailable {
+        first: u32,
+        second: u32,
+    },
+    /// H4: what the first node left is not made visible to the second.
+    NotVisible {
+        first: u32,
+        second: u32,
+    },
+    /// H5: an image is in another layout than the one wanted.
+    BadLayout {
+        node: u32,
+        piece: u32,
+        found: Layout,
+        wanted: Layout,
+    },
+    /// H6: another queue family owns the piece, or none does.
+    BadOwner {
+        node: u32,
+        piece: u32,
+        found: Option<Family>,
+        wanted: Family,
+    },
+    /// H7: half of a transfer of ownership without its other half.
+    Unmatched {
+        node: u32,
+    },
+    /// H8: a load of bytes that nobody stored.
+    Undefined {
+        node: u32,
+        piece: u32,
+    },
+    /// H9: a load of bytes that were last stored through another piece.
+    Aliased {
+        node: u32,
+        piece: u32,
+        other: u32,
+    },
+}

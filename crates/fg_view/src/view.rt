@@ -1,0 +1,244 @@
+//! A program as it is checked.
+
+ghost use Rattle.std.specs.Prelude.{◌≡◌, ◌<◌, ◌≤◌, length, map, slice_get, false, IfOk};
+ghost use Rattle.std.specs.Option.{option_map_or};
+ghost use Rattle.fg_hb.specs.Edges.{node_at};
+ghost use Rattle.fg_view.specs.Shapely.{Shapely};
+ghost use Rattle.fg_view.specs.Views.{view_of, is_import, piece_imported, use_at, piece_at, pieces_overlap, is_before_end, is_shared, has_agent, is_on, flushes, shows, clash, overlap, imported_at, shared_at, family_at};
+
+use crate::uses::uses_of;
+use crate::{Access, Agent, Scope, Use};
+use fg_base::{Family, List, NoMemory};
+use fg_bits::Sharing;
+use fg_hb::{Edges, Node, direct};
+use fg_subs::{Memory, Piece, Program, Queue, Shaped};
+use std::alloc::Global;
+use std::marker::Model;
+
+/// The nodes of a program with what they do to memory, the pieces, and the families of the queues.
+#[derive(Debug, Drop)]
+pub struct View {
+    edges: Edges,
+    uses: List<Use>,
+    pieces: List<Piece>,
+    imported: List<bool>,
+    families: List<Family>,
+}
+
+impl Model for View {
+    ghost use Rattle.fg_view.specs.Views.{View};
+    ghost use Rattle.fg_view.specs.Kept.{view_in};
+
+    ghost Value = { View };
+
+    ghost view = { view_in };
+}
+
+impl View {
+    /// The number of nodes.
+    pub fn count(&self) -> usize
+        ensures count { result ≡ length self.now.nodes }
+        ensures few { result ≤ 20000 }
+    {
+        self.edges.count()
+    }
+
+    /// The direct edges between nodes.
+    pub fn edges(&self) -> &Edges
+        ensures { result.now ≡ self.now.nodes }
+    {
+        &self.edges
+    }
+
+    /// The node with the number `n`.
+    pub fn node(&self, n: u32) -> Node
+        requires { n < length self.now.nodes }
+        ensures { result ≡ node_at self.now.nodes n }
+    {
+        self.edges.node(n as usize)
+    }
+
+    /// What the node with the number `n` does to memory.
+    pub fn use_at(&self, n: u32) -> &Use
+        requires { n < length self.now.uses }
+        ensures { result.now ≡ use_at self.now n }
+    {
+        &self.uses[n as usize]
+    }
+
+    /// The family of the node's queue. A host read has none.
+    pub fn family(&self, n: u32) -> Option<Family>
+        requires { n < length self.now.nodes }
+        ensures { result ≡ family_at self.now n }
+    {
+        self.families.get(self.node(n).queue as usize).copied()
+    }
+
+    /// The number of pieces.
+    pub fn piece_count(&self) -> usize
+        ensures { result ≡ length self.now.pieces }
+    {
+        self.pieces.len()
+    }
+
+    /// The piece with the number `p`.
+    pub fn piece(&self, p: u32) -> Piece
+        requires { p < length self.now.pieces }
+        ensures { result ≡ piece_at self.now p }
+    {
+        self.pieces[p as usize]
+    }
+
+    /// Whether the pieces have bytes of a memory in common.
+    pub fn overlap(&self, p: u32, q: u32) -> bool
+        requires p { p < length self.now.pieces }
+        requires q { q < length self.now.pieces }
+        ensures { result ≡ overlap self.now p q }
+    {
+        pieces_overlap(self.piece(p), self.piece(q))
+    }
+
+    /// Whether the piece needs no owner.
+    pub fn is_shared(&self, p: u32) -> bool
+        requires { p < length self.now.pieces }
+        ensures { result ≡ shared_at self.now p }
+    {
+        is_shared(self.piece(p).sharing)
+    }
+
+    /// Whether the piece begins with an import's bytes.
+    pub fn is_imported(&self, p: u32) -> bool
+        requires { p < length self.now.imported }
+        ensures { result ≡ imported_at self.now p }
+    {
+        self.imported[p as usize]
+    }
+
+    /// Whether the node makes the agent's stores to the piece available.
+    pub fn flushes(&self, n: u32, agent: Agent, p: u32) -> bool
+        requires n { n < length self.now.nodes }
+        requires uses { length self.now.uses ≡ length self.now.nodes }
+        ensures { result ≡ flushes self.now n agent p }
+    {
+        let (queue, effect) = (self.node(n).queue, self.use_at(n));
+        has_agent(queue, effect.available, agent) && is_on(p, effect.scope)
+    }
+
+    /// Whether the node makes the piece's memory visible to the agent.
+    pub fn shows(&self, n: u32, agent: Agent, p: u32) -> bool
+        requires n { n < length self.now.nodes }
+        requires uses { length self.now.uses ≡ length self.now.nodes }
+        ensures { result ≡ shows self.now n agent p }
+    {
+        let (queue, effect) = (self.node(n).queue, self.use_at(n));
+        has_agent(queue, effect.visible, agent) && is_on(p, effect.scope)
+    }
+
+    /// Whether the accesses have to be in order: a change and what touches the same bytes, or half of a transfer and what
+    /// touches the same piece.
+    pub fn clash(&self, a: Access, b: Access) -> bool
+        requires a { a.piece < length self.now.pieces }
+        requires b { b.piece < length self.now.pieces }
+        ensures { result ≡ clash self.now a b }
+    {
+        self.overlap(a.piece, b.piece) && (a.deed.changes() || b.deed.changes())
+            || a.piece == b.piece && (a.deed.transfers() || b.deed.transfers())
+    }
+}
+
+// Whether `a` begins before `b` ends, in bytes of one memory.
+fn is_before_end(a: Piece, b: Piece) -> bool
+    ensures { result ≡ is_before_end a b }
+{
+    (a.offset as u128) < b.offset as u128 + b.shape.bytes()
+}
+
+fn pieces_overlap(a: Piece, b: Piece) -> bool
+    ensures { result ≡ pieces_overlap a b }
+{
+    a.memory == b.memory && is_before_end(a, b) && is_before_end(b, a)
+}
+
+fn is_shared(sharing: Sharing) -> bool
+    ensures { result ≡ is_shared sharing }
+{
+    match sharing {
+        Sharing::Exclusive => false,
+        Sharing::Concurrent => true,
+    }
+}
+
+// Whether a set of agents of a queue, and of the host, has the agent.
+fn has_agent(of: u32, set: u16, agent: Agent) -> bool
+    ensures { result ≡ has_agent of set agent }
+{
+    match agent {
+        Agent::Of { queue, bit } => queue == of && set & bit != 0,
+        Agent::Host => set & 256 != 0,
+    }
+}
+
+fn is_on(p: u32, scope: Scope) -> bool
+    ensures { result ≡ is_on p scope }
+{
+    match scope {
+        Scope::Everywhere => true,
+        Scope::Piece(piece) => piece == p,
+    }
+}
+
+fn is_import(memory: &Memory) -> bool
+    ensures { result ≡ is_import memory.now }
+{
+    match memory {
+        Memory::Plain { .. } => false,
+        Memory::Import { .. } => true,
+    }
+}
+
+fn in_import(memories: &[Memory], piece: Piece) -> bool
+    ensures { result ≡ option_map_or is_import (slice_get memories.now piece.memory) false }
+{
+    match memories.get(piece.memory as usize) {
+        Some(memory) => is_import(memory),
+        None => false,
+    }
+}
+
+fn imported_of(alloc: Global, program: &Program) -> Result<List<bool>, NoMemory>
+    ensures { IfOk result (λ imported. imported ≡ map (piece_imported program.now.memories) program.now.pieces) }
+{
+    let mut imported = List::new(alloc);
+    for piece in program.pieces.as_slice() {
+        imported.push(piece.shape.is_buffer() && in_import(&program.memories, *piece))?;
+    }
+    Ok(imported)
+}
+
+fn families_of(alloc: Global, queues: &[Queue]) -> Result<List<Family>, NoMemory>
+    ensures { IfOk result (λ families. families ≡ map (λ queue. queue.family) queues.now) }
+{
+    let mut families = List::new(alloc);
+    for queue in queues {
+        families.push(queue.family)?;
+    }
+    Ok(families)
+}
+
+/// A program as it is checked.
+#[tactic(auto, using(crate::proofs::Viewing::shapely))]
+pub fn view_of(alloc: Global, program: &Shaped) -> Result<View, NoMemory>
+    ensures view { IfOk result (λ view. view ≡ view_of program.now) }
+    ensures shapely { IfOk result (λ view. Shapely view) }
+{
+    let edges = direct(alloc, program)?;
+    let uses = uses_of(alloc, program)?;
+    let plain = program.program();
+    Ok(View {
+        edges,
+        uses,
+        pieces: plain.pieces.copy(alloc)?,
+        imported: imported_of(alloc, plain)?,
+        families: families_of(alloc, &plain.queues)?,
+    })
+}
