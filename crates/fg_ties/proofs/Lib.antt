@@ -1,0 +1,6 @@
+pub mod Around
+pub mod Ordered
+pub mod Passes
+pub mod Through
+pub mod Walks
+pub mod Whole

@@ -1,0 +1,7 @@
+use Rattle.std.proofs.Common.{◌<◌, ℕ}
+use Rattle.fg_ties.specs.Chains.{IsIn}
+use Rattle.fg_ties.specs.Places.{piece_of, Good}
+use Rattle.fg_ties.proofs.first.is_clean_in.Given as goal
+
+abbrev pub invariant-loop-q : goal.invariant-loop-q
+invariant-loop-q l = (i : ℕ) → i < l.j → piece_of l.acts i < l.q → IsIn l.chain.loads l.acts i → Good l.view l.acts i l.j

@@ -1,0 +1,72 @@
+//! The accesses of each piece, from the latest back.
+
+ghost use Rattle.std.specs.Prelude.{◌≡◌, ◌<◌, ◌+◌, Bool, List, length, get_or, IfOk, OnOk};
+ghost use Rattle.fg_view.specs.declared.act.Act.{Act};
+ghost use Rattle.fg_ties.specs.Chains.{Links};
+ghost use Rattle.fg_ties.specs.Places.{act_at, moves};
+
+use fg_base::NoMemory;
+use fg_view::{Access, Act, Deed};
+use std::alloc::Global;
+
+/// For each piece the place of its latest access so far, and for each access that of the earlier one of its piece, each
+/// plus one, and 0 for none.
+#[derive(Drop)]
+pub(crate) struct Chain {
+    // Whether loads are in it, or only what clashes with loads.
+    loads: bool,
+    last: Vec<usize>,
+    prev: Vec<usize>,
+}
+
+/// Whether it is more than a load, so that it may clash with one.
+pub(crate) fn moves(deed: Deed) -> bool
+    ensures { result ≡ moves deed }
+{
+    deed.changes() || deed.transfers()
+}
+
+impl Chain {
+    /// A chain of no accesses yet.
+    pub(crate) fn new(alloc: Global, loads: bool, pieces: usize) -> Result<Chain, NoMemory>
+        ensures { IfOk result (λ chain. (acts : List Act) → Links acts pieces 0 loads chain) }
+    {
+        Ok(Chain {
+            loads,
+            last: vec![in alloc; 0; pieces]?,
+            prev: Vec::new(alloc),
+        })
+    }
+
+    /// One more than the place of the piece's latest access, or 0.
+    pub(crate) fn last(&self, piece: u32) -> usize
+        requires { piece < length self.now.last.items }
+        ensures { result ≡ get_or self.now.last.items piece 0 }
+    {
+        self.last[piece as usize]
+    }
+
+    /// One more than the place of the access of the same piece before the one at place `i`, or 0.
+    pub(crate) fn before(&self, i: usize) -> usize
+        requires { i < length self.now.prev.items }
+        ensures { result ≡ get_or self.now.prev.items i 0 }
+    {
+        self.prev[i]
+    }
+
+    /// Takes the access at the next place.
+    pub(crate) fn push(&mut self, acts: &[Act], j: usize) -> Result<(), NoMemory>
+        requires j { j < length acts.now }
+        requires piece { (act_at acts.now j).access.piece < length self.old.last.items }
+        requires links { Links acts.now (length self.old.last.items) j self.old.loads self.old }
+        ensures { OnOk result (Links acts.now (length self.old.last.items) (j + 1) self.old.loads self.new) }
+    {
+        let Access { piece, deed } = acts[j].access;
+        let earlier = self.last(piece);
+        self.prev.push(earlier)?;
+        if self.loads || moves(deed) {
+            self.last[piece as usize] = j + 1;
+        }
+        Ok(())
+    }
+}

@@ -1,0 +1,13 @@
+//! Whether accesses that touch the same memory are in order, and changes are passed on.
+#![tactic(auto)]
+
+mod chain;
+mod first;
+mod pair;
+mod tie;
+
+pub use first::first_flaw;
+pub use tie::{Flaw, Untied};
+
+#[cfg(test)]
+mod tests;
