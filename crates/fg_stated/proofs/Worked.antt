@@ -1,0 +1,112 @@
+-- Worked rows: what accesses find on written-out lists.
+use Rattle.std.proofs.Common.{◌≡◌, ℕ, List, [], ◌∷◌, true, false, Some, None, refl}
+use Rattle.fg_base.specs.declared.shape.Family.TheVariants.{Graphics, Compute}
+use Rattle.fg_base.specs.declared.shape.Shape.TheVariants.{Buffer}
+use Rattle.fg_bits.specs.declared.layout.Layout.TheVariants as layouts
+use Rattle.fg_bits.specs.declared.layout.Layouts.{Layouts}
+use Rattle.fg_bits.specs.declared.sharing.Sharing.TheVariants.{Exclusive}
+use Rattle.fg_hb.specs.Nodes.{node, host_node}
+use Rattle.fg_hb.specs.declared.kind.Kind.TheVariants.{Command, Barrier}
+use Rattle.fg_subs.specs.declared.program.Piece.{Piece}
+use Rattle.fg_view.specs.Uses.{access, plain_use}
+use Rattle.fg_view.specs.Views.{View, act}
+use Rattle.fg_view.specs.declared.access.Agent.TheVariants as agent
+use Rattle.fg_view.specs.declared.access.Deed.TheVariants.{Load, Store, Keep, Discard, Release, Acquire}
+use Rattle.fg_view.specs.declared.access.Handover.{Handover}
+use Rattle.fg_view.specs.declared.act.Act.{Act}
+use Rattle.fg_stated.specs.Found.{found_layout, found_owner, next_transfer, last_transfer, last_change}
+use Rattle.fg_stated.specs.Stated.{needs_owner}
+
+-- 64 bytes of memory 0
+abbrev piece : ℕ → Piece
+piece offset = record { shape = Buffer 64; memory = 0; offset = offset; sharing = Exclusive }
+
+abbrev handover : Handover
+handover = record { from = Compute; to = Graphics; layouts = None }
+
+-- a command and a release of a compute queue, an acquire and a command of a graphics queue, and a host read; pieces 0 and 1
+-- have bytes in common, piece 2 has its own
+abbrev view : View
+view = record {
+  nodes = node Command 0 0 0 ∷ node Barrier 0 0 0 ∷ node Barrier 1 0 0 ∷ node Command 1 0 0 ∷ host_node 2 ∷ [];
+  uses = plain_use [] ∷ plain_use [] ∷ plain_use (access 0 (Acquire handover) ∷ []) ∷ plain_use [] ∷ plain_use [] ∷ [];
+  pieces = piece 0 ∷ piece 32 ∷ piece 96 ∷ [];
+  imported = false ∷ false ∷ false ∷ [];
+  families = Compute ∷ Graphics ∷ [];
+}
+
+abbrev store : ℕ → ℕ → Act
+store n p = act n (access p (Store (agent.Of 0 1) None))
+
+abbrev load : ℕ → ℕ → Act
+load n p = act n (access p (Load (agent.Of 0 1) None))
+
+abbrev kept : Layouts
+kept = record { from = layouts.General; to = layouts.TransferSrc }
+
+-- LAYOUTS
+
+abbrev turned : List Act
+turned = act 1 (access 0 (Discard layouts.General)) ∷ act 1 (access 0 (Keep kept)) ∷ load 3 0 ∷ []
+
+undefined_at_first : found_layout turned 0 0 ≡ layouts.Undefined
+undefined_at_first = refl
+
+left_by_a_discard : found_layout turned 1 0 ≡ layouts.General
+left_by_a_discard = refl
+
+-- it leaves the layout that it goes to
+left_by_a_keep : found_layout turned 2 0 ≡ layouts.TransferSrc
+left_by_a_keep = refl
+
+-- pieces have layouts of their own, also where they overlap
+not_of_another : found_layout turned 2 1 ≡ layouts.Undefined
+not_of_another = refl
+
+-- OWNERS AND TRANSFERS
+
+-- a host read, a store, the two halves, a load
+abbrev handed : List Act
+handed = act 4 (access 0 (Load agent.Host None)) ∷ store 0 0 ∷ act 1 (access 0 (Release handover)) ∷ act 2 (access 0 (Acquire handover)) ∷ load 3 0 ∷ []
+
+-- the first access but host reads owns it, also before it comes
+first_but_host : found_owner view handed 0 0 ≡ Some Compute
+first_but_host = refl
+
+nobody_between : found_owner view handed 3 0 ≡ None
+nobody_between = refl
+
+acquired : found_owner view handed 4 0 ≡ Some Graphics
+acquired = refl
+
+-- a discard takes the piece
+discarded : found_owner view (store 0 0 ∷ act 3 (access 0 (Discard layouts.General)) ∷ []) 2 0 ≡ Some Graphics
+discarded = refl
+
+-- the node is an acquire
+acquire_needs_none : needs_owner view (act 2 (access 0 (Keep kept))) ≡ false
+acquire_needs_none = refl
+
+store_needs_one : needs_owner view (store 0 0) ≡ true
+store_needs_one = refl
+
+comes_next : next_transfer handed 2 0 ≡ Some (Acquire handover)
+comes_next = refl
+
+came_last : last_transfer handed 3 0 ≡ Some (Release handover)
+came_last = refl
+
+of_no_other_piece : last_transfer handed 3 1 ≡ None
+of_no_other_piece = refl
+
+-- CHANGES
+
+changed_through_another : last_change view (store 0 0 ∷ store 0 1 ∷ load 3 0 ∷ []) 2 0 ≡ Some (store 0 1)
+changed_through_another = refl
+
+not_through_one_apart : last_change view (store 0 0 ∷ store 0 2 ∷ load 3 0 ∷ []) 2 0 ≡ Some (store 0 0)
+not_through_one_apart = refl
+
+-- a discard leaves no bytes, and is a change
+changed_by_a_discard : last_change view (store 0 0 ∷ act 1 (access 0 (Discard layouts.General)) ∷ []) 2 0 ≡ Some (act 1 (access 0 (Discard layouts.General)))
+changed_by_a_discard = refl

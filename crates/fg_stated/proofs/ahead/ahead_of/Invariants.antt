@@ -1,0 +1,6 @@
+use Rattle.std.proofs.Common.{◌-◌, length}
+use Rattle.fg_stated.specs.Tables.{IsAhead}
+use Rattle.fg_stated.proofs.ahead.ahead_of.Given as goal
+
+abbrev pub invariant-loop-k : goal.invariant-loop-k
+invariant-loop-k l = IsAhead l.view l.acts (length l.acts - l.k) l.ahead

@@ -1,0 +1,11 @@
+use Rattle.std.proofs.Common.{length, take}
+use Rattle.fg_stated.specs.Fed.{FedBelow}
+use Rattle.fg_stated.specs.Found.{changes_bytes}
+use Rattle.fg_stated.specs.Tables.{IsLast}
+use Rattle.fg_stated.proofs.fed.first_unfed.Given as goal
+
+abbrev pub invariant-loop-j : goal.invariant-loop-j
+invariant-loop-j l = record {
+  changed : IsLast (changes_bytes l.view) (length l.view.pieces) (take l.j l.acts) l.changed;
+  below : FedBelow l.view l.acts l.j;
+}

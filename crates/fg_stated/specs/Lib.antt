@@ -1,0 +1,4 @@
+pub mod Fed
+pub mod Found
+pub mod Stated
+pub mod Tables
