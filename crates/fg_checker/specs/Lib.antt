@@ -1,0 +1,4 @@
+pub mod Checked
+pub mod Hazards
+pub mod Sound
+pub mod Verdicts

@@ -1,0 +1,55 @@
+//! A program that was found sound.
+
+ghost use Rattle.std.specs.Prelude.{◌≡◌};
+ghost use Rattle.std.specs.Arc.{arc_value};
+ghost use Rattle.fg_checker.specs.Sound.{Sound};
+ghost use Rattle.fg_view.specs.Views.{view_of};
+
+use fg_base::List;
+use fg_subs::Shaped;
+use std::alloc::Global;
+use std::marker::Model;
+use std::sync::Arc;
+
+/// A sound program, and the least order of its nodes.
+#[derive(Debug, Drop)]
+pub struct Checked {
+    shaped: Arc<Shaped, Global>,
+    order: List<u32>,
+}
+
+impl Model for Checked {
+    ghost use Rattle.fg_checker.specs.Checked.{Accepted, accepted_in, IsKept};
+
+    ghost Value = { Accepted };
+
+    ghost view = { accepted_in };
+
+    ghost invariant = { IsKept };
+}
+
+impl Checked {
+    pub(crate) fn new(shaped: Arc<Shaped, Global>, order: List<u32>) -> Checked
+        requires { Sound (view_of (arc_value shaped)) order }
+        ensures program { result.program ≡ arc_value shaped }
+        ensures order { result.order ≡ order }
+    {
+        Checked { shaped, order }
+    }
+
+    /// The program, which can be shared between threads.
+    pub fn shaped(&self) -> &Arc<Shaped, Global>
+        ensures program { arc_value result.now ≡ self.now.program }
+        ensures sound { Sound (view_of self.now.program) self.now.order }
+    {
+        &self.shaped
+    }
+
+    /// The least order of the nodes.
+    pub fn order(&self) -> &[u32]
+        ensures order { result.now ≡ self.now.order }
+        ensures sound { Sound (view_of self.now.program) self.now.order }
+    {
+        self.order.as_slice()
+    }
+}

@@ -1,0 +1,13 @@
+//! Whether a program comes to the same in every order that its nodes may run in, or what is wrong with it first.
+#![tactic(auto)]
+
+mod checked;
+mod checking;
+mod judge;
+
+pub use checked::Checked;
+pub use checking::{CheckEnd, check, sound};
+pub use fg_view::Hazard;
+
+#[cfg(test)]
+mod tests;
