@@ -1,5 +1,5 @@
 -- How many passes a good frame has.
-use Rattle.std.proofs.Common.{◌≡◌, ◌≤◌, length, map, sym}
+use Rattle.std.proofs.Common.{◌≤◌, length}
 use Rattle.fg_frame.specs.Good.{IsGood}
 use Rattle.fg_frame.specs.Numbered.{numbered, numbered_pass}
 use Rattle.fg_frame.specs.Units.{numbering}

@@ -3,10 +3,15 @@ use Rattle.std.proofs.Common.{◌≡◌, [], ◌∷◌, Some, None, codes, refl}
 use Rattle.std.specs.Fmt.{digits}
 use Rattle.hex.proofs.OnLiterals.{hex_on_literals}
 use Rattle.fg_base.specs.declared.limit.Limit.TheVariants.{Passes}
+use Rattle.fg_base.specs.declared.shape.Family.TheVariants.{Graphics, Compute}
 use Rattle.fg_base.specs.declared.path.Leg.TheVariants.{Member, Position}
+use Rattle.fg_bits.specs.declared.layout.Layout.TheVariants as layouts
 use Rattle.fg_frame.specs.Faults.{misshapen, not_json, over_limit}
 use Rattle.fg_report.specs.Exports.{export_lines}
-use Rattle.fg_report.specs.Faults.{frame_fault_text}
+use Rattle.fg_report.specs.Faults.{frame_fault_text, sub_fault_text}
+use Rattle.fg_report.specs.Hazards.{hazard_text, check_text}
+use Rattle.fg_subs.specs.Faults as subs
+use Rattle.fg_view.specs.declared.hazard.Hazard.TheVariants.{Stuck, NotVisible, BadLayout, BadOwner, Unmatched, Aliased}
 
 at_the_root : frame_fault_text not_json ≡ codes "fault F1 $\n"
 unfolding digits
@@ -31,3 +36,39 @@ without_layer = refl
 with_layer : export_lines (record { name = codes "im"; layer = Some 1 }) (5 ∷ 7 ∷ []) ≡ codes "export im/1 2\n0507\n"
 unfolding digits hex_on_literals
 with_layer = refl
+
+in_a_batch : sub_fault_text (subs.misshapen (Member (codes "queues") ∷ Position 0 ∷ [])) ≡ codes "fault G11 $.queues[0]\n"
+unfolding digits
+in_a_batch = refl
+
+stuck : hazard_text (Stuck 0 12) ≡ codes "hazard H1 0 12\n"
+unfolding digits
+stuck = refl
+
+not_visible : hazard_text (NotVisible 0 2) ≡ codes "hazard H4 0 2\n"
+unfolding digits
+not_visible = refl
+
+no_layout : hazard_text (BadLayout 0 4 layouts.Undefined layouts.TransferDst) ≡ codes "hazard H5 0 4 UNDEFINED TRANSFER_DST_OPTIMAL\n"
+unfolding digits
+no_layout = refl
+
+another_owner : hazard_text (BadOwner 3 0 (Some Graphics) Compute) ≡ codes "hazard H6 3 0 graphics compute\n"
+unfolding digits
+another_owner = refl
+
+no_owner : hazard_text (BadOwner 3 0 None Compute) ≡ codes "hazard H6 3 0 none compute\n"
+unfolding digits
+no_owner = refl
+
+unmatched : hazard_text (Unmatched 1) ≡ codes "hazard H7 1\n"
+unfolding digits
+unmatched = refl
+
+aliased : hazard_text (Aliased 4 0 1) ≡ codes "hazard H9 4 0 1\n"
+unfolding digits
+aliased = refl
+
+accepted : check_text 6 ≡ codes "accepted 6 nodes\n"
+unfolding digits
+accepted = refl

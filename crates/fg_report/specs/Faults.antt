@@ -6,6 +6,7 @@ use Rattle.fg_base.specs.declared.limit.Limit.{Limit}
 use Rattle.fg_base.specs.declared.path.Leg.{Leg}
 use Rattle.fg_frame.specs.declared.fault.FrameFault.{FrameFault}
 use Rattle.fg_report.specs.Paths.{path_text}
+use Rattle.fg_subs.specs.declared.fault.SubFault.{SubFault}
 
 -- the name of the quantity that is over its limit, where the fault has one
 abbrev pub limit_text : Option Limit → List ℕ
@@ -18,3 +19,6 @@ fault_text letter number limit place = codes "fault " ++ letter ++ decimal numbe
 
 abbrev pub frame_fault_text : FrameFault → List ℕ
 frame_fault_text fault = fault_text (codes "F") fault.number fault.limit fault.place
+
+abbrev pub sub_fault_text : SubFault → List ℕ
+sub_fault_text fault = fault_text (codes "G") fault.number fault.limit fault.place

@@ -1,5 +1,6 @@
 pub mod Exports
 pub mod Faults
+pub mod Hazards
 pub mod KeptLines
 pub mod Paths
 pub mod UnitNames

@@ -1,12 +1,13 @@
 //! Faults of files.
 
 ghost use Rattle.std.specs.Prelude.{◌≡◌, ◌++◌, OnOk, IfOk};
-ghost use Rattle.fg_report.specs.Faults.{limit_text, fault_text, frame_fault_text};
+ghost use Rattle.fg_report.specs.Faults.{limit_text, fault_text, frame_fault_text, sub_fault_text};
 
 use crate::path::add_path;
 use fg_base::{Leg, Limit, List, NoMemory, Text};
 use fg_frame::FrameFault;
 use fg_lines::Lines;
+use fg_subs::SubFault;
 use std::alloc::Global;
 
 fn add_limit(text: &mut Text, limit: Option<Limit>) -> Result<(), NoMemory>
@@ -46,5 +47,14 @@ pub fn frame_fault_text(alloc: Global, fault: &FrameFault) -> Result<Text, NoMem
 {
     let mut text = List::new(alloc);
     add_fault(&mut text, b"F", fault.number, fault.limit, &fault.place)?;
+    Ok(text)
+}
+
+/// The line that names the first fault of a submission file, as `fault G9 $.queues[0].batches[1].signal`.
+pub fn sub_fault_text(alloc: Global, fault: &SubFault) -> Result<Text, NoMemory>
+    ensures { IfOk result (λ text. text ≡ sub_fault_text fault.now) }
+{
+    let mut text = List::new(alloc);
+    add_fault(&mut text, b"G", fault.number, fault.limit, &fault.place)?;
     Ok(text)
 }

@@ -3,13 +3,15 @@
 
 mod export;
 mod fault;
+mod hazard;
 mod kept;
 mod key;
 mod path;
 mod unit;
 
 pub use export::export_text;
-pub use fault::frame_fault_text;
+pub use fault::{frame_fault_text, sub_fault_text};
+pub use hazard::{check_text, hazard_text};
 pub use kept::{cull_text, run_text};
 
 #[cfg(test)]

@@ -2,6 +2,8 @@ use super::*;
 use crate::export::add_export;
 use fg_base::{Leg, Limit, List, Name, NoMemory, Text};
 use fg_frame::{FrameFault, Spot};
+use fg_subs::SubFault;
+use fg_view::Hazard;
 use std::alloc::Global;
 use std::process::Abort;
 use std::test::Fail;
@@ -49,5 +51,20 @@ fn layers(rt: HostRuntime) -> Result<(), Fail> {
     };
     add_export(&mut text, &unit, &[5, 7])?;
     is_printed(&rt, text, b"export im/1 2\n0507\n");
+    Ok(())
+}
+
+#[test]
+fn checks(rt: HostRuntime) -> Result<(), Fail> {
+    let alloc = rt.alloc();
+    let hazard = Hazard::Aliased {
+        node: 4,
+        piece: 0,
+        other: 1,
+    };
+    is_printed(&rt, hazard_text(alloc, &hazard)?, b"hazard H9 4 0 1\n");
+    is_printed(&rt, check_text(alloc, 20000)?, b"accepted 20000 nodes\n");
+    let fault = sub_fault_text(alloc, &SubFault::not_json(alloc))?;
+    is_printed(&rt, fault, b"fault G10 $\n");
     Ok(())
 }
