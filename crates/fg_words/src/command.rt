@@ -8,6 +8,8 @@ ghost use Rattle.fg_words.specs.Commands.{named};
 pub enum Command {
     /// Runs a frame and prints what it exports.
     Run,
+    /// Prints whether a submission is sound, or its first hazard.
+    Check,
     /// Prints which passes of a frame are culled.
     Cull,
     /// Prints the exports of a frame from its sequential meaning.
@@ -23,6 +25,7 @@ impl Command {
     {
         match word {
             "run" => Some(Command::Run),
+            "check" => Some(Command::Check),
             "cull" => Some(Command::Cull),
             "meaning" => Some(Command::Meaning),
             "migrate" => Some(Command::Migrate),

@@ -14,9 +14,10 @@ fn words_of(alloc: Global, words: &[&str]) -> Result<Vec<String>, AllocError> {
 fn command_lines(rt: HostRuntime) -> Result<(), Fail> {
     let alloc = rt.alloc();
     let none: [&str; 0] = [];
-    let lines: [(&[&str], Option<Command>); 10] = [
+    let lines: [(&[&str], Option<Command>); 11] = [
         (&none, None),
         (&["run"], Some(Command::Run)),
+        (&["check"], Some(Command::Check)),
         (&["--", "cull"], Some(Command::Cull)),
         (&["meaning"], Some(Command::Meaning)),
         (&["migrate"], Some(Command::Migrate)),
