@@ -1,7 +1,7 @@
 pub mod Answers
 pub mod AtRest
 pub mod Causes
-pub mod FrameFiles
+pub mod Files
 pub mod Intakes
 pub mod Outcomes
 pub mod Statuses

@@ -1,12 +1,13 @@
 //! What a command answers, before it is written.
 
 ghost use Rattle.std.specs.Prelude.{◌≡◌, IfOk};
-ghost use Rattle.fg_top.specs.Answers.{refusal};
+ghost use Rattle.fg_top.specs.Answers.{refusal, program_refusal};
 
 use crate::Status;
 use fg_base::{NoMemory, Text};
 use fg_frame::FrameFault;
-use fg_report::frame_fault_text;
+use fg_report::{frame_fault_text, sub_fault_text};
+use fg_subs::SubFault;
 use std::alloc::Global;
 
 /// A status and the whole text that goes with it.
@@ -23,5 +24,15 @@ pub fn refusal(alloc: Global, fault: &FrameFault) -> Result<Answer, NoMemory>
     Ok(Answer {
         status: Status::Refused,
         text: frame_fault_text(alloc, fault)?,
+    })
+}
+
+/// The answer to a submission with a fault.
+pub fn program_refusal(alloc: Global, fault: &SubFault) -> Result<Answer, NoMemory>
+    ensures { IfOk result (λ answer. answer ≡ program_refusal fault.now) }
+{
+    Ok(Answer {
+        status: Status::Refused,
+        text: sub_fault_text(alloc, fault)?,
     })
 }

@@ -2,14 +2,17 @@
 #![tactic(auto)]
 
 mod answer;
+mod asked;
 mod cull;
 mod ended;
 mod exports;
+mod files;
 mod frames;
 mod intake;
 mod meaning;
 mod migrate;
 mod output;
+mod programs;
 mod rest;
 mod run;
 mod top;
@@ -18,6 +21,8 @@ pub use ended::{Ended, Status};
 pub use rest::at_rest;
 pub use top::framec;
 
+#[cfg(test)]
+mod check_tests;
 #[cfg(test)]
 mod operation_tests;
 #[cfg(test)]

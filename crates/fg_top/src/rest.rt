@@ -9,7 +9,7 @@ ghost use Rattle.fg_words.specs.Lines.{command_of};
 ghost use Rattle.fg_words.specs.declared.command.Command.{Command};
 
 use crate::Status;
-use crate::frames::answer;
+use crate::files::answer;
 use crate::output::put;
 use fg_base::{NoMemory, Sink, Source};
 use fg_words::{Command, command_of};

@@ -8,7 +8,7 @@ ghost use Rattle.fg_top.specs.Told.{IsUntold};
 ghost use Rattle.fg_words.specs.Lines.{command_of};
 ghost use Rattle.fg_words.specs.declared.command.Command.{Command};
 
-use crate::frames::answer;
+use crate::files::answer;
 use crate::{Ended, Status, at_rest};
 use fg_base::{Gate, Sink, Source, Tap};
 use fg_words::Command;

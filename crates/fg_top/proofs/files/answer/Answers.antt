@@ -1,5 +1,5 @@
 use Rattle.fg_top.proofs.AnswerLemmas.{answered, unanswered}
-use Rattle.fg_top.proofs.frames.answer.Goals as goal
+use Rattle.fg_top.proofs.files.answer.Goals as goal
 
 pub returns-in-Ok-clause-answered : goal.returns-in-Ok-clause-answered
 returns-in-Ok-clause-answered g c =
