@@ -3,8 +3,9 @@
 
     bench/compare.py OURS OTHER [--runs 5] [--case NAME ..]
 
-First whole commands: `run`, `meaning` and `cull` of the deferred frame of examples/, and `cull` of 256 passes that read and
-change each of 256 buffers. Then each operation: a frame applies it again and again to images of 1920 by 1080 texels and
+First whole commands: `run`, `meaning` and `cull` of the deferred frame of examples/, `cull` of 256 passes that read and
+change each of 256 buffers, and `check` of submissions with as many nodes as there can be: barriers alone; fills of one buffer
+with a full barrier between each two; one fill and its many readers; fills of many buffers that share memory. Then each operation: a frame applies it again and again to images of 1920 by 1080 texels and
 exports one texel, so that little is printed; a frame without it is timed too, and its time is taken off. For each case one
 line: the medians of the processor time in both programs in milliseconds, of the command or of one operation, their ratio,
 and the ratio of the most memory that the programs took. The texts of both have to be the same.
@@ -93,6 +94,40 @@ def wide():
     }
 
 
+ALL = {"src_stage": "ALL_COMMANDS", "src_access": "MEMORY_WRITE", "dst_stage": "ALL_COMMANDS", "dst_access": "MEMORY_READ|MEMORY_WRITE"}
+BARRIER = {"item": "global", **ALL}
+FOR_HOST = {"item": "global", **ALL, "dst_stage": "HOST", "dst_access": "HOST_READ"}
+
+
+def fill(piece, word):
+    return {"item": "command", "op": "fill_buffer", "dst": piece, "offset": 0, "size": 256, "word": word}
+
+
+def copy(piece):
+    return {"item": "command", "op": "copy_buffer", "src": 0, "dst": piece, "src_offset": 0, "dst_offset": 0, "size": 256}
+
+
+def submission(items, pieces=1, memories=1):
+    """One queue with these items; the pieces lie in turn in the memories, all at their start."""
+    return {
+        "format": 1,
+        "memories": [{"size": 256}] * memories,
+        "pieces": [{"buffer": 256, "memory": k % memories, "offset": 0} for k in range(pieces)],
+        "queues": [{"family": "graphics", "batches": [{"items": items + [FOR_HOST], "signal": {"value": 1, "stage": "ALL_COMMANDS"}}]}],
+        "readbacks": [0],
+    }
+
+
+def submissions():
+    """Name and program."""
+    yield "check 19,996 barriers", submission([fill(0, 1)] + [BARRIER] * 19_995)
+    yield "check 9,900 fills", submission([item for k in range(9_900) for item in (fill(0, k), BARRIER)])
+    readers = [item for k in range(6_000) for item in (copy(1 + k % 500), BARRIER)]
+    yield "check 6,000 readers", submission([fill(0, 1), BARRIER] + readers, 501, 501)
+    shared = [item for k in range(9_900) for item in (fill(k % 512, k), BARRIER)]
+    yield "check 512 shared pieces", submission(shared + [fill(0, 1), BARRIER], 512, 1)
+
+
 def once(program, word, path):
     """Processor time in milliseconds, most memory in KiB, and the text."""
     with open(path, "rb") as text:
@@ -135,6 +170,8 @@ def commands(folder):
     for word in ("run", "meaning", "cull"):
         yield f"{word} deferred", word, deferred
     yield "cull 256 passes", "cull", written(folder, "wide.json", wide())
+    for name, program in submissions():
+        yield name, "check", written(folder, "program.json", program)
 
 
 def main():
