@@ -1,3 +1,4 @@
+pub mod Apart
 pub mod Checked
 pub mod Hazards
 pub mod Sound

@@ -1,0 +1,186 @@
+-- A sound program: a fill, a barrier for the host, a signal and the host's read.
+use Rattle.std.proofs.Common.{◌≡◌, ℕ, zero, suc, ◌<◌, Bool, true, false, List, [], ◌∷◌, Some, None, refl, ap, subst, inl, inr, arith}
+use Rattle.std.specs.Prelude.{◌||◌, not, nat_lt, Option}
+use Rattle.std.specs.List.{range_with_len, list_all}
+use Rattle.std.proofs.lemmas.Bool.{ltb-true}
+use Rattle.std.proofs.lemmas.Option.{slice_get_within}
+use Rattle.fg_base.specs.declared.op.Op.TheVariants.{FillBuffer}
+use Rattle.fg_base.specs.declared.shape.Family.TheVariants.{Graphics}
+use Rattle.fg_base.specs.declared.shape.Shape.TheVariants.{Buffer}
+use Rattle.fg_bits.specs.Accesses.{transfer_write, host_read}
+use Rattle.fg_bits.specs.Stages.{clear, host, all_commands}
+use Rattle.fg_bits.specs.declared.sharing.Sharing.TheVariants.{Exclusive}
+use Rattle.fg_checker.specs.Apart.{host_bytes, inputs, output}
+use Rattle.fg_checker.proofs.Ranges.{among_range, range_among, distinct_range, earlier_range, least_range, each_of}
+use Rattle.fg_checker.specs.Sound.{IsSound}
+use Rattle.fg_base.specs.Texels.{band, low_bytes}
+use Rattle.fg_hb.specs.Edges.{edge, is_wait, node_at}
+use Rattle.fg_hb.specs.Orders.{Among, Order, IsLeast}
+use Rattle.fg_hb.proofs.Filling.{edge_within}
+use Rattle.fg_reach.specs.Paths.{one, then_on}
+use Rattle.fg_stated.specs.Fed.{Fed, FedAt}
+use Rattle.fg_stated.specs.Stated.{Stated, StatedAt}
+use Rattle.fg_ties.specs.Passing.{Before}
+use Rattle.fg_ties.specs.Tied.{PairTied, TiedBelow}
+use Rattle.fg_ties.proofs.Whole.{tied_all}
+use Rattle.fg_view.specs.Shapely.{Shapely, ActAt}
+use Rattle.fg_view.specs.Uses.{access}
+use Rattle.fg_view.specs.Views.{View, view_of, acts_of, act}
+use Rattle.fg_view.specs.declared.access.Agent.TheVariants.{Of, Host}
+use Rattle.fg_view.specs.declared.access.Deed.TheVariants.{Load, Store}
+use Rattle.fg_view.specs.declared.act.Act.{Act}
+use Rattle.fg_view.proofs.Viewing.{shapely}
+use Rattle.fg_subs.proofs.Few.{is_small}
+use Rattle.fg_subs.proofs.Keeping.{keeps}
+use Rattle.fg_subs.specs.FirstFault.{first_broken}
+use Rattle.fg_subs.specs.declared.program.Item.TheVariants.{Command, BufferBarrier}
+use Rattle.fg_subs.specs.declared.program.Memory.TheVariants.{Plain}
+use Rattle.fg_subs.specs.declared.program.Program.{Program}
+
+abbrev pub sample : Program
+sample = record {
+  memories = Plain 256 ∷ [];
+  pieces = record { shape = Buffer 4; memory = 0; offset = 0; sharing = Exclusive } ∷ [];
+  queues = record {
+    family = Graphics;
+    batches = record {
+      waits = [];
+      items =
+          Command (FillBuffer 0 0 4 7)
+          ∷ BufferBarrier 0 (record {
+            src_stages = record { 0 = clear };
+            src_accesses = record { 0 = transfer_write };
+            dst_stages = record { 0 = host };
+            dst_accesses = record { 0 = host_read };
+          })
+          ∷ [];
+      signal = Some (record { value = 1; stages = record { 0 = all_commands } });
+    } ∷ [];
+  } ∷ [];
+  readbacks = 0 ∷ [];
+}
+
+abbrev order : List ℕ
+order = range_with_len 0 4
+
+no_fault : first_broken sample ≡ None
+no_fault = refl
+
+stores_sevens : output sample order 0 ≡ Some (7 ∷ 0 ∷ 0 ∷ 0 ∷ [])
+unfolding band low_bytes
+stores_sevens = refl
+
+reads_sevens : inputs sample order 3 ≡ (7 ∷ 0 ∷ 0 ∷ 0 ∷ []) ∷ []
+unfolding band low_bytes
+reads_sevens = refl
+
+host_sevens : host_bytes sample order 0 ≡ Some (7 ∷ 0 ∷ 0 ∷ 0 ∷ [])
+unfolding band low_bytes
+host_sevens = refl
+
+-- IT IS SOUND
+
+no_some : false ≡ true → ⊥
+no_some e = cc
+
+none_some : {X : Type 0} {x : X} → None ≡ Some x → ⊥
+none_some e = cc
+
+abbrev V : View
+V = view_of sample
+
+shapely_sample : Shapely V
+shapely_sample = shapely sample (keeps sample no_fault) (is_small sample no_fault)
+
+below : (n : ℕ) → Among n order → n < 4
+below n h = (among_range 0 4 n h).1
+
+goes_ahead : ℕ → ℕ → Bool
+goes_ahead x n = not (edge V.nodes x n) || nat_lt x n
+
+all_ahead : list_all (λ x. list_all (goes_ahead x) order) order ≡ true
+unfolding goes_ahead
+all_ahead = refl
+
+ahead : (x n : ℕ) → edge V.nodes x n ≡ true → x < n
+unfolding goes_ahead
+ahead x n e =
+    let within = edge_within V.nodes x n e in
+    let row = each_of (λ x. list_all (goes_ahead x) order) order all_ahead x (range_among 0 4 x (omega arith) within.0) in
+    let one = each_of (goes_ahead x) order row n (range_among 0 4 n (omega arith) within.1) in
+    ltb-true x n (subst (λ t. (not t || nat_lt x n) ≡ true) e one)
+
+no_wait : list_all (λ n. not (is_wait (node_at V.nodes n).kind)) order ≡ true
+no_wait = refl
+
+waits_not : (n : ℕ) → Among n order → is_wait (node_at V.nodes n).kind ≡ true → ⊥
+waits_not n h e = no_some (subst (λ t. not t ≡ true) e (each_of (λ n. not (is_wait (node_at V.nodes n).kind)) order no_wait n h))
+
+in_order : Order V.nodes order
+in_order = record {
+  once = distinct_range 0 4;
+  all = λ n lt. range_among 0 4 n (omega arith) lt;
+  only = below;
+  turns = record {
+    queue = λ x n h queued lt same. earlier_range 0 4 x n (omega arith) lt (below n h);
+    met = λ n h e. absurd (waits_not n h e);
+  };
+  forward = λ x n h e. earlier_range 0 4 x n (omega arith) (ahead x n e) (below n h);
+}
+
+is_least : IsLeast V.nodes order
+is_least = record {
+  order = in_order;
+  least = λ other O. least_range 0 4 other O.once (λ y h. omega arith) (λ y a b. O.all y b);
+}
+
+-- the fill's store and the host's load
+abbrev store : Act
+store = act 0 (access 0 (Store (Of 0 128) None))
+
+abbrev load : Act
+load = act 3 (access 0 (Load Host None))
+
+two_acts : acts_of V order ≡ store ∷ load ∷ []
+two_acts = refl
+
+abbrev inside : Act → Option Act → Act
+inside other None = other
+inside other (Some a) = a
+
+-- each of the accesses is one of the two
+of_two : (P : ℕ → Act → Type 0) → P 0 store → P 1 load → (j : ℕ) (a : Act) → ActAt (acts_of V order) j a → P j a
+of_two P p q zero a e = subst (λ b. P 0 b) (ap (inside store) e) p
+of_two P p q (suc zero) a e = subst (λ b. P 1 b) (ap (inside load) e) q
+of_two P p q (suc (suc j)) a e = absurd (let lt = slice_get_within (acts_of V order) (suc (suc j)) a e in omega (arith, lt))
+
+reaches_host : Before V 0 3
+reaches_host = then_on {b = 1} (one refl) (then_on {b = 2} (one refl) (one refl))
+
+passed_on : PairTied V store load
+passed_on clashing = (reaches_host, λ changed kept. (1, 1, (refl, refl), inl refl, (inr (refl, then_on {b = 2} (one refl) (one refl)), refl)))
+
+all_tied : TiedBelow V (acts_of V order) 2
+all_tied i j a b first second lt below = of_two (λ n c. j ≡ n → i < j → j < 2 → ActAt (acts_of V order) i a → PairTied V a c)
+    (λ e rising end at. absurd (omega (arith, e, rising)))
+    (λ e rising end at. of_two (λ m d. i ≡ m → PairTied V d load) (λ z. passed_on) (λ z. absurd (omega (arith, e, rising, z))) i a at refl)
+    j b second refl lt below first
+
+stated_sample : Stated V (acts_of V order)
+stated_sample = of_two (StatedAt V (acts_of V order))
+    (record { layout = λ l e. absurd (none_some e); owner = λ needs. refl; match = tt })
+    (record { layout = λ l e. absurd (none_some e); owner = λ needs. absurd (no_some needs); match = tt })
+
+fed_sample : Fed V (acts_of V order)
+fed_sample = of_two (FedAt V (acts_of V order)) (λ loaded. absurd (no_some loaded)) (λ loaded. (refl, refl))
+
+pub sample_sound : IsSound sample
+sample_sound = (
+  order,
+  record {
+    order_is = is_least;
+    tied = tied_all V order shapely_sample in_order all_tied;
+    stated = stated_sample;
+    fed = fed_sample;
+  },
+)

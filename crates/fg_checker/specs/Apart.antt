@@ -1,0 +1,91 @@
+-- What a program comes to where its commands run one after another and each piece has bytes of its own.
+use Rattle.std.specs.Prelude.{ℕ, List, [], ◌∷◌, ◌+◌, map, replicate, slice_get, slice_index_or, slice_set, Option, Some, None, option_and_then, if◌then◌else◌}
+use Rattle.std.specs.List.{slice_range, filter}
+use Rattle.std.specs.Option.{option_map, option_map_or}
+use Rattle.fg_base.specs.Applied.{applied}
+use Rattle.fg_base.specs.Operands.{sources_of, destination_of}
+use Rattle.fg_base.specs.Shapes.{bytes_of, is_buffer}
+use Rattle.fg_base.specs.declared.op.Op.{Op}
+use Rattle.fg_base.specs.declared.shape.Shape.{Shape}
+use Rattle.fg_hb.specs.Orders.{before_in}
+use Rattle.fg_subs.specs.Nodes.{nodes_of}
+use Rattle.fg_subs.specs.Rules.{shapes_of}
+use Rattle.fg_subs.specs.declared.nodes.NodeAt.{NodeAt}
+use Rattle.fg_subs.specs.declared.nodes.NodeAt.TheVariants as at
+use Rattle.fg_subs.specs.declared.program.Item.{Item}
+use Rattle.fg_subs.specs.declared.program.Item.TheVariants.{Command, Global, BufferBarrier, ImageBarrier, Release, Acquire}
+use Rattle.fg_subs.specs.declared.program.Memory.{Memory}
+use Rattle.fg_subs.specs.declared.program.Memory.TheVariants.{Plain, Import}
+use Rattle.fg_subs.specs.declared.program.Piece.{Piece}
+use Rattle.fg_subs.specs.declared.program.Program.{Program}
+use Rattle.fg_view.specs.Deeds.{loads}
+use Rattle.fg_view.specs.Views.{view_of, accesses_of}
+
+-- COMMANDS
+
+abbrev pub op_of : Item → Option (Op ℕ)
+op_of (Command op) = Some op
+op_of (Global masks) = None
+op_of (BufferBarrier piece masks) = None
+op_of (ImageBarrier piece layouts masks) = None
+op_of (Release t) = None
+op_of (Acquire t) = None
+
+-- the operation that stands at a place, if one does
+abbrev pub op_in : Program → NodeAt → Option (Op ℕ)
+op_in program (at.Wait q b k) = None
+op_in program (at.Item q b k) = option_and_then (λ queue. option_and_then (λ batch. option_and_then op_of (slice_get batch.items k)) (slice_get queue.batches b)) (slice_get program.queues q)
+op_in program (at.Signal q b) = None
+op_in program (at.Host k) = None
+
+abbrev pub op_at : Program → ℕ → Option (Op ℕ)
+op_at program n = option_and_then (op_in program) (slice_get (nodes_of program) n)
+
+-- BYTES OF ALL PIECES
+
+abbrev pub bytes_at : List (List ℕ) → ℕ → List ℕ
+bytes_at bytes piece = slice_index_or bytes piece []
+
+abbrev pub zeros : Piece → List ℕ
+zeros piece = replicate (bytes_of piece.shape) 0
+
+abbrev pub begins_in : Piece → Memory → List ℕ
+begins_in piece (Plain size) = zeros piece
+begins_in piece (Import bytes) = slice_range bytes piece.offset (piece.offset + bytes_of piece.shape)
+
+-- a buffer in an import memory begins with the import's bytes, every other piece with zeros
+abbrev pub first_bytes : List Memory → Piece → List ℕ
+first_bytes memories piece = if is_buffer piece.shape then option_map_or (begins_in piece) (slice_get memories piece.memory) (zeros piece) else zeros piece
+
+abbrev pub after_op : List Shape → List (List ℕ) → Op ℕ → List (List ℕ)
+after_op shapes bytes op = slice_set bytes (destination_of op) (applied shapes op (map (bytes_at bytes) (sources_of op)) (bytes_at bytes (destination_of op)))
+
+-- barriers, transitions and discards do nothing
+abbrev pub after_node : Program → List (List ℕ) → ℕ → List (List ℕ)
+after_node program bytes n = option_map_or (after_op (shapes_of program) bytes) (op_at program n) bytes
+
+abbrev pub after_nodes : Program → List (List ℕ) → List ℕ → List (List ℕ)
+after_nodes program bytes [] = bytes
+after_nodes program bytes (n ∷ order) = after_nodes program (after_node program bytes n) order
+
+-- after the nodes of an order
+abbrev pub apart : Program → List ℕ → List (List ℕ)
+apart program order = after_nodes program (map (first_bytes program.memories) program.pieces) order
+
+-- WHAT NODES LOAD AND STORE
+
+-- what the pieces hold right before node n
+abbrev pub held : Program → List ℕ → ℕ → List (List ℕ)
+held program order n = apart program (before_in order n)
+
+-- the bytes that node n loads, load by load
+abbrev pub inputs : Program → List ℕ → ℕ → List (List ℕ)
+inputs program order n = map (λ a. bytes_at (held program order n) a.piece) (filter (λ a. loads a.deed) (accesses_of (view_of program) n))
+
+-- the bytes that command n stores
+abbrev pub output : Program → List ℕ → ℕ → Option (List ℕ)
+output program order n = option_map (λ op. bytes_at (after_node program (held program order n) n) (destination_of op)) (op_at program n)
+
+-- the bytes of the piece of read-back k at the end
+abbrev pub host_bytes : Program → List ℕ → ℕ → Option (List ℕ)
+host_bytes program order k = option_map (bytes_at (apart program order)) (slice_get program.readbacks k)
