@@ -1,7 +1,7 @@
 -- What an operation leaves in its destination.
-use Rattle.std.specs.Prelude.{ℕ, List, [], ◌++◌, Option, Some, None, ◌+◌, ◌-◌, ◌*◌, ◌%◌, ◌==◌, take, drop, slice_range, slice_index_or, count_by, if◌then◌else◌}
+use Rattle.std.specs.Prelude.{ℕ, List, [], ◌++◌, Option, Some, None, ◌+◌, ◌-◌, ◌*◌, ◌%◌, ◌==◌, map, take, drop, slice_range, slice_index_or, slice_set, count_by, if◌then◌else◌}
 use Rattle.fg_base.specs.Kernels.{fun_of, box3, halved, is_inside, drawn}
-use Rattle.fg_base.specs.Operands.{mapped}
+use Rattle.fg_base.specs.Operands.{sources_of, destination_of, mapped}
 use Rattle.fg_base.specs.Shapes.{bytes_of, shape_at}
 use Rattle.fg_base.specs.Texels.{canvas_of, modulus, painted, picture}
 use Rattle.fg_base.specs.declared.grid.Grid.{Grid}
@@ -40,3 +40,11 @@ effect (Draw dst clear rects) first second third old = let g = canvas_of dst in 
 -- the same of an operation over numbers: the shapes of what they name, and the bytes of the sources in their order
 abbrev pub applied : List Shape → Op ℕ → List (List ℕ) → List ℕ → List ℕ
 applied shapes op sources old = effect (mapped (shape_at shapes) op) (slice_index_or sources 0 []) (slice_index_or sources 1 []) (slice_index_or sources 2 []) old
+
+-- THE BYTES OF ALL RESOURCES
+
+abbrev pub bytes_at : List (List ℕ) → ℕ → List ℕ
+bytes_at bytes n = slice_index_or bytes n []
+
+abbrev pub after_op : List Shape → List (List ℕ) → Op ℕ → List (List ℕ)
+after_op shapes bytes op = slice_set bytes (destination_of op) (applied shapes op (map (bytes_at bytes) (sources_of op)) (bytes_at bytes (destination_of op)))

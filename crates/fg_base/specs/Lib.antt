@@ -1,5 +1,7 @@
 pub mod Applied
+pub mod Bounds
 pub mod Counts
+pub mod Families
 pub mod Fits
 pub mod InPlace
 pub mod Kernels
@@ -7,11 +9,13 @@ pub mod Limits
 pub mod Memory
 pub mod Names
 pub mod Operands
+pub mod Paths
 pub mod Reads
 pub mod Runs
 pub mod Shapes
 pub mod Taps
 pub mod Texels
 pub mod Touches
+pub mod Walks
 pub mod Wholes
 pub mod Writes

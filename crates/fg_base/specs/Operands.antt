@@ -1,5 +1,6 @@
 -- What an operation works on.
-use Rattle.std.specs.Prelude.{List, [], ◌∷◌, ◌++◌}
+use Rattle.std.specs.Prelude.{ℕ, List, [], ◌∷◌, ◌++◌, ◌==◌, length, Bool}
+use Rattle.std.specs.List.{list_any}
 use Rattle.fg_base.specs.declared.op.Op.{Op}
 use Rattle.fg_base.specs.declared.op.Op.TheVariants.{FillBuffer, ClearImage, CopyBuffer, CopyImage, BufferToImage, ImageToBuffer, Ramp, Map, Combine, Select, Convert, Box3, Halve, Histogram, Draw}
 
@@ -43,6 +44,10 @@ destination_of (Draw dst clear rects) = dst
 abbrev pub operands_of : {R : Type 0} → Op R → List R
 operands_of op = sources_of op ++ destination_of op ∷ []
 
+-- whether resource n is one of them
+abbrev pub touches : ℕ → Op ℕ → Bool
+touches n op = list_any (λ x. x == n) (operands_of op)
+
 -- the same operation on what f gives for each operand
 abbrev pub mapped : {R S : Type 0} → (R → S) → Op R → Op S
 mapped f (FillBuffer dst offset size word) = FillBuffer (f dst) offset size word
@@ -60,3 +65,8 @@ mapped f (Box3 src dst) = Box3 (f src) (f dst)
 mapped f (Halve src dst) = Halve (f src) (f dst)
 mapped f (Histogram src dst) = Histogram (f src) (f dst)
 mapped f (Draw dst clear rects) = Draw (f dst) clear rects
+
+-- how many rectangles it draws
+abbrev pub rect_count : {R : Type 0} → Op R → ℕ
+rect_count (Draw dst clear rects) = length rects
+rect_count op = 0

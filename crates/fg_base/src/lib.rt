@@ -46,7 +46,7 @@ pub use path::{Leg, Path};
 pub use read_source::ReadSource;
 pub use role::Role;
 pub use runs::op_runs;
-pub use shape::{Family, Shape, Texel};
+pub use shape::{Family, Shape, Texel, shape_at};
 pub use sink::{Put, Sink};
 pub use source::{Source, Taken};
 pub use steady_sink::SteadySink;

@@ -12,7 +12,7 @@ use std::hash::{Hash, Hasher};
 use std::marker::Model;
 use std::str;
 
-/// 1 to 32 bytes out of ASCII letters, digits, `_`, `-` and `.`. A clause sees the list of these bytes.
+/// A name of at most 32 bytes, at least one, each an ASCII letter or digit or one of `_-.`. A clause sees the list of its bytes.
 #[derive(Clone, Copy, Debug)]
 pub struct Name {
     bytes: [u8; 32],

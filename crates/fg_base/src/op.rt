@@ -1,7 +1,7 @@
 //! Operations, over any way to name what they work on.
 
 ghost use Rattle.std.specs.Prelude.{◌≡◌, ◌<◌, [], ◌∷◌, length, slice_get, IfOk, Some};
-ghost use Rattle.fg_base.specs.Operands.{operands_of};
+ghost use Rattle.fg_base.specs.Operands.{operands_of, rect_count};
 
 use crate::{List, NoMemory};
 use std::alloc::Global;
@@ -187,6 +187,16 @@ impl<R: Copy> Op<R> {
                     either(k - 2, *b, *dst)
                 }
             }
+        }
+    }
+
+    /// The number of rectangles that it draws.
+    pub fn rect_count(&self) -> usize
+        ensures { result ≡ rect_count self.now }
+    {
+        match self {
+            Op::Draw { rects, .. } => rects.len(),
+            _ => 0,
         }
     }
 

@@ -1,6 +1,9 @@
 //! A reader of std as a source.
 
-ghost use Rattle.std.specs.Prelude.{◌≡◌};
+ghost use Rattle.std.specs.Prelude.{◌≡◌, ◌<◌, length};
+ghost use Rattle.fg_base.specs.Memory.{one_fault_more};
+ghost use Rattle.fg_base.specs.Reads.{IsWithin, TakesBytes, CountsFault};
+ghost use Rattle.fg_base.specs.declared.source.Taken.TheVariants as taken;
 
 use crate::{Source, Taken};
 use std::io::Read;
@@ -26,7 +29,13 @@ impl<T: Read> Source for ReadSource<T> {
 
     ghost faults = { λ s. s.faults };
 
-    fn read(&mut self, into: &mut [u8]) -> Taken {
+    fn read(&mut self, into: &mut [u8]) -> Taken
+        requires { 0 < length into.old }
+        ensures within { IsWithin result (length into.new) }
+        ensures bytes { TakesBytes (T.remaining self.old.inner) (T.remaining self.new.inner) result into.new }
+        ensures count { CountsFault self.old.faults self.new.faults result }
+        ensures one { result ≡ taken.Failed → self.new.faults ≡ one_fault_more self.old.faults }
+    {
         match self.inner.read(into) {
             Ok(0) => Taken::End,
             Ok(count) => Taken::Got(count),

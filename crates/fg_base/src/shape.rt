@@ -1,6 +1,8 @@
 //! What resources are, and where commands run.
 
 ghost use Rattle.std.specs.Prelude.{◌≡◌, ◌<◌, ◌≤◌, ◌^◌, length};
+ghost use Rattle.fg_base.specs.Bounds.{sides_allowed, size_allowed};
+ghost use Rattle.fg_base.specs.Families.{family_name};
 ghost use Rattle.fg_base.specs.Shapes.{bytes_of, texel_bytes, grid_of, is_buffer, is_image, has_texel, has_sides, same_texel, same_sides, twice_the_sides, same_grid, shape_at};
 ghost use Rattle.fg_base.specs.declared.shape.Shape.TheVariants.{Buffer};
 
@@ -33,6 +35,19 @@ pub enum Shape {
         height: u32,
         texel: Texel,
     },
+}
+
+impl Family {
+    /// The name in files and texts.
+    pub fn name(self) -> &'static str
+        ensures { result.now ≡ family_name self }
+    {
+        match self {
+            Family::Graphics => "graphics",
+            Family::Compute => "compute",
+            Family::Transfer => "transfer",
+        }
+    }
 }
 
 impl Texel {
@@ -96,6 +111,26 @@ impl Shape {
         ensures { result ≡ is_image self }
     {
         !self.is_buffer()
+    }
+
+    /// Whether an image has 1 to 4,096 texels on each side. A buffer has no sides.
+    pub fn sides_allowed(self) -> bool
+        ensures { result ≡ sides_allowed self }
+    {
+        match self {
+            Shape::Buffer { .. } => true,
+            Shape::Image { width, height, .. } => {
+                1 <= width && width <= 4096 && (1 <= height && height <= 4096)
+            }
+        }
+    }
+
+    /// Whether it has 1 byte to 16 MiB.
+    pub fn size_allowed(self) -> bool
+        ensures { result ≡ size_allowed self }
+    {
+        let bytes = self.bytes();
+        1 <= bytes && bytes <= 16_777_216
     }
 
     // An image with such texels.
@@ -166,8 +201,8 @@ impl Shape {
     }
 }
 
-// The shape of the resource with this number.
-pub(crate) fn shape_at(shapes: &[Shape], n: u32) -> Shape
+/// The shape of the resource with the number `n`.
+pub fn shape_at(shapes: &[Shape], n: u32) -> Shape
     requires { n < length shapes.now }
     ensures { result ≡ shape_at shapes.now n }
 {

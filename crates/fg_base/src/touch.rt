@@ -1,7 +1,7 @@
 //! One operand of an operation.
 
 ghost use Rattle.std.specs.Prelude.{◌≡◌, ◌<◌, length, slice_get, All, Some};
-ghost use Rattle.fg_base.specs.Operands.{operands_of};
+ghost use Rattle.fg_base.specs.Operands.{operands_of, touches};
 ghost use Rattle.fg_base.specs.Shapes.{shape_at};
 ghost use Rattle.fg_base.specs.Touches.{touches_of, source_role, kernel_role, destination_role};
 
@@ -19,6 +19,18 @@ pub struct Touch {
 }
 
 impl Op<u32> {
+    /// Whether the resource with the number `n` is one of its operands.
+    pub fn touches(&self, n: u32) -> bool
+        ensures { result ≡ touches n self.now }
+    {
+        for k in 0..self.touch_count() {
+            if self.operand(k) == n {
+                return true;
+            }
+        }
+        false
+    }
+
     /// How it touches its operand with the number `k`, where the operands have these shapes.
     pub fn touch(&self, k: u32, shapes: &[Shape]) -> Touch
         requires number { k < length (operands_of self.now) }

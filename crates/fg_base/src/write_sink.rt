@@ -1,6 +1,9 @@
 //! A writer of std as a sink.
 
-ghost use Rattle.std.specs.Prelude.{◌≡◌};
+ghost use Rattle.std.specs.Prelude.{◌≡◌, ◌<◌, length};
+ghost use Rattle.fg_base.specs.Memory.{one_fault_more};
+ghost use Rattle.fg_base.specs.Writes.{IsWithin, PutsBytes, CountsFault};
+ghost use Rattle.fg_base.specs.declared.sink.Put.TheVariants as put;
 
 use crate::{Put, Sink};
 use std::io::Write;
@@ -27,7 +30,13 @@ impl<T: Write> Sink for WriteSink<T> {
 
     ghost faults = { λ s. s.faults };
 
-    fn write(&mut self, bytes: &[u8]) -> Put {
+    fn write(&mut self, bytes: &[u8]) -> Put
+        requires { 0 < length bytes.now }
+        ensures within { IsWithin result (length bytes.now) }
+        ensures bytes { PutsBytes (T.contents self.old.inner) (T.contents self.new.inner) result bytes.now }
+        ensures count { CountsFault self.old.faults self.new.faults result }
+        ensures one { result ≡ put.Failed → self.new.faults ≡ one_fault_more self.old.faults }
+    {
         match self.inner.write(bytes) {
             Ok(0) | Err(_) => {
                 self.faults = self.faults.saturating_add(1);

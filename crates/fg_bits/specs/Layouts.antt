@@ -1,5 +1,5 @@
 -- Layouts of images by name and number.
-use Rattle.std.specs.Prelude.{ℕ, List, [], ◌∷◌, codes, Option}
+use Rattle.std.specs.Prelude.{ℕ, List, [], ◌∷◌, codes, Bool, true, false, Option}
 use Rattle.std.specs.List.{find}
 use Rattle.std.specs.Str.{bytes_eq}
 use Rattle.fg_bits.specs.declared.layout.Layout.{Layout}
@@ -12,6 +12,10 @@ layout_name ColorAttachment = codes "COLOR_ATTACHMENT_OPTIMAL"
 layout_name ShaderReadOnly = codes "SHADER_READ_ONLY_OPTIMAL"
 layout_name TransferSrc = codes "TRANSFER_SRC_OPTIMAL"
 layout_name TransferDst = codes "TRANSFER_DST_OPTIMAL"
+
+abbrev pub is_undefined : Layout → Bool
+is_undefined Undefined = true
+is_undefined layout = false
 
 abbrev pub layout_number : Layout → ℕ
 layout_number Undefined = 0

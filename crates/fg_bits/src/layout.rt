@@ -2,7 +2,7 @@
 
 ghost use Rattle.std.specs.Prelude.{◌≡◌};
 ghost use Rattle.std.specs.Str.{bytes_eq};
-ghost use Rattle.fg_bits.specs.Layouts.{layout_name, layout_number, layout_of};
+ghost use Rattle.fg_bits.specs.Layouts.{layout_name, layout_number, layout_of, is_undefined};
 
 /// How an image's texels lie in memory, after Vulkan's layouts of these names.
 #[derive(Clone, Copy, Debug, PartialEq, Eq)]
@@ -38,6 +38,16 @@ impl Layout {
             Layout::ShaderReadOnly => "SHADER_READ_ONLY_OPTIMAL",
             Layout::TransferSrc => "TRANSFER_SRC_OPTIMAL",
             Layout::TransferDst => "TRANSFER_DST_OPTIMAL",
+        }
+    }
+
+    /// Whether the image's texels are lost.
+    pub fn is_undefined(self) -> bool
+        ensures { result ≡ is_undefined self }
+    {
+        match self {
+            Layout::Undefined => true,
+            _ => false,
         }
     }
 

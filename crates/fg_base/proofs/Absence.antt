@@ -1,10 +1,10 @@
 -- Where nothing was found.
-use Rattle.std.proofs.Common.{subst, ◌≡◌, ℕ, zero, suc, ◌+◌, ◌<◌, ◌≤◌, List, [], ◌∷◌, length, get_or, slice_get, nat_lt, not, Bool, true, false, Option, None, Some, if◌then◌else◌, refl, sym, ap, ◌∙◌, cond, arith}
+use Rattle.std.proofs.Common.{subst, ◌≡◌, ℕ, zero, suc, ◌+◌, ◌<◌, ◌≤◌, List, [], ◌∷◌, length, get_or, slice_get, nat_lt, not, Bool, true, false, Option, None, Some, if◌then◌else◌, refl, cond, arith}
 use Rattle.std.specs.List.{position, position_or_len, All}
 use Rattle.std.specs.Option.{option_or, option_map}
 use Rattle.std.proofs.lemmas.Bool.{ltb-false}
 use Rattle.std.proofs.lemmas.List.Sums.{fails_before_first}
-use Rattle.fg_subs.specs.Places.{first_in}
+use Rattle.fg_base.specs.Walks.{first_in}
 
 pub or_first : {X : Type 0} (a b : Option X) → option_or a b ≡ None → a ≡ None
 or_first None b e = refl
@@ -22,15 +22,15 @@ pub has_it : {X : Type 0} (t : Bool) (x : X) → (if t then None else Some x) �
 has_it true x e = refl
 has_it false x e = absurd cc
 
-not_none : {A : Type 0} (b : Bool) (x : A) → cond b (Some x) None ≡ None → b ≡ false
+pub not_none : {A : Type 0} (b : Bool) (x : A) → cond b (Some x) None ≡ None → b ≡ false
 not_none true x e = absurd cc
 not_none false x e = refl
 
-not_false : (b : Bool) → not b ≡ false → b ≡ true
+pub not_false : (b : Bool) → not b ≡ false → b ≡ true
 not_false true e = refl
 not_false false e = absurd cc
 
-position-none : {X : Type 0} (p : X → Bool) (xs : List X) (i : ℕ) (x : X) → i < length xs → position p xs ≡ None → p (get_or xs i x) ≡ false
+pub position-none : {X : Type 0} (p : X → Bool) (xs : List X) (i : ℕ) (x : X) → i < length xs → position p xs ≡ None → p (get_or xs i x) ≡ false
 position-none p xs i x lt none =
     let le : length xs ≤ position_or_len p xs = ltb-false (position_or_len p xs) (length xs) (not_none (nat_lt (position_or_len p xs) (length xs)) (position_or_len p xs) none) in
     fails_before_first p xs i x (omega arith)
@@ -39,7 +39,17 @@ position-none p xs i x lt none =
 pub all_pass : {X : Type 0} (test : X → Bool) (xs : List X) → position (λ y. not (test y)) xs ≡ None → All (λ y. test y ≡ true) xs
 all_pass test xs none = λ i d lt. not_false (test (get_or xs i d)) (position-none (λ y. not (test y)) xs i d lt none)
 
--- where a rule gives nothing at any entry, it gives nothing at this one
+-- a rule that gives nothing over a list gives nothing at each entry
+pub first_none : {X Y : Type 0} (rule : ℕ → X → Option Y) (i : ℕ) (xs : List X) → first_in rule i xs ≡ None → (k : ℕ) (d : X) → k < length xs → rule (i + k) (get_or xs k d) ≡ None
+first_none rule i [] none k d lt = absurd (omega arith)
+first_none rule i (x ∷ xs) none zero d lt =
+    let e : i ≡ i + 0 = omega arith in
+    subst (λ j. rule j x ≡ None) e (or_first (rule i x) (first_in rule (suc i) xs) none)
+first_none rule i (x ∷ xs) none (suc k) d lt =
+    let e : suc i + k ≡ i + suc k = omega arith in
+    subst (λ j. rule j (get_or xs k d) ≡ None) e (first_none rule (suc i) xs (or_second (rule i x) (first_in rule (suc i) xs) none) k d (omega arith))
+
+-- the same at an entry that is got
 pub none_at : {X Y : Type 0} (rule : ℕ → X → Option Y) (i : ℕ) (xs : List X) → first_in rule i xs ≡ None → (k : ℕ) (x : X) → slice_get xs k ≡ Some x → rule (i + k) x ≡ None
 none_at rule i [] none k x is = absurd cc
 none_at rule i (y ∷ ys) none zero x is =
