@@ -1,4 +1,4 @@
-//! Who owns a resource.
+//! Whether queue families share a resource.
 
 /// Vulkan's sharing mode: an exclusive resource is owned by one queue family at a time and is handed on by ownership
 /// transfers, a concurrent one needs none.

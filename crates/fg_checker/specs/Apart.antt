@@ -1,12 +1,11 @@
 -- What a program comes to where its commands run one after another and each piece has bytes of its own.
-use Rattle.std.specs.Prelude.{ℕ, List, [], ◌∷◌, ◌+◌, map, replicate, slice_get, slice_index_or, slice_set, Option, Some, None, option_and_then, if◌then◌else◌}
+use Rattle.std.specs.Prelude.{ℕ, List, [], ◌∷◌, ◌+◌, map, replicate, slice_get, Option, Some, None, option_and_then, if◌then◌else◌}
 use Rattle.std.specs.List.{slice_range, filter}
 use Rattle.std.specs.Option.{option_map, option_map_or}
-use Rattle.fg_base.specs.Applied.{applied}
-use Rattle.fg_base.specs.Operands.{sources_of, destination_of}
+use Rattle.fg_base.specs.Applied.{bytes_at, after_op}
+use Rattle.fg_base.specs.Operands.{destination_of}
 use Rattle.fg_base.specs.Shapes.{bytes_of, is_buffer}
 use Rattle.fg_base.specs.declared.op.Op.{Op}
-use Rattle.fg_base.specs.declared.shape.Shape.{Shape}
 use Rattle.fg_hb.specs.Orders.{before_in}
 use Rattle.fg_subs.specs.Nodes.{nodes_of}
 use Rattle.fg_subs.specs.Rules.{shapes_of}
@@ -43,9 +42,6 @@ op_at program n = option_and_then (op_in program) (slice_get (nodes_of program) 
 
 -- BYTES OF ALL PIECES
 
-abbrev pub bytes_at : List (List ℕ) → ℕ → List ℕ
-bytes_at bytes piece = slice_index_or bytes piece []
-
 abbrev pub zeros : Piece → List ℕ
 zeros piece = replicate (bytes_of piece.shape) 0
 
@@ -53,12 +49,9 @@ abbrev pub begins_in : Piece → Memory → List ℕ
 begins_in piece (Plain size) = zeros piece
 begins_in piece (Import bytes) = slice_range bytes piece.offset (piece.offset + bytes_of piece.shape)
 
--- a buffer in an import memory begins with the import's bytes, every other piece with zeros
+-- what a piece holds before the first node: an import's buffer the bytes of the import, any other zeros
 abbrev pub first_bytes : List Memory → Piece → List ℕ
 first_bytes memories piece = if is_buffer piece.shape then option_map_or (begins_in piece) (slice_get memories piece.memory) (zeros piece) else zeros piece
-
-abbrev pub after_op : List Shape → List (List ℕ) → Op ℕ → List (List ℕ)
-after_op shapes bytes op = slice_set bytes (destination_of op) (applied shapes op (map (bytes_at bytes) (sources_of op)) (bytes_at bytes (destination_of op)))
 
 -- barriers, transitions and discards do nothing
 abbrev pub after_node : Program → List (List ℕ) → ℕ → List (List ℕ)

@@ -13,7 +13,7 @@ use std::alloc::Global;
 use std::sync::Arc;
 
 /// Why a program was not taken.
-#[derive(Drop)]
+#[derive(Debug, Drop)]
 pub enum CheckEnd {
     /// The first hazard, and the program itself.
     Refused(Hazard, Shaped),

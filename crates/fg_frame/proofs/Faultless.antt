@@ -7,23 +7,24 @@ use Rattle.std.proofs.lemmas.List.{length-append, length-map, get_or-map, get_or
 use Rattle.std.proofs.Math.Seq.{get_or-append_seam}
 use Rattle.std.proofs.lemmas.List.Elements.{All-map, All-replicate}
 use Rattle.std.proofs.lemmas.List.Folds.{list_any_at}
+use Rattle.fg_base.specs.Bounds.{size_allowed}
 use Rattle.fg_base.specs.Fits.{fits}
 use Rattle.fg_base.specs.InPlace.{in_place}
 use Rattle.fg_base.specs.Operands.{sources_of, destination_of, operands_of, mapped}
 use Rattle.fg_base.specs.Runs.{runs}
 use Rattle.fg_base.specs.Shapes.{shape_at}
+use Rattle.fg_base.specs.Walks.{first_in}
 use Rattle.fg_base.specs.declared.op.Op.{Op}
 use Rattle.fg_base.specs.declared.shape.Family.{Family}
 use Rattle.fg_base.specs.declared.shape.Family.TheVariants.{Graphics}
 use Rattle.fg_base.specs.declared.shape.Shape.{Shape}
-use Rattle.fg_frame.proofs.Known.{all_known, first_none, or_first, or_second, map_none, has_it, not_none, not_false, no_some, position-none, flat_all, exports_within}
+use Rattle.fg_frame.proofs.Known.{no_some, flat_all, exports_within}
+use Rattle.fg_base.proofs.Absence.{all_pass, first_none, or_first, or_second, map_none, has_it, not_none, not_false, position-none}
 use Rattle.fg_frame.proofs.Small.{names_good, then_uses, few_queues, few_units, limits_none, unknown_none, some_layers, length_units, passes_few, sizes_allowed, passes_within, families_are}
 use Rattle.fg_frame.specs.FirstFault.{broken, shapes_of, imports_of, misfit_broken, first_broken}
 use Rattle.fg_frame.specs.Good.{is_import, renews, has_contents, IsGoodOp, IsGoodPass, IsGood}
-use Rattle.fg_frame.specs.Limits.{size_allowed}
 use Rattle.fg_frame.specs.Members.{member_at}
 use Rattle.fg_frame.specs.Numbered.{numbered, numbered_pass, write_each, writes_of, stored_of, uses_of, all_uses, export_units}
-use Rattle.fg_frame.specs.Places.{first_in}
 use Rattle.fg_frame.specs.Units.{Numbering, numbering, units_of, units, Unit, units_from, unit_from}
 use Rattle.fg_frame.specs.Uses.{family_of, writes_it, reads_it, undeclared_at, undeclared_operand, starts_whole, is_partial, not_whole_at, makes, is_there, is_marked, is_missing, unwritten_at, unwritten, import_fits, misfit_import, misfit_at, use_at, first_use}
 use Rattle.fg_frame.specs.declared.frame.Frame.{Frame}
@@ -251,7 +252,7 @@ module _ (frame : Frame) (none : first_broken frame ≡ None) where
         let op = get_or here.ops k e in
         let undeclared = none_at (undeclared_operand here p) here.ops (at_pass rules.Declared 8 (or_first rule_declared from_whole declared_none) p d lt) k e less in
         record {
-          on_queue = λ family is. subst (λ f. runs op f ≡ true) (family_there frame.queues here.queue family is) (all_known (λ o. runs o (family_of frame here.queue)) here.ops (map_none (λ j. at.Op p j) (position (λ o. not (runs o (family_of frame here.queue))) here.ops) (at_pass rules.Runs 7 (or_first rule_runs from_declared all_none) p d lt)) k e less);
+          on_queue = λ family is. subst (λ f. runs op f ≡ true) (family_there frame.queues here.queue family is) (all_pass (λ o. runs o (family_of frame here.queue)) here.ops (map_none (λ j. at.Op p j) (position (λ o. not (runs o (family_of frame here.queue))) here.ops) (at_pass rules.Runs 7 (or_first rule_runs from_declared all_none) p d lt)) k e less);
           declared_sources = declared_sources here p k op undeclared;
           declared_destination = declared_destination here p k op undeclared;
           fitting = has_it (fits (mapped (shape_at shapes) op)) (at.Op p k) (none_at (misfit_at shapes p) here.ops (rule_mapped (use_at rules.Fits frame shapes) (uses_of frame n) frame.passes (or_second (misfit_import frame.resources) (first_use rules.Fits frame shapes uses) misfit_none) p d lt) k e less);
@@ -287,7 +288,7 @@ module _ (frame : Frame) (none : first_broken frame ≡ None) where
     few_passes = subst (λ m. m ≤ 256) (sym (length-map frame.passes (numbered_pass frame n))) (passes_few frame (limits_none frame (names_good frame none)));
     few_units = subst (λ m. m ≤ 256) (sym (length_units frame.resources)) (few_units frame (limits_none frame (names_good frame none)));
     sized = units_all (λ u. size_allowed u.shape ≡ true) (sizes_allowed frame (limits_none frame (names_good frame none)));
-    imports_fit = units_all (λ u. import_fits u.shape u.imported ≡ true) (all_known (λ r. import_fits r.shape r.import) frame.resources (map_none (λ i. at.Import i) (position (λ r. not (import_fits r.shape r.import)) frame.resources) (or_first (misfit_import frame.resources) (first_use rules.Fits frame shapes uses) misfit_none)));
+    imports_fit = units_all (λ u. import_fits u.shape u.imported ≡ true) (all_pass (λ r. import_fits r.shape r.import) frame.resources (map_none (λ i. at.Import i) (position (λ r. not (import_fits r.shape r.import)) frame.resources) (or_first (misfit_import frame.resources) (first_use rules.Fits frame shapes uses) misfit_none)));
     within = passes_within frame (names_good frame none);
     passes_good = good_passes;
     exports_within = subst (λ m. All (λ unit. unit < m) (numbered frame).exports) (sym (length_units frame.resources)) (exports_within frame (some_layers frame (limits_none frame (names_good frame none))) (unknown_none frame (names_good frame none)));

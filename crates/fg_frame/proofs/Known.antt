@@ -3,17 +3,17 @@ use Rattle.std.proofs.Common.{subst, zero, suc, if◌then◌else◌, is_some, ma
 use Rattle.std.specs.List.{position, position_or_len, All, flat_map, range_with_len}
 use Rattle.std.specs.Option.{option_or, option_map, option_map_or, option_and_then, unwrap_or}
 use Rattle.std.specs.Str.{bytes_eq}
-use Rattle.std.proofs.lemmas.Bool.{ltb-false, ltb-true, lt-ltb}
+use Rattle.std.proofs.lemmas.Bool.{ltb-true, lt-ltb}
 use Rattle.std.proofs.lemmas.List.Elements.{All-map, All-append}
 use Rattle.std.proofs.lemmas.List.FromFn.{length-range_with_len, get_or-range_with_len}
-use Rattle.std.proofs.lemmas.List.Sums.{fails_before_first}
 use Rattle.std.proofs.lemmas.Option.{get_or_from_slice_get, slice_get_cases}
+use Rattle.fg_base.proofs.Absence.{or_first, or_second, map_none, first_none, has_it, all_pass}
 use Rattle.fg_base.specs.Operands.{operands_of, mapped}
+use Rattle.fg_base.specs.Walks.{first_in}
 use Rattle.fg_base.specs.declared.op.Op.{Op}
 use Rattle.fg_base.specs.declared.op.Op.TheVariants.{FillBuffer, ClearImage, CopyBuffer, CopyImage, BufferToImage, ImageToBuffer, Ramp, Map, Combine, Select, Convert, Box3, Halve, Histogram, Draw}
 use Rattle.fg_frame.specs.Members.{member_at}
 use Rattle.fg_frame.specs.Numbered.{IsWithin, queue_number, writes_of, write_each, numbered_pass, uses_of, all_uses}
-use Rattle.fg_frame.specs.Places.{first_in}
 use Rattle.fg_frame.specs.Units.{Numbering, numbering, stretches, layers_of, stretch_of, layer_unit, units_in, unit_in, units_of, unit_of}
 use Rattle.fg_frame.specs.Unknowns.{queue_at, has_queue, has_layer, picks_one, is_known, is_known_unit, unknown_at, unknown_operand, unknown_in, unknown}
 use Rattle.fg_frame.specs.declared.frame.Frame.{Frame}
@@ -25,21 +25,6 @@ use Rattle.fg_frame.specs.declared.numbered.Stretch.{Stretch}
 use Rattle.fg_frame.specs.declared.place.Place.{Place}
 use Rattle.fg_frame.specs.declared.place.Place.TheVariants as at
 
--- NOTHING FOUND
-
-pub not_none : {A : Type 0} (b : Bool) (x : A) → cond b (Some x) None ≡ None → b ≡ false
-not_none true x e = absurd cc
-not_none false x e = refl
-
-pub not_false : (b : Bool) → not b ≡ false → b ≡ true
-not_false true e = refl
-not_false false e = absurd cc
-
-pub position-none : {X : Type 0} (p : X → Bool) (xs : List X) (i : ℕ) (x : X) → i < length xs → position p xs ≡ None → p (get_or xs i x) ≡ false
-position-none p xs i x lt none =
-    let le : length xs ≤ position_or_len p xs = ltb-false (position_or_len p xs) (length xs) (not_none (nat_lt (position_or_len p xs) (length xs)) (position_or_len p xs) none) in
-    fails_before_first p xs i x (omega arith)
-
 some_is : (a b : ℕ) → Some a ≡ Some b → a ≡ b
 some_is a b e = ap (λ o. unwrap_or o 0) e
 
@@ -48,36 +33,6 @@ no_some e = cc
 
 none_is : (i : ℕ) → ◌≡◌ {A = Option ℕ} None (Some i) → ⊥
 none_is i e = no_some (ap is_some e)
-
--- where no entry fails the test, each passes
-pub all_known : {X : Type 0} (test : X → Bool) (xs : List X) → position (λ y. not (test y)) xs ≡ None → All (λ y. test y ≡ true) xs
-all_known test xs none = λ i d lt. not_false (test (get_or xs i d)) (position-none (λ y. not (test y)) xs i d lt none)
-
-pub or_first : {A : Type 0} (a b : Option A) → option_or a b ≡ None → a ≡ None
-or_first None b e = refl
-or_first (Some x) b e = absurd cc
-
-pub or_second : {A : Type 0} (a b : Option A) → option_or a b ≡ None → b ≡ None
-or_second None b e = e
-or_second (Some x) b e = absurd cc
-
-pub map_none : {A B : Type 0} (f : A → B) (o : Option A) → option_map f o ≡ None → o ≡ None
-map_none f None e = refl
-map_none f (Some x) e = absurd cc
-
--- a rule that gives nothing over a list gives nothing at each entry
-pub first_none : {X Y : Type 0} (rule : ℕ → X → Option Y) (i : ℕ) (xs : List X) → first_in rule i xs ≡ None → (k : ℕ) (d : X) → k < length xs → rule (i + k) (get_or xs k d) ≡ None
-first_none rule i [] none k d lt = absurd (omega arith)
-first_none rule i (x ∷ xs) none zero d lt =
-    let e : i ≡ i + 0 = omega arith in
-    subst (λ j. rule j x ≡ None) e (or_first (rule i x) (first_in rule (suc i) xs) none)
-first_none rule i (x ∷ xs) none (suc k) d lt =
-    let e : suc i + k ≡ i + suc k = omega arith in
-    subst (λ j. rule j (get_or xs k d) ≡ None) e (first_none rule (suc i) xs (or_second (rule i x) (first_in rule (suc i) xs) none) k d (omega arith))
-
-pub has_it : {A : Type 0} (b : Bool) (x : A) → (if b then None else Some x) ≡ None → b ≡ true
-has_it true x e = refl
-has_it false x e = absurd (no_some (sym (ap is_some e)))
 
 -- QUEUES
 
@@ -170,10 +125,10 @@ flat_all P f [] all = λ i d lt. absurd (omega arith)
 flat_all P f (x ∷ xs) all = All-append P (f x) (flat_map f xs) (all zero x (omega arith)) (flat_all P f xs (λ k d lt. all (suc k) d (omega arith)))
 
 entries_within : (n : Numbering) (count : ℕ) (spots : List Spot) → All (Holds count) n.stretches → position (λ spot. not (is_known n spot)) spots ≡ None → All (λ unit. unit < count) (flat_map (units_of n) spots)
-entries_within n count spots holds none = flat_all (λ unit. unit < count) (units_of n) spots (λ k d lt. units_within n count (get_or spots k d) holds (all_known (is_known n) spots none k d lt))
+entries_within n count spots holds none = flat_all (λ unit. unit < count) (units_of n) spots (λ k d lt. units_within n count (get_or spots k d) holds (all_pass (is_known n) spots none k d lt))
 
 writes_within : (n : Numbering) (count : ℕ) (writes : List (Write Spot)) → All (Holds count) n.stretches → position (λ w. not (is_known n w.what)) writes ≡ None → All (λ w. w.what < count) (flat_map (writes_of n) writes)
-writes_within n count writes holds none = flat_all (λ w. w.what < count) (writes_of n) writes (λ k d lt. All-map (λ w. w.what < count) (write_each (get_or writes k d).fresh) (units_of n (get_or writes k d).what) (units_within n count (get_or writes k d).what holds (all_known (λ w. is_known n w.what) writes none k d lt)))
+writes_within n count writes holds none = flat_all (λ w. w.what < count) (writes_of n) writes (λ k d lt. All-map (λ w. w.what < count) (write_each (get_or writes k d).fresh) (units_of n (get_or writes k d).what) (units_within n count (get_or writes k d).what holds (all_pass (λ w. is_known n w.what) writes none k d lt)))
 
 operands_numbered : {R S : Type 0} (f : R → S) (op : Op R) → map f (operands_of op) ≡ operands_of (mapped f op)
 operands_numbered f (FillBuffer dst offset size word) = refl

@@ -10,4 +10,3 @@ pub mod Sizes
 pub mod Small
 pub mod Spread
 pub mod Stretches
-pub mod Walks

@@ -6,8 +6,8 @@ use Rattle.std.proofs.lemmas.Bool.{eqb-true, eqb-false}
 use Rattle.std.proofs.lemmas.Grind.{get_or-set_at}
 use Rattle.std.proofs.lemmas.List.{get_or-set_other}
 use Rattle.std.proofs.lemmas.List.Folds.{list_any_more}
-use Rattle.fg_frame.proofs.Walks.{first_on}
-use Rattle.fg_frame.specs.Places.{first_in}
+use Rattle.fg_base.proofs.Walks.{first_on}
+use Rattle.fg_base.specs.Walks.{first_in}
 use Rattle.fg_frame.specs.Uses.{makes, is_there, is_marked, is_missing, unwritten_in, unwritten_at}
 use Rattle.fg_frame.specs.declared.frame.Write.{Write}
 use Rattle.fg_frame.specs.declared.numbered.Uses.{Uses}

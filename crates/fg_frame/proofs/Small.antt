@@ -7,18 +7,21 @@ use Rattle.std.proofs.lemmas.List.{length-append, length-map, length-replicate}
 use Rattle.std.proofs.lemmas.List.Elements.{All-map}
 use Rattle.std.proofs.lemmas.List.FromFn.{length-map-range_with_len}
 use Rattle.std.proofs.lemmas.Option.{slice_get_read}
+use Rattle.fg_base.specs.Bounds.{is_between, sides_allowed, size_allowed}
 use Rattle.fg_base.specs.Shapes.{is_buffer}
+use Rattle.fg_base.specs.Walks.{first_in}
 use Rattle.fg_base.specs.declared.limit.Limit.TheVariants as limits
 use Rattle.fg_base.specs.declared.shape.Shape.{Shape}
 use Rattle.fg_bits.specs.declared.sharing.Sharing.{Sharing}
-use Rattle.fg_frame.proofs.Known.{all_known, or_first, or_second, map_none, has_it, uses_within}
+use Rattle.fg_frame.proofs.Known.{uses_within}
+use Rattle.fg_base.proofs.Absence.{all_pass, or_first, or_second, map_none, has_it}
 use Rattle.fg_frame.specs.Clashes.{first_clash}
 use Rattle.fg_frame.specs.FirstFault.{broken, shapes_of, sharings_of, imports_of, name_broken, use_broken, first_broken, first_fault, AllWithin}
-use Rattle.fg_frame.specs.Limits.{over, is_between, layers_allowed, sides_allowed, size_allowed, all_bytes, op_count, rects_over, exported, count_broken, size_broken, limit_broken}
+use Rattle.fg_frame.specs.Limits.{over, layers_allowed, all_bytes, op_count, rects_over, exported, count_broken, size_broken, limit_broken}
 use Rattle.fg_frame.specs.Numbered.{IsWithin, numbered, numbered_pass, uses_of, all_uses, export_units}
 use Rattle.fg_frame.specs.Parts.{parts_of}
 use Rattle.fg_frame.specs.Paths.{told}
-use Rattle.fg_frame.specs.Places.{first_in, first_over}
+use Rattle.fg_frame.specs.Places.{first_over}
 use Rattle.fg_frame.specs.Repeats.{first_repeat, repeats_in, repeated}
 use Rattle.fg_frame.specs.Units.{Numbering, numbering, units_of, layers_of, units, units_from, unit_from, owners, spots_of, layer_spot, unit_spots}
 use Rattle.fg_frame.specs.Unknowns.{unknown}
@@ -109,7 +112,7 @@ module _ (frame : Frame) (none : limit_broken frame ≡ None) where
   total = option_map (λ i. over limits.Total (at.Resource i)) (first_over all_bytes 268435456 0 frame.resources)
 
   pub sizes_allowed : All (λ r. size_allowed r.shape ≡ true) frame.resources
-  sizes_allowed = all_known (λ r. size_allowed r.shape) frame.resources (map_none (λ i. over limits.Size (at.Resource i)) (position (λ r. not (size_allowed r.shape)) frame.resources) (or_first sizes total (or_second sides (option_or sizes total) (or_second (count_broken frame) (size_broken frame.resources) none))))
+  sizes_allowed = all_pass (λ r. size_allowed r.shape) frame.resources (map_none (λ i. over limits.Size (at.Resource i)) (position (λ r. not (size_allowed r.shape)) frame.resources) (or_first sizes total (or_second sides (option_or sizes total) (or_second (count_broken frame) (size_broken frame.resources) none))))
 
   pub few_units : layers_of frame.resources ≤ 256
   few_units = over_none frame.resources 256 0 (map_none (λ i. over limits.Resources at.Resources) (first_over (λ r. r.layers) 256 0 frame.resources) resources_none)
@@ -122,7 +125,7 @@ module _ (frame : Frame) (none : limit_broken frame ≡ None) where
       right false b e = absurd cc
 
   pub some_layers : All (λ r. 0 < r.layers) frame.resources
-  some_layers = λ k d lt. allowed (get_or frame.resources k d) (is_buffer (get_or frame.resources k d).shape) (all_known layers_allowed frame.resources (map_none (λ i. over limits.Layers (at.Resource i)) (position (λ r. not (layers_allowed r)) frame.resources) layers_none) k d lt)
+  some_layers = λ k d lt. allowed (get_or frame.resources k d) (is_buffer (get_or frame.resources k d).shape) (all_pass layers_allowed frame.resources (map_none (λ i. over limits.Layers (at.Resource i)) (position (λ r. not (layers_allowed r)) frame.resources) layers_none) k d lt)
     where
       left : (a b : Bool) → (a && b) ≡ true → a ≡ true
       left true b e = refl

@@ -2,7 +2,7 @@
 use Rattle.std.specs.Prelude.{ℕ, List, take, ◌==◌, ◌&&◌, Bool, true, Option, Some, None, if◌then◌else◌}
 use Rattle.std.specs.List.{list_any}
 use Rattle.std.specs.Str.{bytes_eq}
-use Rattle.fg_frame.specs.Places.{first_in}
+use Rattle.fg_base.specs.Walks.{first_in}
 use Rattle.fg_frame.specs.declared.frame.Spot.{Spot}
 
 -- equal layers, or one of the two stands for all layers

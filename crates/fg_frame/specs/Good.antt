@@ -2,6 +2,7 @@
 use Rattle.std.specs.Prelude.{◌≡◌, ◌<◌, ◌≤◌, ◌==◌, ◌&&◌, ◌||◌, ℕ, List, Bool, true, false, Some, map, take, length, is_some, slice_get, slice_index_or}
 use Rattle.std.specs.List.{All, list_any}
 use Rattle.std.specs.Option.{option_map_or}
+use Rattle.fg_base.specs.Bounds.{size_allowed}
 use Rattle.fg_base.specs.Fits.{fits}
 use Rattle.fg_base.specs.InPlace.{in_place}
 use Rattle.fg_base.specs.Operands.{sources_of, destination_of, mapped}
@@ -10,7 +11,6 @@ use Rattle.fg_base.specs.Shapes.{shape_at}
 use Rattle.fg_base.specs.declared.op.Op.{Op}
 use Rattle.fg_base.specs.declared.shape.Family.{Family}
 use Rattle.fg_base.specs.declared.shape.Shape.{Shape}
-use Rattle.fg_frame.specs.Limits.{size_allowed}
 use Rattle.fg_frame.specs.Numbered.{NumberedFrame, IsWithin}
 use Rattle.fg_frame.specs.Units.{Unit}
 use Rattle.fg_frame.specs.Uses.{reads_it, writes_it, starts_whole, import_fits}

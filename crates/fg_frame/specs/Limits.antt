@@ -1,15 +1,13 @@
 -- What a frame may have at most.
-use Rattle.std.specs.Prelude.{ℕ, suc, List, [], ◌∷◌, ◌==◌, ◌&&◌, ◌*◌, not, nat_le, length, Bool, true, is_some, Option, Some, None, if◌then◌else◌}
+use Rattle.std.specs.Prelude.{ℕ, suc, List, [], ◌∷◌, ◌==◌, ◌*◌, not, nat_le, length, Bool, is_some, Option, Some, None, if◌then◌else◌}
 use Rattle.std.specs.List.{position, find}
 use Rattle.std.specs.Option.{option_or, option_map, option_map_or}
 use Rattle.std.specs.Str.{bytes_eq}
+use Rattle.fg_base.specs.Bounds.{is_between, sides_allowed, size_allowed}
+use Rattle.fg_base.specs.Operands.{rect_count}
 use Rattle.fg_base.specs.Shapes.{bytes_of, is_buffer}
 use Rattle.fg_base.specs.declared.limit.Limit.{Limit}
 use Rattle.fg_base.specs.declared.limit.Limit.TheVariants as limits
-use Rattle.fg_base.specs.declared.op.Op.{Op}
-use Rattle.fg_base.specs.declared.op.Op.TheVariants.{Draw}
-use Rattle.fg_base.specs.declared.shape.Shape.{Shape}
-use Rattle.fg_base.specs.declared.shape.Shape.TheVariants.{Buffer, Image}
 use Rattle.fg_frame.specs.Places.{first_over, room_after}
 use Rattle.fg_frame.specs.declared.frame.Frame.{Frame}
 use Rattle.fg_frame.specs.declared.frame.Pass.{Pass}
@@ -22,31 +20,15 @@ use Rattle.fg_frame.specs.declared.place.Place.TheVariants as at
 abbrev pub over : Limit → Place → Broken
 over limit place = record { number = 4; limit = Some limit; place = place }
 
-abbrev pub is_between : ℕ → ℕ → ℕ → Bool
-is_between least most n = nat_le least n && nat_le n most
-
 -- a buffer has one layer, an image 1 to 8
 abbrev pub layers_allowed : Resource → Bool
 layers_allowed r = if is_buffer r.shape then r.layers == 1 else is_between 1 8 r.layers
-
--- each side of an image has 1 to 4,096 texels
-abbrev pub sides_allowed : Shape → Bool
-sides_allowed (Buffer size) = true
-sides_allowed (Image width height texel) = is_between 1 4096 width && is_between 1 4096 height
-
--- a buffer, or one layer of an image, has 1 to 16 MiB
-abbrev pub size_allowed : Shape → Bool
-size_allowed shape = is_between 1 16777216 (bytes_of shape)
 
 abbrev pub all_bytes : Resource → ℕ
 all_bytes r = r.layers * bytes_of r.shape
 
 abbrev pub op_count : Pass → ℕ
 op_count pass = length pass.ops
-
-abbrev pub rect_count : {R : Type 0} → Op R → ℕ
-rect_count (Draw dst clear rects) = length rects
-rect_count op = 0
 
 -- the first draw with which the rectangles are more than the room
 abbrev pub rects_over : ℕ → ℕ → List Pass → Option Place

@@ -1,7 +1,8 @@
 -- The path of a place.
 use Rattle.std.specs.Prelude.{ℕ, List, [], ◌∷◌, ◌++◌, codes}
+use Rattle.fg_base.specs.Paths.{entry}
 use Rattle.fg_base.specs.declared.path.Leg.{Leg}
-use Rattle.fg_base.specs.declared.path.Leg.TheVariants.{Member, Position}
+use Rattle.fg_base.specs.declared.path.Leg.TheVariants.{Member}
 use Rattle.fg_frame.specs.declared.fault.FrameFault.{FrameFault}
 use Rattle.fg_frame.specs.declared.place.Broken.{Broken}
 use Rattle.fg_frame.specs.declared.place.Operand.{Operand}
@@ -15,10 +16,6 @@ operand_name Mask = codes "mask"
 operand_name A = codes "a"
 operand_name B = codes "b"
 operand_name Dst = codes "dst"
-
--- an entry of a list that is a member
-abbrev pub entry : List ℕ → ℕ → List Leg
-entry list i = Member list ∷ Position i ∷ []
 
 -- a member of operation k of pass p
 abbrev pub in_op : ℕ → ℕ → List ℕ → List Leg

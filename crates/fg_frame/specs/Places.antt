@@ -1,11 +1,5 @@
 -- The first place of a list at which a rule is broken.
 use Rattle.std.specs.Prelude.{ℕ, suc, List, [], ◌∷◌, ◌-◌, nat_lt, Option, Some, None, if◌then◌else◌}
-use Rattle.std.specs.Option.{option_or}
-
--- the first answer that a rule gives at an entry of a list, whose positions begin at i
-abbrev pub first_in : {X Y : Type 0} → (ℕ → X → Option Y) → ℕ → List X → Option Y
-first_in rule i [] = None
-first_in rule i (x ∷ xs) = option_or (rule i x) (first_in rule (suc i) xs)
 
 -- the first entry, the positions beginning at i, with which the sizes together are more than the room
 abbrev pub first_over : {X : Type 0} → (X → ℕ) → ℕ → ℕ → List X → Option ℕ

@@ -3,8 +3,8 @@ use Rattle.std.specs.Prelude.{ℕ, List, take, map, Option, Some, None, if◌the
 use Rattle.std.specs.List.{list_any}
 use Rattle.std.specs.Option.{option_or, option_map}
 use Rattle.std.specs.Str.{bytes_eq}
+use Rattle.fg_base.specs.Walks.{first_in}
 use Rattle.fg_frame.specs.Clashes.{first_clash}
-use Rattle.fg_frame.specs.Places.{first_in}
 use Rattle.fg_frame.specs.declared.frame.Frame.{Frame}
 use Rattle.fg_frame.specs.declared.frame.Pass.{Pass}
 use Rattle.fg_frame.specs.declared.place.Place.{Place}

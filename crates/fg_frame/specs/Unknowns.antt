@@ -4,9 +4,9 @@ use Rattle.std.specs.List.{position}
 use Rattle.std.specs.Option.{option_or, option_map, option_map_or}
 use Rattle.std.specs.Str.{bytes_eq}
 use Rattle.fg_base.specs.Operands.{operands_of}
+use Rattle.fg_base.specs.Walks.{first_in}
 use Rattle.fg_base.specs.declared.op.Op.{Op}
 use Rattle.fg_frame.specs.Members.{member_at}
-use Rattle.fg_frame.specs.Places.{first_in}
 use Rattle.fg_frame.specs.Units.{Numbering, numbering, stretch_of}
 use Rattle.fg_frame.specs.declared.frame.Frame.{Frame}
 use Rattle.fg_frame.specs.declared.frame.Pass.{Pass}

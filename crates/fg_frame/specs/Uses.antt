@@ -4,16 +4,16 @@ use Rattle.std.specs.List.{list_any, position, find}
 use Rattle.std.specs.Option.{option_or, option_map, option_map_or}
 use Rattle.fg_base.specs.Fits.{fits}
 use Rattle.fg_base.specs.InPlace.{in_place}
-use Rattle.fg_base.specs.Operands.{operands_of, destination_of, mapped}
+use Rattle.fg_base.specs.Operands.{operands_of, destination_of, mapped, touches}
 use Rattle.fg_base.specs.Runs.{runs}
 use Rattle.fg_base.specs.Shapes.{shape_at, bytes_of, is_buffer}
+use Rattle.fg_base.specs.Walks.{first_in}
 use Rattle.fg_base.specs.Wholes.{is_whole}
 use Rattle.fg_base.specs.declared.op.Op.{Op}
 use Rattle.fg_base.specs.declared.shape.Family.{Family}
 use Rattle.fg_base.specs.declared.shape.Family.TheVariants.{Graphics}
 use Rattle.fg_base.specs.declared.shape.Shape.{Shape}
 use Rattle.fg_frame.specs.Members.{member_at}
-use Rattle.fg_frame.specs.Places.{first_in}
 use Rattle.fg_frame.specs.declared.frame.Frame.{Frame}
 use Rattle.fg_frame.specs.declared.frame.Resource.{Resource}
 use Rattle.fg_frame.specs.declared.numbered.NumberedPass.{NumberedPass}
@@ -52,9 +52,6 @@ abbrev pub undeclared_in : ℕ → NumberedPass → Option Place
 undeclared_in p pass = first_in (undeclared_operand pass p) 0 pass.ops
 
 -- NEW CONTENTS ARE FIRST STORED WHOLE
-
-abbrev pub touches : ℕ → Op ℕ → Bool
-touches unit op = list_any (λ x. x == unit) (operands_of op)
 
 abbrev pub stores_whole : List Shape → ℕ → Op ℕ → Bool
 stores_whole shapes unit op = destination_of op == unit && is_whole (mapped (shape_at shapes) op)

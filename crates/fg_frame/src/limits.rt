@@ -3,12 +3,14 @@
 ghost use Rattle.std.specs.Prelude.{◌≡◌, ◌≤◌, not, IfOk, IfErr, IfNone, Some, None, length, option_copied};
 ghost use Rattle.std.specs.List.{position, find};
 ghost use Rattle.std.specs.Str.{bytes_eq};
-ghost use Rattle.fg_frame.specs.Limits.{over, layers_allowed, sides_allowed, size_allowed, all_bytes, op_count, rect_count, rects_over, exported, count_broken, size_broken, limit_broken};
+ghost use Rattle.fg_base.specs.Bounds.{sides_allowed, size_allowed};
+ghost use Rattle.fg_frame.specs.Limits.{over, layers_allowed, all_bytes, op_count, rects_over, exported, count_broken, size_broken, limit_broken};
+ghost use Rattle.fg_base.specs.Operands.{rect_count};
 ghost use Rattle.fg_frame.specs.Places.{first_over, room_after};
 
 use crate::place::{Broken, Place};
 use crate::{Frame, Pass, Resource, Spot};
-use fg_base::{Limit, Op, Shape};
+use fg_base::{Limit, Op};
 
 fn over(limit: Limit, place: Place) -> Broken
     ensures { result ≡ over limit place }
@@ -38,30 +40,12 @@ fn wrong_layers(resources: &[Resource]) -> Option<usize>
         .position(|resource| !layers_allowed(resource))
 }
 
-fn sides_allowed(shape: Shape) -> bool
-    ensures { result ≡ sides_allowed shape }
-{
-    match shape {
-        Shape::Buffer { .. } => true,
-        Shape::Image { width, height, .. } => {
-            1 <= width && width <= 4096 && (1 <= height && height <= 4096)
-        }
-    }
-}
-
 fn wrong_sides(resources: &[Resource]) -> Option<usize>
     ensures { result ≡ position (λ r. not (sides_allowed r.shape)) resources.now }
 {
     resources
         .iter()
-        .position(|resource| !sides_allowed(resource.shape))
-}
-
-fn size_allowed(shape: Shape) -> bool
-    ensures { result ≡ size_allowed shape }
-{
-    let bytes = shape.bytes();
-    1 <= bytes && bytes <= 16_777_216
+        .position(|resource| !resource.shape.sides_allowed())
 }
 
 fn wrong_size(resources: &[Resource]) -> Option<usize>
@@ -69,7 +53,7 @@ fn wrong_size(resources: &[Resource]) -> Option<usize>
 {
     resources
         .iter()
-        .position(|resource| !size_allowed(resource.shape))
+        .position(|resource| !resource.shape.size_allowed())
 }
 
 fn units_over(resources: &[Resource]) -> Option<usize>
@@ -98,15 +82,6 @@ fn ops_over(passes: &[Pass]) -> Option<usize>
     None
 }
 
-fn rect_count(op: &Op<Spot>) -> usize
-    ensures { result ≡ rect_count op.now }
-{
-    match op {
-        Op::Draw { rects, .. } => rects.len(),
-        _ => 0,
-    }
-}
-
 // The room that the rectangles leave, or the first draw with which they are more.
 fn rects_in(most: usize, ops: &[Op<Spot>]) -> Result<usize, usize>
     ensures within { IfOk result (λ left. (first_over rect_count most 0 ops.now ≡ None) × (left ≡ room_after rect_count most ops.now)) }
@@ -114,7 +89,7 @@ fn rects_in(most: usize, ops: &[Op<Spot>]) -> Result<usize, usize>
 {
     let mut room = most;
     for (k, op) in ops.iter().enumerate() {
-        let count = rect_count(op);
+        let count = op.rect_count();
         if count > room {
             return Err(k);
         }

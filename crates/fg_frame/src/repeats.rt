@@ -3,8 +3,8 @@
 ghost use Rattle.std.specs.Prelude.{◌≡◌, ◌≤◌, ◌<◌, ◌&&◌, take, map, length, is_some, IfOk, IfErr, None, Some, true};
 ghost use Rattle.std.specs.List.{list_any};
 ghost use Rattle.std.specs.Str.{bytes_eq};
+ghost use Rattle.fg_base.specs.Walks.{first_in};
 ghost use Rattle.fg_frame.specs.Clashes.{clash, clashes_at, first_clash};
-ghost use Rattle.fg_frame.specs.Places.{first_in};
 ghost use Rattle.fg_frame.specs.Repeats.{repeats_at, first_repeat, repeats_in, repeated};
 
 use crate::place::Place;
@@ -14,7 +14,7 @@ use indexmap::IndexSet;
 use std::alloc::Global;
 
 /// The names as a table, or the position of the first that stands before it too.
-#[tactic(auto, using(crate::proofs::Walks::first_on))]
+#[tactic(auto, using(fg_base::proofs::Walks::first_on))]
 pub(crate) fn distinct(
     alloc: Global,
     names: &[Name],
@@ -157,7 +157,7 @@ fn repeats_in(
     }
 }
 
-#[tactic(auto, using(crate::proofs::Walks::first_on))]
+#[tactic(auto, using(fg_base::proofs::Walks::first_on))]
 fn repeats_in_passes(
     alloc: Global,
     names: &[Name],

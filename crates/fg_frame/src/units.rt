@@ -52,7 +52,7 @@ fn resource_sharings(alloc: Global, resources: &[Resource]) -> Result<List<Shari
     Ok(list)
 }
 
-/// Who owns each unit.
+/// Whether queue families share each unit.
 #[tactic(auto, using(crate::proofs::Spread::sharings_spread))]
 pub(crate) fn sharings(alloc: Global, frame: &Frame) -> Result<List<Sharing>, NoMemory>
     ensures { IfOk result (λ list. list ≡ sharings_of frame.now) }

@@ -3,8 +3,8 @@
 ghost use Rattle.std.specs.Prelude.{◌≡◌, ◌<◌, not, if◌then◌else◌, None, Some, IfSome, length};
 ghost use Rattle.std.specs.List.{position};
 ghost use Rattle.fg_base.specs.Operands.{operands_of};
+ghost use Rattle.fg_base.specs.Walks.{first_in};
 ghost use Rattle.fg_frame.specs.Members.{member_at};
-ghost use Rattle.fg_frame.specs.Places.{first_in};
 ghost use Rattle.fg_frame.specs.Unknowns.{queue_at, has_queue, is_known, is_known_unit, unknown_at, unknown_operand, unknown_in, unknown_by};
 
 use crate::members::member_at;
@@ -66,7 +66,7 @@ fn unknown_write(table: &Table, writes: &[Write<Spot>]) -> Option<usize>
     writes.iter().position(|write| !table.is_known(write.what))
 }
 
-#[tactic(auto, using(crate::proofs::Walks::first_on))]
+#[tactic(auto, using(fg_base::proofs::Walks::first_on))]
 fn unknown_op(table: &Table, p: usize, ops: &[Op<Spot>]) -> Option<Place>
     ensures { result ≡ first_in (unknown_operand table.now p) 0 ops.now }
 {
@@ -93,7 +93,7 @@ fn unknown_in(frame: &Frame, table: &Table, p: usize, pass: &Pass) -> Option<Pla
     unknown_op(table, p, &pass.ops)
 }
 
-#[tactic(auto, using(crate::proofs::Walks::first_on))]
+#[tactic(auto, using(fg_base::proofs::Walks::first_on))]
 fn unknown_in_passes(frame: &Frame, table: &Table) -> Option<Place>
     ensures { result ≡ first_in (unknown_in frame.now table.now) 0 frame.now.passes }
 {

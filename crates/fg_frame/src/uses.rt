@@ -7,9 +7,9 @@ ghost use Rattle.fg_base.specs.InPlace.{in_place};
 ghost use Rattle.fg_base.specs.Operands.{operands_of, mapped};
 ghost use Rattle.fg_base.specs.Runs.{runs};
 ghost use Rattle.fg_base.specs.Shapes.{shape_at};
+ghost use Rattle.fg_base.specs.Walks.{first_in};
 ghost use Rattle.fg_frame.specs.Numbered.{IsWithin};
-ghost use Rattle.fg_frame.specs.Places.{first_in};
-ghost use Rattle.fg_frame.specs.Uses.{family_of, stranger_in, writes_it, reads_it, undeclared_at, undeclared_operand, undeclared_in, touches, stores_whole, starts_whole, is_partial, not_whole_at, not_whole_in, import_fits, misfit_import, misfit_at, misfit_in, in_place_in, read_new_in, use_at, first_use};
+ghost use Rattle.fg_frame.specs.Uses.{family_of, stranger_in, writes_it, reads_it, undeclared_at, undeclared_operand, undeclared_in, stores_whole, starts_whole, is_partial, not_whole_at, not_whole_in, import_fits, misfit_import, misfit_at, misfit_in, in_place_in, read_new_in, use_at, first_use};
 
 use crate::members::member_at;
 use crate::numbered::{NumberedPass, Stored, Uses};
@@ -94,7 +94,7 @@ fn undeclared_operand(pass: &NumberedPass, p: usize, k: usize, op: &Op<u32>) -> 
     None
 }
 
-#[tactic(auto, using(crate::proofs::Walks::first_on))]
+#[tactic(auto, using(fg_base::proofs::Walks::first_on))]
 fn undeclared_op(pass: &NumberedPass, p: usize, ops: &[Op<u32>]) -> Option<Place>
     ensures { result ≡ first_in (undeclared_operand pass.now p) 0 ops.now }
 {
@@ -104,17 +104,6 @@ fn undeclared_op(pass: &NumberedPass, p: usize, ops: &[Op<u32>]) -> Option<Place
         }
     }
     None
-}
-
-fn touches(op: &Op<u32>, unit: u32) -> bool
-    ensures { result ≡ touches unit op.now }
-{
-    for j in 0..op.touch_count() {
-        if op.operand(j) == unit {
-            return true;
-        }
-    }
-    false
 }
 
 fn stores_whole(op: &Op<u32>, shapes: &[Shape], unit: u32) -> bool
@@ -130,7 +119,7 @@ fn starts_whole(ops: &[Op<u32>], shapes: &[Shape], unit: u32) -> bool
     ensures { result ≡ starts_whole shapes.now ops.now unit }
 {
     for op in ops {
-        if touches(op, unit) {
+        if op.touches(unit) {
             return stores_whole(op, shapes, unit);
         }
     }
@@ -166,7 +155,7 @@ fn not_whole_at(
     }
 }
 
-#[tactic(auto, using(crate::proofs::Walks::first_on))]
+#[tactic(auto, using(fg_base::proofs::Walks::first_on))]
 fn not_whole(ops: &[Op<u32>], shapes: &[Shape], p: usize, writes: &[Stored]) -> Option<Place>
     requires { All (λ op. All (λ r. r < length shapes.now) (operands_of op)) ops.now }
     ensures { result ≡ first_in (not_whole_at shapes.now ops.now p) 0 writes.now }
@@ -217,7 +206,7 @@ fn misfit_at(shapes: &[Shape], p: usize, k: usize, op: &Op<u32>) -> Option<Place
     }
 }
 
-#[tactic(auto, using(crate::proofs::Walks::first_on))]
+#[tactic(auto, using(fg_base::proofs::Walks::first_on))]
 fn misfit_op(shapes: &[Shape], p: usize, ops: &[Op<u32>]) -> Option<Place>
     requires { All (λ op. All (λ r. r < length shapes.now) (operands_of op)) ops.now }
     ensures { result ≡ first_in (misfit_at shapes.now p) 0 ops.now }
@@ -283,7 +272,7 @@ fn use_at(rule: Rule, frame: &Frame, shapes: &[Shape], p: usize, uses: &Uses) ->
 }
 
 /// The first place in the passes where the rule is broken.
-#[tactic(auto, using(crate::proofs::Walks::first_on))]
+#[tactic(auto, using(fg_base::proofs::Walks::first_on))]
 pub(crate) fn first_use(
     rule: Rule,
     frame: &Frame,

@@ -2,8 +2,8 @@
 
 ghost use Rattle.std.specs.Prelude.{◌≡◌, ◌≤◌, ◌<◌, ◌&&◌, ◌||◌, not, length, true, false, IfOk, IfErr, Some, None, ℕ, ◌==◌};
 ghost use Rattle.std.specs.List.{All, position, list_any};
+ghost use Rattle.fg_base.specs.Walks.{first_in};
 ghost use Rattle.fg_frame.specs.Numbered.{IsWithin};
-ghost use Rattle.fg_frame.specs.Places.{first_in};
 ghost use Rattle.fg_frame.specs.Uses.{makes, is_there, is_marked, is_missing, unwritten_in, unwritten_at, unwritten};
 
 use crate::Write;

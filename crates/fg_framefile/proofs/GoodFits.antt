@@ -5,10 +5,11 @@ use Rattle.std.specs.List.{All, AllByRecursion, position}
 use Rattle.std.specs.Option.{option_or, option_map, option_map_or, option_and_then}
 use Rattle.std.specs.Str.{bytes_eq}
 use Rattle.std.proofs.lemmas.Bool.{false≢true, and_parts, ltb-true, eqb-true}
-use Rattle.hex.specs.Hex.{IsBytes}
+use Rattle.fg_base.specs.Bounds.{is_between, sides_allowed, size_allowed}
 use Rattle.fg_base.specs.Names.{IsName}
 use Rattle.fg_base.specs.Operands.{operands_of}
 use Rattle.fg_base.specs.Shapes.{is_buffer}
+use Rattle.fg_base.specs.Walks.{first_in}
 use Rattle.fg_base.specs.declared.limit.Limit.TheVariants as limits
 use Rattle.fg_base.specs.declared.op.Op.{Op}
 use Rattle.fg_base.specs.declared.op.Op.TheVariants.{FillBuffer, ClearImage, CopyBuffer, CopyImage, BufferToImage, ImageToBuffer, Ramp, Map, Combine, Select, Convert, Box3, Halve, Histogram, Draw}
@@ -16,13 +17,13 @@ use Rattle.fg_base.specs.declared.shape.Shape.{Shape}
 use Rattle.fg_base.specs.declared.shape.Shape.TheVariants.{Buffer, Image}
 use Rattle.fg_forms.proofs.Ranges.{in_range}
 use Rattle.fg_forms.specs.Leaves.{greatest}
-use Rattle.fg_frame.proofs.Known.{all_known, or_first, or_second, map_none, first_none, has_it}
+use Rattle.fg_base.proofs.Absence.{all_pass, or_first, or_second, map_none, first_none, has_it}
 use Rattle.fg_frame.specs.FirstFault.{broken, shapes_of, imports_of, name_broken, misfit_broken, first_broken, first_fault}
-use Rattle.fg_frame.specs.Limits.{over, is_between, layers_allowed, sides_allowed, size_allowed, all_bytes, op_count, rects_over, exported, count_broken, size_broken, limit_broken}
+use Rattle.fg_frame.specs.Limits.{over, layers_allowed, all_bytes, op_count, rects_over, exported, count_broken, size_broken, limit_broken}
 use Rattle.fg_frame.specs.Members.{member_at}
 use Rattle.fg_frame.specs.Numbered.{all_uses, export_units}
 use Rattle.fg_frame.specs.Paths.{told}
-use Rattle.fg_frame.specs.Places.{first_in, first_over}
+use Rattle.fg_frame.specs.Places.{first_over}
 use Rattle.fg_frame.specs.Repeats.{repeated}
 use Rattle.fg_frame.specs.Units.{Numbering, numbering, stretches, stretch_of}
 use Rattle.fg_frame.specs.Unknowns.{has_queue, has_layer, picks_one, is_known, is_known_unit, unknown_at, unknown_operand, unknown_in, unknown}
@@ -37,14 +38,15 @@ use Rattle.fg_frame.specs.declared.place.Broken.{Broken}
 use Rattle.fg_frame.specs.declared.place.Place.{Place}
 use Rattle.fg_frame.specs.declared.place.Place.TheVariants as at
 use Rattle.fg_frame.specs.declared.uses.Rule.TheVariants as rules
-use Rattle.fg_opforms.specs.OpFits.{FitsOp}
-use Rattle.fg_shapeforms.specs.Bodies.{FitsLayers}
 use Rattle.fg_framefile.specs.Frames.{FitsFrame}
 use Rattle.fg_framefile.specs.Passes.{FitsPass}
 use Rattle.fg_framefile.specs.Resources.{FitsImport, FitsResource}
 use Rattle.fg_framefile.specs.Spots.{FitsSpot}
 use Rattle.fg_framefile.specs.Typed.{IsTypedSpot, IsTypedResource, IsTypedWrite, IsTypedOp, IsTypedPass, IsTypedFrame}
 use Rattle.fg_framefile.specs.Writes.{FitsWrite}
+use Rattle.fg_opforms.specs.OpFits.{FitsOp}
+use Rattle.fg_shapeforms.specs.Bodies.{FitsLayers}
+use Rattle.hex.specs.Hex.{IsBytes}
 
 -- RESOURCES
 
@@ -169,8 +171,8 @@ module _ (n : Numbering) (few : (name : List ℕ) → IfSome (stretch_of n name)
       record {
         name = typed.name;
         queue = typed.queue;
-        reads = spots_fit pass.reads (all_known (is_known n) pass.reads (map_none (λ k. at.Read p k) (position (λ spot. not (is_known n spot)) pass.reads) (or_first reads (option_or writes ops) none-1))) typed.reads;
-        writes = writes_fit pass.writes (all_known (λ w. is_known n w.what) pass.writes (map_none (λ k. at.Write p k) (position (λ w. not (is_known n w.what)) pass.writes) (or_first writes ops none-2))) typed.writes;
+        reads = spots_fit pass.reads (all_pass (is_known n) pass.reads (map_none (λ k. at.Read p k) (position (λ spot. not (is_known n spot)) pass.reads) (or_first reads (option_or writes ops) none-1))) typed.reads;
+        writes = writes_fit pass.writes (all_pass (λ w. is_known n w.what) pass.writes (map_none (λ k. at.Write p k) (position (λ w. not (is_known n w.what)) pass.writes) (or_first writes ops none-2))) typed.writes;
         ops = ops_fit p 0 pass.ops (or_second writes ops none-2) typed.ops;
       }
 
@@ -256,19 +258,19 @@ module _ (frame : Frame) (none : first_broken frame ≡ None) where
   fits_none = or_first fits_rule last_rules (or_second contents_rule (option_or fits_rule last_rules) (or_second whole_rule (option_or contents_rule (option_or fits_rule last_rules)) (or_second declared_rule (option_or whole_rule (option_or contents_rule (option_or fits_rule last_rules))) after_runs)))
 
   imports_allowed : All (λ r. import_fits r.shape r.import ≡ true) frame.resources
-  imports_allowed = all_known (λ r. import_fits r.shape r.import) frame.resources (map_none (λ i. at.Import i) (position (λ r. not (import_fits r.shape r.import)) frame.resources) (or_first (misfit_import frame.resources) (first_use rules.Fits frame shapes (all_uses frame)) (map_none (broken 11) (misfit_broken frame shapes (all_uses frame)) fits_none)))
+  imports_allowed = all_pass (λ r. import_fits r.shape r.import) frame.resources (map_none (λ i. at.Import i) (position (λ r. not (import_fits r.shape r.import)) frame.resources) (or_first (misfit_import frame.resources) (first_use rules.Fits frame shapes (all_uses frame)) (map_none (broken 11) (misfit_broken frame shapes (all_uses frame)) fits_none)))
 
   layers_are : All (λ r. layers_allowed r ≡ true) frame.resources
-  layers_are = all_known layers_allowed frame.resources (map_none (λ i. over limits.Layers (at.Resource i)) (position (λ r. not (layers_allowed r)) frame.resources) (or_first layer_limit other_limits (or_first (count_broken frame) (size_broken frame.resources) limits_none)))
+  layers_are = all_pass layers_allowed frame.resources (map_none (λ i. over limits.Layers (at.Resource i)) (position (λ r. not (layers_allowed r)) frame.resources) (or_first layer_limit other_limits (or_first (count_broken frame) (size_broken frame.resources) limits_none)))
 
   sizes_none : size_broken frame.resources ≡ None
   sizes_none = or_second (count_broken frame) (size_broken frame.resources) limits_none
 
   sides_are : All (λ r. sides_allowed r.shape ≡ true) frame.resources
-  sides_are = all_known (λ r. sides_allowed r.shape) frame.resources (map_none (λ i. over limits.Side (at.Resource i)) (position (λ r. not (sides_allowed r.shape)) frame.resources) (or_first side_limit (option_or size_limit total_limit) sizes_none))
+  sides_are = all_pass (λ r. sides_allowed r.shape) frame.resources (map_none (λ i. over limits.Side (at.Resource i)) (position (λ r. not (sides_allowed r.shape)) frame.resources) (or_first side_limit (option_or size_limit total_limit) sizes_none))
 
   sizes_are : All (λ r. size_allowed r.shape ≡ true) frame.resources
-  sizes_are = all_known (λ r. size_allowed r.shape) frame.resources (map_none (λ i. over limits.Size (at.Resource i)) (position (λ r. not (size_allowed r.shape)) frame.resources) (or_first size_limit total_limit (or_second side_limit (option_or size_limit total_limit) sizes_none)))
+  sizes_are = all_pass (λ r. size_allowed r.shape) frame.resources (map_none (λ i. over limits.Size (at.Resource i)) (position (λ r. not (size_allowed r.shape)) frame.resources) (or_first size_limit total_limit (or_second side_limit (option_or size_limit total_limit) sizes_none)))
 
   fits_by : IsTypedFrame frame → FitsFrame frame
   fits_by typed =
@@ -281,7 +283,7 @@ module _ (frame : Frame) (none : first_broken frame ≡ None) where
         queues = typed.queues;
         resources = resources;
         passes = passes_fit n few frame 0 frame.passes (or_first passes exports unknown_none) typed.passes;
-        exports = spots_fit n few frame.exports (all_known (is_known n) frame.exports (map_none (λ i. at.Export i) (position (λ spot. not (is_known n spot)) frame.exports) (or_second passes exports unknown_none))) typed.exports;
+        exports = spots_fit n few frame.exports (all_pass (is_known n) frame.exports (map_none (λ i. at.Export i) (position (λ spot. not (is_known n spot)) frame.exports) (or_second passes exports unknown_none))) typed.exports;
       }
 
 pub good_fits : (frame : Frame) → first_fault frame ≡ None → IsTypedFrame frame → FitsFrame frame

@@ -5,7 +5,8 @@ use Rattle.fg_forms.specs.Leaves.{name_at, text_at, text_data, same_bytes}
 use Rattle.fg_forms.specs.Parts.{Reader, object_at, member_at, others_at, members_in}
 use Rattle.fg_forms.specs.Reading.{◌>>=◌}
 use Rattle.fg_frame.specs.declared.frame.QueueDecl.{QueueDecl}
-use Rattle.fg_shapeforms.specs.Families.{family_of, family_text}
+use Rattle.fg_shapeforms.specs.Families.{family_of}
+use Rattle.fg_base.specs.Families.{family_name}
 use Rattle.serde_json.specs.Data.{Data, object}
 
 unfoldable pub queue_at : Reader QueueDecl
@@ -18,7 +19,7 @@ queue_at at d = do
 
 abbrev pub queue_data : QueueDecl → Data
 queue_data queue = object (members_in (
-    (codes "family", text_data family_text queue.family) ∷
+    (codes "family", text_data family_name queue.family) ∷
     (codes "name", text_data same_bytes queue.name) ∷
     []))
 

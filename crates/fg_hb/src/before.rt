@@ -15,8 +15,7 @@ use fg_subs::Shaped;
 use std::alloc::Global;
 use std::marker::Model;
 
-/// What happens before what: the least transitive relation that holds the direct edges. It has one bit for each two
-/// nodes.
+/// What happens before what: the pairs of nodes that a path of direct edges joins. It has one bit for each two nodes.
 #[derive(Debug, Drop)]
 pub struct Before {
     // Over the places of an order, in which each edge goes forward.

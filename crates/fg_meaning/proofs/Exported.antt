@@ -4,16 +4,17 @@ use Rattle.std.specs.List.{All, list_any, find}
 use Rattle.std.specs.Option.{option_map_or}
 use Rattle.std.proofs.lemmas.Bool.{eqb-true}
 use Rattle.std.proofs.lemmas.List.Folds.{Any-from_list_any, list_any-from_Any}
-use Rattle.fg_base.specs.Operands.{destination_of, mapped}
+use Rattle.fg_base.specs.Applied.{bytes_at}
+use Rattle.fg_base.specs.Operands.{destination_of, mapped, touches}
 use Rattle.fg_base.specs.Shapes.{shape_at}
 use Rattle.fg_base.specs.Wholes.{is_whole}
 use Rattle.fg_base.specs.declared.op.Op.{Op}
 use Rattle.fg_base.specs.declared.shape.Shape.{Shape}
 use Rattle.fg_frame.specs.Good.{IsGood, IsGoodPass, is_import, renews, shapes_in}
 use Rattle.fg_frame.specs.Numbered.{NumberedFrame}
-use Rattle.fg_frame.specs.Uses.{touches, stores_whole, starts_whole}
+use Rattle.fg_frame.specs.Uses.{stores_whole, starts_whole}
 use Rattle.fg_frame.specs.declared.numbered.NumberedPass.{NumberedPass}
-use Rattle.fg_meaning.specs.Meaning.{stores_to, has_picture, meaning, bytes_at, all_bytes}
+use Rattle.fg_meaning.specs.Meaning.{stores_to, has_picture, meaning, all_bytes}
 
 pub and_left : (a b : Bool) → (a && b) ≡ true → a ≡ true
 and_left true b e = refl

@@ -5,13 +5,14 @@ use Rattle.std.proofs.lemmas.Bool.Decides.{eqb_tells}
 use Rattle.std.proofs.lemmas.List.{length-map, length-set, get_or-set_same, get_or-set_other, ext_get_or, get_or_read}
 use Rattle.std.proofs.lemmas.List.Elements.{All-head, All-tail}
 use Rattle.std.proofs.lemmas.List.FromFn.{length-map-range_with_len, get_or-map-range_with_len}
+use Rattle.fg_base.specs.Applied.{bytes_at}
 use Rattle.fg_base.specs.Operands.{destination_of}
 use Rattle.fg_base.specs.declared.op.Op.{Op}
 use Rattle.fg_frame.specs.Good.{is_import}
 use Rattle.fg_frame.specs.Numbered.{NumberedFrame}
 use Rattle.fg_frame.specs.Units.{Unit}
 use Rattle.fg_frame.specs.declared.numbered.NumberedPass.{NumberedPass}
-use Rattle.fg_meaning.specs.Meaning.{bytes_at, all_bytes, stores_to, meaning}
+use Rattle.fg_meaning.specs.Meaning.{all_bytes, stores_to, meaning}
 use Rattle.fg_meaning.specs.Stored.{marked_by, marked, AreMarked, chosen}
 
 or_false : (a : Bool) → (a || false) ≡ a

@@ -6,13 +6,14 @@ use Rattle.std.proofs.lemmas.List.{drop_all}
 use Rattle.std.proofs.lemmas.List.Concat.{flat_map-cons}
 use Rattle.std.proofs.lemmas.List.Folds.{list_any-append}
 use Rattle.std.proofs.lemmas.Option.{slice_get_cases}
+use Rattle.fg_base.specs.Applied.{after_op}
+use Rattle.fg_base.specs.Operands.{touches}
 use Rattle.fg_base.specs.declared.op.Op.{Op}
 use Rattle.fg_base.specs.declared.shape.Shape.{Shape}
-use Rattle.fg_frame.specs.Uses.{touches}
 use Rattle.fg_frame.specs.declared.numbered.NumberedPass.{NumberedPass}
 use Rattle.fg_meaning.proofs.Lists.{item_first}
 use Rattle.fg_meaning.specs.Held.{ops_at, all_ops, ops_from}
-use Rattle.fg_meaning.specs.Meaning.{after_op, after_ops, after_passes}
+use Rattle.fg_meaning.specs.Meaning.{after_ops, after_passes}
 
 module _ (passes : List NumberedPass) (p : ℕ) where
   pub ops_are : (ops : List (Op ℕ)) → p < length passes → IfSome (slice_get passes p) (λ x. ops ≡ x.ops) → ops ≡ ops_at passes p

@@ -6,7 +6,7 @@ use Rattle.std.proofs.lemmas.List.{length-set, length-append, get_or-set_same, g
 use Rattle.std.proofs.Math.Seq.{get_or-append_seam, take-append_seam}
 use Rattle.std.proofs.lemmas.List.Elements.{All-head, All-tail}
 use Rattle.std.proofs.lemmas.List.Folds.{list_any_at}
-use Rattle.fg_base.specs.Applied.{applied}
+use Rattle.fg_base.specs.Applied.{applied, bytes_at, after_op}
 use Rattle.fg_base.specs.InPlace.{in_place}
 use Rattle.fg_base.specs.Operands.{sources_of, destination_of, operands_of, mapped}
 use Rattle.fg_base.specs.Shapes.{bytes_of, shape_at}
@@ -14,7 +14,6 @@ use Rattle.fg_base.specs.declared.op.Op.{Op}
 use Rattle.fg_base.specs.declared.op.Op.TheVariants.{FillBuffer, ClearImage, CopyBuffer, CopyImage, BufferToImage, ImageToBuffer, Ramp, Map, Combine, Select, Convert, Box3, Halve, Histogram, Draw}
 use Rattle.fg_base.specs.declared.op.Rect.{Rect}
 use Rattle.fg_base.specs.declared.shape.Shape.{Shape}
-use Rattle.fg_meaning.specs.Meaning.{bytes_at, after_op}
 use Rattle.fg_meaning.specs.Sizes.{AreSized}
 use Rattle.fg_pixels.specs.Sources.{source_bytes, is_draw}
 

@@ -5,6 +5,7 @@ use Rattle.std.proofs.lemmas.Bool.{eqb-true}
 use Rattle.std.proofs.lemmas.List.{length-map, length-replicate, drop_all}
 use Rattle.std.proofs.lemmas.List.Elements.{All-head, All-tail}
 use Rattle.std.proofs.lemmas.Option.{slice_get_cases}
+use Rattle.fg_base.specs.Applied.{bytes_at}
 use Rattle.fg_base.specs.Fits.{fits}
 use Rattle.fg_base.specs.InPlace.{in_place}
 use Rattle.fg_base.specs.Operands.{destination_of, operands_of, mapped}
@@ -16,10 +17,10 @@ use Rattle.fg_frame.specs.Numbered.{NumberedFrame, IsWithin}
 use Rattle.fg_frame.specs.Units.{Unit}
 use Rattle.fg_frame.specs.Uses.{import_fits}
 use Rattle.fg_frame.specs.declared.numbered.NumberedPass.{NumberedPass}
-use Rattle.fg_meaning.specs.Meaning.{bytes_at, first_bytes, after_ops, after_passes, all_bytes}
-use Rattle.fg_meaning.specs.Sizes.{AreSized, IsRunnable}
-use Rattle.fg_meaning.proofs.Runs.{destination_within}
 use Rattle.fg_meaning.proofs.Marks.{marked_by-length, are_marked}
+use Rattle.fg_meaning.proofs.Runs.{destination_within}
+use Rattle.fg_meaning.specs.Meaning.{first_bytes, after_ops, after_passes, all_bytes}
+use Rattle.fg_meaning.specs.Sizes.{AreSized, IsRunnable}
 use Rattle.fg_meaning.specs.Stored.{marked_by, marked, AreMarked}
 
 -- the pass that is looked up, with the rest of the passes

@@ -2,13 +2,14 @@
 use Rattle.std.specs.Prelude.{◌≡◌, ◌<◌, ◌+◌, ◌==◌, ◌||◌, ◌++◌, ◌⊎◌, ℕ, List, [], ◌∷◌, Bool, true, drop, map, length, slice_get, slice_set, if◌then◌else◌}
 use Rattle.std.specs.List.{list_any, flat_map}
 use Rattle.std.specs.Option.{option_map_or}
+use Rattle.fg_base.specs.Applied.{bytes_at}
+use Rattle.fg_base.specs.Operands.{touches}
 use Rattle.fg_base.specs.declared.op.Op.{Op}
 use Rattle.fg_frame.specs.Good.{shapes_in}
 use Rattle.fg_frame.specs.Numbered.{NumberedFrame}
 use Rattle.fg_frame.specs.Units.{Unit}
-use Rattle.fg_frame.specs.Uses.{touches}
 use Rattle.fg_frame.specs.declared.numbered.NumberedPass.{NumberedPass}
-use Rattle.fg_meaning.specs.Meaning.{bytes_at, first_bytes, after_ops, all_bytes}
+use Rattle.fg_meaning.specs.Meaning.{first_bytes, after_ops, all_bytes}
 use Rattle.fg_meaning.specs.Sizes.{AreSized}
 
 -- WHAT IS STILL TO RUN

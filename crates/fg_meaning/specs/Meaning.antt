@@ -1,8 +1,8 @@
 -- What a frame means: all operations of all passes one after another, each unit having bytes of its own.
-use Rattle.std.specs.Prelude.{ℕ, List, [], ◌∷◌, ◌==◌, ◌||◌, map, replicate, Bool, Option, Some, None, unwrap_or, slice_index_or, slice_set, if◌then◌else◌}
+use Rattle.std.specs.Prelude.{ℕ, List, [], ◌∷◌, ◌==◌, ◌||◌, map, replicate, Bool, Option, Some, None, unwrap_or, if◌then◌else◌}
 use Rattle.std.specs.List.{list_any}
-use Rattle.fg_base.specs.Applied.{applied}
-use Rattle.fg_base.specs.Operands.{sources_of, destination_of}
+use Rattle.fg_base.specs.Applied.{bytes_at, after_op}
+use Rattle.fg_base.specs.Operands.{destination_of}
 use Rattle.fg_base.specs.Shapes.{bytes_of}
 use Rattle.fg_base.specs.declared.op.Op.{Op}
 use Rattle.fg_base.specs.declared.shape.Shape.{Shape}
@@ -13,15 +13,9 @@ use Rattle.fg_frame.specs.declared.numbered.NumberedPass.{NumberedPass}
 
 -- THE BYTES OF ALL UNITS
 
-abbrev pub bytes_at : List (List ℕ) → ℕ → List ℕ
-bytes_at bytes unit = slice_index_or bytes unit []
-
 -- before the first pass: imports, and zeros, of which nothing is left by the operation that first stores to a unit
 abbrev pub first_bytes : Unit → List ℕ
 first_bytes u = unwrap_or u.imported (replicate (bytes_of u.shape) 0)
-
-abbrev pub after_op : List Shape → List (List ℕ) → Op ℕ → List (List ℕ)
-after_op shapes bytes op = slice_set bytes (destination_of op) (applied shapes op (map (bytes_at bytes) (sources_of op)) (bytes_at bytes (destination_of op)))
 
 abbrev pub after_ops : List Shape → List (List ℕ) → List (Op ℕ) → List (List ℕ)
 after_ops shapes bytes [] = bytes

@@ -1,13 +1,13 @@
 -- Bytes of the lengths of their units, and operations that run on them.
 use Rattle.std.specs.Prelude.{◌≡◌, ◌<◌, ℕ, List, true, false, length}
 use Rattle.std.specs.List.{All}
+use Rattle.fg_base.specs.Applied.{bytes_at}
 use Rattle.fg_base.specs.Fits.{fits}
 use Rattle.fg_base.specs.InPlace.{in_place}
 use Rattle.fg_base.specs.Operands.{operands_of, mapped}
 use Rattle.fg_base.specs.Shapes.{bytes_of, shape_at}
 use Rattle.fg_base.specs.declared.op.Op.{Op}
 use Rattle.fg_base.specs.declared.shape.Shape.{Shape}
-use Rattle.fg_meaning.specs.Meaning.{bytes_at}
 
 pub record AreSized (shapes : List Shape) (bytes : List (List ℕ)) : Type 0 where
   pub count : length bytes ≡ length shapes

@@ -2,14 +2,14 @@
 
 ghost use Rattle.std.specs.Prelude.{◌≡◌, ◌<◌, ◌+◌, true, false, [], map, replicate, length, IfOk, IfSome, slice_get, slice_set, slice_index_or};
 ghost use Rattle.std.specs.List.{All};
-ghost use Rattle.fg_base.specs.Applied.{applied};
+ghost use Rattle.fg_base.specs.Applied.{applied, bytes_at, after_op};
 ghost use Rattle.fg_base.specs.Fits.{fits};
 ghost use Rattle.fg_base.specs.InPlace.{in_place};
 ghost use Rattle.fg_base.specs.Operands.{sources_of, destination_of, operands_of, mapped};
 ghost use Rattle.fg_base.specs.Shapes.{bytes_of, shape_at};
 ghost use Rattle.fg_frame.specs.Good.{shapes_in};
 ghost use Rattle.fg_frame.specs.Numbered.{numbered};
-ghost use Rattle.fg_meaning.specs.Meaning.{bytes_at, first_bytes, after_op, after_ops};
+ghost use Rattle.fg_meaning.specs.Meaning.{first_bytes, after_ops};
 ghost use Rattle.fg_meaning.specs.Sizes.{AreSized, IsRunnable};
 
 use crate::spare::{Spare, zeros};

@@ -57,7 +57,7 @@ fn all_bytes(alloc: Global, frame: &GoodFrame) -> Result<Bytes, NoMemory>
     Ok(bytes)
 }
 
-/// All operations of all passes in declared order, each unit having bytes of its own.
+/// What is left in each unit when the passes run in turn, as declared, and no two units share memory.
 pub fn meaning(alloc: Global, frame: &GoodFrame) -> Result<Pictures, NoMemory>
     ensures pictures { IfOk result (λ pictures. pictures ≡ map (meaning (numbered frame.now)) (range_with_len 0 (length (numbered frame.now).units))) }
     // What is exported has contents.

@@ -2,8 +2,8 @@
 
 ghost use Rattle.std.specs.Prelude.{◌≡◌, ◌<◌, ◌≤◌, ◌+◌, ◌==◌, drop, length};
 ghost use Rattle.std.specs.List.{list_any};
+ghost use Rattle.fg_base.specs.Operands.{touches};
 ghost use Rattle.fg_frame.specs.Numbered.{numbered};
-ghost use Rattle.fg_frame.specs.Uses.{touches};
 ghost use Rattle.fg_meaning.specs.Held.{all_ops, is_wanted, ops_at, ops_from};
 
 use crate::ops::ops_of;
@@ -11,22 +11,11 @@ use crate::rules::rules;
 use fg_base::Op;
 use fg_frame::GoodFrame;
 
-fn touches(op: &Op<u32>, unit: u32) -> bool
-    ensures { result ≡ touches unit op.now }
-{
-    for j in 0..op.touch_count() {
-        if op.operand(j) == unit {
-            return true;
-        }
-    }
-    false
-}
-
 // Whether one of these operations names a unit.
 fn is_touched(ops: &[Op<u32>], unit: u32) -> bool
     ensures { result ≡ list_any (touches unit) ops.now }
 {
-    ops.iter().any(|op| touches(op, unit))
+    ops.iter().any(|op| op.touches(unit))
 }
 
 // Whether an operation of the passes from `first` on names a unit.

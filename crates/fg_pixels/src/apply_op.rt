@@ -8,9 +8,8 @@ ghost use Rattle.fg_base.specs.Shapes.{bytes_of, shape_at};
 ghost use Rattle.fg_pixels.specs.Sources.{source_bytes, is_draw};
 
 use crate::repainting::Area;
-use crate::shapes::shape_at;
 use crate::{transfers, whole};
-use fg_base::{Op, Shape};
+use fg_base::{Op, Shape, shape_at};
 
 /// What an operation other than a draw leaves in `out`, which holds the destination's old bytes. The sources' bytes are
 /// given in the order of the fields, and the empty slice where there is no such source.

@@ -1,7 +1,6 @@
 //! Shapes as the grids that kernels work on.
 
-ghost use Rattle.std.specs.Prelude.{◌≡◌, ◌<◌, length};
-ghost use Rattle.fg_base.specs.Shapes.{shape_at};
+ghost use Rattle.std.specs.Prelude.{◌≡◌};
 ghost use Rattle.fg_base.specs.Texels.{canvas_of};
 
 use fg_base::{Grid, Shape, Texel};
@@ -26,11 +25,4 @@ pub fn canvas(shape: Shape) -> Grid
             texel,
         },
     }
-}
-
-pub(crate) fn shape_at(shapes: &[Shape], n: u32) -> Shape
-    requires { n < length shapes.now }
-    ensures { result ≡ shape_at shapes.now n }
-{
-    shapes[n as usize]
 }

@@ -2,16 +2,11 @@
 use Rattle.std.specs.Prelude.{ℕ, List, ◌++◌, Option, codes}
 use Rattle.std.specs.Fmt.{decimal}
 use Rattle.std.specs.Option.{option_map_or}
+use Rattle.fg_base.specs.Families.{family_name}
 use Rattle.fg_base.specs.declared.shape.Family.{Family}
-use Rattle.fg_base.specs.declared.shape.Family.TheVariants.{Graphics, Compute, Transfer}
 use Rattle.fg_bits.specs.Layouts.{layout_name}
 use Rattle.fg_view.specs.declared.hazard.Hazard.{Hazard}
 use Rattle.fg_view.specs.declared.hazard.Hazard.TheVariants.{Stuck, Unordered, NotAvailable, NotVisible, BadLayout, BadOwner, Unmatched, Undefined, Aliased}
-
-abbrev pub family_name : Family → List ℕ
-family_name Graphics = codes "graphics"
-family_name Compute = codes "compute"
-family_name Transfer = codes "transfer"
 
 abbrev pub owner_name : Option Family → List ℕ
 owner_name owner = option_map_or family_name owner (codes "none")

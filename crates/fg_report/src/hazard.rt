@@ -1,28 +1,18 @@
 //! What `check` answers.
 
 ghost use Rattle.std.specs.Prelude.{◌≡◌, ◌++◌, OnOk, IfOk};
-ghost use Rattle.fg_report.specs.Hazards.{family_name, owner_name, field, number_field, two_numbers, hazard_number, hazard_fields, hazard_text, check_text};
+ghost use Rattle.fg_report.specs.Hazards.{owner_name, field, number_field, two_numbers, hazard_number, hazard_fields, hazard_text, check_text};
 
 use fg_base::{Family, List, NoMemory, Text};
 use fg_lines::Lines;
 use fg_view::Hazard;
 use std::alloc::Global;
 
-fn family_name(family: Family) -> &'static [u8]
-    ensures { result.now ≡ family_name family }
-{
-    match family {
-        Family::Graphics => b"graphics",
-        Family::Compute => b"compute",
-        Family::Transfer => b"transfer",
-    }
-}
-
 fn owner_name(owner: Option<Family>) -> &'static [u8]
     ensures { result.now ≡ owner_name owner }
 {
     match owner {
-        Some(family) => family_name(family),
+        Some(family) => family.name().as_bytes(),
         None => b"none",
     }
 }
@@ -104,7 +94,13 @@ fn add_fields(text: &mut Text, hazard: &Hazard) -> Result<(), NoMemory>
             piece,
             found,
             wanted,
-        } => add_mismatch(text, node, piece, owner_name(found), family_name(wanted)),
+        } => add_mismatch(
+            text,
+            node,
+            piece,
+            owner_name(found),
+            wanted.name().as_bytes(),
+        ),
         Hazard::Unmatched { node } => add_number(text, node),
         Hazard::Undefined { node, piece } => add_numbers(text, node, piece),
         Hazard::Aliased { node, piece, other } => {

@@ -8,7 +8,8 @@ use Rattle.fg_base.specs.declared.shape.Texel.{Texel}
 use Rattle.fg_forms.proofs.Again.{text_again}
 use Rattle.fg_forms.specs.Leaves.{text_at, text_data}
 use Rattle.fg_shapeforms.specs.Families as families
-use Rattle.fg_shapeforms.specs.Families.{family_of, family_text}
+use Rattle.fg_shapeforms.specs.Families.{family_of}
+use Rattle.fg_base.specs.Families.{family_name}
 use Rattle.fg_shapeforms.specs.Hexadecimal.{hex_at, hex_data}
 use Rattle.fg_shapeforms.specs.Texels as texels
 use Rattle.fg_shapeforms.specs.Texels.{texel_of, texel_text}
@@ -16,8 +17,8 @@ use Rattle.fg_shapeforms.specs.Texels.{texel_of, texel_text}
 pub bytes_again : (at : List Leg) (bytes : List ℕ) → IsBytes bytes → hex_at at (hex_data bytes) ≡ Ok bytes
 bytes_again at bytes fits = rw (decode_of-encode_lower bytes fits) refl
 
-pub family_again : (at : List Leg) (family : Family) → text_at family_of at (text_data family_text family) ≡ Ok family
-family_again at family = text_again family_of family_text at family (families.family_again family tt)
+pub family_again : (at : List Leg) (family : Family) → text_at family_of at (text_data family_name family) ≡ Ok family
+family_again at family = text_again family_of family_name at family (families.family_again family tt)
 
 pub texel_again : (at : List Leg) (texel : Texel) → text_at texel_of at (text_data texel_text texel) ≡ Ok texel
 texel_again at texel = text_again texel_of texel_text at texel (texels.texel_again texel tt)

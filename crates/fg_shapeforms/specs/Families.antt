@@ -1,6 +1,7 @@
 -- The words of families.
 use Rattle.std.specs.Prelude.{◌≡◌, refl, ℕ, List, Option, Some, None, if◌then◌else◌, codes, ⊤}
 use Rattle.std.specs.Str.{bytes_eq}
+use Rattle.fg_base.specs.Families.{family_name}
 use Rattle.fg_base.specs.declared.shape.Family.{Family}
 use Rattle.fg_base.specs.declared.shape.Family.TheVariants.{Graphics, Compute, Transfer}
 
@@ -11,12 +12,7 @@ family_of s =
     if bytes_eq s (codes "transfer") then Some Transfer else
     None
 
-abbrev pub family_text : Family → List ℕ
-family_text Graphics = codes "graphics"
-family_text Compute = codes "compute"
-family_text Transfer = codes "transfer"
-
-pub family_again : (family : Family) → ⊤ → family_of (family_text family) ≡ Some family
+pub family_again : (family : Family) → ⊤ → family_of (family_name family) ≡ Some family
 family_again Graphics fits = refl
 family_again Compute fits = refl
 family_again Transfer fits = refl

@@ -1,4 +1,4 @@
--- Who owns a resource: `sharing`, in format 2 alone.
+-- Whether queue families share a resource: `sharing`, in format 2 alone.
 use Rattle.std.specs.Prelude.{◌≡◌, refl, ℕ, ◌==◌, List, Option, Some, None, Ok, unwrap_or, if◌then◌else◌, codes, ⊤}
 use Rattle.std.specs.Str.{bytes_eq}
 use Rattle.fg_bits.specs.declared.sharing.Sharing.{Sharing}

@@ -1,7 +1,8 @@
 //! The families of queues in a file.
 
 ghost use Rattle.std.specs.Prelude.{◌≡◌, ⊤};
-ghost use Rattle.fg_shapeforms.specs.Families.{family_of, family_text, family_again};
+ghost use Rattle.fg_base.specs.Families.{family_name};
+ghost use Rattle.fg_shapeforms.specs.Families.{family_of, family_again};
 
 use fg_base::Family;
 use fg_forms::Word;
@@ -14,7 +15,7 @@ impl Word for FamilyWord {
 
     ghost value_of = { family_of };
 
-    ghost text_of = { family_text };
+    ghost text_of = { family_name };
 
     ghost Fits = { λ _. ⊤ };
 
@@ -33,10 +34,6 @@ impl Word for FamilyWord {
     }
 
     fn text(family: &Family) -> &str {
-        match family {
-            Family::Graphics => "graphics",
-            Family::Compute => "compute",
-            Family::Transfer => "transfer",
-        }
+        family.name()
     }
 }

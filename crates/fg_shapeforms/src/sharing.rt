@@ -1,4 +1,4 @@
-//! Who owns a resource, in a file.
+//! Whether queue families share a resource, in a file.
 
 ghost use Rattle.std.specs.Prelude.{◌≡◌, ⊤};
 ghost use Rattle.fg_forms.specs.Places.{legs};

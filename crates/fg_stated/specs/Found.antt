@@ -53,7 +53,7 @@ owner_left (Acquire handover) family = family
 abbrev pub on_queue : View → ℕ → Act → Bool
 on_queue V p a = (a.access.piece == p) && not (is_host (node_at V.nodes a.node).kind)
 
--- the family of the first access of the piece that is no host read
+-- whose piece it is by first use: the family of the first access that is not the host's
 abbrev pub first_owner : View → List Act → ℕ → Option Family
 first_owner V acts p = option_map_or (λ a. family_at V a.node) (find (on_queue V p) acts) None
 

@@ -5,6 +5,7 @@ use Rattle.std.specs.List.{All, AllByRecursion}
 use Rattle.std.specs.Int.RustNames.{bit_and, bit_or}
 use Rattle.std.proofs.lemmas.Bool.{and_parts}
 use Rattle.std.proofs.lemmas.List.Elements.{All-head, All-tail}
+use Rattle.fg_base.specs.Bounds.{is_between, sides_allowed, size_allowed}
 use Rattle.fg_base.specs.declared.shape.Family.{Family}
 use Rattle.fg_base.specs.declared.shape.Family.TheVariants.{Graphics, Compute, Transfer}
 use Rattle.fg_base.specs.declared.shape.Shape.{Shape}
@@ -18,15 +19,24 @@ use Rattle.fg_bits.specs.declared.masks.Masks.{Masks}
 use Rattle.fg_forms.proofs.Ranges.{in_range}
 use Rattle.fg_forms.specs.Leaves.{greatest}
 use Rattle.fg_shapeforms.specs.Bodies.{FitsLayers}
-use Rattle.fg_subs.proofs.Absence.{map_none}
+use Rattle.fg_subfile.proofs.Bits.{and_zero, has_union, has_part}
+use Rattle.fg_subfile.specs.BarrierMasks.{FitsMasks}
+use Rattle.fg_subfile.specs.Batches.{FitsBatch, FitsQueue}
+use Rattle.fg_subfile.specs.Items.{FitsItem}
+use Rattle.fg_subfile.specs.Masks.{known, IsNamed}
+use Rattle.fg_subfile.specs.Pieces.{FitsPiece}
+use Rattle.fg_subfile.specs.Programs.{FitsProgram}
+use Rattle.fg_subfile.specs.Timelines.{FitsWait, FitsSignal}
+use Rattle.fg_subfile.specs.Typed.{IsTypedPiece, IsTypedWait, IsTypedItem, IsTypedBatch, IsTypedQueue, IsTypedProgram}
+use Rattle.fg_base.proofs.Absence.{map_none}
 use Rattle.fg_subs.proofs.Few.{is_small}
 use Rattle.fg_subs.proofs.Keeping.{keeps}
 use Rattle.fg_subs.specs.Barriers.{both_supported, both_on_family, on_queue}
 use Rattle.fg_subs.specs.FirstFault.{first_broken, first_fault}
 use Rattle.fg_subs.specs.Kept.{BatchKeeps, BatchAt}
-use Rattle.fg_subs.specs.Limits.{is_between, sides_allowed, size_allowed}
 use Rattle.fg_subs.specs.Paths.{told}
 use Rattle.fg_subs.specs.Ranges.{family_number}
+use Rattle.fg_subs.specs.Rules.{wait_keeps, item_keeps, signal_keeps, shapes_of}
 use Rattle.fg_subs.specs.Timelines.{highest}
 use Rattle.fg_subs.specs.declared.program.Batch.{Batch}
 use Rattle.fg_subs.specs.declared.program.Item.{Item}
@@ -37,16 +47,6 @@ use Rattle.fg_subs.specs.declared.program.Queue.{Queue}
 use Rattle.fg_subs.specs.declared.program.Signal.{Signal}
 use Rattle.fg_subs.specs.declared.program.WaitFor.{WaitFor}
 use Rattle.fg_subs.specs.declared.rule.Rule.TheVariants as rules
-use Rattle.fg_subs.specs.Rules.{wait_keeps, item_keeps, signal_keeps, shapes_of}
-use Rattle.fg_subfile.specs.BarrierMasks.{FitsMasks}
-use Rattle.fg_subfile.specs.Batches.{FitsBatch, FitsQueue}
-use Rattle.fg_subfile.specs.Items.{FitsItem}
-use Rattle.fg_subfile.specs.Masks.{known, IsNamed}
-use Rattle.fg_subfile.specs.Pieces.{FitsPiece}
-use Rattle.fg_subfile.specs.Programs.{FitsProgram}
-use Rattle.fg_subfile.specs.Timelines.{FitsWait, FitsSignal}
-use Rattle.fg_subfile.specs.Typed.{IsTypedPiece, IsTypedWait, IsTypedItem, IsTypedBatch, IsTypedQueue, IsTypedProgram}
-use Rattle.fg_subfile.proofs.Bits.{and_zero, has_union, has_part}
 
 -- LISTS
 

@@ -4,7 +4,8 @@ use Rattle.std.specs.List.{AllByRecursion}
 use Rattle.fg_forms.specs.Leaves.{text_at, text_data}
 use Rattle.fg_forms.specs.Parts.{Reader, object_at, member_at, optional_at, list_at, others_at, array_of, members_in}
 use Rattle.fg_forms.specs.Reading.{◌>>=◌}
-use Rattle.fg_shapeforms.specs.Families.{family_of, family_text}
+use Rattle.fg_shapeforms.specs.Families.{family_of}
+use Rattle.fg_base.specs.Families.{family_name}
 use Rattle.fg_subs.specs.declared.program.Batch.{Batch}
 use Rattle.fg_subs.specs.declared.program.Queue.{Queue}
 use Rattle.fg_subs.specs.declared.program.Signal.{Signal}
@@ -50,7 +51,7 @@ queue_at at d = do
 abbrev pub queue_data : Queue → Data
 queue_data queue = object (members_in (
     (codes "batches", array_of batch_data queue.batches) ∷
-    (codes "family", text_data family_text queue.family) ∷
+    (codes "family", text_data family_name queue.family) ∷
     []))
 
 -- what the format says of a queue

@@ -6,7 +6,8 @@ use Rattle.fg_bits.specs.declared.layout.Layouts.{Layouts}
 use Rattle.fg_forms.specs.Leaves.{whole_at, text_at, text_data, FitsWhole}
 use Rattle.fg_forms.specs.Parts.{Reader, member_at, others_at}
 use Rattle.fg_forms.specs.Reading.{◌>>=◌}
-use Rattle.fg_shapeforms.specs.Families.{family_of, family_text}
+use Rattle.fg_shapeforms.specs.Families.{family_of}
+use Rattle.fg_base.specs.Families.{family_name}
 use Rattle.fg_subs.specs.declared.program.Transfer as transfers
 use Rattle.serde_json.specs.Data.{Data, object, Members, put}
 use Rattle.serde_json.specs.Find.{get}
@@ -44,7 +45,7 @@ with_layouts None members = members
 with_layouts (Some layouts) members = put (codes "to") (text_data layout_name layouts.to) (put (codes "from") (text_data layout_name layouts.from) members)
 
 abbrev pub with_families : Family → Family → Members → Members
-with_families from to members = put (codes "to_family") (text_data family_text to) (put (codes "from_family") (text_data family_text from) members)
+with_families from to members = put (codes "to_family") (text_data family_name to) (put (codes "from_family") (text_data family_name from) members)
 
 -- `item` is the word of this half; members stand in the byte order of their names
 abbrev pub transfer_data : List ℕ → transfers.Transfer → Data

@@ -3,11 +3,12 @@ use Rattle.std.proofs.Common.{◌≡◌, ◌≤◌, ◌+◌, ◌-◌, ℕ, suc, 
 use Rattle.std.specs.List.{position}
 use Rattle.std.specs.Option.{option_or, option_map}
 use Rattle.std.proofs.lemmas.Bool.{leb-true, ltb-false, and_parts}
+use Rattle.fg_base.specs.Bounds.{is_between, sides_allowed, size_allowed}
 use Rattle.fg_base.specs.declared.limit.Limit.TheVariants as limits
-use Rattle.fg_subs.proofs.Absence.{or_first, or_second, map_none, has_it, all_pass}
+use Rattle.fg_base.proofs.Absence.{or_first, or_second, map_none, has_it, all_pass}
 use Rattle.fg_subs.specs.FirstFault.{first_broken, rules_broken}
 use Rattle.fg_subs.specs.Kept.{IsSmall}
-use Rattle.fg_subs.specs.Limits.{over, is_between, sides_allowed, size_allowed, memory_bytes, all_bytes, spend_memory, rects_over, bytes_over, count_broken, size_broken, limit_broken}
+use Rattle.fg_subs.specs.Limits.{over, memory_bytes, all_bytes, spend_memory, rects_over, bytes_over, count_broken, size_broken, limit_broken}
 use Rattle.fg_subs.specs.Nodes.{nodes_of}
 use Rattle.fg_subs.specs.Places.{go_on, spend_in, not_lasting}
 use Rattle.fg_subs.specs.Rules.{shapes_of}

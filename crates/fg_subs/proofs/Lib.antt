@@ -1,4 +1,3 @@
-pub mod Absence
 pub mod Counting
 pub mod Few
 pub mod Growing
@@ -6,5 +5,4 @@ pub mod Keeping
 pub mod Peaks
 pub mod Spending
 pub mod Standing
-pub mod Walks
 pub mod Within

@@ -1,7 +1,8 @@
 -- What a program that breaks no rule keeps.
 use Rattle.std.specs.Prelude.{◌≡◌, ◌≤◌, ℕ, List, length, slice_get, take, true, Some, IfSome}
 use Rattle.std.specs.List.{All}
-use Rattle.fg_subs.specs.Limits.{sides_allowed, size_allowed, all_bytes}
+use Rattle.fg_base.specs.Bounds.{sides_allowed, size_allowed}
+use Rattle.fg_subs.specs.Limits.{all_bytes}
 use Rattle.fg_subs.specs.Nodes.{nodes_of}
 use Rattle.fg_subs.specs.Rules.{piece_keeps, wait_keeps, item_keeps, signal_keeps, readback_keeps, shapes_of}
 use Rattle.fg_subs.specs.Timelines.{highest}

@@ -1,14 +1,11 @@
 -- What a program may have at most.
-use Rattle.std.specs.Prelude.{ℕ, List, [], ◌∷◌, ◌+◌, length, ◌-◌, ◌&&◌, nat_le, nat_lt, not, Bool, true, Option, Some, None, Ok, Err, if◌then◌else◌}
+use Rattle.std.specs.Prelude.{ℕ, List, [], ◌∷◌, ◌+◌, length, ◌-◌, nat_le, nat_lt, not, Option, Some, None, Ok, Err, if◌then◌else◌}
 use Rattle.std.specs.List.{position}
 use Rattle.std.specs.Option.{option_or, option_map}
-use Rattle.fg_base.specs.Shapes.{bytes_of}
+use Rattle.fg_base.specs.Bounds.{is_between, sides_allowed, size_allowed}
+use Rattle.fg_base.specs.Operands.{rect_count}
 use Rattle.fg_base.specs.declared.limit.Limit.{Limit}
 use Rattle.fg_base.specs.declared.limit.Limit.TheVariants as limits
-use Rattle.fg_base.specs.declared.op.Op.{Op}
-use Rattle.fg_base.specs.declared.op.Op.TheVariants.{Draw}
-use Rattle.fg_base.specs.declared.shape.Shape.{Shape}
-use Rattle.fg_base.specs.declared.shape.Shape.TheVariants.{Buffer, Image}
 use Rattle.fg_subs.specs.Nodes.{nodes_of}
 use Rattle.fg_subs.specs.Places.{Left, spend_in, not_lasting}
 use Rattle.fg_subs.specs.declared.place.Broken.{Broken}
@@ -26,18 +23,6 @@ use Rattle.fg_subs.specs.declared.program.Queue.{Queue}
 abbrev pub over : Limit → Place → Broken
 over limit place = record { number = 1; limit = Some limit; place = place }
 
-abbrev pub is_between : ℕ → ℕ → ℕ → Bool
-is_between least most n = nat_le least n && nat_le n most
-
--- each side of an image has 1 to 4,096 texels
-abbrev pub sides_allowed : Shape → Bool
-sides_allowed (Buffer size) = true
-sides_allowed (Image width height texel) = is_between 1 4096 width && is_between 1 4096 height
-
--- a piece has 1 to 16 MiB
-abbrev pub size_allowed : Shape → Bool
-size_allowed shape = is_between 1 16777216 (bytes_of shape)
-
 abbrev pub memory_bytes : Memory → ℕ
 memory_bytes (Plain size) = size
 memory_bytes (Import bytes) = length bytes
@@ -46,10 +31,6 @@ memory_bytes (Import bytes) = length bytes
 abbrev pub all_bytes : List Memory → ℕ
 all_bytes [] = 0
 all_bytes (memory ∷ memories) = memory_bytes memory + all_bytes memories
-
-abbrev pub rect_count : {R : Type 0} → Op R → ℕ
-rect_count (Draw dst clear rects) = length rects
-rect_count op = 0
 
 abbrev pub rects_of : Item → ℕ
 rects_of (Command op) = rect_count op

@@ -1,15 +1,12 @@
 -- The path of a place.
 use Rattle.std.specs.Prelude.{ℕ, List, [], ◌∷◌, ◌++◌, codes}
+use Rattle.fg_base.specs.Paths.{entry}
 use Rattle.fg_base.specs.declared.path.Leg.{Leg}
-use Rattle.fg_base.specs.declared.path.Leg.TheVariants.{Member, Position}
+use Rattle.fg_base.specs.declared.path.Leg.TheVariants.{Member}
 use Rattle.fg_subs.specs.declared.fault.SubFault.{SubFault}
 use Rattle.fg_subs.specs.declared.place.Broken.{Broken}
 use Rattle.fg_subs.specs.declared.place.Place.{Place}
 use Rattle.fg_subs.specs.declared.place.Place.TheVariants as at
-
--- an entry of a list that is a member
-abbrev pub entry : List ℕ → ℕ → List Leg
-entry list i = Member list ∷ Position i ∷ []
 
 abbrev pub in_batch : ℕ → ℕ → List Leg
 in_batch q b = entry (codes "queues") q ++ entry (codes "batches") b

@@ -1,5 +1,5 @@
 -- Pieces are in their memories, and what is submitted fits the pieces. A sentence that needs an unknown number is not applied.
-use Rattle.std.specs.Prelude.{ℕ, List, [], ◌+◌, ◌%◌, ◌==◌, ◌&&◌, nat_le, nat_lt, length, map, not, Bool, true, false, slice_get, Option, Some, None, if◌then◌else◌}
+use Rattle.std.specs.Prelude.{ℕ, List, ◌+◌, ◌%◌, ◌==◌, ◌&&◌, nat_le, nat_lt, length, not, Bool, true, slice_get, Option, Some, None, if◌then◌else◌}
 use Rattle.std.specs.List.{list_all}
 use Rattle.std.specs.Option.{option_map_or}
 use Rattle.fg_base.specs.Fits.{fits}
@@ -10,8 +10,7 @@ use Rattle.fg_base.specs.declared.op.Op.{Op}
 use Rattle.fg_base.specs.declared.shape.Family.{Family}
 use Rattle.fg_base.specs.declared.shape.Family.TheVariants.{Graphics, Compute, Transfer}
 use Rattle.fg_base.specs.declared.shape.Shape.{Shape}
-use Rattle.fg_bits.specs.declared.layout.Layout.{Layout}
-use Rattle.fg_bits.specs.declared.layout.Layout.TheVariants.{Undefined}
+use Rattle.fg_bits.specs.Layouts.{is_undefined}
 use Rattle.fg_bits.specs.declared.layout.Layouts.{Layouts}
 use Rattle.fg_subs.specs.Limits.{memory_bytes}
 use Rattle.fg_subs.specs.declared.program.Item.{Item}
@@ -24,10 +23,6 @@ abbrev pub family_number : Family → ℕ
 family_number Graphics = 0
 family_number Compute = 1
 family_number Transfer = 2
-
-abbrev pub is_undefined : Layout → Bool
-is_undefined Undefined = true
-is_undefined layout = false
 
 -- at a multiple of 256, and inside the memory
 abbrev pub lies_in : Piece → Memory → Bool

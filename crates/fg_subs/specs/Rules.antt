@@ -4,12 +4,12 @@ use Rattle.std.specs.List.{position}
 use Rattle.std.specs.Option.{option_or, option_map}
 use Rattle.fg_base.specs.Runs.{runs}
 use Rattle.fg_base.specs.Shapes.{is_buffer}
+use Rattle.fg_base.specs.Walks.{first_in}
 use Rattle.fg_base.specs.declared.op.Op.{Op}
 use Rattle.fg_base.specs.declared.shape.Family.{Family}
 use Rattle.fg_base.specs.declared.shape.Shape.{Shape}
 use Rattle.fg_subs.specs.Barriers.{masks_are, has_stages, both_have_stages, nothing_ignored, both_supported, both_on_family, on_queue}
 use Rattle.fg_subs.specs.Numbers.{has_piece, item_known}
-use Rattle.fg_subs.specs.Places.{first_in}
 use Rattle.fg_subs.specs.Ranges.{piece_in_range, item_in_range, is_so}
 use Rattle.fg_subs.specs.Timelines.{highest}
 use Rattle.fg_subs.specs.declared.place.Place.{Place}

@@ -1,4 +1,4 @@
-//! Programs: submissions to queues that nobody here wrote, and what can be wrong with them.
+//! Programs: what is submitted to queues, and what can be wrong with it.
 #![tactic(auto)]
 
 mod barriers;
@@ -16,6 +16,7 @@ mod walk;
 
 pub use fault::SubFault;
 pub use fg_base::{Limit, Path};
+pub use fg_bits::{Layout, Layouts, Masks};
 pub use nodes::NodeAt;
 pub use program::{Batch, Item, Memory, Piece, Program, Queue, Signal, Transfer, WaitFor};
 pub use shaped::{ShapeEnd, Shaped, shape};

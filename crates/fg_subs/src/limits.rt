@@ -2,15 +2,17 @@
 
 ghost use Rattle.std.specs.Prelude.{◌≡◌, ◌+◌, ◌<◌, not, nat_le, IfSome, IfNone, length};
 ghost use Rattle.std.specs.List.{position};
+ghost use Rattle.fg_base.specs.Bounds.{sides_allowed, size_allowed};
 ghost use Rattle.fg_subs.specs.Counts.{batch_count, batches_count, queues_count};
-ghost use Rattle.fg_subs.specs.Limits.{over, sides_allowed, size_allowed, rect_count, rects_of, spend_item, spend_batch, spend_queue, spend_memory, rects_over, bytes_over, count_broken, size_broken, limit_broken};
+ghost use Rattle.fg_subs.specs.Limits.{over, rects_of, spend_item, spend_batch, spend_queue, spend_memory, rects_over, bytes_over, count_broken, size_broken, limit_broken};
+ghost use Rattle.fg_base.specs.Operands.{rect_count};
 ghost use Rattle.fg_subs.specs.Nodes.{nodes_of};
 ghost use Rattle.fg_subs.specs.Places.{spend_in};
 
 use crate::place::{Broken, Place};
 use crate::range::memory_bytes;
 use crate::{Batch, Item, Memory, Piece, Program, Queue};
-use fg_base::{Limit, Op, Shape};
+use fg_base::Limit;
 
 fn over(limit: Limit, place: Place) -> Broken
     ensures { result ≡ over limit place }
@@ -22,50 +24,23 @@ fn over(limit: Limit, place: Place) -> Broken
     }
 }
 
-fn sides_allowed(shape: Shape) -> bool
-    ensures { result ≡ sides_allowed shape }
-{
-    match shape {
-        Shape::Buffer { .. } => true,
-        Shape::Image { width, height, .. } => {
-            1 <= width && width <= 4096 && (1 <= height && height <= 4096)
-        }
-    }
-}
-
 fn wrong_sides(pieces: &[Piece]) -> Option<usize>
     ensures { result ≡ position (λ piece. not (sides_allowed piece.shape)) pieces.now }
 {
-    pieces.iter().position(|piece| !sides_allowed(piece.shape))
-}
-
-fn size_allowed(shape: Shape) -> bool
-    ensures { result ≡ size_allowed shape }
-{
-    let bytes = shape.bytes();
-    1 <= bytes && bytes <= 16_777_216
+    pieces.iter().position(|piece| !piece.shape.sides_allowed())
 }
 
 fn wrong_size(pieces: &[Piece]) -> Option<usize>
     ensures { result ≡ position (λ piece. not (size_allowed piece.shape)) pieces.now }
 {
-    pieces.iter().position(|piece| !size_allowed(piece.shape))
-}
-
-fn rect_count(op: &Op<u32>) -> usize
-    ensures { result ≡ rect_count op.now }
-{
-    match op {
-        Op::Draw { rects, .. } => rects.len(),
-        _ => 0,
-    }
+    pieces.iter().position(|piece| !piece.shape.size_allowed())
 }
 
 fn rects_of(item: &Item) -> usize
     ensures { result ≡ rects_of item.now }
 {
     match item {
-        Item::Command(op) => rect_count(op),
+        Item::Command(op) => op.rect_count(),
         _ => 0,
     }
 }

@@ -1,6 +1,7 @@
 //! A program: memories, pieces of them, queues with what is submitted to them, and what is read back.
 
 ghost use Rattle.std.specs.Prelude.{◌≡◌, IfOk};
+ghost use Rattle.fg_subs.specs.Rules.{shapes_of};
 
 use fg_base::{Family, List, NoMemory, Op, Shape};
 use fg_bits::{Layouts, Masks, Sharing, Stages};
@@ -187,6 +188,18 @@ fn copy_queues(alloc: Global, queues: &List<Queue>) -> Result<List<Queue>, NoMem
 }
 
 impl Program {
+    /// The shape of each piece.
+    pub fn shapes(&self, alloc: Global) -> Result<List<Shape>, NoMemory>
+        ensures { IfOk result (λ shapes. shapes ≡ shapes_of self.now) }
+    {
+        let pieces = self.pieces.as_slice();
+        let mut shapes = List::new(alloc);
+        for piece in pieces {
+            shapes.push(piece.shape)?;
+        }
+        Ok(shapes)
+    }
+
     /// An equal program.
     pub fn copy(&self, alloc: Global) -> Result<Program, NoMemory>
         ensures { IfOk result (λ program. program ≡ self.now) }

@@ -5,11 +5,11 @@ ghost use Rattle.std.specs.List.{All, list_all};
 ghost use Rattle.fg_base.specs.Operands.{operands_of};
 ghost use Rattle.fg_base.specs.Shapes.{is_buffer, is_image};
 ghost use Rattle.fg_subs.specs.Limits.{memory_bytes};
-ghost use Rattle.fg_subs.specs.Ranges.{family_number, is_undefined, lies_in, piece_in_range, is_so, has_operands, op_in_range, layouts_defined, layouts_stand, transfer_in_range, item_in_range};
+ghost use Rattle.fg_subs.specs.Ranges.{family_number, lies_in, piece_in_range, is_so, has_operands, op_in_range, layouts_defined, layouts_stand, transfer_in_range, item_in_range};
 
 use crate::{Item, Memory, Piece, Transfer};
 use fg_base::{Family, Op, Shape, op_fits, op_in_place, op_within};
-use fg_bits::{Layout, Layouts};
+use fg_bits::Layouts;
 
 /// Graphics is 0, compute 1 and transfer 2.
 pub(crate) fn family_number(family: Family) -> u32
@@ -19,15 +19,6 @@ pub(crate) fn family_number(family: Family) -> u32
         Family::Graphics => 0,
         Family::Compute => 1,
         Family::Transfer => 2,
-    }
-}
-
-fn is_undefined(layout: Layout) -> bool
-    ensures { result ≡ is_undefined layout }
-{
-    match layout {
-        Layout::Undefined => true,
-        _ => false,
     }
 }
 
@@ -112,7 +103,7 @@ fn layouts_defined(layouts: Option<Layouts>) -> bool
 {
     match layouts {
         None => true,
-        Some(layouts) => !is_undefined(layouts.from) && !is_undefined(layouts.to),
+        Some(layouts) => !layouts.from.is_undefined() && !layouts.to.is_undefined(),
     }
 }
 
@@ -143,7 +134,7 @@ pub(crate) fn item_in_range(shapes: &[Shape], family: Family, item: &Item) -> bo
         Item::Global(_) => true,
         Item::BufferBarrier(piece, _) => is_buffer(shapes, *piece),
         Item::ImageBarrier(piece, layouts, _) => {
-            is_image(shapes, *piece) && !is_undefined(layouts.to)
+            is_image(shapes, *piece) && !layouts.to.is_undefined()
         }
         Item::Release(transfer) => {
             transfer_in_range(shapes, family, transfer.from_family, transfer)

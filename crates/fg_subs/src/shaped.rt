@@ -13,7 +13,7 @@ use crate::path::told;
 use crate::place::{Broken, Place};
 use crate::rule::Rule;
 use crate::walk::broken_at;
-use crate::{NodeAt, Piece, Program, SubFault};
+use crate::{NodeAt, Program, SubFault};
 use fg_base::{List, NoMemory, Shape};
 use std::alloc::Global;
 use std::marker::Model;
@@ -106,16 +106,6 @@ fn rules_broken(program: &Program, shapes: &[Shape]) -> Option<Broken>
     use_broken(program, shapes)
 }
 
-fn shapes_of(alloc: Global, pieces: &[Piece]) -> Result<List<Shape>, NoMemory>
-    ensures { IfOk result (λ shapes. shapes ≡ map (λ piece. piece.shape) pieces.now) }
-{
-    let mut shapes = List::new(alloc);
-    for piece in pieces {
-        shapes.push(piece.shape)?;
-    }
-    Ok(shapes)
-}
-
 // The limits come first, so that the shapes are few.
 fn first_broken(alloc: Global, program: &Program) -> Result<Option<Broken>, NoMemory>
     ensures { IfOk result (λ found. found ≡ first_broken program.now) }
@@ -123,7 +113,7 @@ fn first_broken(alloc: Global, program: &Program) -> Result<Option<Broken>, NoMe
     if let Some(broken) = limit_broken(program) {
         return Ok(Some(broken));
     }
-    let shapes = shapes_of(alloc, &program.pieces)?;
+    let shapes = program.shapes(alloc)?;
     Ok(rules_broken(program, &shapes))
 }
 

@@ -2,7 +2,7 @@
 
 ghost use Rattle.std.specs.Prelude.{◌≡◌, length, take, not};
 ghost use Rattle.std.specs.List.{position};
-ghost use Rattle.fg_subs.specs.Places.{first_in};
+ghost use Rattle.fg_base.specs.Walks.{first_in};
 ghost use Rattle.fg_subs.specs.Rules.{piece_keeps, wait_keeps, item_runs, item_keeps, signal_keeps, readback_keeps, signal_place, batch_place, next_place, queue_place, broken_at};
 ghost use Rattle.fg_subs.specs.Timelines.{value_of, highest};
 
@@ -193,7 +193,7 @@ fn queue_place(test: Test, q: usize, queue: &Queue) -> Option<Place>
     in_batches(test, queue.family, q, &queue.batches)
 }
 
-#[tactic(auto, using(crate::proofs::Walks::first_on))]
+#[tactic(auto, using(fg_base::proofs::Walks::first_on))]
 fn in_queues(test: Test, queues: &[Queue]) -> Option<Place>
     ensures { result ≡ first_in (queue_place test.entry.rule test.entry.count test.entry.shapes.now) 0 queues.now }
 {

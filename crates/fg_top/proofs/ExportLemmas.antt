@@ -1,8 +1,9 @@
 -- Exports, one after another.
 use Rattle.std.proofs.Common.{◌≡◌, ℕ, suc, ◌+◌, ◌<◌, ◌++◌, List, [], length, get_or, drop, Some, sym, ap, ◌∙◌, ◌∷◌, add-one, drop-cons, append_assoc, unwrap_or}
+use Rattle.fg_base.specs.Applied.{bytes_at}
 use Rattle.fg_frame.specs.Numbered.{numbered}
 use Rattle.fg_frame.specs.declared.frame.Frame.{Frame}
-use Rattle.fg_meaning.specs.Meaning.{bytes_at, meaning}
+use Rattle.fg_meaning.specs.Meaning.{meaning}
 use Rattle.fg_report.specs.Exports.{export_text}
 use Rattle.fg_top.specs.Texts.{exports_from}
 

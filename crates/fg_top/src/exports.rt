@@ -2,8 +2,9 @@
 
 ghost use Rattle.std.specs.Prelude.{◌≡◌, ◌<◌, ◌≤◌, ◌++◌, true, Some, OnOk, is_some, length};
 ghost use Rattle.std.specs.List.{All};
+ghost use Rattle.fg_base.specs.Applied.{bytes_at};
 ghost use Rattle.fg_frame.specs.Numbered.{numbered};
-ghost use Rattle.fg_meaning.specs.Meaning.{bytes_at, meaning};
+ghost use Rattle.fg_meaning.specs.Meaning.{meaning};
 ghost use Rattle.fg_top.specs.Texts.{exports_from};
 
 use fg_base::{NoMemory, Text};

@@ -61,9 +61,8 @@ fn roots(alloc: Global, frame: &GoodFrame, versions: &Versions) -> Result<List<b
     Ok(roots)
 }
 
-/// The passes from which a pass with a side effect or the writer of an exported last version is reached, by steps
-/// from the writer of a version to a pass that reads or changes it. The work grows with the number of reads and
-/// writes.
+/// The passes that count: those with a side effect, those that make what is exported, and all whose work, from pass to
+/// pass, goes into one of these. The work grows with the number of reads and writes.
 pub fn cull(alloc: Global, frame: &GoodFrame, versions: &Versions) -> Result<Kept, NoMemory>
     requires { versions.now ≡ numbers_of (numbered frame.now) }
     ensures { IfOk result (λ kept. AreKept (numbered frame.now) kept) }

@@ -12,8 +12,8 @@ use fg_frame::GoodFrame;
 use std::alloc::Global;
 use std::marker::Model;
 
-/// Each declared write makes the next version of each unit that it names; an import has version 0 by itself. A pass
-/// reads or changes the latest version before it.
+/// A unit gets a version more with each write that is declared for it, and an import has one, 0, before all passes. What
+/// a pass reads or changes is the last one that was there before it.
 #[derive(Drop)]
 pub struct Versions {
     makers: Makers,

@@ -13,7 +13,7 @@ use Rattle.fg_hb.specs.declared.kind.Kind.{Kind}
 use Rattle.fg_hb.specs.declared.kind.Kind.TheVariants as kinds
 use Rattle.fg_hb.specs.declared.node.Node.{Node}
 use Rattle.fg_subs.specs.Numbers.{item_known}
-use Rattle.fg_subs.specs.Ranges.{is_undefined}
+use Rattle.fg_bits.specs.Layouts.{is_undefined}
 use Rattle.fg_subs.specs.declared.program.Item.{Item}
 use Rattle.fg_subs.specs.declared.program.Item.TheVariants.{Command, Global, BufferBarrier, ImageBarrier, Release, Acquire}
 use Rattle.fg_subs.specs.declared.program.Signal.{Signal}

@@ -11,12 +11,11 @@ use Rattle.fg_base.specs.declared.shape.Shape.{Shape}
 use Rattle.fg_base.specs.declared.touch.Touch.{Touch}
 use Rattle.fg_bits.specs.Accesses.{memory_read, memory_write}
 use Rattle.fg_bits.specs.Agents.{agents}
-use Rattle.fg_bits.specs.Layouts.{layout_number}
+use Rattle.fg_bits.specs.Layouts.{layout_number, is_undefined}
 use Rattle.fg_bits.specs.declared.layout.Layout.{Layout}
 use Rattle.fg_bits.specs.declared.layout.Layouts.{Layouts}
 use Rattle.fg_bits.specs.declared.masks.Masks.{Masks}
 use Rattle.fg_hb.specs.Nodes.{role_stage}
-use Rattle.fg_subs.specs.Ranges.{is_undefined}
 use Rattle.fg_subs.specs.declared.nodes.NodeAt.{NodeAt}
 use Rattle.fg_subs.specs.declared.nodes.NodeAt.TheVariants as at
 use Rattle.fg_subs.specs.declared.program.Batch.{Batch}

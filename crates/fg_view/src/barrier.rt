@@ -2,30 +2,20 @@
 
 ghost use Rattle.std.specs.Prelude.{◌≡◌, [], option_to_list, IfOk};
 ghost use Rattle.std.specs.Option.{option_map_or};
-ghost use Rattle.fg_subs.specs.Ranges.{is_undefined};
 ghost use Rattle.fg_view.specs.Uses.{access, kept_through, turned_by, handover_of, acquire_accesses};
 ghost use Rattle.fg_view.specs.declared.access.Deed.TheVariants as deeds;
 
 use crate::command::push_some;
 use crate::{Access, Deed, Handover};
 use fg_base::{List, NoMemory};
-use fg_bits::{Layout, Layouts};
+use fg_bits::Layouts;
 use fg_subs::Transfer;
 use std::alloc::Global;
-
-fn is_undefined(layout: Layout) -> bool
-    ensures { result ≡ is_undefined layout }
-{
-    match layout {
-        Layout::Undefined => true,
-        _ => false,
-    }
-}
 
 fn kept_through(piece: u32, layouts: Layouts) -> Option<Access>
     ensures { option_to_list result ≡ kept_through piece layouts }
 {
-    if is_undefined(layouts.from) || layouts.from.number() == layouts.to.number() {
+    if layouts.from.is_undefined() || layouts.from.number() == layouts.to.number() {
         None
     } else {
         Some(Access {
@@ -39,7 +29,7 @@ fn kept_through(piece: u32, layouts: Layouts) -> Option<Access>
 pub(crate) fn turned_by(piece: u32, layouts: Layouts) -> Option<Access>
     ensures { option_to_list result ≡ turned_by piece layouts }
 {
-    if is_undefined(layouts.from) {
+    if layouts.from.is_undefined() {
         Some(Access {
             piece,
             deed: Deed::Discard(layouts.to),

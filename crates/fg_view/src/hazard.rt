@@ -3,8 +3,7 @@
 use fg_base::Family;
 use fg_bits::Layout;
 
-/// What a program does that no order of its nodes allows, or that depends on caches. Nodes, pieces and queues are named by
-/// their numbers.
+/// What keeps a program from being sound. Nodes, pieces and queues are named by their numbers.
 #[derive(Clone, Copy, Debug, PartialEq, Eq)]
 pub enum Hazard {
     /// H1: no queue can go on. The lowest queue that has a node left, and its next node.
@@ -45,7 +44,7 @@ pub enum Hazard {
     Unmatched {
         node: u32,
     },
-    /// H8: a load of bytes that nobody stored.
+    /// H8: a load of bytes that nobody stored, or that were discarded last.
     Undefined {
         node: u32,
         piece: u32,

@@ -15,7 +15,7 @@ use crate::{Access, Agent, Deed, Scope, Use};
 use bitflags::Flags;
 use fg_base::{List, NoMemory, Shape};
 use fg_bits::{Accesses, Masks, Stages, agents};
-use fg_subs::{Batch, Item, NodeAt, Piece, Program, Shaped, Signal, WaitFor};
+use fg_subs::{Batch, Item, NodeAt, Program, Shaped, Signal, WaitFor};
 use std::alloc::Global;
 
 fn plain_use(accesses: List<Access>) -> Use
@@ -194,22 +194,12 @@ fn use_in(
     }
 }
 
-fn shapes_of(alloc: Global, pieces: &[Piece]) -> Result<List<Shape>, NoMemory>
-    ensures { IfOk result (λ shapes. shapes ≡ map (λ piece. piece.shape) pieces.now) }
-{
-    let mut shapes = List::new(alloc);
-    for piece in pieces {
-        shapes.push(piece.shape)?;
-    }
-    Ok(shapes)
-}
-
 /// What each node does, in the order of their numbers.
 pub(crate) fn uses_of(alloc: Global, shaped: &Shaped) -> Result<List<Use>, NoMemory>
     ensures { IfOk result (λ uses. uses ≡ map (use_in (shapes_of shaped.now) shaped.now) (nodes_of shaped.now)) }
 {
     let program = shaped.program();
-    let shapes = shapes_of(alloc, &program.pieces)?;
+    let shapes = program.shapes(alloc)?;
     let mut uses = List::new(alloc);
     for n in 0..shaped.node_count() {
         uses.push(use_in(alloc, &shapes, program, shaped.node(n))?)?;

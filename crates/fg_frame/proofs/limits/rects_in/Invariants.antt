@@ -1,5 +1,5 @@
 use Rattle.std.proofs.Common.{◌≡◌, drop}
-use Rattle.fg_frame.specs.Limits.{rect_count}
+use Rattle.fg_base.specs.Operands.{rect_count}
 use Rattle.fg_frame.specs.Places.{first_over, room_after}
 use Rattle.fg_frame.proofs.limits.rects_in.Given as goal
 

@@ -1,9 +1,9 @@
 use Rattle.std.proofs.Common.{if◌then◌else◌, Some, None, refl, sym, ap, ◌∙◌}
 use Rattle.std.specs.List.{list_any}
+use Rattle.fg_base.proofs.Walks.{first_on}
 use Rattle.fg_frame.proofs.Clashing.{names_on, keys_on}
-use Rattle.fg_frame.proofs.Walks.{first_on}
-use Rattle.fg_frame.specs.Clashes.{clash, clashes_at, first_clash}
 use Rattle.fg_frame.proofs.repeats.first_clash.Goals as goal
+use Rattle.fg_frame.specs.Clashes.{clash, clashes_at, first_clash}
 
 pub loop-i-preserved : goal.loop-i-preserved
 loop-i-preserved c =

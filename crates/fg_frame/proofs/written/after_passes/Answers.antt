@@ -1,10 +1,10 @@
 use Rattle.std.specs.List.{list_any}
 use Rattle.std.proofs.Common.{◌||◌, ◌&&◌, ◌==◌, sym, ap, ◌∙◌}
+use Rattle.fg_base.proofs.Walks.{found_on}
+use Rattle.fg_base.specs.Walks.{first_in}
 use Rattle.fg_frame.proofs.Marks.{there_on, missing_on, same_place}
-use Rattle.fg_frame.proofs.Walks.{found_on}
-use Rattle.fg_frame.specs.Places.{first_in}
-use Rattle.fg_frame.specs.Uses.{is_marked, unwritten_in, unwritten_at}
 use Rattle.fg_frame.proofs.written.after_passes.Goals as goal
+use Rattle.fg_frame.specs.Uses.{is_marked, unwritten_in, unwritten_at}
 
 pub returns-in-Some-clause-missing : goal.returns-in-Some-clause-missing
 returns-in-Some-clause-missing c =

@@ -1,7 +1,7 @@
 use Rattle.std.proofs.Common.{◌≡◌, ℕ, take, drop, length}
-use Rattle.fg_frame.specs.Places.{first_in}
-use Rattle.fg_frame.specs.Uses.{is_marked, is_there, unwritten_at}
+use Rattle.fg_base.specs.Walks.{first_in}
 use Rattle.fg_frame.proofs.written.after_passes.Given as goal
+use Rattle.fg_frame.specs.Uses.{is_marked, is_there, unwritten_at}
 
 abbrev pub invariant-loop-p : goal.invariant-loop-p
 invariant-loop-p l = record {

@@ -1,10 +1,10 @@
 use Rattle.std.proofs.Common.{◌<◌, ◌≤◌, drop, subst, sym, ap, ◌∙◌}
 use Rattle.std.specs.List.{list_any}
+use Rattle.fg_base.specs.Operands.{touches}
 use Rattle.fg_frame.specs.Numbered.{numbered}
-use Rattle.fg_frame.specs.Uses.{touches}
-use Rattle.fg_meaning.specs.Held.{all_ops}
 use Rattle.fg_meaning.proofs.Remaining.{later, here, no_pass}
 use Rattle.fg_meaning.proofs.wanted.is_touched_from.Goals as goal
+use Rattle.fg_meaning.specs.Held.{all_ops}
 
 pub loop-pass-preserved : goal.loop-pass-preserved
 loop-pass-preserved c =

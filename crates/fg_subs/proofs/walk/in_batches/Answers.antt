@@ -1,9 +1,9 @@
 use Rattle.std.proofs.Common.{max, ap, ◌∙◌}
+use Rattle.fg_base.proofs.Walks.{first_on}
+use Rattle.fg_base.specs.Walks.{first_in}
 use Rattle.fg_subs.proofs.Peaks.{highest_on}
-use Rattle.fg_subs.proofs.Walks.{first_on}
-use Rattle.fg_subs.specs.Rules.{next_place, batch_place}
-use Rattle.fg_subs.specs.Places.{first_in}
 use Rattle.fg_subs.proofs.walk.in_batches.Goals as goal
+use Rattle.fg_subs.specs.Rules.{next_place, batch_place}
 
 pub loop-b-preserved : goal.loop-b-preserved
 loop-b-preserved c =

@@ -1,8 +1,8 @@
 use Rattle.std.proofs.Common.{◌≡◌, drop, take}
-use Rattle.fg_subs.specs.Places.{first_in}
+use Rattle.fg_base.specs.Walks.{first_in}
+use Rattle.fg_subs.proofs.walk.in_batches.Given as goal
 use Rattle.fg_subs.specs.Rules.{next_place}
 use Rattle.fg_subs.specs.Timelines.{highest}
-use Rattle.fg_subs.proofs.walk.in_batches.Given as goal
 
 abbrev pub invariant-loop-b : goal.invariant-loop-b
 invariant-loop-b l = record {

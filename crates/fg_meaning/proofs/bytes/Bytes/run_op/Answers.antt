@@ -1,6 +1,6 @@
 use Rattle.std.proofs.Common.{◌≡◌, [], ap, ap₂, arith, slice_set, ◌∙◌}
+use Rattle.fg_base.specs.Applied.{bytes_at}
 use Rattle.fg_base.specs.Operands.{destination_of}
-use Rattle.fg_meaning.specs.Meaning.{bytes_at}
 use Rattle.fg_meaning.proofs.Runs.{taken_sized, taken_count, out_long, destination_fits, written_back, op_done, put_long}
 use Rattle.fg_meaning.proofs.bytes.Bytes.run_op.Goals as goal
 
