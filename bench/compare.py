@@ -3,9 +3,10 @@
 
     bench/compare.py OURS OTHER [--runs 5] [--case NAME ..]
 
-First whole commands: `run`, `meaning` and `cull` of the deferred frame of examples/, `cull` of 256 passes that read and
-change each of 256 buffers, and `check` of submissions with as many nodes as there can be: barriers alone; fills of one buffer
-with a full barrier between each two; one fill and its many readers; fills of many buffers that share memory. Then each operation: a frame applies it again and again to images of 1920 by 1080 texels and
+First whole commands: `run`, `meaning` and `cull` of the deferred frame of examples/, `cull` of nearly 16 MiB of imports and
+of 256 passes that read and change each of 256 buffers, and `check` of submissions with as many nodes as there can be:
+barriers alone; fills of one buffer with a full barrier between each two; one fill and its many readers; fills of many
+buffers that share memory. Then each operation: a frame applies it again and again to images of 1920 by 1080 texels and
 exports one texel, so that little is printed; a frame without it is timed too, and its time is taken off. For each case one
 line: the medians of the processor time in both programs in milliseconds, of the command or of one operation, their ratio,
 and the ratio of the most memory that the programs took. The texts of both have to be the same.
@@ -94,6 +95,20 @@ def wide():
     }
 
 
+def large():
+    """Nearly 16 MiB of text: 250 imports of 32,000 bytes each, and as many passes that copy one."""
+    names = [f"import{k}" for k in range(250)]
+    imports = [{"name": name, "buffer": 32_000, "import": f"{k:02x}6a3d9f" * 8_000} for k, name in enumerate(names)]
+    copies = [{"op": "copy_buffer", "src": name, "dst": "out", "src_offset": 0, "dst_offset": 0, "size": 32_000} for name in names]
+    return {
+        "format": 1,
+        "queues": [{"name": "t", "family": "transfer"}],
+        "resources": imports + [{"name": "out", "buffer": 32_000}],
+        "passes": [{"name": f"p{k}", "queue": "t", "reads": [names[k]], "writes": [{"new": "out"}], "ops": [copies[k]]} for k in range(250)],
+        "exports": ["out"],
+    }
+
+
 ALL = {"src_stage": "ALL_COMMANDS", "src_access": "MEMORY_WRITE", "dst_stage": "ALL_COMMANDS", "dst_access": "MEMORY_READ|MEMORY_WRITE"}
 BARRIER = {"item": "global", **ALL}
 FOR_HOST = {"item": "global", **ALL, "dst_stage": "HOST", "dst_access": "HOST_READ"}
@@ -169,6 +184,7 @@ def commands(folder):
     deferred = Path(__file__).resolve().parent.parent / "examples" / "deferred.json"
     for word in ("run", "meaning", "cull"):
         yield f"{word} deferred", word, deferred
+    yield "cull 16 MiB", "cull", written(folder, "large.json", large())
     yield "cull 256 passes", "cull", written(folder, "wide.json", wide())
     for name, program in submissions():
         yield name, "check", written(folder, "program.json", program)
