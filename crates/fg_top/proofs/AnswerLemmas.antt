@@ -1,8 +1,8 @@
 -- What a call answers to a frame, and where it has no answer.
 use Rattle.std.proofs.Common.{◌≡◌, ℕ, List, [], ◌∷◌, ◌++◌, Some, None, Ok, Err, refl, ap, ◌∙◌, inl, inr}
+use Rattle.std.proofs.KnownBytes.{Keeps-refl}
 use Rattle.std.specs.Prelude.{◌⊎◌, IfOk, Result}
 use Rattle.std.specs.declared.option.Option.{Option}
-use Rattle.std.specs.Io.KnownBytes.{Keeps}
 use Rattle.fg_frame.specs.FirstFault.{first_fault}
 use Rattle.fg_frame.specs.declared.frame.Frame.{Frame}
 use Rattle.fg_framefile.specs.Files.{frame_of, frame_text}
@@ -31,13 +31,9 @@ answered command left old new answer ReadFault is ends = ends
 answered command left old new answer WriteFault is ends = (answer, is, ends)
 answered command left old new answer NoMemory is ends = ends
 
-Keeps-same : (bytes : Option (List ℕ)) → Keeps bytes bytes
-Keeps-same None = tt
-Keeps-same (Some bytes) = refl
-
 pub unanswered : (command : Command) (left written : Option (List ℕ)) (status : Status) → (status ≡ ReadFault) ⊎ (status ≡ NoMemory) → IsAnswered command left written written status
-unanswered command left written status (inl e) = rw e (Keeps-same written)
-unanswered command left written status (inr e) = rw e (Keeps-same written)
+unanswered command left written status (inl e) = rw e (Keeps-refl written)
+unanswered command left written status (inr e) = rw e (Keeps-refl written)
 
 pub if_ok : {X E : Type 0} {P Q : X → Type 0} (r : Result X E) → ((x : X) → P x → Q x) → IfOk r P → IfOk r Q
 if_ok (Ok x) f p = f x p

@@ -1,6 +1,7 @@
 pub mod Answers
 pub mod AtRest
 pub mod Causes
+pub mod Complete
 pub mod Files
 pub mod Intakes
 pub mod Outcomes

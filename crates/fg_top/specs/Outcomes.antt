@@ -1,7 +1,7 @@
 -- What was read and written.
-use Rattle.std.specs.Prelude.{ℕ, List, ◌++◌, ◌≡◌, Bool, true, false, Some, None}
+use Rattle.std.specs.Prelude.{ℕ, ◌+◌, ◌≤◌, List, ◌++◌, length, ◌≡◌, ◌⊎◌, Bool, true, false, Some, None}
 use Rattle.std.specs.declared.option.Option.{Option}
-use Rattle.std.specs.Io.KnownBytes.{Appends, Keeps}
+use Rattle.std.specs.Io.KnownBytes.{Appends, Consumes, Keeps}
 use Rattle.fg_base.specs.Counts.{Rose}
 use Rattle.fg_top.specs.declared.ended.Status.{Status}
 use Rattle.fg_top.specs.declared.ended.Status.TheVariants.{ReadFault, WriteFault, NoMemory}
@@ -10,6 +10,14 @@ use Rattle.fg_top.specs.declared.ended.Status.TheVariants.{ReadFault, WriteFault
 abbrev pub Tells : Option (List ℕ) → List ℕ → Type 0
 Tells None bytes = Unit {0}
 Tells (Some left) bytes = left ≡ bytes
+
+-- at most so many bytes were taken from the source
+abbrev pub TakesAtMost : ℕ → Option (List ℕ) → Option (List ℕ) → Type 0
+TakesAtMost most old new = (taken : List ℕ) × Consumes old new taken × (length taken ≤ most)
+
+-- all that was left in the source was taken, or one byte more than the limit
+abbrev pub TakesWhole : ℕ → Option (List ℕ) → Option (List ℕ) → Type 0
+TakesWhole limit old new = (taken : List ℕ) × Consumes old new taken × (Tells old taken ⊎ (length taken ≡ limit + 1))
 
 -- a front of the text was taken
 abbrev pub TakesFront : List ℕ → Option (List ℕ) → Option (List ℕ) → Type 0
@@ -27,6 +35,12 @@ EndsAs wanted text old new ReadFault = Keeps old new
 EndsAs wanted text old new NoMemory = Keeps old new
 EndsAs wanted text old new WriteFault = TakesFront text old new
 EndsAs wanted text old new status = (status ≡ wanted) × Appends old new text
+
+-- no answer was found: a read failed, or memory ran out
+abbrev pub IsUnanswered : Status → Type 0
+IsUnanswered ReadFault = Unit {0}
+IsUnanswered NoMemory = Unit {0}
+IsUnanswered status = ⊥
 
 -- a status that comes with a text
 abbrev pub HasText : Status → Type 0

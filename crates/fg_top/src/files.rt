@@ -1,9 +1,9 @@
 //! A file is read, and the command's answer to it written.
 
-ghost use Rattle.std.specs.Prelude.{◌≡◌, ◌<◌, ◌⊎◌, ◌^◌, IfOk, IfErr};
+ghost use Rattle.std.specs.Prelude.{◌≡◌, ◌+◌, ◌<◌, ◌⊎◌, ◌^◌, IfOk, IfErr};
 ghost use Rattle.fg_top.specs.Answers.{AnswersBytes, AnswersLeft, IsAnswered, input_limit, limit_for, over_for};
 ghost use Rattle.fg_top.specs.Causes.{ReadCause, WriteCause, ReadsAnswer};
-ghost use Rattle.fg_top.specs.Outcomes.{HasText};
+ghost use Rattle.fg_top.specs.Outcomes.{HasText, IsUnanswered, TakesAtMost, TakesWhole};
 
 use crate::Status;
 use crate::answer::{Answer, program_refusal, refusal};
@@ -28,6 +28,9 @@ pub fn answer<I: Source, O: Sink>(
     ensures answered { IsAnswered command (I.left input.old) (O.taken output.old) (O.taken output.new) result }
     ensures read { ReadCause (I.faults input.old) (I.faults input.new) result }
     ensures write { WriteCause (O.faults output.old) (O.faults output.new) result }
+    ensures taken { TakesAtMost (input_limit command + 1) (I.left input.old) (I.left input.new) }
+    ensures whole { ¬ IsUnanswered result → TakesWhole (input_limit command) (I.left input.old) (I.left input.new) }
+    ensures unwritten { IsUnanswered result → output.new ≡ output.old }
 {
     match answer_input(alloc, command, input) {
         Ok(answer) => put(output, answer.status, answer.text.as_slice()),
@@ -41,6 +44,8 @@ fn answer_input<I: Source>(alloc: Global, command: Command, input: &mut I) -> Re
     ensures has_text { IfOk result (λ answer. HasText answer.status) }
     ensures none { IfErr result (λ status. (status ≡ Status.ReadFault) ⊎ (status ≡ Status.NoMemory)) }
     ensures read { ReadsAnswer (I.faults input.old) (I.faults input.new) result }
+    ensures taken { TakesAtMost (input_limit command + 1) (I.left input.old) (I.left input.new) }
+    ensures whole { IfOk result (λ _. TakesWhole (input_limit command) (I.left input.old) (I.left input.new)) }
 {
     let asked = asked_of(command);
     match read_input(alloc, input, limit_for(asked)) {

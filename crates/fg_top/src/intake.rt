@@ -2,6 +2,7 @@
 
 ghost use Rattle.std.specs.Prelude.{◌≡◌, ◌<◌, ◌≤◌, ◌+◌, ◌^◌, length, vec_len, IfOk};
 ghost use Rattle.fg_top.specs.Intakes.{IsIntake, IsStep};
+ghost use Rattle.fg_top.specs.Outcomes.{TakesAtMost};
 
 use fg_base::{NoMemory, Source, Taken};
 use std::alloc::Global;
@@ -29,7 +30,8 @@ enum Step {
 /// Reads with a buffer of 65,536 bytes.
 pub fn read_input<I: Source>(alloc: Global, input: &mut I, limit: usize) -> Intake
     requires { limit < 2 ^ 32 }
-    ensures { IsIntake limit (I.left input.old) (I.faults input.old) (I.faults input.new) result }
+    ensures intake { IsIntake limit (I.left input.old) (I.left input.new) (I.faults input.old) (I.faults input.new) result }
+    ensures taken { TakesAtMost (limit + 1) (I.left input.old) (I.left input.new) }
 {
     let Ok(mut buffer) = zeros(alloc, BUFFER) else {
         return Intake::NoMemory;
@@ -49,7 +51,8 @@ pub fn read_input<I: Source>(alloc: Global, input: &mut I, limit: usize) -> Inta
 
 fn read_some<I: Source>(input: &mut I, buffer: &mut [u8], bytes: &mut Vec<u8>) -> Step
     requires { 0 < length buffer.old }
-    ensures { IsStep (I.left input.old) (I.left input.new) (I.faults input.old) (I.faults input.new) bytes.old.items bytes.new.items result }
+    ensures step { IsStep (length buffer.old) (I.left input.old) (I.left input.new) (I.faults input.old) (I.faults input.new) bytes.old.items bytes.new.items result }
+    ensures taken { TakesAtMost (length buffer.old) (I.left input.old) (I.left input.new) }
 {
     match input.read(buffer) {
         Taken::Got(count) => {

@@ -1,4 +1,4 @@
-use Rattle.std.proofs.Common.{◌≡◌, length, ◌-◌, ◌+◌, vec_len}
+use Rattle.std.proofs.Common.{◌≡◌, ◌≤◌, length, ◌-◌, ◌+◌, vec_len}
 use Rattle.std.specs.Io.KnownBytes.{Consumes}
 use Rattle.fg_top.proofs.intake.read_input.Given as goal
 
@@ -6,6 +6,7 @@ abbrev pub invariant-loop-bytes : goal.invariant-loop-bytes
 invariant-loop-bytes g l =
     record {
       taken : Consumes (g.I.Source.left l.fn.input) (g.I.Source.left l.input) l.bytes.items;
+      most : length l.bytes.items ≤ l.limit + 1;
       count : g.I.Source.faults l.input ≡ g.I.Source.faults l.fn.input;
       room : vec_len l.buffer ≡ 65536;
     }
