@@ -5,7 +5,7 @@ use crate::tests::{CHAIN, FILL, gives};
 use std::test::Fail;
 
 // A frame, the text of its exports, and what `run` prints before them.
-const FRAMES: [(&str, &str, &str); 8] = [
+const FRAMES: [(&str, &str, &str); 9] = [
     // An import, and no passes.
     (
         r#"{"format":1,"queues":[{"name":"g","family":"graphics"},{"name":"c","family":"compute"}],"resources":[{"name":"in","buffer":4,"import":"01020304"}],"passes":[],"exports":["in"]}"#,
@@ -46,6 +46,13 @@ const FRAMES: [(&str, &str, &str); 8] = [
         r#"{"format":1,"queues":[{"name":"g","family":"graphics"},{"name":"c","family":"compute"}],"resources":[{"name":"x","buffer":4,"import":"01020304"},{"name":"y","buffer":8}],"passes":[{"name":"a","queue":"g","reads":["x"],"writes":[{"new":"y"}],"ops":[{"op":"fill_buffer","dst":"y","offset":0,"size":8,"word":0},{"op":"copy_buffer","src":"x","dst":"y","src_offset":0,"dst_offset":4,"size":4}]},{"name":"b","queue":"c","writes":[{"change":"x"}],"ops":[{"op":"fill_buffer","dst":"x","offset":0,"size":4,"word":7}]}],"exports":["x","y"]}"#,
         "export x 4\n07000000\nexport y 8\n0000000001020304\n",
         "kept 2 culled 0\n",
+    ),
+    // A mask of 0 1 0 1 takes 11 and 13 of a ramp of 10 to 13, and 7 of a clear elsewhere; the picture goes behind the
+    // first word of a buffer that was filled.
+    (
+        r#"{"format":1,"queues":[{"name":"g","family":"graphics"}],"resources":[{"name":"m","image":[2,2],"texel":"r8"},{"name":"a","image":[2,2],"texel":"r8"},{"name":"b","image":[2,2],"texel":"r8"},{"name":"out","image":[2,2],"texel":"r8"},{"name":"buf","buffer":8}],"passes":[{"name":"p","queue":"g","writes":[{"new":"m"},{"new":"a"},{"new":"b"},{"new":"out"},{"new":"buf"}],"ops":[{"op":"ramp","dst":"m","base":0,"dx":1,"dy":0},{"op":"ramp","dst":"a","base":10,"dx":1,"dy":2},{"op":"clear_image","dst":"b","value":7},{"op":"select","mask":"m","a":"a","b":"b","dst":"out"},{"op":"fill_buffer","dst":"buf","offset":0,"size":8,"word":1},{"op":"image_to_buffer","src":"out","dst":"buf","offset":4}]}],"exports":["buf"]}"#,
+        "export buf 8\n01000000070b070d\n",
+        "kept 1 culled 0\n",
     ),
     // Digits of both cases.
     (
@@ -138,7 +145,7 @@ fn chains(rt: HostRuntime) -> Result<(), Fail> {
     gives(&rt, alloc, &["run"], seen.as_str(), Status::Done, kept)
 }
 
-// As many passes as there can be, none of which does anything.
+// As many passes as there can be, none of which does anything; and one more.
 #[test]
 fn many_passes(rt: HostRuntime) -> Result<(), Fail> {
     let alloc = rt.alloc();
@@ -159,7 +166,14 @@ fn many_passes(rt: HostRuntime) -> Result<(), Fail> {
         file.as_str(),
         Status::Done,
         text.as_str(),
-    )
+    )?;
+    let more = file.replace(
+        alloc,
+        "],\"exports\"",
+        ",{\"name\":\"q\",\"queue\":\"g\"}],\"exports\"",
+    )?;
+    let fault = "fault F4 Passes $.passes\n";
+    gives(&rt, alloc, &["run"], more.as_str(), Status::Refused, fault)
 }
 
 // Counts of texels by their lowest byte: 1,920 by 1,080 of them in one table, and 480 by 270 in the other.

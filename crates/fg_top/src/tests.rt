@@ -90,8 +90,8 @@ pub(crate) fn gives(
     Ok(())
 }
 
-// Pieces of the file of the one fill, others in their places, and the text of the file's fault.
-const FAULTS: [(&str, &str, &str); 9] = [
+// Pieces of the file of the one fill, or all of it, others in their places, and the text of the file's fault.
+const FAULTS: [(&str, &str, &str); 12] = [
     ("\"b\"]}", "\"b\"]", "fault F1 $\n"),
     (
         "\"word\":7",
@@ -128,6 +128,23 @@ const FAULTS: [(&str, &str, &str); 9] = [
         "\"buffer\":16",
         "\"buffer\":16,\"import\":\"00\"",
         "fault F11 $.resources[0].import\n",
+    ),
+    // A clear and a map on a transfer queue.
+    (
+        FILL,
+        r#"{"format":1,"queues":[{"name":"t","family":"transfer"}],"resources":[{"name":"im","image":[1,1],"texel":"r8"}],"passes":[{"name":"p","queue":"t","writes":[{"new":"im"}],"ops":[{"op":"clear_image","dst":"im","value":1}]}],"exports":["im"]}"#,
+        "fault F7 $.passes[0].ops[0].op\n",
+    ),
+    (
+        FILL,
+        r#"{"format":1,"queues":[{"name":"t","family":"transfer"}],"resources":[{"name":"in","buffer":4,"import":"01020304"},{"name":"out","buffer":4}],"passes":[{"name":"p","queue":"t","reads":["in"],"writes":[{"new":"out"}],"ops":[{"op":"map","src":"in","dst":"out","fun":"add","value":1}]}],"exports":["out"]}"#,
+        "fault F7 $.passes[0].ops[0].op\n",
+    ),
+    // An operand that names an image of two layers whole.
+    (
+        FILL,
+        r#"{"format":2,"queues":[{"name":"g","family":"graphics"}],"resources":[{"name":"im","image":[2,1],"texel":"r8","layers":2}],"passes":[{"name":"w","queue":"g","writes":[{"new":"im"}],"ops":[{"op":"ramp","dst":"im","base":1,"dx":1,"dy":0},{"op":"ramp","dst":"im/1","base":5,"dx":2,"dy":0}]}],"exports":["im"]}"#,
+        "fault F6 $.passes[0].ops[0].dst\n",
     ),
 ];
 
@@ -290,47 +307,39 @@ fn other_words(rt: HostRuntime) -> Result<(), Fail> {
     Ok(())
 }
 
-// The text of a file, and how much of it is left unread: no more than one byte over the limit is taken.
+// The text of a word on a file, and how much of the file is left unread.
 fn is_refused(
     rt: &(impl Threads + Wait + Sync + Abort),
     alloc: Global,
+    word: &str,
     file: List<u8>,
     text: &str,
     rest: Taken,
 ) -> Result<(), Fail> {
     let mut source = SteadySource::new(file, u32::MAX);
     let mut sink = MemorySink::new(alloc, 100, 100, List::new(alloc))?;
-    let status = status_of(rt, alloc, &["run"], &mut source, &mut sink)?;
+    let status = status_of(rt, alloc, &[word], &mut source, &mut sink)?;
     assert_eq!(rt; status, Some(Status::Refused));
     assert_eq!(rt; sink.bytes(), text.as_bytes());
     assert_eq!(rt; source.read(&mut [0u8; 8]), rest);
     Ok(())
 }
 
+// A word, how many spaces it reads, the text, and what is left.
+const LENGTHS: [(&str, usize, &str, Taken); 4] = [
+    ("run", 16_777_216, "fault F1 $\n", Taken::End),
+    ("run", 16_777_217, "fault F4 Input $\n", Taken::End),
+    ("run", 16_777_220, "fault F4 Input $\n", Taken::Got(3)),
+    ("check", 33_554_433, "fault G1 Input $\n", Taken::End),
+];
+
 #[test]
 fn input_limit(rt: HostRuntime) -> Result<(), Fail> {
     let alloc = rt.alloc();
-    is_refused(
-        &rt,
-        alloc,
-        spaces(alloc, 16_777_216)?,
-        "fault F1 $\n",
-        Taken::End,
-    )?;
-    is_refused(
-        &rt,
-        alloc,
-        spaces(alloc, 16_777_217)?,
-        "fault F4 Input $\n",
-        Taken::End,
-    )?;
-    is_refused(
-        &rt,
-        alloc,
-        spaces(alloc, 16_777_220)?,
-        "fault F4 Input $\n",
-        Taken::Got(3),
-    )
+    for (word, count, text, rest) in LENGTHS {
+        is_refused(&rt, alloc, word, spaces(alloc, count)?, text, rest)?;
+    }
+    Ok(())
 }
 
 // Takes four bytes of each write, and keeps how many were offered.
@@ -389,7 +398,8 @@ fn failing_ends(rt: HostRuntime) -> Result<(), Fail> {
         Status::WriteFault,
         "kept 1 cul",
     )?;
-    ends(&rt, alloc, (100, 99), (10, 9), Status::Done, FILL_TEXT)
+    ends(&rt, alloc, (100, 99), (10, 9), Status::Done, FILL_TEXT)?;
+    ends(&rt, alloc, (1, 999), (10, 9), Status::Done, FILL_TEXT)
 }
 
 #[test]
@@ -411,17 +421,32 @@ fn each_write_fails(rt: HostRuntime) -> Result<(), Fail> {
     Ok(())
 }
 
+// How many bytes of the text are offered to a sink that takes four of each write.
+fn is_offered(
+    rt: &(impl Threads + Wait + Sync + Abort),
+    alloc: Global,
+    words: &[&str],
+    wanted: Status,
+    lengths: &[usize],
+) -> Result<(), Fail> {
+    let mut source = SteadySource::new(bytes_of(alloc, FILL)?, 1);
+    let mut offers = Offers {
+        lengths: Vec::new(alloc),
+    };
+    let status = status_of(rt, alloc, words, &mut source, &mut offers)?;
+    assert_eq!(rt; status, Some(wanted));
+    assert_eq!(rt; offers.lengths.as_slice(), lengths);
+    Ok(())
+}
+
+// The text of the one fill has 61 bytes, in lines of 16, 12 and 33.
 #[test]
 fn whole_rest_at_each_write(rt: HostRuntime) -> Result<(), Fail> {
     let alloc = rt.alloc();
     let mut source = SteadySource::new(bytes_of(alloc, FILL)?, 1);
     let status = status_of(&rt, alloc, &["run"], &mut source, &mut SteadySink::new())?;
     assert_eq!(rt; status, Some(Status::Done));
-    let mut offers = Offers {
-        lengths: Vec::new(alloc),
-    };
-    let status = status_of(&rt, alloc, &["run", "run"], &mut source, &mut offers)?;
-    assert_eq!(rt; status, Some(Status::Words));
-    assert_eq!(rt; offers.lengths.as_slice(), [6, 2].as_slice());
-    Ok(())
+    is_offered(&rt, alloc, &["run", "run"], Status::Words, &[6, 2])?;
+    let lengths = [61, 57, 53, 49, 45, 41, 37, 33, 29, 25, 21, 17, 13, 9, 5, 1];
+    is_offered(&rt, alloc, &["run"], Status::Done, &lengths)
 }
