@@ -1,5 +1,5 @@
 -- What a call answers to a frame, and where it has no answer.
-use Rattle.std.proofs.Common.{◌≡◌, ℕ, List, [], ◌∷◌, ◌++◌, Some, None, Ok, Err, refl, ap, ◌∙◌, inl, inr}
+use Rattle.std.proofs.Common.{◌≡◌, ℕ, List, [], ◌∷◌, ◌++◌, None, Ok, Err, ap, ◌∙◌, inl, inr}
 use Rattle.std.proofs.KnownBytes.{Keeps-refl}
 use Rattle.std.specs.Prelude.{◌⊎◌, IfOk, Result}
 use Rattle.std.specs.declared.option.Option.{Option}

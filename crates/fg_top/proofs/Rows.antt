@@ -1,5 +1,5 @@
 -- Worked rows: what the definitions come to on written-out values.
-use Rattle.std.proofs.Common.{◌≡◌, [], ◌∷◌, None, true, false, codes, refl}
+use Rattle.std.proofs.Common.{◌≡◌, [], ◌∷◌, Some, None, true, false, codes, length, ap, refl, inl, inr, arith, length-append}
 use Rattle.std.specs.Fmt.{digits}
 use Rattle.hex.proofs.OnLiterals.{hex_on_literals}
 use Rattle.fg_base.specs.Texels.{band, low_bytes}
@@ -10,6 +10,7 @@ use Rattle.fg_bits.specs.declared.sharing.Sharing.TheVariants.{Exclusive}
 use Rattle.fg_frame.specs.Numbered.{numbered}
 use Rattle.fg_frame.specs.declared.frame.Frame.{Frame}
 use Rattle.fg_frame.specs.declared.frame.Spot.{Spot}
+use Rattle.fg_top.specs.Outcomes.{TakesAtMost, TakesWhole}
 use Rattle.fg_top.specs.Texts.{exports_from}
 
 whole : Spot
@@ -27,3 +28,18 @@ one_fill = record {
 one_fill_exported : exports_from one_fill 0 (numbered one_fill).exports ≡ codes "export b 16\n07000000070000000700000007000000\n"
 unfolding one_fill whole band low_bytes hex_on_literals digits
 one_fill_exported = refl
+
+-- at a limit of two bytes: both of two are taken, or three of four
+both_taken : TakesWhole 2 (Some (7 ∷ 8 ∷ [])) (Some [])
+both_taken = (7 ∷ 8 ∷ [], refl, inl refl)
+
+one_over : TakesWhole 2 (Some (7 ∷ 8 ∷ 9 ∷ 1 ∷ [])) (Some (1 ∷ []))
+one_over = (7 ∷ 8 ∷ 9 ∷ [], refl, inr refl)
+
+-- and neither one of two, nor four of four
+one_left : ¬ TakesWhole 2 (Some (7 ∷ 8 ∷ [])) (Some (8 ∷ []))
+one_left (taken, takes, inl all) = omega (arith, ap length takes, ap length all, length-append taken (8 ∷ []))
+one_left (taken, takes, inr more) = omega (arith, ap length takes, more, length-append taken (8 ∷ []))
+
+two_over : ¬ TakesAtMost 3 (Some (7 ∷ 8 ∷ 9 ∷ 1 ∷ [])) (Some [])
+two_over (taken, takes, few) = omega (arith, ap length takes, few, length-append taken [])
