@@ -113,7 +113,7 @@ fn fills(rt: HostRuntime) -> Result<(), Fail> {
             second: 1
         })
     );
-    let late = hazard(alloc, two_fills(alloc, Some(Accesses::empty()))?);
+    let late = hazard(alloc, two_fills(alloc, Some(Accesses(0)))?);
     assert_eq!(rt;
         late,
         Some(Hazard::NotAvailable {
