@@ -5,7 +5,7 @@ use crate::tests::{CHAIN, FILL, gives};
 use std::test::Fail;
 
 // A frame, the text of its exports, and what `run` prints before them.
-const FRAMES: [(&str, &str, &str); 9] = [
+const FRAMES: [(&str, &str, &str); 10] = [
     // An import, and no passes.
     (
         r#"{"format":1,"queues":[{"name":"g","family":"graphics"},{"name":"c","family":"compute"}],"resources":[{"name":"in","buffer":4,"import":"01020304"}],"passes":[],"exports":["in"]}"#,
@@ -52,6 +52,12 @@ const FRAMES: [(&str, &str, &str); 9] = [
     (
         r#"{"format":1,"queues":[{"name":"g","family":"graphics"}],"resources":[{"name":"m","image":[2,2],"texel":"r8"},{"name":"a","image":[2,2],"texel":"r8"},{"name":"b","image":[2,2],"texel":"r8"},{"name":"out","image":[2,2],"texel":"r8"},{"name":"buf","buffer":8}],"passes":[{"name":"p","queue":"g","writes":[{"new":"m"},{"new":"a"},{"new":"b"},{"new":"out"},{"new":"buf"}],"ops":[{"op":"ramp","dst":"m","base":0,"dx":1,"dy":0},{"op":"ramp","dst":"a","base":10,"dx":1,"dy":2},{"op":"clear_image","dst":"b","value":7},{"op":"select","mask":"m","a":"a","b":"b","dst":"out"},{"op":"fill_buffer","dst":"buf","offset":0,"size":8,"word":1},{"op":"image_to_buffer","src":"out","dst":"buf","offset":4}]}],"exports":["buf"]}"#,
         "export buf 8\n01000000070b070d\n",
+        "kept 1 culled 0\n",
+    ),
+    // A buffer becomes an image, whose first texel goes into the last place of a cleared one.
+    (
+        r#"{"format":1,"queues":[{"name":"g","family":"graphics"}],"resources":[{"name":"in","buffer":4,"import":"01020304"},{"name":"a","image":[2,2],"texel":"r8"},{"name":"out","image":[2,2],"texel":"r8"}],"passes":[{"name":"p","queue":"g","reads":["in"],"writes":[{"new":"a"},{"new":"out"}],"ops":[{"op":"buffer_to_image","src":"in","dst":"a","offset":0},{"op":"clear_image","dst":"out","value":9},{"op":"copy_image","src":"a","dst":"out","src_x":0,"src_y":0,"dst_x":1,"dst_y":1,"width":1,"height":1}]}],"exports":["out"]}"#,
+        "export out 4\n09090901\n",
         "kept 1 culled 0\n",
     ),
     // Digits of both cases.
