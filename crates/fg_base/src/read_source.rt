@@ -32,9 +32,9 @@ impl<T: Read> Source for ReadSource<T> {
     fn read(&mut self, into: &mut [u8]) -> Taken
         requires { 0 < length into.old }
         ensures within { IsWithin result (length into.new) }
-        ensures bytes { TakesBytes (T.remaining self.old.inner) (T.remaining self.new.inner) result into.new }
-        ensures count { CountsFault self.old.faults self.new.faults result }
-        ensures one { result ≡ taken.Failed → self.new.faults ≡ one_fault_more self.old.faults }
+        ensures bytes { TakesBytes (⟦<ReadSource<T> as Source>⟧.left self.old) (⟦<ReadSource<T> as Source>⟧.left self.new) result into.new }
+        ensures count { CountsFault (⟦<ReadSource<T> as Source>⟧.faults self.old) (⟦<ReadSource<T> as Source>⟧.faults self.new) result }
+        ensures one { result ≡ taken.Failed → ⟦<ReadSource<T> as Source>⟧.faults self.new ≡ one_fault_more (⟦<ReadSource<T> as Source>⟧.faults self.old) }
     {
         match self.inner.read(into) {
             Ok(0) => Taken::End,

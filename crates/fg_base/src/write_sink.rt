@@ -33,9 +33,9 @@ impl<T: Write> Sink for WriteSink<T> {
     fn write(&mut self, bytes: &[u8]) -> Put
         requires { 0 < length bytes.now }
         ensures within { IsWithin result (length bytes.now) }
-        ensures bytes { PutsBytes (T.contents self.old.inner) (T.contents self.new.inner) result bytes.now }
-        ensures count { CountsFault self.old.faults self.new.faults result }
-        ensures one { result ≡ put.Failed → self.new.faults ≡ one_fault_more self.old.faults }
+        ensures bytes { PutsBytes (⟦<WriteSink<T> as Sink>⟧.taken self.old) (⟦<WriteSink<T> as Sink>⟧.taken self.new) result bytes.now }
+        ensures count { CountsFault (⟦<WriteSink<T> as Sink>⟧.faults self.old) (⟦<WriteSink<T> as Sink>⟧.faults self.new) result }
+        ensures one { result ≡ put.Failed → ⟦<WriteSink<T> as Sink>⟧.faults self.new ≡ one_fault_more (⟦<WriteSink<T> as Sink>⟧.faults self.old) }
     {
         match self.inner.write(bytes) {
             Ok(0) | Err(_) => {

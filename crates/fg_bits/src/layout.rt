@@ -41,7 +41,7 @@ impl Layout {
         }
     }
 
-    /// Whether the image's texels are lost.
+    /// Whether it is `UNDEFINED`: a transition from it keeps no texel.
     pub fn is_undefined(self) -> bool
         ensures { result ≡ is_undefined self }
     {

@@ -1,6 +1,6 @@
 //! Frames that break no rule.
 
-ghost use Rattle.std.specs.Prelude.{◌≡◌, ◌≤◌, ◌<◌, ◌+◌, IfOk, IfErr, IfSome, length, None, Some, slice_get, map, option_copied};
+ghost use Rattle.std.specs.Prelude.{◌≡◌, ◌≤◌, ◌<◌, ◌+◌, IfOk, IfErr, IfSome, length, None, Some, slice_get, map, is_some, option_copied};
 ghost use Rattle.std.specs.List.{All};
 ghost use Rattle.fg_frame.specs.FirstFault.{broken, shapes_of, imports_of, sharings_of, name_broken, misfit_broken, use_broken, first_broken, first_fault, Ends, AllWithin};
 ghost use Rattle.fg_base.specs.Operands.{operands_of};
@@ -340,6 +340,17 @@ impl GoodFrame {
         match &self.frame.resources[owner as usize].import {
             Some(bytes) => Some(bytes.as_slice()),
             None => None,
+        }
+    }
+
+    /// Whether a unit is an import.
+    pub fn is_import(&self, unit: u32) -> bool
+        requires { unit < length (numbered self.now).units }
+        ensures { IfSome (slice_get (numbered self.now).units unit) (λ u. result ≡ is_some u.imported) }
+    {
+        match self.import(unit) {
+            Some(_) => true,
+            None => false,
         }
     }
 

@@ -10,7 +10,7 @@ use Rattle.fg_reach.specs.Paths.{Path, one, then_on}
 up_to : (u n : ℕ) (list : List ℕ) → u ≡ n → before_in (u ∷ list) n ≡ []
 up_to u n list e = ap (λ t. cond t [] (u ∷ before_in list n)) (eq-eqb u n e)
 
-on_from : (u n : ℕ) (list : List ℕ) → (u ≡ n → ⊥) → before_in (u ∷ list) n ≡ u ∷ before_in list n
+pub on_from : (u n : ℕ) (list : List ℕ) → (u ≡ n → ⊥) → before_in (u ∷ list) n ≡ u ∷ before_in list n
 on_from u n list ne = ap (λ t. cond t [] (u ∷ before_in list n)) (ne_eqb u n ne)
 
 not_itself : (list : List ℕ) (n : ℕ) → Earlier list n n → ⊥
@@ -32,6 +32,9 @@ earlier_then (u ∷ list) x y n h k =
     (λ (p : u ≡ y → ⊥). then_far x y u (before_in list y) (before_in list n) p (λ b a. earlier_then list x y n a b) (subst (λ l. Among y l) (on_from u n list e) k) (subst (λ l. Among x l) (on_from u y list p) h))
     (cases_eq u y)))
     (cases_eq u n)
+
+pub not_both : (list : List ℕ) (x y : ℕ) → Earlier list x y → Earlier list y x → ⊥
+not_both list x y h k = not_itself list x (earlier_then list x y x h k)
 
 pub goes_forward : (nodes : List Node) (order : List ℕ) → Order nodes order → (x y : ℕ) → Path (edge nodes) x y → Earlier order x y
 goes_forward nodes order O x y (one e) = O.forward x y (O.all y (edge_within nodes x y e).1) e

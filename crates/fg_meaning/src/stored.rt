@@ -1,6 +1,6 @@
 //! Which units have contents.
 
-ghost use Rattle.std.specs.Prelude.{◌≡◌, ◌<◌, map, is_some, length, IfOk, IfSome, slice_get};
+ghost use Rattle.std.specs.Prelude.{◌≡◌, ◌<◌, map, is_some, length, IfOk};
 ghost use Rattle.std.specs.List.{All};
 ghost use Rattle.fg_base.specs.Operands.{destination_of, operands_of, mapped};
 ghost use Rattle.fg_base.specs.Shapes.{shape_at};
@@ -28,22 +28,12 @@ pub(crate) fn is_whole(op: &Op<u32>, shapes: &[Shape]) -> bool
     op.touch(op.touch_count() - 1, shapes).whole
 }
 
-fn is_import(frame: &GoodFrame, unit: u32) -> bool
-    requires { unit < length (numbered frame.now).units }
-    ensures { IfSome (slice_get (numbered frame.now).units unit) (λ u. result ≡ is_some u.imported) }
-{
-    match frame.import(unit) {
-        Some(_) => true,
-        None => false,
-    }
-}
-
 fn imports(alloc: Global, frame: &GoodFrame) -> Result<List<bool>, NoMemory>
     ensures { IfOk result (λ marks. marks ≡ map (λ u. is_some u.imported) (numbered frame.now).units) }
 {
     let mut marks = List::new(alloc);
     for unit in 0..frame.unit_count() {
-        marks.push(is_import(frame, unit))?;
+        marks.push(frame.is_import(unit))?;
     }
     Ok(marks)
 }

@@ -1,9 +1,9 @@
 -- Each access finds its piece in the layout that it wants and owned by its family, and halves of transfers match.
-use Rattle.std.specs.Prelude.{◌≡◌, ℕ, ◌<◌, List, ◌||◌, not, Bool, true, false, Some}
+use Rattle.std.specs.Prelude.{◌≡◌, ℕ, ◌<◌, List, ◌||◌, not, Bool, true, Some}
 use Rattle.std.specs.List.{list_any}
 use Rattle.fg_bits.specs.declared.layout.Layout.{Layout}
 use Rattle.fg_hb.specs.Edges.{is_host, node_at}
-use Rattle.fg_view.specs.Deeds.{wanted}
+use Rattle.fg_view.specs.Deeds.{wanted, is_discard, is_acquire}
 use Rattle.fg_view.specs.Shapely.{ActAt}
 use Rattle.fg_view.specs.Views.{View, accesses_of, family_at, shared_at}
 use Rattle.fg_view.specs.declared.access.Deed.{Deed}
@@ -12,22 +12,6 @@ use Rattle.fg_view.specs.declared.act.Act.{Act}
 use Rattle.fg_view.specs.declared.hazard.Hazard.{Hazard}
 use Rattle.fg_view.specs.declared.hazard.Hazard.TheVariants.{Stuck, Unordered, NotAvailable, NotVisible, BadLayout, BadOwner, Unmatched, Undefined, Aliased}
 use Rattle.fg_stated.specs.Found.{found_layout, found_owner, next_transfer, last_transfer}
-
-abbrev pub is_discard : Deed → Bool
-is_discard (Load agent layout) = false
-is_discard (Store agent layout) = false
-is_discard (Keep layouts) = false
-is_discard (Discard layout) = true
-is_discard (Release handover) = false
-is_discard (Acquire handover) = false
-
-abbrev pub is_acquire : Deed → Bool
-is_acquire (Load agent layout) = false
-is_acquire (Store agent layout) = false
-is_acquire (Keep layouts) = false
-is_acquire (Discard layout) = false
-is_acquire (Release handover) = false
-is_acquire (Acquire handover) = true
 
 -- the node is an acquire
 abbrev pub acquires : View → ℕ → Bool

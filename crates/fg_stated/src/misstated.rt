@@ -4,7 +4,7 @@ ghost use Rattle.std.specs.Prelude.{◌≡◌, ◌<◌, ◌↔◌, Some, true, f
 ghost use Rattle.fg_view.specs.Deeds.{wanted, transfers};
 ghost use Rattle.fg_view.specs.Shapely.{ActAt, Listed, Shapely};
 ghost use Rattle.fg_view.specs.Views.{family_at};
-ghost use Rattle.fg_stated.specs.Stated.{is_discard, is_acquire, acquires, needs_owner, StatedAt, Misstated};
+ghost use Rattle.fg_stated.specs.Stated.{acquires, needs_owner, StatedAt, Misstated};
 ghost use Rattle.fg_stated.specs.Tables.{Finds};
 
 use crate::found::Found;
@@ -24,31 +24,13 @@ fn missed_layout(deed: Deed, found: Layout) -> Option<Layout>
     }
 }
 
-fn is_discard(deed: Deed) -> bool
-    ensures { result ≡ is_discard deed }
-{
-    match deed {
-        Deed::Discard(_) => true,
-        _ => false,
-    }
-}
-
-fn is_acquire(deed: Deed) -> bool
-    ensures { result ≡ is_acquire deed }
-{
-    match deed {
-        Deed::Acquire(_) => true,
-        _ => false,
-    }
-}
-
 // Whether the node is an acquire.
 fn acquires(view: &View, n: u32) -> bool
     requires { n < length view.now.uses }
     ensures { result ≡ acquires view.now n }
 {
     let accesses = view.use_at(n).accesses.as_slice();
-    accesses.iter().any(|a| is_acquire(a.deed))
+    accesses.iter().any(|a| a.deed.is_acquire())
 }
 
 // Whether its own family has to own the piece.
@@ -58,7 +40,7 @@ fn needs_owner(view: &View, act: Act) -> bool
     requires piece { act.access.piece < length view.now.pieces }
     ensures { result ≡ needs_owner view.now act }
 {
-    !(is_discard(act.access.deed)
+    !(act.access.deed.is_discard()
         || acquires(view, act.node)
         || view.node(act.node).kind.is_host()
         || view.is_shared(act.access.piece))

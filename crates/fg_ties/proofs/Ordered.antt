@@ -1,10 +1,11 @@
 -- The accesses that an order lists, and pairs of them.
-use Rattle.std.proofs.Common.{◌≡◌, ◌≢◌, ◌⊎◌, inl, inr, ℕ, zero, suc, ◌<◌, ◌++◌, List, [], ◌∷◌, length, map, slice_get, Some, None, sym, ap, ◌∙◌, subst, ⊎_elim, eq-eqb, ne_eqb, cond, arith}
+use Rattle.std.proofs.Common.{◌≡◌, ◌⊎◌, inl, inr, ℕ, zero, suc, ◌<◌, ◌++◌, List, [], ◌∷◌, length, map, slice_get, Some, None, sym, ap, ◌∙◌, subst, ⊎_elim, arith}
 use Rattle.std.specs.Option.{option_map, option_map_or}
-use Rattle.std.proofs.lemmas.Bool.{cases_eq, cases_lt}
+use Rattle.std.proofs.lemmas.Bool.{cases_lt}
 use Rattle.std.proofs.lemmas.List.{get_or_past}
 use Rattle.std.proofs.lemmas.Option.{slice_get-map}
 use Rattle.fg_hb.specs.Orders.{Among, Distinct, before_in, Earlier}
+use Rattle.fg_hb.proofs.InOrder.{on_from}
 use Rattle.fg_view.specs.Shapely.{Shapely, AccessAt, Has, ActAt}
 use Rattle.fg_view.specs.Uses.{no_use}
 use Rattle.fg_view.specs.Views.{View, accesses_of, act, acts_of}
@@ -82,25 +83,6 @@ listed_of V (u ∷ order) i a h = ⊎_elim
     (one_part (map (act u) (accesses_of V u)) (acts_of V order) i a h)
 
 -- EARLIER NODES
-
-up_to : (u n : ℕ) (list : List ℕ) → u ≡ n → before_in (u ∷ list) n ≡ []
-up_to u n list e = ap (λ t. cond t [] (u ∷ before_in list n)) (eq-eqb u n e)
-
-on_from : (u n : ℕ) (list : List ℕ) → u ≢ n → before_in (u ∷ list) n ≡ u ∷ before_in list n
-on_from u n list ne = ap (λ t. cond t [] (u ∷ before_in list n)) (ne_eqb u n ne)
-
-pub not_both : (list : List ℕ) (x y : ℕ) → Earlier list x y → Earlier list y x → ⊥
-not_both [] x y h k = h
-not_both (u ∷ list) x y h k = ⊎_elim
-    (λ (e : u ≡ x). subst (λ l. Among y l) (up_to u x list e) k)
-    (λ (ne : u ≢ x). ⊎_elim
-    (λ (f : u ≡ y). subst (λ l. Among x l) (up_to u y list f) h)
-    (λ (nf : u ≢ y). ⊎_elim
-    (λ g. ne (sym g))
-    (λ g. ⊎_elim (λ l. nf (sym l)) (λ l. not_both list x y g l) (subst (λ l. Among y l) (on_from u x list ne) k))
-    (subst (λ l. Among x l) (on_from u y list nf) h))
-    (cases_eq u y))
-    (cases_eq u x)
 
 -- the same node, or one before the other
 abbrev pub Turn : List ℕ → Act → Act → Type 0

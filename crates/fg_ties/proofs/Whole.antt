@@ -4,7 +4,7 @@ use Rattle.std.proofs.lemmas.Bool.{cases_eq, cases_lt, and_parts, and_from, or_c
 use Rattle.std.proofs.lemmas.Option.{slice_get_within}
 use Rattle.std.specs.Option.{option_map_or}
 use Rattle.std.proofs.Math.Bool as bools
-use Rattle.fg_hb.proofs.InOrder.{goes_forward, comes_never_back}
+use Rattle.fg_hb.proofs.InOrder.{not_both, goes_forward, comes_never_back}
 use Rattle.fg_hb.specs.Orders.{Order}
 use Rattle.fg_reach.specs.Paths.{then_on}
 use Rattle.fg_view.specs.Deeds.{changes, transfers}
@@ -17,7 +17,7 @@ use Rattle.fg_ties.specs.Passing.{Before}
 use Rattle.fg_ties.specs.Tied.{Clashing, Tied, PairTied, Flawed, TiedBelow, FirstFlaw}
 use Rattle.fg_ties.specs.declared.tie.Flaw.{Flaw}
 use Rattle.fg_ties.specs.declared.tie.Flaw.TheVariants.{Unordered, NotAvailable, NotVisible}
-use Rattle.fg_ties.proofs.Ordered.{has_within, listed_in, listed_of, not_both, in_turn}
+use Rattle.fg_ties.proofs.Ordered.{has_within, listed_in, listed_of, in_turn}
 use Rattle.fg_ties.proofs.Passes.{up_to_on, found_up_to}
 
 or_turned : (f g : Bool) → (f || g) ≡ true → (g || f) ≡ true

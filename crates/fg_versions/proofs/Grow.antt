@@ -171,10 +171,10 @@ first_row n unit = sym (append-nil (imported n unit))
 pub pass_got : (n : NumberedFrame) (p : ℕ) (P : NumberedPass → Type 0) → p < length n.passes → IfSome (slice_get n.passes p) P → P (pass_at n p)
 pass_got n p P lt has = subst (λ o. IfSome o P) (slice_get-get_or n.passes p no_pass lt) has
 
-pub import_is : (all : List Unit) (unit : ℕ) (o : Option (List ℕ)) → unit < length all → IfSome (slice_get all unit) (λ u. o ≡ u.imported) → is_import all unit ≡ is_some o
-import_is [] unit o lt says = absurd (omega arith)
-import_is (u ∷ all) zero o lt says = ap is_some (sym says)
-import_is (u ∷ all) (suc unit) o lt says = import_is all unit o (omega arith) says
+pub import_is : (all : List Unit) (unit : ℕ) (b : Bool) → unit < length all → IfSome (slice_get all unit) (λ u. b ≡ is_some u.imported) → is_import all unit ≡ b
+import_is [] unit b lt says = absurd (omega arith)
+import_is (u ∷ all) zero b lt says = sym says
+import_is (u ∷ all) (suc unit) b lt says = import_is all unit b (omega arith) says
 
 pub row_pushed : (n : NumberedFrame) (unit : ℕ) (before after : List (List (Option ℕ))) (row : List (Option ℕ)) → before ≡ map (versions n 0) (range_with_len 0 unit) → row ≡ imported n unit → after ≡ before ++ row ∷ [] → after ≡ map (versions n 0) (range_with_len 0 (unit + 1))
 row_pushed n unit before after row is here pushed = pushed ∙ ap₂ (λ xs x. xs ++ x ∷ []) is (here ∙ first_row n unit) ∙ sym (map-range_with_len_more (versions n 0) 0 unit unit (omega arith))

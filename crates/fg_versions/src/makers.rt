@@ -2,7 +2,6 @@
 
 ghost use Rattle.std.specs.Prelude.{◌≡◌, ◌==◌, ◌<◌, ◌≤◌, ◌++◌, ◌∷◌, [], map, length, Some, None, IfOk, OnOk, slice_get};
 ghost use Rattle.std.specs.List.{All, filter_map, range_with_len};
-ghost use Rattle.fg_frame.specs.Good.{is_import};
 ghost use Rattle.fg_frame.specs.Numbered.{numbered};
 ghost use Rattle.fg_versions.specs.Rows.{row_of, grown, added, added_numbers};
 ghost use Rattle.fg_versions.specs.Versions.{imported, versions, latest, latest_maker, changes};
@@ -29,16 +28,6 @@ impl Model for Makers {
     ghost invariant = { λ m. All (λ row. length row ≤ 2 ^ 32) m.rows.items };
 }
 
-fn is_import(frame: &GoodFrame, unit: u32) -> bool
-    requires { unit < length (numbered frame.now).units }
-    ensures { result ≡ is_import (numbered frame.now).units unit }
-{
-    match frame.import(unit) {
-        Some(_) => true,
-        None => false,
-    }
-}
-
 // The versions of a unit before the first pass.
 fn imported(alloc: Global, frame: &GoodFrame, unit: u32) -> Result<List<Option<u32>>, NoMemory>
     requires { unit < length (numbered frame.now).units }
@@ -46,7 +35,7 @@ fn imported(alloc: Global, frame: &GoodFrame, unit: u32) -> Result<List<Option<u
     ensures small { IfOk result (λ row. length row ≤ 1) }
 {
     let mut row = List::new(alloc);
-    if is_import(frame, unit) {
+    if frame.is_import(unit) {
         row.push(None)?;
     }
     Ok(row)

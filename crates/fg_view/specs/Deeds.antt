@@ -58,6 +58,22 @@ gives (Discard layout) = true
 gives (Release handover) = true
 gives (Acquire handover) = true
 
+abbrev pub is_discard : Deed → Bool
+is_discard (Load agent layout) = false
+is_discard (Store agent layout) = false
+is_discard (Keep layouts) = false
+is_discard (Discard layout) = true
+is_discard (Release handover) = false
+is_discard (Acquire handover) = false
+
+abbrev pub is_acquire : Deed → Bool
+is_acquire (Load agent layout) = false
+is_acquire (Store agent layout) = false
+is_acquire (Keep layouts) = false
+is_acquire (Discard layout) = false
+is_acquire (Release handover) = false
+is_acquire (Acquire handover) = true
+
 -- the layout that has to be found
 abbrev pub wanted : Deed → Option Layout
 wanted (Load agent layout) = layout

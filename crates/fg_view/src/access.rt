@@ -1,7 +1,7 @@
 //! Accesses of nodes to memory.
 
 ghost use Rattle.std.specs.Prelude.{◌≡◌};
-ghost use Rattle.fg_view.specs.Deeds.{changes, loads, stores, turns, gives, transfers, wanted};
+ghost use Rattle.fg_view.specs.Deeds.{changes, loads, stores, turns, gives, transfers, is_discard, is_acquire, wanted};
 
 use fg_base::Family;
 use fg_bits::{Layout, Layouts};
@@ -110,6 +110,24 @@ impl Deed {
     {
         match self {
             Deed::Discard(_) | Deed::Release(_) | Deed::Acquire(_) => true,
+            _ => false,
+        }
+    }
+
+    pub fn is_discard(self) -> bool
+        ensures { result ≡ is_discard self }
+    {
+        match self {
+            Deed::Discard(_) => true,
+            _ => false,
+        }
+    }
+
+    pub fn is_acquire(self) -> bool
+        ensures { result ≡ is_acquire self }
+    {
+        match self {
+            Deed::Acquire(_) => true,
             _ => false,
         }
     }
