@@ -1,6 +1,6 @@
 //! Which shapes an operation can work on.
 
-ghost use Rattle.std.specs.Prelude.{◌≡◌, ◌<◌, ◌==◌, ◌&&◌, length, nat_le, is_some, All};
+ghost use Rattle.std.specs.Prelude.{◌≡◌, ◌<◌, ◌==◌, ◌&&◌, length, is_some, All};
 ghost use Rattle.std.specs.List.{list_all};
 ghost use Rattle.fg_base.specs.Fits.{fits, is_aligned, has_drawn};
 ghost use Rattle.fg_base.specs.Operands.{operands_of, mapped};

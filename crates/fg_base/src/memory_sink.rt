@@ -1,6 +1,6 @@
 //! A sink that keeps what it took, with writes that fail.
 
-ghost use Rattle.std.specs.Prelude.{◌≡◌, ◌≤◌, ◌<◌, ◌+◌, ◌-◌, ◌++◌, [], ◌^◌, length, take, drop, Some, IfOk, vec_capacity, vec_len};
+ghost use Rattle.std.specs.Prelude.{◌≡◌, ◌≤◌, ◌<◌, ◌+◌, ◌-◌, ◌++◌, [], length, Some, IfOk, vec_capacity, vec_len};
 ghost use Rattle.fg_base.specs.Memory.{next_write, after_write};
 ghost use Rattle.fg_base.specs.Writes.{IsWithin, CountsFault};
 

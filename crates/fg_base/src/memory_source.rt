@@ -1,6 +1,6 @@
 //! Bytes in memory, handed out a few at a time, with reads that fail.
 
-ghost use Rattle.std.specs.Prelude.{◌≡◌, ◌≤◌, ◌<◌, ◌+◌, ◌-◌, ◌^◌, min, length, take, drop, Some};
+ghost use Rattle.std.specs.Prelude.{◌≡◌, ◌≤◌, ◌<◌, ◌+◌, ◌-◌, min, length, take, drop, Some};
 ghost use Rattle.fg_base.specs.Memory.{next_read, after_read};
 ghost use Rattle.fg_base.specs.Reads.{IsWithin, TakesBytes, CountsFault};
 

@@ -1,6 +1,6 @@
 //! A sink that takes everything and keeps nothing.
 
-ghost use Rattle.std.specs.Prelude.{◌≡◌, ◌<◌, ◌≤◌, length, None};
+ghost use Rattle.std.specs.Prelude.{◌≡◌, length, None};
 
 use crate::{Put, Sink};
 

@@ -1,6 +1,6 @@
 //! Bytes in memory, handed out a few at a time, with reads that never fail.
 
-ghost use Rattle.std.specs.Prelude.{◌≡◌, ◌≤◌, ◌<◌, ◌+◌, ◌-◌, length, take, drop, Some};
+ghost use Rattle.std.specs.Prelude.{◌≡◌, ◌≤◌, ◌<◌, ◌+◌, ◌-◌, length, drop, Some};
 ghost use Rattle.fg_base.specs.Memory.{given};
 ghost use Rattle.fg_base.specs.Reads.{IsWithin, TakesBytes};
 

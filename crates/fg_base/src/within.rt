@@ -1,6 +1,6 @@
 //! Operations whose operands are there.
 
-ghost use Rattle.std.specs.Prelude.{◌≡◌, ◌<◌, ◌↔◌, length, All, IsTrue};
+ghost use Rattle.std.specs.Prelude.{◌<◌, ◌↔◌, All, IsTrue};
 ghost use Rattle.fg_base.specs.Operands.{operands_of};
 
 use crate::Op;

@@ -2,7 +2,6 @@
 
 ghost use Rattle.std.specs.Prelude.{◌≡◌, ◌&&◌, if◌then◌else◌};
 ghost use Rattle.fg_bits.specs.Agents.{agents};
-ghost use Rattle.fg_bits.specs.Sets.{has};
 
 use crate::{Accesses, Stages};
 use bitflags::Flags;

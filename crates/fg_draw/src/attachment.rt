@@ -1,12 +1,12 @@
 //! A draw into an attachment.
 
-ghost use Rattle.std.specs.Prelude.{◌≡◌, ◌%◌, ◌+◌, ◌≤◌, ◌<◌, true, [], List, Option, All, length};
+ghost use Rattle.std.specs.Prelude.{◌≡◌, ◌<◌, true, [], Option, length};
 ghost use Rattle.std.specs.List.{list_all};
 ghost use Rattle.fg_base.specs.Applied.{effect, begun};
-ghost use Rattle.fg_base.specs.Fits.{fits, has_drawn};
-ghost use Rattle.fg_base.specs.Kernels.{mixed, under, drawn};
+ghost use Rattle.fg_base.specs.Fits.{has_drawn};
+ghost use Rattle.fg_base.specs.Kernels.{mixed, under};
 ghost use Rattle.fg_base.specs.Shapes.{bytes_of, is_image};
-ghost use Rattle.fg_base.specs.Texels.{canvas_of, modulus, painted, picture};
+ghost use Rattle.fg_base.specs.Texels.{painted, picture};
 ghost use Rattle.fg_pixels.specs.Bands.{HasRows};
 ghost use Rattle.fg_draw.specs.Rects.{IsWithin};
 

@@ -5,7 +5,7 @@ ghost use Rattle.std.specs.List.{AllByRecursion};
 ghost use Rattle.fg_forms.specs.Parts.{list_at, entries_at, array_of};
 ghost use Rattle.fg_forms.specs.Places.{legs};
 ghost use Rattle.fg_forms.specs.Reading.{Gives};
-ghost use Rattle.serde_json.specs.View.{view, items_view};
+ghost use Rattle.serde_json.specs.View.{items_view};
 
 use crate::{Place, ReadEnd, Reader, Typed, Writer};
 use fg_base::List;

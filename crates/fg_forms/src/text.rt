@@ -1,6 +1,6 @@
 //! Values that stand in a file as texts, and names among them.
 
-ghost use Rattle.std.specs.Prelude.{◌≡◌, ℕ, List, Some, IfSome, option_map};
+ghost use Rattle.std.specs.Prelude.{◌≡◌, ℕ, List, Some, IfSome};
 ghost use Rattle.fg_base.specs.Names.{IsName, name_of};
 ghost use Rattle.fg_forms.specs.Leaves.{text_at, text_data, same_bytes, name_again};
 

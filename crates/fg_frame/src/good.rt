@@ -1,11 +1,11 @@
 //! Frames that break no rule.
 
-ghost use Rattle.std.specs.Prelude.{◌≡◌, ◌≤◌, ◌<◌, ◌+◌, IfOk, IfErr, IfSome, length, None, Some, slice_get, map, is_some, option_copied};
+ghost use Rattle.std.specs.Prelude.{◌≡◌, ◌≤◌, ◌<◌, IfOk, IfErr, IfSome, length, None, Some, slice_get, map, is_some, option_copied};
 ghost use Rattle.std.specs.List.{All};
-ghost use Rattle.fg_frame.specs.FirstFault.{broken, shapes_of, imports_of, sharings_of, name_broken, misfit_broken, use_broken, first_broken, first_fault, Ends, AllWithin};
+ghost use Rattle.fg_frame.specs.FirstFault.{broken, shapes_of, name_broken, misfit_broken, use_broken, first_broken, first_fault, Ends, AllWithin};
 ghost use Rattle.fg_base.specs.Operands.{operands_of};
 ghost use Rattle.fg_frame.specs.Good.{IsGood};
-ghost use Rattle.fg_frame.specs.Numbered.{IsWithin, numbered, all_uses, export_units};
+ghost use Rattle.fg_frame.specs.Numbered.{numbered, all_uses};
 ghost use Rattle.fg_frame.specs.Parts.{parts_of};
 ghost use Rattle.fg_frame.specs.Units.{numbering, units, owners, unit_spots};
 

@@ -1,6 +1,6 @@
 //! The limits of a frame.
 
-ghost use Rattle.std.specs.Prelude.{◌≡◌, ◌≤◌, not, IfOk, IfErr, IfNone, Some, None, length, option_copied};
+ghost use Rattle.std.specs.Prelude.{◌≡◌, not, IfOk, IfErr, Some, None, option_copied};
 ghost use Rattle.std.specs.List.{position, find};
 ghost use Rattle.std.specs.Str.{bytes_eq};
 ghost use Rattle.fg_base.specs.Bounds.{sides_allowed, size_allowed};

@@ -1,6 +1,6 @@
 //! A frame's names as numbers.
 
-ghost use Rattle.std.specs.Prelude.{◌≡◌, ◌≤◌, ◌++◌, IfOk, OnOk, length, map};
+ghost use Rattle.std.specs.Prelude.{◌≡◌, ◌≤◌, IfOk, length, map};
 ghost use Rattle.std.specs.List.{flat_map};
 ghost use Rattle.fg_base.specs.Operands.{mapped};
 ghost use Rattle.fg_frame.specs.Numbered.{queue_number, writes_of, write_each, numbered_pass, stored_of, uses_of};

@@ -1,10 +1,10 @@
 //! Names that stand twice, and entries that name one unit twice.
 
-ghost use Rattle.std.specs.Prelude.{◌≡◌, ◌≤◌, ◌<◌, ◌&&◌, take, map, length, is_some, IfOk, IfErr, None, Some, true};
+ghost use Rattle.std.specs.Prelude.{◌≡◌, ◌≤◌, ◌<◌, map, length, IfOk, IfErr, None, Some, true};
 ghost use Rattle.std.specs.List.{list_any};
 ghost use Rattle.std.specs.Str.{bytes_eq};
 ghost use Rattle.fg_base.specs.Walks.{first_in};
-ghost use Rattle.fg_frame.specs.Clashes.{clash, clashes_at, first_clash};
+ghost use Rattle.fg_frame.specs.Clashes.{clash, first_clash};
 ghost use Rattle.fg_frame.specs.Repeats.{repeats_at, first_repeat, repeats_in, repeated};
 
 use crate::place::Place;

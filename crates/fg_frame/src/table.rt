@@ -1,9 +1,9 @@
 //! From the names of resources to their units.
 
-ghost use Rattle.std.specs.Prelude.{◌≡◌, ◌≤◌, ◌<◌, ◌+◌, ◌++◌, ◌∷◌, [], IfOk, IfSome, OnOk, None, map, slice_get};
+ghost use Rattle.std.specs.Prelude.{◌≡◌, ◌≤◌, ◌<◌, ◌+◌, IfOk, IfSome, None, map, slice_get};
 ghost use Rattle.std.specs.List.{All, range_with_len};
 ghost use Rattle.fg_frame.specs.Repeats.{first_repeat};
-ghost use Rattle.fg_frame.specs.Units.{Numbering, numbering, stretches, stretch_of, layers_of, layer_unit, units_in, unit_in, units_of, unit_of};
+ghost use Rattle.fg_frame.specs.Units.{Numbering, numbering, stretches, stretch_of, layers_of, layer_unit, units_in, units_of, unit_of};
 ghost use Rattle.fg_frame.specs.Unknowns.{has_layer, picks_one, is_known, is_known_unit};
 
 use crate::numbered::Stretch;

@@ -1,6 +1,6 @@
 //! The units of a frame.
 
-ghost use Rattle.std.specs.Prelude.{◌≡◌, ◌≤◌, ◌++◌, ◌==◌, IfOk, OnOk, map, replicate, is_some, length};
+ghost use Rattle.std.specs.Prelude.{◌≡◌, ◌≤◌, ◌==◌, IfOk, map, replicate, is_some, length};
 ghost use Rattle.std.specs.List.{flat_map, range_with_len};
 ghost use Rattle.fg_frame.specs.FirstFault.{shapes_of, sharings_of, imports_of};
 ghost use Rattle.fg_frame.specs.Units.{owners, spots_of, layer_spot};

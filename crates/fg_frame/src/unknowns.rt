@@ -1,8 +1,7 @@
 //! Names that nothing has, and layers that are not there.
 
-ghost use Rattle.std.specs.Prelude.{◌≡◌, ◌<◌, not, if◌then◌else◌, None, Some, IfSome, length};
+ghost use Rattle.std.specs.Prelude.{◌≡◌, ◌<◌, not, None, Some, IfSome, length};
 ghost use Rattle.std.specs.List.{position};
-ghost use Rattle.fg_base.specs.Operands.{operands_of};
 ghost use Rattle.fg_base.specs.Walks.{first_in};
 ghost use Rattle.fg_frame.specs.Members.{member_at};
 ghost use Rattle.fg_frame.specs.Unknowns.{queue_at, has_queue, is_known, is_known_unit, unknown_at, unknown_operand, unknown_in, unknown_by};

@@ -1,15 +1,13 @@
 //! The rules on what passes do.
 
-ghost use Rattle.std.specs.Prelude.{◌≡◌, ◌≤◌, ◌<◌, ◌&&◌, length, not, map, option_copied};
-ghost use Rattle.std.specs.List.{All, position, find, list_any};
-ghost use Rattle.fg_base.specs.Fits.{fits};
+ghost use Rattle.std.specs.Prelude.{◌≡◌, ◌<◌, ◌&&◌, length, not};
+ghost use Rattle.std.specs.List.{All, position, list_any};
 ghost use Rattle.fg_base.specs.InPlace.{in_place};
-ghost use Rattle.fg_base.specs.Operands.{operands_of, mapped};
+ghost use Rattle.fg_base.specs.Operands.{operands_of};
 ghost use Rattle.fg_base.specs.Runs.{runs};
-ghost use Rattle.fg_base.specs.Shapes.{shape_at};
 ghost use Rattle.fg_base.specs.Walks.{first_in};
 ghost use Rattle.fg_frame.specs.Numbered.{IsWithin};
-ghost use Rattle.fg_frame.specs.Uses.{family_of, stranger_in, writes_it, reads_it, undeclared_at, undeclared_operand, undeclared_in, stores_whole, starts_whole, is_partial, not_whole_at, not_whole_in, import_fits, misfit_import, misfit_at, misfit_in, in_place_in, read_new_in, use_at, first_use};
+ghost use Rattle.fg_frame.specs.Uses.{family_of, stranger_in, writes_it, reads_it, undeclared_at, undeclared_operand, stores_whole, starts_whole, is_partial, not_whole_at, import_fits, misfit_import, misfit_at, in_place_in, read_new_in, use_at, first_use};
 
 use crate::members::member_at;
 use crate::numbered::{NumberedPass, Stored, Uses};

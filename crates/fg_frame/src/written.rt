@@ -1,6 +1,6 @@
 //! What is read or changed was written.
 
-ghost use Rattle.std.specs.Prelude.{◌≡◌, ◌≤◌, ◌<◌, ◌&&◌, ◌||◌, not, length, true, false, IfOk, IfErr, Some, None, ℕ, ◌==◌};
+ghost use Rattle.std.specs.Prelude.{◌≡◌, ◌<◌, ◌&&◌, ◌||◌, not, length, true, false, IfOk, IfErr, Some, None, ℕ, ◌==◌};
 ghost use Rattle.std.specs.List.{All, position, list_any};
 ghost use Rattle.fg_base.specs.Walks.{first_in};
 ghost use Rattle.fg_frame.specs.Numbered.{IsWithin};

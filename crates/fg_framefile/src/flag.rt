@@ -1,6 +1,6 @@
 //! Truth values in a file.
 
-ghost use Rattle.std.specs.Prelude.{◌≡◌, ⊤};
+ghost use Rattle.std.specs.Prelude.{⊤};
 ghost use Rattle.fg_framefile.specs.Flags.{flag_at};
 
 use fg_forms::{Place, ReadEnd, Reader};

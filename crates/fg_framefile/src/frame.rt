@@ -1,6 +1,5 @@
 //! The frame that a JSON value is.
 
-ghost use Rattle.std.specs.Prelude.{◌≡◌};
 ghost use Rattle.fg_framefile.specs.Frames.{frame_at, frame_data, FitsFrame};
 
 use crate::pass::PassForm;

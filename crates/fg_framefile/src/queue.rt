@@ -1,6 +1,5 @@
 //! Queues in a file.
 
-ghost use Rattle.std.specs.Prelude.{◌≡◌};
 ghost use Rattle.fg_framefile.specs.Queues.{queue_at, queue_data, FitsQueue};
 
 use fg_forms::{NameForm, Place, ReadEnd, Reader, TextForm, Writer, object, others, required};

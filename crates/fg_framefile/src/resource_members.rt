@@ -4,7 +4,7 @@ ghost use Rattle.std.specs.Prelude.{◌≡◌, codes, option_map, IfOk};
 ghost use Rattle.fg_forms.specs.Leaves.{text_data, same_bytes};
 ghost use Rattle.fg_framefile.specs.Resources.{put_maybe, layers_data, sharing_data, shape_members, resource_members};
 ghost use Rattle.fg_shapeforms.specs.Hexadecimal.{hex_data};
-ghost use Rattle.serde_json.specs.Data.{no_members, put};
+ghost use Rattle.serde_json.specs.Data.{put};
 ghost use Rattle.serde_json.specs.View.{view, members_view};
 
 use fg_base::{List, Name, Shape};

@@ -1,6 +1,6 @@
 //! Spots in a file.
 
-ghost use Rattle.std.specs.Prelude.{◌≡◌, Some, IfOk, IfSome, length, string_bytes};
+ghost use Rattle.std.specs.Prelude.{◌≡◌, Some, IfOk, IfSome, string_bytes};
 ghost use Rattle.fg_framefile.specs.Spots.{spot_at, spot_data, with_layer, spot_of, layered_spot, layer_of, FitsSpot};
 
 use fg_base::Name;

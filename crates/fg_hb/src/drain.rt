@@ -1,6 +1,6 @@
 //! The order in which nodes are taken.
 
-ghost use Rattle.std.specs.Prelude.{◌≡◌, ◌<◌, ◌≤◌, ◌+◌, ◌-◌, ◌++◌, ℕ, length, true, false, get_or, IfOk, OnOk, MatchOption, IfSome};
+ghost use Rattle.std.specs.Prelude.{◌≡◌, ◌<◌, ◌≤◌, ◌+◌, ◌-◌, ◌++◌, ℕ, length, true, false, get_or, IfOk, MatchOption, IfSome};
 ghost use Rattle.std.specs.List.{range_with_len};
 ghost use Rattle.fg_hb.specs.Answers.{Answers};
 ghost use Rattle.fg_hb.specs.Nodes.{program_nodes};

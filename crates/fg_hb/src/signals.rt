@@ -1,8 +1,8 @@
 //! The signals that signals and waits are tied to.
 
-ghost use Rattle.std.specs.Prelude.{◌≡◌, ◌<◌, ◌≤◌, ◌+◌, length, drop, option_map, IfOk};
+ghost use Rattle.std.specs.Prelude.{◌≡◌, ◌<◌, ◌≤◌, ◌+◌, length, IfOk};
 ghost use Rattle.std.specs.List.{position};
-ghost use Rattle.fg_hb.specs.Edges.{node_at, next_signal, meeting, signals, reaches};
+ghost use Rattle.fg_hb.specs.Edges.{node_at, next_signal, signals, reaches};
 ghost use Rattle.fg_hb.specs.Kept.{link_of, links_until};
 
 use crate::{Kind, Node};

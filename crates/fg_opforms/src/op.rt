@@ -1,6 +1,5 @@
 //! The form of an operation.
 
-ghost use Rattle.std.specs.Prelude.{◌≡◌};
 ghost use Rattle.fg_opforms.specs.OpFits.{FitsOp};
 ghost use Rattle.fg_opforms.specs.OpReading.{op_at};
 ghost use Rattle.fg_opforms.specs.OpWriting.{op_data};

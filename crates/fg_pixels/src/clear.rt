@@ -1,6 +1,6 @@
 //! One number everywhere.
 
-ghost use Rattle.std.specs.Prelude.{◌≡◌, ◌+◌, ◌%◌, ◌≤◌};
+ghost use Rattle.std.specs.Prelude.{◌≡◌, ◌+◌, ◌≤◌};
 ghost use Rattle.fg_base.specs.Texels.{band};
 ghost use Rattle.fg_pixels.specs.Bands.{HasRows};
 

@@ -1,7 +1,7 @@
 //! Numbers in texels of another size.
 
-ghost use Rattle.std.specs.Prelude.{◌≡◌, ◌+◌, ◌%◌, ◌<◌, ◌≤◌};
-ghost use Rattle.fg_base.specs.Texels.{modulus, picture, band};
+ghost use Rattle.std.specs.Prelude.{◌≡◌, ◌+◌, ◌<◌, ◌≤◌};
+ghost use Rattle.fg_base.specs.Texels.{picture, band};
 ghost use Rattle.fg_pixels.specs.Bands.{HasRows};
 
 use crate::painting::paint;

@@ -1,9 +1,9 @@
 //! Bytes and rectangles that go across.
 
-ghost use Rattle.std.specs.Prelude.{◌≡◌, ◌+◌, ◌-◌, ◌%◌, ◌^◌, ◌<◌, ◌≤◌, length, slice_range, if◌then◌else◌};
+ghost use Rattle.std.specs.Prelude.{◌≡◌, ◌+◌, ◌-◌, ◌^◌, ◌<◌, ◌≤◌, length, slice_range, if◌then◌else◌};
 ghost use Rattle.fg_base.specs.Applied.{replaced};
 ghost use Rattle.fg_base.specs.Kernels.{is_inside};
-ghost use Rattle.fg_base.specs.Texels.{modulus, picture, painted};
+ghost use Rattle.fg_base.specs.Texels.{picture, painted};
 ghost use Rattle.fg_pixels.specs.Bands.{HasRows};
 
 use crate::repainting::{Area, repaint};

@@ -2,7 +2,7 @@
 
 ghost use Rattle.std.specs.Prelude.{◌≡◌, ◌+◌, ◌*◌, ◌%◌, ◌<◌, ◌≤◌};
 ghost use Rattle.fg_base.specs.Kernels.{halved};
-ghost use Rattle.fg_base.specs.Texels.{modulus, picture, band};
+ghost use Rattle.fg_base.specs.Texels.{picture, band};
 ghost use Rattle.fg_base.specs.declared.shape.Texel.TheVariants.{R8};
 ghost use Rattle.fg_pixels.specs.Bands.{HasRows};
 

@@ -1,6 +1,6 @@
 //! One loop over the texels of some rows.
 
-ghost use Rattle.std.specs.Prelude.{◌≡◌, ℕ, ◌+◌, ◌*◌, ◌%◌, ◌^◌, ◌≤◌, ◌<◌, length};
+ghost use Rattle.std.specs.Prelude.{◌≡◌, ℕ, ◌+◌, ◌*◌, ◌^◌, ◌≤◌, ◌<◌, length};
 ghost use Rattle.fg_base.specs.Shapes.{texel_bytes};
 ghost use Rattle.fg_base.specs.Texels.{band};
 ghost use Rattle.fg_pixels.specs.Closures.{GivesOnly};

@@ -1,6 +1,6 @@
 //! One loop over the texels of a rectangle.
 
-ghost use Rattle.std.specs.Prelude.{◌≡◌, ℕ, ◌+◌, ◌*◌, ◌%◌, ◌≤◌, ◌<◌, length, if◌then◌else◌};
+ghost use Rattle.std.specs.Prelude.{◌≡◌, ℕ, ◌+◌, ◌*◌, ◌≤◌, ◌<◌, if◌then◌else◌};
 ghost use Rattle.fg_base.specs.Kernels.{is_inside};
 ghost use Rattle.fg_base.specs.Texels.{modulus, painted, picture};
 ghost use Rattle.fg_pixels.specs.Bands.{HasRows};

@@ -1,7 +1,7 @@
 //! A choice between the texels of two sources.
 
-ghost use Rattle.std.specs.Prelude.{◌≡◌, ◌==◌, ◌+◌, ◌%◌, ◌<◌, ◌≤◌, if◌then◌else◌};
-ghost use Rattle.fg_base.specs.Texels.{modulus, picture, band};
+ghost use Rattle.std.specs.Prelude.{◌≡◌, ◌==◌, ◌+◌, ◌<◌, ◌≤◌, if◌then◌else◌};
+ghost use Rattle.fg_base.specs.Texels.{picture, band};
 ghost use Rattle.fg_pixels.specs.Bands.{HasRows};
 
 use crate::painting::paint;

@@ -1,6 +1,6 @@
 //! The families of queues in a file.
 
-ghost use Rattle.std.specs.Prelude.{◌≡◌, ⊤};
+ghost use Rattle.std.specs.Prelude.{⊤};
 ghost use Rattle.fg_base.specs.Families.{family_name};
 ghost use Rattle.fg_shapeforms.specs.Families.{family_of, family_again};
 

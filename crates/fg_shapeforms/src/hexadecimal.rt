@@ -1,6 +1,6 @@
 //! Bytes in a file.
 
-ghost use Rattle.std.specs.Prelude.{◌≡◌, IfOk};
+ghost use Rattle.std.specs.Prelude.{IfOk};
 ghost use Rattle.hex.specs.Hex.{IsBytes};
 ghost use Rattle.fg_shapeforms.specs.Hexadecimal.{hex_at, hex_data, hex_of, HexGives};
 

@@ -1,6 +1,6 @@
 //! Whether queue families share a resource, in a file.
 
-ghost use Rattle.std.specs.Prelude.{◌≡◌, ⊤};
+ghost use Rattle.std.specs.Prelude.{⊤};
 ghost use Rattle.fg_forms.specs.Places.{legs};
 ghost use Rattle.fg_forms.specs.Reading.{Gives};
 ghost use Rattle.fg_shapeforms.specs.Sharings.{sharing_of, sharing_text, sharing_again, sharing_at};

@@ -1,6 +1,6 @@
 //! The sides of an image in a file.
 
-ghost use Rattle.std.specs.Prelude.{◌≡◌, IfOk};
+ghost use Rattle.std.specs.Prelude.{IfOk};
 ghost use Rattle.fg_forms.specs.Places.{legs};
 ghost use Rattle.fg_forms.specs.Reading.{Gives};
 ghost use Rattle.fg_shapeforms.specs.Sides.{sides_at, two_at, FitsSides};

@@ -1,6 +1,6 @@
 //! Texels in a file.
 
-ghost use Rattle.std.specs.Prelude.{◌≡◌, ⊤};
+ghost use Rattle.std.specs.Prelude.{⊤};
 ghost use Rattle.fg_shapeforms.specs.Texels.{texel_of, texel_text, texel_again};
 
 use fg_base::Texel;

@@ -1,6 +1,6 @@
 //! What comes after accesses.
 
-ghost use Rattle.std.specs.Prelude.{◌≡◌, ◌+◌, ◌<◌, ℕ, List, None, length, replicate, IfOk};
+ghost use Rattle.std.specs.Prelude.{◌≡◌, ◌+◌, ◌<◌, List, None, length, replicate, IfOk};
 ghost use Rattle.fg_view.specs.Shapely.{ActAt, Listed, Shapely};
 ghost use Rattle.fg_stated.specs.Tables.{IsAhead};
 

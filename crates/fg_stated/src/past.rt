@@ -1,6 +1,6 @@
 //! What accesses find of earlier ones.
 
-ghost use Rattle.std.specs.Prelude.{◌≡◌, ◌+◌, ◌<◌, ℕ, List, [], length, take, IfOk};
+ghost use Rattle.std.specs.Prelude.{◌+◌, ◌<◌, ℕ, List, [], length, take, IfOk};
 ghost use Rattle.fg_view.specs.Shapely.{ActAt};
 ghost use Rattle.fg_stated.specs.Tables.{IsPast};
 

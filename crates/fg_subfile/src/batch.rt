@@ -1,6 +1,5 @@
 //! Batches in a file.
 
-ghost use Rattle.std.specs.Prelude.{◌≡◌};
 ghost use Rattle.fg_subfile.specs.Batches.{batch_at, batch_data, FitsBatch};
 
 use crate::item::ItemForm;

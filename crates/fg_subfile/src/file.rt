@@ -1,6 +1,6 @@
 //! A submission file from its bytes.
 
-ghost use Rattle.std.specs.Prelude.{◌≡◌, [], IfOk};
+ghost use Rattle.std.specs.Prelude.{[], IfOk};
 ghost use Rattle.fg_subfile.specs.Files.{program_of, shaped, ProgramGives};
 ghost use Rattle.fg_subfile.specs.Programs.{program_at, FitsProgram};
 ghost use Rattle.serde_json.specs.View.{view};

@@ -1,6 +1,6 @@
 //! Which item it is.
 
-ghost use Rattle.std.specs.Prelude.{◌≡◌, ⊤};
+ghost use Rattle.std.specs.Prelude.{⊤};
 ghost use Rattle.fg_subfile.specs.ItemKinds.{item_kind_of, item_kind_text, item_kind_again};
 
 use fg_forms::{TextForm, Word};

@@ -1,6 +1,6 @@
 //! Layouts of images in a file.
 
-ghost use Rattle.std.specs.Prelude.{◌≡◌, ⊤};
+ghost use Rattle.std.specs.Prelude.{⊤};
 ghost use Rattle.fg_bits.specs.Layouts.{layout_name, layout_of};
 ghost use Rattle.fg_subfile.specs.LayoutWords.{layout_again};
 

@@ -1,6 +1,6 @@
 //! The program that a JSON value is.
 
-ghost use Rattle.std.specs.Prelude.{◌≡◌, IfOk};
+ghost use Rattle.std.specs.Prelude.{IfOk};
 ghost use Rattle.fg_forms.specs.Places.{legs};
 ghost use Rattle.fg_forms.specs.Reading.{Gives};
 ghost use Rattle.fg_subfile.specs.Programs.{parts_at, program_at, program_data, FitsProgram};

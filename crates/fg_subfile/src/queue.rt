@@ -1,6 +1,5 @@
 //! Queues in a file.
 
-ghost use Rattle.std.specs.Prelude.{◌≡◌};
 ghost use Rattle.fg_subfile.specs.Batches.{queue_at, queue_data, FitsQueue};
 
 use crate::batch::BatchForm;

@@ -1,6 +1,5 @@
 //! Signals in a file.
 
-ghost use Rattle.std.specs.Prelude.{◌≡◌};
 ghost use Rattle.fg_subfile.specs.Timelines.{signal_at, signal_data, FitsSignal};
 
 use crate::mask::StagesForm;

@@ -1,6 +1,6 @@
 //! Values of timelines in a file.
 
-ghost use Rattle.std.specs.Prelude.{◌≡◌, ⊤};
+ghost use Rattle.std.specs.Prelude.{⊤};
 ghost use Rattle.fg_forms.specs.Leaves.{number_data};
 ghost use Rattle.fg_subfile.specs.Values.{value_at};
 

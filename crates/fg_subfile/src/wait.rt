@@ -1,6 +1,5 @@
 //! Waits in a file.
 
-ghost use Rattle.std.specs.Prelude.{◌≡◌};
 ghost use Rattle.fg_subfile.specs.Timelines.{wait_at, wait_data, FitsWait};
 
 use crate::mask::StagesForm;

@@ -1,18 +1,16 @@
 -- A program that breaks no rule keeps each.
-use Rattle.std.proofs.Common.{◌≡◌, ℕ, ◌+◌, List, length, slice_get, take, not, true, Bool, Option, None, Some, IfSome, refl, sym, ap, ◌∙◌, subst, arith, if◌then◌else◌}
+use Rattle.std.proofs.Common.{◌≡◌, ℕ, length, take, not, true, Option, None, Some, IfSome}
 use Rattle.std.specs.List.{position}
 use Rattle.std.specs.Option.{option_or, option_map}
 use Rattle.fg_base.specs.Walks.{first_in}
 use Rattle.fg_base.specs.declared.shape.Family.{Family}
-use Rattle.fg_base.specs.declared.shape.Shape.{Shape}
 use Rattle.fg_base.proofs.Absence.{or_first, or_second, map_none, has_it, all_pass, none_from}
 use Rattle.fg_subs.specs.FirstFault.{broken, rule_broken, form_broken, use_broken, rules_broken, first_broken}
-use Rattle.fg_subs.specs.Kept.{BatchKeeps, BatchAt, Keeps}
+use Rattle.fg_subs.specs.Kept.{BatchKeeps, Keeps}
 use Rattle.fg_subs.specs.Limits.{limit_broken}
 use Rattle.fg_subs.specs.Rules.{piece_keeps, wait_keeps, item_keeps, signal_keeps, readback_keeps, signal_place, batch_place, next_place, queue_place, broken_at, shapes_of}
 use Rattle.fg_subs.specs.Timelines.{highest}
 use Rattle.fg_subs.specs.declared.place.Broken.{Broken}
-use Rattle.fg_subs.specs.declared.place.Place.{Place}
 use Rattle.fg_subs.specs.declared.place.Place.TheVariants as at
 use Rattle.fg_subs.specs.declared.program.Batch.{Batch}
 use Rattle.fg_subs.specs.declared.program.Program.{Program}

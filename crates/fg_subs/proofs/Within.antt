@@ -1,5 +1,5 @@
 -- Numbers below a bound, as a test and as a fact.
-use Rattle.std.proofs.Common.{◌≡◌, ◌↔◌, ◌<◌, ℕ, Bool, true, false, List, nat_lt, refl, sym, ◌∙◌}
+use Rattle.std.proofs.Common.{◌≡◌, ◌↔◌, ◌<◌, ℕ, Bool, true, false, List, nat_lt, refl, sym}
 use Rattle.std.specs.Bool.{IsTrue}
 use Rattle.std.specs.List.{All, list_all}
 use Rattle.std.proofs.lemmas.Bool.{ltb-true, lt-ltb}

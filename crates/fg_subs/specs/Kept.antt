@@ -1,5 +1,5 @@
 -- What a program that breaks no rule keeps.
-use Rattle.std.specs.Prelude.{◌≡◌, ◌≤◌, ℕ, List, length, slice_get, take, true, Some, IfSome}
+use Rattle.std.specs.Prelude.{◌≡◌, ◌≤◌, ℕ, length, slice_get, take, true, Some, IfSome}
 use Rattle.std.specs.List.{All}
 use Rattle.fg_base.specs.Bounds.{sides_allowed, size_allowed}
 use Rattle.fg_subs.specs.Limits.{all_bytes}

@@ -1,11 +1,10 @@
 -- The rules on each part of a program, and the first place where one is broken.
-use Rattle.std.specs.Prelude.{ℕ, List, length, take, map, ◌==◌, nat_lt, nat_le, not, Bool, true, Option, Some, None, if◌then◌else◌}
+use Rattle.std.specs.Prelude.{ℕ, List, length, take, map, nat_lt, nat_le, not, Bool, true, Option, Some, None, if◌then◌else◌}
 use Rattle.std.specs.List.{position}
 use Rattle.std.specs.Option.{option_or, option_map}
 use Rattle.fg_base.specs.Runs.{runs}
 use Rattle.fg_base.specs.Shapes.{is_buffer}
 use Rattle.fg_base.specs.Walks.{first_in}
-use Rattle.fg_base.specs.declared.op.Op.{Op}
 use Rattle.fg_base.specs.declared.shape.Family.{Family}
 use Rattle.fg_base.specs.declared.shape.Shape.{Shape}
 use Rattle.fg_subs.specs.Barriers.{masks_are, has_stages, both_have_stages, nothing_ignored, both_supported, both_on_family, on_queue}

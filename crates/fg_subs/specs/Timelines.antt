@@ -1,5 +1,5 @@
 -- Values of timelines.
-use Rattle.std.specs.Prelude.{ℕ, List, [], ◌∷◌, nat_lt, max, Bool, Option, Some, None}
+use Rattle.std.specs.Prelude.{ℕ, List, [], ◌∷◌, max, Option, Some, None}
 use Rattle.fg_subs.specs.declared.program.Batch.{Batch}
 use Rattle.fg_subs.specs.declared.program.Signal.{Signal}
 

@@ -7,7 +7,6 @@ ghost use Rattle.fg_subs.specs.Counts.{batch_count, batches_count, queues_count}
 ghost use Rattle.fg_subs.specs.Limits.{over, rects_of, spend_item, spend_batch, spend_queue, spend_memory, rects_over, bytes_over, count_broken, size_broken, limit_broken};
 ghost use Rattle.fg_base.specs.Operands.{rect_count};
 ghost use Rattle.fg_subs.specs.Nodes.{nodes_of};
-ghost use Rattle.fg_subs.specs.Places.{spend_in};
 
 use crate::place::{Broken, Place};
 use crate::range::memory_bytes;

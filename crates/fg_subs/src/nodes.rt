@@ -1,6 +1,6 @@
 //! The numbering of nodes.
 
-ghost use Rattle.std.specs.Prelude.{◌≡◌, ◌++◌, map, length, IfOk, OnOk};
+ghost use Rattle.std.specs.Prelude.{◌≡◌, ◌++◌, map, IfOk, OnOk};
 ghost use Rattle.std.specs.List.{range_with_len};
 ghost use Rattle.fg_subs.specs.Nodes.{signal_nodes, batch_nodes, queue_nodes, nodes_of};
 ghost use Rattle.fg_subs.specs.Places.{all_in};

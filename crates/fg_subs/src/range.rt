@@ -1,7 +1,7 @@
 //! Pieces are in their memories, and what is submitted fits the pieces.
 
 ghost use Rattle.std.specs.Prelude.{◌≡◌, ◌<◌, ◌+◌, nat_le, length, IsTrue};
-ghost use Rattle.std.specs.List.{All, list_all};
+ghost use Rattle.std.specs.List.{All};
 ghost use Rattle.fg_base.specs.Operands.{operands_of};
 ghost use Rattle.fg_base.specs.Shapes.{is_buffer, is_image};
 ghost use Rattle.fg_subs.specs.Limits.{memory_bytes};

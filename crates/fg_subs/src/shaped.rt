@@ -1,10 +1,9 @@
 //! Programs that break no rule.
 
-ghost use Rattle.std.specs.Prelude.{◌≡◌, ◌<◌, IfOk, IfErr, length, None, Some, map, slice_get};
+ghost use Rattle.std.specs.Prelude.{◌≡◌, ◌<◌, IfOk, IfErr, length, None, Some, slice_get};
 ghost use Rattle.fg_subs.specs.FirstFault.{broken, rule_broken, form_broken, use_broken, rules_broken, first_broken, first_fault, Ends};
 ghost use Rattle.fg_subs.specs.Kept.{IsNode, IsSmall, Keeps};
 ghost use Rattle.fg_subs.specs.Nodes.{nodes_of};
-ghost use Rattle.fg_subs.specs.Rules.{shapes_of};
 ghost use Rattle.fg_subs.specs.declared.rule.Rule.{Rule};
 
 use crate::limits::limit_broken;

@@ -1,10 +1,10 @@
 //! The first place where a rule is broken.
 
-ghost use Rattle.std.specs.Prelude.{◌≡◌, length, take, not};
+ghost use Rattle.std.specs.Prelude.{◌≡◌, not};
 ghost use Rattle.std.specs.List.{position};
 ghost use Rattle.fg_base.specs.Walks.{first_in};
 ghost use Rattle.fg_subs.specs.Rules.{piece_keeps, wait_keeps, item_runs, item_keeps, signal_keeps, readback_keeps, signal_place, batch_place, next_place, queue_place, broken_at};
-ghost use Rattle.fg_subs.specs.Timelines.{value_of, highest};
+ghost use Rattle.fg_subs.specs.Timelines.{value_of};
 
 use crate::barriers::{
     has_stages, item_has_stages, item_on_queue, item_supported, nothing_ignored, on_queue,

@@ -10,7 +10,7 @@ use Rattle.fg_reach.specs.Paths.{then_on}
 use Rattle.fg_view.specs.Deeds.{changes, transfers}
 use Rattle.fg_view.specs.Shapely.{Shapely, Has, ActAt}
 use Rattle.fg_view.specs.Views as views
-use Rattle.fg_view.specs.Views.{View, accesses_of, act, acts_of, overlap, piece_at, is_before_end}
+use Rattle.fg_view.specs.Views.{View, act, acts_of, overlap, piece_at, is_before_end}
 use Rattle.fg_view.specs.declared.access.Access.{Access}
 use Rattle.fg_view.specs.declared.act.Act.{Act}
 use Rattle.fg_ties.specs.Passing.{Before}

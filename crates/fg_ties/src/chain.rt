@@ -1,6 +1,6 @@
 //! The accesses of each piece, from the latest back.
 
-ghost use Rattle.std.specs.Prelude.{◌≡◌, ◌<◌, ◌+◌, Bool, List, length, get_or, IfOk, OnOk};
+ghost use Rattle.std.specs.Prelude.{◌≡◌, ◌<◌, ◌+◌, List, length, get_or, IfOk, OnOk};
 ghost use Rattle.fg_view.specs.declared.act.Act.{Act};
 ghost use Rattle.fg_ties.specs.Chains.{Links};
 ghost use Rattle.fg_ties.specs.Places.{act_at, moves};

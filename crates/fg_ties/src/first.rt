@@ -6,8 +6,8 @@ ghost use Rattle.fg_view.specs.Shapely.{Shapely, Listed};
 ghost use Rattle.fg_view.specs.Views.{overlap};
 ghost use Rattle.fg_ties.specs.Chains.{IsIn, Links};
 ghost use Rattle.fg_ties.specs.First.{IsFirst, IsFirstWith};
-ghost use Rattle.fg_ties.specs.Places.{act_at, piece_of, deed_of, Good, GoodBelow};
-ghost use Rattle.fg_ties.specs.Rows.{Rows, Known};
+ghost use Rattle.fg_ties.specs.Places.{act_at, piece_of, Good, GoodBelow};
+ghost use Rattle.fg_ties.specs.Rows.{Rows};
 ghost use Rattle.fg_ties.specs.Stops.{Broken};
 ghost use Rattle.fg_ties.specs.Tied.{TiedBelow};
 

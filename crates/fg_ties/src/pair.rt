@@ -1,11 +1,11 @@
 //! Whether an earlier access and a later one are tied.
 
-ghost use Rattle.std.specs.Prelude.{◌≡◌, ◌⊎◌, ◌↔◌, ℕ, ◌<◌, ◌≤◌, ◌==◌, ◌||◌, length, true, false, IfSome, MatchOption};
+ghost use Rattle.std.specs.Prelude.{◌≡◌, ◌↔◌, ◌<◌, ◌≤◌, ◌==◌, ◌||◌, length, true, false, IfSome, MatchOption};
 ghost use Rattle.fg_hb.specs.Before.{happens};
 ghost use Rattle.fg_view.specs.Deeds.{changes, transfers};
 ghost use Rattle.fg_view.specs.Shapely.{Shapely};
 ghost use Rattle.fg_ties.specs.Around.{up_from, down_from};
-ghost use Rattle.fg_ties.specs.Passing.{Left, Found, UpTo, Reaches, Available, Passed};
+ghost use Rattle.fg_ties.specs.Passing.{Left, Found, UpTo, Reaches, Passed};
 ghost use Rattle.fg_ties.specs.Rows.{Rows, Known};
 ghost use Rattle.fg_ties.specs.Stops.{AvailableAt, Shown, IsDark, Stopped, Broken};
 ghost use Rattle.fg_ties.specs.Tied.{PairTied};

@@ -1,6 +1,6 @@
 //! Input is read to its end, or to one byte over a limit.
 
-ghost use Rattle.std.specs.Prelude.{◌≡◌, ◌<◌, ◌≤◌, ◌+◌, ◌^◌, length, vec_len, IfOk};
+ghost use Rattle.std.specs.Prelude.{◌≡◌, ◌<◌, ◌+◌, ◌^◌, length, vec_len, IfOk};
 ghost use Rattle.fg_top.specs.Intakes.{IsIntake, IsStep};
 ghost use Rattle.fg_top.specs.Outcomes.{TakesAtMost};
 

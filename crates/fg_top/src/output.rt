@@ -1,6 +1,6 @@
 //! A text is written whole, or up to a fault.
 
-ghost use Rattle.std.specs.Prelude.{◌≡◌, ◌<◌, ◌≤◌, ◌⊎◌, length};
+ghost use Rattle.std.specs.Prelude.{◌≡◌, ◌<◌, ◌⊎◌};
 ghost use Rattle.fg_top.specs.Causes.{WriteCause};
 ghost use Rattle.fg_top.specs.Outcomes.{IsWritten, EndsAs, HasText};
 

@@ -5,7 +5,6 @@ use Rattle.std.proofs.lemmas.List.{length-map}
 use Rattle.std.proofs.lemmas.List.FromFn.{length-map-range_with_len, get_or-map-range_with_len}
 use Rattle.fg_frame.specs.Numbered.{NumberedFrame}
 use Rattle.fg_frame.specs.declared.frame.Write.{Write}
-use Rattle.fg_frame.specs.declared.numbered.NumberedPass.{NumberedPass}
 use Rattle.fg_versions.proofs.Grow.{pass_got}
 use Rattle.fg_versions.specs.Counts.{row_at}
 use Rattle.fg_versions.specs.Versions.{versions, latest, pass_at, read_by, numbers_after, written_by, Numbers, numbers_of}

@@ -1,6 +1,6 @@
 //! Which passes make the versions of each unit.
 
-ghost use Rattle.std.specs.Prelude.{◌≡◌, ◌==◌, ◌<◌, ◌≤◌, ◌++◌, ◌∷◌, [], map, length, Some, None, IfOk, OnOk, slice_get};
+ghost use Rattle.std.specs.Prelude.{◌≡◌, ◌==◌, ◌<◌, ◌≤◌, ◌++◌, map, length, Some, None, IfOk, OnOk, slice_get};
 ghost use Rattle.std.specs.List.{All, filter_map, range_with_len};
 ghost use Rattle.fg_frame.specs.Numbered.{numbered};
 ghost use Rattle.fg_versions.specs.Rows.{row_of, grown, added, added_numbers};

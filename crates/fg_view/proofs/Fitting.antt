@@ -21,8 +21,8 @@ use Rattle.fg_subs.specs.declared.program.Transfer.{Transfer}
 use Rattle.fg_subs.specs.declared.program.WaitFor.{WaitFor}
 use Rattle.fg_view.proofs.Commands.{by_own_agents, to_known_pieces, store_last}
 use Rattle.fg_view.proofs.Entries.{one, if_some, Ends, transfer_last}
-use Rattle.fg_view.specs.Deeds.{changes, transfers}
-use Rattle.fg_view.specs.Shapely.{IsOf}
+use Rattle.fg_view.specs.Deeds.{transfers}
+use Rattle.fg_view.specs.Shapely.{IsOf, IsTurn}
 use Rattle.fg_view.specs.Uses.{access, same_layout, kept_through, turned_by, handover_of, acquire_accesses, no_use, barrier_use, item_use, wait_use, signal_use, host_use}
 use Rattle.fg_view.specs.declared.access.Access.{Access}
 use Rattle.fg_view.specs.declared.access.Agent.TheVariants as agent
@@ -30,9 +30,6 @@ use Rattle.fg_view.specs.declared.access.Deed.{Deed}
 use Rattle.fg_view.specs.declared.access.Deed.TheVariants as deeds
 use Rattle.fg_view.specs.declared.use_of.Scope.{Scope}
 use Rattle.fg_view.specs.declared.use_of.Use.{Use}
-
-abbrev pub IsTurn : Deed → Type 0
-IsTurn deed = (changes deed ≡ true) ⊎ (transfers deed ≡ true)
 
 -- what a node of a kind, of queue q, does
 abbrev pub Does : Kind → ℕ → Deed → Type 0

@@ -19,9 +19,9 @@ use Rattle.fg_subs.specs.declared.nodes.NodeAt.TheVariants as at
 use Rattle.fg_subs.specs.declared.program.Program.{Program}
 use Rattle.fg_subs.specs.declared.rule.Rule.{Rule}
 use Rattle.fg_view.proofs.Entries.{entry_of, after_change}
-use Rattle.fg_view.proofs.Fitting.{IsTurn, Does, FitsNode, nowhere_fits}
+use Rattle.fg_view.proofs.Fitting.{Does, FitsNode, nowhere_fits}
 use Rattle.fg_view.proofs.Placing.{place_fits, place_family}
-use Rattle.fg_view.specs.Shapely.{IsOf, AccessAt, Shapely}
+use Rattle.fg_view.specs.Shapely.{IsOf, IsTurn, AccessAt, Shapely}
 use Rattle.fg_view.specs.Uses.{no_use, use_in}
 use Rattle.fg_view.specs.Views.{View, view_of, piece_imported, use_at, accesses_of, queue_at, family_at, has_agent, is_on, no_piece, piece_at}
 use Rattle.fg_view.specs.declared.access.Access.{Access}

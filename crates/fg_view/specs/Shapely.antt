@@ -4,7 +4,7 @@ use Rattle.fg_base.specs.Shapes.{bytes_of}
 use Rattle.fg_base.specs.declared.shape.Family.{Family}
 use Rattle.fg_hb.specs.Edges.{is_host, is_sync, node_at}
 use Rattle.fg_hb.specs.declared.kind.Kind.TheVariants.{Command}
-use Rattle.fg_view.specs.Deeds.{changes, transfers}
+use Rattle.fg_view.specs.Deeds.{changes, turns, transfers}
 use Rattle.fg_view.specs.Views.{View, accesses_of, queue_at, family_at, piece_at, flushes, shows}
 use Rattle.fg_view.specs.declared.access.Access.{Access}
 use Rattle.fg_view.specs.declared.access.Agent.{Agent}
@@ -24,6 +24,10 @@ IsOf q (Discard layout) = ⊥
 IsOf q (Release handover) = ⊥
 IsOf q (Acquire handover) = ⊥
 
+-- a transition, or half of a transfer of ownership
+abbrev pub IsTurn : Deed → Type 0
+IsTurn deed = (turns deed ≡ true) ⊎ (transfers deed ≡ true)
+
 abbrev pub AccessAt : View → ℕ → ℕ → Access → Type 0
 AccessAt V n i a = slice_get (accesses_of V n) i ≡ Some a
 
@@ -39,7 +43,7 @@ pub record Shapely (V : View) : Type 0 where
   pub last : (n i j : ℕ) (a b : Access) → AccessAt V n i a → AccessAt V n j b → i < j → changes a.deed ≡ true → transfers b.deed ≡ true
   -- commands load and store by agents of their queue, barriers turn and transfer, a host read loads, and all else does nothing
   pub command : (n i : ℕ) (a : Access) → AccessAt V n i a → (node_at V.nodes n).kind ≡ Command → IsOf (queue_at V n) a.deed
-  pub sync : (n i : ℕ) (a : Access) → AccessAt V n i a → is_sync (node_at V.nodes n).kind ≡ true → (changes a.deed ≡ true) ⊎ (transfers a.deed ≡ true)
+  pub sync : (n i : ℕ) (a : Access) → AccessAt V n i a → is_sync (node_at V.nodes n).kind ≡ true → IsTurn a.deed
   pub host : (n i : ℕ) (a : Access) → AccessAt V n i a → is_host (node_at V.nodes n).kind ≡ true → a.deed ≡ Load agent.Host None
   -- only barriers, waits and signals make memory available or visible
   pub flush : (n p : ℕ) (agent : Agent) → flushes V n agent p ≡ true → is_sync (node_at V.nodes n).kind ≡ true

@@ -1,6 +1,6 @@
 //! What each node of a program does to memory.
 
-ghost use Rattle.std.specs.Prelude.{◌≡◌, [], ◌∷◌, map, true, option_to_list, IfOk};
+ghost use Rattle.std.specs.Prelude.{◌≡◌, map, true, option_to_list, IfOk};
 ghost use Rattle.std.specs.List.{All};
 ghost use Rattle.fg_subs.specs.Kept.{Keeps};
 ghost use Rattle.fg_subs.specs.Nodes.{nodes_of};

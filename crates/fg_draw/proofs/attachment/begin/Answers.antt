@@ -1,6 +1,3 @@
-use Rattle.std.proofs.Common.{◌≡◌}
-use Rattle.fg_base.specs.Applied.{begun}
-use Rattle.fg_base.specs.Texels.{painted}
 use Rattle.fg_pixels.proofs.Pictures.{painted_back}
 use Rattle.fg_draw.proofs.attachment.begin.Goals as goal
 
