@@ -1,7 +1,7 @@
 #!/usr/bin/env python3
-"""Times two programs that know the same words, in turn, on the same frames.
+"""Builds the program, and times it and another one that knows the same words, in turn, on the same frames.
 
-    bench/compare.py OURS OTHER [--runs 5] [--case NAME ..]
+    bench/compare.py OTHER [--ours PROGRAM] [--runs 5] [--case NAME ..]
 
 First whole commands: `run`, `meaning` and `cull` of the deferred frame of examples/, `cull` of nearly 16 MiB of imports and
 of 256 passes that read and change each of 256 buffers, and `check` of submissions with as many nodes as there can be:
@@ -20,6 +20,8 @@ import subprocess
 import sys
 import tempfile
 from pathlib import Path
+
+TOP = Path(__file__).resolve().parent.parent
 
 WIDTH, HEIGHT = 1920, 1080
 TIMES = 12
@@ -181,7 +183,7 @@ def written(folder, name, value):
 
 def commands(folder):
     """Name, word and file."""
-    deferred = Path(__file__).resolve().parent.parent / "examples" / "deferred.json"
+    deferred = TOP / "examples" / "deferred.json"
     for word in ("run", "meaning", "cull"):
         yield f"{word} deferred", word, deferred
     yield "cull 16 MiB", "cull", written(folder, "large.json", large())
@@ -190,12 +192,21 @@ def commands(folder):
         yield name, "check", written(folder, "program.json", program)
 
 
+def built():
+    """The repository's program. Without words it ends with status 3, after it was built where it was not."""
+    if subprocess.run([TOP / "framec"], stdin=subprocess.DEVNULL, stdout=subprocess.DEVNULL).returncode != 3:
+        sys.exit("the program is not built")
+    return str(TOP / "crates/framec/out/framec")
+
+
 def main():
     parser = argparse.ArgumentParser(description=__doc__, formatter_class=argparse.RawDescriptionHelpFormatter)
-    parser.add_argument("programs", nargs=2, metavar="PROGRAM")
+    parser.add_argument("other", metavar="OTHER")
+    parser.add_argument("--ours", metavar="PROGRAM", help="a built program, in place of the repository's")
     parser.add_argument("--runs", type=int, default=5)
     parser.add_argument("--case", nargs="*", default=[])
     options = parser.parse_args()
+    programs = [options.ours or built(), options.other]
 
     def wanted(name):
         return not options.case or any(name.startswith(word) for word in options.case)
@@ -204,14 +215,14 @@ def main():
     with tempfile.TemporaryDirectory() as folder:
         for name, word, path in commands(folder):
             if wanted(name):
-                (own, other), most = measured(options.programs, word, options.runs, path)
+                (own, other), most = measured(programs, word, options.runs, path)
                 row(name, own, other, most)
         for name, texel, op, out, final in cases():
             if wanted(name):
                 idle_path = written(folder, "idle.json", frame(texel, [], [out], final))
                 busy_path = written(folder, "busy.json", frame(texel, [op] * TIMES, [out], final))
-                idle, _ = measured(options.programs, "meaning", options.runs, idle_path)
-                busy, most = measured(options.programs, "meaning", options.runs, busy_path)
+                idle, _ = measured(programs, "meaning", options.runs, idle_path)
+                busy, most = measured(programs, "meaning", options.runs, busy_path)
                 own, other = [max(b - i, 0.001) / TIMES for b, i in zip(busy, idle)]
                 row(name, own, other, most)
 

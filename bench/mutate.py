@@ -1,12 +1,14 @@
 #!/usr/bin/env python3
 """Changes one small thing in each function of a crate, and lists the changes that no contract refuses.
 
-    bench/mutate.py CRATE.. [--rounds 3] [--seed 1] [--jobs 2]
+    bench/mutate.py CRATE.. [--changes 3] [--seed 1] [--jobs 2]
 
-Each round puts one change into each function (another comparison, another constant, a line left out, two arguments
+Each round puts one change into each of some functions (another comparison, another constant, a line left out, two arguments
 exchanged) and checks the crate once: the prover judges a function by the contracts of those that it calls, so it judges each
-change by itself. A change that does not compile is taken back and another one tried. It works on a copy of the repository
-with all that was built there, so `rt all check` beforehand saves time. What it lists is for a reader: a change may be right.
+change by itself. It waits for a callee that is not proved, so no function of a round calls another one of it; there are
+rounds until each function had so many changes. One that does not compile is taken back, and another one tried. All is done
+on a copy of the repository with what was built there, so `rt all check` beforehand saves time. What is listed is for a
+reader: a change may be right, and where it says "not judged", the prover did not look.
 """
 
 import argparse
@@ -54,7 +56,7 @@ class Function:
         self.file, self.name, self.start, self.end, self.body = file, name, start, end, body
         self.changes = changes(body)
         random.shuffle(self.changes)
-        self.change = None
+        self.change, self.tried = None, 0
 
     def next(self):
         self.change = self.changes.pop() if self.changes else None
@@ -68,6 +70,9 @@ class Function:
     def told(self):
         start, end, new = self.change
         return f"{' '.join(self.body[start:end].split())!r} -> {' '.join(new.split())!r}"
+
+    def calls(self, other):
+        return re.search(rf"\b{other.name}\b(?:::<[^()]*>)?\(", self.body) is not None
 
 
 def changes(body):
@@ -113,7 +118,7 @@ def checked(crate, jobs):
 
 def compiled(crate, files, all_functions, jobs):
     """What the prover says of each function, once all changes that do not compile have made room for others."""
-    for _ in range(80):
+    for _ in range(99):
         spans = write(files, all_functions)
         text, said = checked(crate, jobs)
         if said:
@@ -130,10 +135,10 @@ def compiled(crate, files, all_functions, jobs):
 def verdict(said, module, name):
     """Refused where a goal of the function itself, or of a closure in it, is left without a proof."""
     own = [text for path, text in said if path.startswith(f"{module}::") and (path.split("::")[-1] == name or f"fn::{name}::" in path)]
-    marks = ("did not prove", "expected", "did not admit", f".{name}.")
+    marks = ("did not prove", "expected", f".{name}.")
     if any(text == "not proved" or any(mark in text for mark in marks) for text in own):
         return "refused"
-    return "not refused" if own else "not judged"
+    return "not refused" if own and all(text == "no holes" for text in own) else "not judged"
 
 
 def sources(crate):
@@ -142,31 +147,40 @@ def sources(crate):
     return [f for f in sorted(crate.glob("src/**/*.rt")) if f.stem not in tests | {"lib"}]
 
 
-def mutated(crate, rounds, jobs):
+def changed(all_functions, most):
+    """Gives a change to each of some functions, no one of which calls another, and says whether there are any."""
+    chosen = []
+    for f in sorted(all_functions, key=lambda f: f.tried):
+        f.change = None
+        if f.tried < most and f.changes and not any(f.calls(g) or g.calls(f) for g in chosen):
+            f.next()
+            f.tried += 1
+            chosen.append(f)
+    return bool(chosen)
+
+
+def mutated(crate, most, jobs):
     files = {f: f.read_text() for f in sources(crate)}
     all_functions = [f for file in files for f in functions(file)]
-    tried = refused = 0
-    for _ in range(rounds):
-        for f in all_functions:
-            f.next()
+    counts = {"refused": 0, "not refused": 0, "not judged": 0}
+    while changed(all_functions, most):
         said = compiled(crate, files, all_functions, jobs)
         for f in (f for f in all_functions if f.change):
             name = f.file.relative_to(crate / "src").with_suffix("")
             word = verdict(said, "::".join([crate.name, *name.parts]), f.name)
-            tried += 1
-            refused += word == "refused"
+            counts[word] += 1
             if word != "refused":
                 line = files[f.file].count("\n", 0, f.start + f.change[0]) + 1
                 print(f"{crate.name}/src/{name}.rt:{line}: {f.name}, {word}: {f.told()}", flush=True)
     for file, text in files.items():
         file.write_text(text)
-    print(f"{crate.name}: {len(all_functions)} functions, {tried} changes, {refused} refused", flush=True)
+    print(f"{crate.name}: {len(all_functions)} functions, " + ", ".join(f"{count} {word}" for word, count in counts.items()), flush=True)
 
 
 def main():
     parser = argparse.ArgumentParser(description=__doc__, formatter_class=argparse.RawDescriptionHelpFormatter)
     parser.add_argument("crates", metavar="CRATE", nargs="+")
-    parser.add_argument("--rounds", type=int, default=3)
+    parser.add_argument("--changes", type=int, default=3)
     parser.add_argument("--seed", type=int, default=1)
     parser.add_argument("--jobs", type=int, default=2)
     options = parser.parse_args()
@@ -175,7 +189,7 @@ def main():
         shutil.copytree(TOP, copy, symlinks=True)
         for name in options.crates:
             random.seed(options.seed)
-            mutated(copy / "crates" / name, options.rounds, options.jobs)
+            mutated(copy / "crates" / name, options.changes, options.jobs)
 
 
 if __name__ == "__main__":

@@ -1,7 +1,7 @@
 #!/usr/bin/env python3
-"""Lets each request for memory of a program fail in turn.
+"""Builds the program, and lets each of its requests for memory fail in turn.
 
-    bench/starve.py PROGRAM [--most 4000]
+    bench/starve.py [--most 4000]
 
 A library that is loaded before the C library lets the request with a given number fail. For each case the program runs once
 as it is, which counts its requests, and then once for each of them (at most so many). Such a run has to end with status 6
@@ -14,9 +14,8 @@ import os
 import subprocess
 import sys
 import tempfile
-from pathlib import Path
 
-from compare import BARRIER, fill, submission
+from compare import BARRIER, TOP, built, fill, submission
 
 LIBRARY = r"""
 #define _GNU_SOURCE
@@ -52,7 +51,7 @@ __attribute__((destructor)) static void count(void) {
 }
 """
 
-EXAMPLES = Path(__file__).resolve().parent.parent / "examples"
+EXAMPLES = TOP / "examples"
 
 
 def cases():
@@ -95,13 +94,13 @@ def starved(program, library, words, data, most):
 
 def main():
     parser = argparse.ArgumentParser(description=__doc__, formatter_class=argparse.RawDescriptionHelpFormatter)
-    parser.add_argument("program", metavar="PROGRAM")
     parser.add_argument("--most", type=int, default=4000)
     options = parser.parse_args()
+    program = built()
     with tempfile.TemporaryDirectory() as folder:
         library = os.path.join(folder, "starve.so")
         subprocess.run(["cc", "-O1", "-shared", "-fPIC", "-xc", "-", "-o", library, "-ldl"], input=LIBRARY, text=True, check=True)
-        wrong = sum(starved(options.program, library, words, data, options.most) for words, data in cases())
+        wrong = sum(starved(program, library, words, data, options.most) for words, data in cases())
     sys.exit(1 if wrong else 0)
 
 
