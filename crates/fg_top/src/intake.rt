@@ -33,7 +33,7 @@ pub fn read_input<I: Source>(alloc: Global, input: &mut I, limit: usize) -> Inta
     ensures intake { IsIntake limit (I.left input.old) (I.left input.new) (I.faults input.old) (I.faults input.new) result }
     ensures taken { TakesAtMost (limit + 1) (I.left input.old) (I.left input.new) }
 {
-    let Ok(mut buffer) = zeros(alloc, BUFFER) else {
+    let Ok(mut buffer) = buffer_of(alloc, BUFFER) else {
         return Intake::NoMemory;
     };
     let mut bytes = Vec::new(alloc);
@@ -66,7 +66,7 @@ fn read_some<I: Source>(input: &mut I, buffer: &mut [u8], bytes: &mut Vec<u8>) -
     }
 }
 
-fn zeros(alloc: Global, count: usize) -> Result<Vec<u8>, NoMemory>
+fn buffer_of(alloc: Global, count: usize) -> Result<Vec<u8>, NoMemory>
     ensures { IfOk result (λ bytes. vec_len bytes ≡ count) }
 {
     Ok(vec![in alloc; 0u8; count]?)

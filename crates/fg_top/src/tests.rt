@@ -362,6 +362,7 @@ impl Sink for Offers {
 }
 
 // The one fill, of which so many bytes are read a call and so many written a call; which read fails and which write.
+// Gives the source as the call left it.
 fn ends(
     rt: &(impl Threads + Wait + Sync + Abort),
     alloc: Global,
@@ -369,7 +370,7 @@ fn ends(
     write: (u32, u32),
     wanted: Status,
     text: &str,
-) -> Result<(), Fail>
+) -> Result<MemorySource, Fail>
     requires read { 0 < read.0 }
     requires write { 0 < write.0 }
 {
@@ -382,7 +383,7 @@ fn ends(
         text.as_bytes(),
         "text of {read:?} and {write:?}"
     );
-    Ok(())
+    Ok(source)
 }
 
 #[test]
@@ -399,14 +400,29 @@ fn failing_ends(rt: HostRuntime) -> Result<(), Fail> {
         "kept 1 cul",
     )?;
     ends(&rt, alloc, (100, 99), (10, 9), Status::Done, FILL_TEXT)?;
-    ends(&rt, alloc, (1, 999), (10, 9), Status::Done, FILL_TEXT)
+    ends(&rt, alloc, (1, 999), (10, 9), Status::Done, FILL_TEXT)?;
+    Ok(())
 }
 
+// Three reads give the one fill and the fourth its end: the fifth, which would fail, is not made.
+#[test]
+fn end_asked_once(rt: HostRuntime) -> Result<(), Fail> {
+    let alloc = rt.alloc();
+    let mut source = ends(&rt, alloc, (100, 5), (10, 99), Status::Done, FILL_TEXT)?;
+    assert_eq!(rt; source.read(&mut [0u8]), Taken::Failed);
+    Ok(())
+}
+
+// The read after the one that failed gives the next byte: it was not tried again.
 #[test]
 fn each_read_fails(rt: HostRuntime) -> Result<(), Fail> {
     let alloc = rt.alloc();
     for k in 1..41 {
-        ends(&rt, alloc, (1, k), (10, 99), Status::ReadFault, "")?;
+        let mut source = ends(&rt, alloc, (1, k), (10, 99), Status::ReadFault, "")?;
+        let mut byte = [0u8];
+        assert_eq!(rt; source.read(&mut byte), Taken::Got(1));
+        let rest = FILL.get(k as usize - 1..).unwrap_or("");
+        assert!(rt; rest.as_bytes().starts_with(&byte), "byte {k}");
     }
     Ok(())
 }
