@@ -5,7 +5,7 @@
 
 Each round puts one change into each of some functions (another comparison, another constant, a line left out, two arguments
 exchanged) and checks the crate once: the prover judges a function by the contracts of those that it calls, so it judges each
-change by itself. It waits for a callee that is not proved, so no function of a round calls another one of it; there are
+change by itself. It waits for a callee that is not proved, so no function of a round reaches another one by calls; there are
 rounds until each function had so many changes. One that does not compile is taken back, and another one tried. All is done
 on a copy of the repository with what was built there, so `rt all check` beforehand saves time. What is listed is for a
 reader: a change may be right, and where it says "not judged", the prover did not look.
@@ -71,8 +71,21 @@ class Function:
         start, end, new = self.change
         return f"{' '.join(self.body[start:end].split())!r} -> {' '.join(new.split())!r}"
 
-    def calls(self, other):
-        return re.search(rf"\b{other.name}\b(?:::<[^()]*>)?\(", self.body) is not None
+
+def reached(all_functions):
+    """For each function's name the names of those that it calls, and those that these call."""
+    names = {f.name for f in all_functions}
+    calls = {name: set() for name in names}
+    for f in all_functions:
+        calls[f.name] |= names & set(re.findall(r"\b(\w+)(?:::<[^()]*>)?\(", f.body))
+    found = {name: set() for name in names}
+    for name in names:
+        left = [name]
+        while left:
+            new = calls[left.pop()] - found[name]
+            found[name] |= new
+            left += new
+    return found
 
 
 def changes(body):
@@ -147,12 +160,12 @@ def sources(crate):
     return [f for f in sorted(crate.glob("src/**/*.rt")) if f.stem not in tests | {"lib"}]
 
 
-def changed(all_functions, most):
-    """Gives a change to each of some functions, no one of which calls another, and says whether there are any."""
+def changed(all_functions, below, most):
+    """Gives a change to each of some functions, no one of which reaches another, and says whether there are any."""
     chosen = []
     for f in sorted(all_functions, key=lambda f: f.tried):
         f.change = None
-        if f.tried < most and f.changes and not any(f.calls(g) or g.calls(f) for g in chosen):
+        if f.tried < most and f.changes and not any(g.name in below[f.name] or f.name in below[g.name] for g in chosen):
             f.next()
             f.tried += 1
             chosen.append(f)
@@ -162,8 +175,9 @@ def changed(all_functions, most):
 def mutated(crate, most, jobs):
     files = {f: f.read_text() for f in sources(crate)}
     all_functions = [f for file in files for f in functions(file)]
+    below = reached(all_functions)
     counts = {"refused": 0, "not refused": 0, "not judged": 0}
-    while changed(all_functions, most):
+    while changed(all_functions, below, most):
         said = compiled(crate, files, all_functions, jobs)
         for f in (f for f in all_functions if f.change):
             name = f.file.relative_to(crate / "src").with_suffix("")
