@@ -23,13 +23,13 @@ use Rattle.fg_stated.specs.Stated.{Stated, StatedAt}
 use Rattle.fg_ties.specs.Passing.{Before}
 use Rattle.fg_ties.specs.Tied.{PairTied, TiedBelow}
 use Rattle.fg_ties.proofs.Whole.{tied_all}
-use Rattle.fg_view.specs.Shapely.{Shapely, ActAt}
-use Rattle.fg_view.specs.Uses.{access}
-use Rattle.fg_view.specs.Views.{View, view_of, acts_of, act}
+use Rattle.fg_view.specs.ShapedView.{ShapedView, NodeAccessAt}
+use Rattle.fg_view.specs.Effects.{access}
+use Rattle.fg_view.specs.Views.{View, view_of, node_accesses_of, node_access}
 use Rattle.fg_view.specs.declared.access.Agent.TheVariants.{Of, Host}
-use Rattle.fg_view.specs.declared.access.Deed.TheVariants.{Load, Store}
-use Rattle.fg_view.specs.declared.act.Act.{Act}
-use Rattle.fg_view.proofs.Viewing.{shapely}
+use Rattle.fg_view.specs.declared.access.AccessKind.TheVariants.{Load, Store}
+use Rattle.fg_view.specs.declared.node_access.NodeAccess.{NodeAccess}
+use Rattle.fg_view.proofs.Viewing.{shaped}
 use Rattle.fg_subs.proofs.Few.{is_small}
 use Rattle.fg_subs.proofs.Keeping.{keeps}
 use Rattle.fg_subs.specs.FirstFault.{first_broken}
@@ -89,8 +89,8 @@ none_some e = cc
 abbrev V : View
 V = view_of sample
 
-shapely_sample : Shapely V
-shapely_sample = shapely sample (keeps sample no_fault) (is_small sample no_fault)
+shapely_sample : ShapedView V
+shapely_sample = shaped sample (keeps sample no_fault) (is_small sample no_fault)
 
 below : (n : ℕ) → Among n order → n < 4
 below n h = (among_range 0 4 n h).1
@@ -121,7 +121,7 @@ in_order = record {
   once = distinct_range 0 4;
   all = λ n lt. range_among 0 4 n (omega arith) lt;
   only = below;
-  turns = record {
+  sets_layout = record {
     queue = λ x n h queued lt same. earlier_range 0 4 x n (omega arith) lt (below n h);
     met = λ n h e. absurd (waits_not n h e);
   };
@@ -135,24 +135,24 @@ is_least = record {
 }
 
 -- the fill's store and the host's load
-abbrev store : Act
-store = act 0 (access 0 (Store (Of 0 128) None))
+abbrev store : NodeAccess
+store = node_access 0 (access 0 (Store (Of 0 128) None))
 
-abbrev load : Act
-load = act 3 (access 0 (Load Host None))
+abbrev load : NodeAccess
+load = node_access 3 (access 0 (Load Host None))
 
-two_acts : acts_of V order ≡ store ∷ load ∷ []
+two_acts : node_accesses_of V order ≡ store ∷ load ∷ []
 two_acts = refl
 
-abbrev inside : Act → Option Act → Act
+abbrev inside : NodeAccess → Option NodeAccess → NodeAccess
 inside other None = other
 inside other (Some a) = a
 
 -- each of the accesses is one of the two
-of_two : (P : ℕ → Act → Type 0) → P 0 store → P 1 load → (j : ℕ) (a : Act) → ActAt (acts_of V order) j a → P j a
+of_two : (P : ℕ → NodeAccess → Type 0) → P 0 store → P 1 load → (j : ℕ) (a : NodeAccess) → NodeAccessAt (node_accesses_of V order) j a → P j a
 of_two P p q zero a e = subst (λ b. P 0 b) (ap (inside store) e) p
 of_two P p q (suc zero) a e = subst (λ b. P 1 b) (ap (inside load) e) q
-of_two P p q (suc (suc j)) a e = absurd (let lt = slice_get_within (acts_of V order) (suc (suc j)) a e in omega (arith, lt))
+of_two P p q (suc (suc j)) a e = absurd (let lt = slice_get_within (node_accesses_of V order) (suc (suc j)) a e in omega (arith, lt))
 
 reaches_host : Before V 0 3
 reaches_host = then_on {b = 1} (one refl) (then_on {b = 2} (one refl) (one refl))
@@ -160,19 +160,19 @@ reaches_host = then_on {b = 1} (one refl) (then_on {b = 2} (one refl) (one refl)
 passed_on : PairTied V store load
 passed_on clashing = (reaches_host, λ changed kept. (1, 1, (refl, refl), inl refl, (inr (refl, then_on {b = 2} (one refl) (one refl)), refl)))
 
-all_tied : TiedBelow V (acts_of V order) 2
-all_tied i j a b first second lt below = of_two (λ n c. j ≡ n → i < j → j < 2 → ActAt (acts_of V order) i a → PairTied V a c)
+all_tied : TiedBelow V (node_accesses_of V order) 2
+all_tied i j a b first second lt below = of_two (λ n c. j ≡ n → i < j → j < 2 → NodeAccessAt (node_accesses_of V order) i a → PairTied V a c)
     (λ e rising end at. absurd (omega (arith, e, rising)))
     (λ e rising end at. of_two (λ m d. i ≡ m → PairTied V d load) (λ z. passed_on) (λ z. absurd (omega (arith, e, rising, z))) i a at refl)
     j b second refl lt below first
 
-stated_sample : Stated V (acts_of V order)
-stated_sample = of_two (StatedAt V (acts_of V order))
+stated_sample : Stated V (node_accesses_of V order)
+stated_sample = of_two (StatedAt V (node_accesses_of V order))
     (record { layout = λ l e. absurd (none_some e); owner = λ needs. refl; match = tt })
     (record { layout = λ l e. absurd (none_some e); owner = λ needs. absurd (no_some needs); match = tt })
 
-fed_sample : Fed V (acts_of V order)
-fed_sample = of_two (FedAt V (acts_of V order)) (λ loaded. absurd (no_some loaded)) (λ loaded. (refl, refl))
+fed_sample : Fed V (node_accesses_of V order)
+fed_sample = of_two (FedAt V (node_accesses_of V order)) (λ loaded. absurd (no_some loaded)) (λ loaded. (refl, refl))
 
 pub sample_sound : IsSound sample
 sample_sound = (

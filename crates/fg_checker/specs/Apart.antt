@@ -17,7 +17,7 @@ use Rattle.fg_subs.specs.declared.program.Memory.{Memory}
 use Rattle.fg_subs.specs.declared.program.Memory.TheVariants.{Plain, Import}
 use Rattle.fg_subs.specs.declared.program.Piece.{Piece}
 use Rattle.fg_subs.specs.declared.program.Program.{Program}
-use Rattle.fg_view.specs.Deeds.{loads}
+use Rattle.fg_view.specs.AccessKinds.{loads}
 use Rattle.fg_view.specs.Views.{view_of, accesses_of}
 
 -- COMMANDS
@@ -73,7 +73,7 @@ held program order n = apart program (before_in order n)
 
 -- the bytes that node n loads, load by load
 abbrev pub inputs : Program → List ℕ → ℕ → List (List ℕ)
-inputs program order n = map (λ a. bytes_at (held program order n) a.piece) (filter (λ a. loads a.deed) (accesses_of (view_of program) n))
+inputs program order n = map (λ a. bytes_at (held program order n) a.piece) (filter (λ a. loads a.kind) (accesses_of (view_of program) n))
 
 -- the bytes that command n stores
 abbrev pub output : Program → List ℕ → ℕ → Option (List ℕ)

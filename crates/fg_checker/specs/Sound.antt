@@ -5,14 +5,14 @@ use Rattle.fg_stated.specs.Fed.{Fed}
 use Rattle.fg_stated.specs.Stated.{Stated}
 use Rattle.fg_subs.specs.declared.program.Program.{Program}
 use Rattle.fg_ties.specs.Tied.{Tied}
-use Rattle.fg_view.specs.Views.{View, view_of, acts_of}
+use Rattle.fg_view.specs.Views.{View, view_of, node_accesses_of}
 
 -- "before" and "last" are meant in the least order of the nodes
 pub record Sound (V : View) (order : List ℕ) : Type 0 where
   pub order_is : IsLeast V.nodes order
   pub tied : Tied V
-  pub stated : Stated V (acts_of V order)
-  pub fed : Fed V (acts_of V order)
+  pub stated : Stated V (node_accesses_of V order)
+  pub fed : Fed V (node_accesses_of V order)
 
 abbrev pub IsSound : Program → Type 0
 IsSound program = (order : List ℕ) × Sound (view_of program) order

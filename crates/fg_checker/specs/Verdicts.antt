@@ -12,7 +12,7 @@ use Rattle.fg_subs.specs.declared.program.Program.{Program}
 use Rattle.fg_ties.specs.declared.tie.Flaw.{Flaw}
 use Rattle.fg_ties.specs.declared.tie.Flaw.TheVariants as flaws
 use Rattle.fg_view.specs.Views.{View, view_of}
-use Rattle.fg_view.specs.declared.act.Act.{Act}
+use Rattle.fg_view.specs.declared.node_access.NodeAccess.{NodeAccess}
 use Rattle.fg_view.specs.declared.hazard.Hazard.{Hazard}
 use Rattle.fg_view.specs.declared.hazard.Hazard.TheVariants.{Unordered, NotAvailable, NotVisible}
 
@@ -34,10 +34,10 @@ Ends program NoMemory = Unit {0}
 -- FOR THE CODE ALONE
 
 -- nothing is wrong with accesses in an order
-pub record Clean (V : View) (acts : List Act) : Type 0 where
-  pub tied : AllTied V acts
-  pub stated : Stated V acts
-  pub fed : Fed V acts
+pub record Clean (V : View) (accesses : List NodeAccess) : Type 0 where
+  pub tied : AllTied V accesses
+  pub stated : Stated V accesses
+  pub fed : Fed V accesses
 
 -- the hazard of a pair of nodes
 abbrev pub hazard_of : Flaw → ℕ → ℕ → Hazard

@@ -5,7 +5,7 @@ ghost use Rattle.fg_checker.specs.Hazards.{AllTied, HazardIn};
 ghost use Rattle.fg_checker.specs.Verdicts.{Clean, Judges, hazard_of};
 ghost use Rattle.fg_hb.specs.Orders.{IsLeast};
 ghost use Rattle.fg_ties.specs.Rows.{Rows};
-ghost use Rattle.fg_view.specs.Shapely.{Listed, Shapely};
+ghost use Rattle.fg_view.specs.ShapedView.{Listed, ShapedView};
 ghost use Rattle.fg_view.specs.Views.{view_of};
 
 use fg_base::{List, NoMemory};
@@ -13,7 +13,7 @@ use fg_hb::{Before, Drain, before_of, drain_of};
 use fg_stated::{first_misstated, first_unfed};
 use fg_subs::Shaped;
 use fg_ties::{Flaw, Untied, first_flaw};
-use fg_view::{Act, Hazard, View, acts_of, view_of};
+use fg_view::{NodeAccess, Hazard, View, node_accesses_of, view_of};
 use std::alloc::Global;
 
 /// What a program is found to be.
@@ -45,14 +45,14 @@ fn first_untied(
     alloc: Global,
     view: &View,
     before: &Before,
-    acts: &[Act],
+    accesses: &[NodeAccess],
 ) -> Result<Option<Hazard>, NoMemory>
-    requires shapely { Shapely view.now }
+    requires shaped { ShapedView view.now }
     requires rows { Rows view.now before.now }
-    requires listed { Listed view.now acts.now }
-    ensures { IfOk result (λ found. MatchOption found (AllTied view.now acts.now) (HazardIn view.now acts.now)) }
+    requires listed { Listed view.now accesses.now }
+    ensures { IfOk result (λ found. MatchOption found (AllTied view.now accesses.now) (HazardIn view.now accesses.now)) }
 {
-    Ok(first_flaw(alloc, view, before, acts)?.map(hazard_of))
+    Ok(first_flaw(alloc, view, before, accesses)?.map(hazard_of))
 }
 
 // The first hazard of accesses in an order.
@@ -60,20 +60,20 @@ fn first_hazard(
     alloc: Global,
     view: &View,
     before: &Before,
-    acts: &[Act],
+    accesses: &[NodeAccess],
 ) -> Result<Option<Hazard>, NoMemory>
-    requires shapely { Shapely view.now }
+    requires shaped { ShapedView view.now }
     requires rows { Rows view.now before.now }
-    requires listed { Listed view.now acts.now }
-    ensures { IfOk result (λ found. MatchOption found (Clean view.now acts.now) (HazardIn view.now acts.now)) }
+    requires listed { Listed view.now accesses.now }
+    ensures { IfOk result (λ found. MatchOption found (Clean view.now accesses.now) (HazardIn view.now accesses.now)) }
 {
-    if let Some(hazard) = first_untied(alloc, view, before, acts)? {
+    if let Some(hazard) = first_untied(alloc, view, before, accesses)? {
         return Ok(Some(hazard));
     }
-    if let Some(hazard) = first_misstated(alloc, view, acts)? {
+    if let Some(hazard) = first_misstated(alloc, view, accesses)? {
         return Ok(Some(hazard));
     }
-    first_unfed(alloc, view, acts)
+    first_unfed(alloc, view, accesses)
 }
 
 fn judge_order(
@@ -83,13 +83,13 @@ fn judge_order(
     order: List<u32>,
 ) -> Result<Verdict, NoMemory>
     requires view { view.now ≡ view_of program.now }
-    requires shapely { Shapely view.now }
+    requires shaped { ShapedView view.now }
     requires order { IsLeast view.now.nodes order }
     ensures { IfOk result (Judges program.now) }
 {
     let before = before_of(alloc, program, view.edges(), order.as_slice())?;
-    let acts = acts_of(alloc, view, order.as_slice())?;
-    match first_hazard(alloc, view, &before, acts.as_slice())? {
+    let accesses = node_accesses_of(alloc, view, order.as_slice())?;
+    match first_hazard(alloc, view, &before, accesses.as_slice())? {
         Some(hazard) => Ok(Verdict::Unsound(hazard)),
         None => Ok(Verdict::Sound(order)),
     }

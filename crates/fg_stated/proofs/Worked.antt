@@ -8,12 +8,12 @@ use Rattle.fg_bits.specs.declared.sharing.Sharing.TheVariants.{Exclusive}
 use Rattle.fg_hb.specs.Nodes.{node, host_node}
 use Rattle.fg_hb.specs.declared.kind.Kind.TheVariants.{Command, Barrier}
 use Rattle.fg_subs.specs.declared.program.Piece.{Piece}
-use Rattle.fg_view.specs.Uses.{access, plain_use}
-use Rattle.fg_view.specs.Views.{View, act}
+use Rattle.fg_view.specs.Effects.{access, plain_effect}
+use Rattle.fg_view.specs.Views.{View, node_access}
 use Rattle.fg_view.specs.declared.access.Agent.TheVariants as agent
-use Rattle.fg_view.specs.declared.access.Deed.TheVariants.{Load, Store, Keep, Discard, Release, Acquire}
+use Rattle.fg_view.specs.declared.access.AccessKind.TheVariants.{Load, Store, Transition, Discard, Release, Acquire}
 use Rattle.fg_view.specs.declared.access.Handover.{Handover}
-use Rattle.fg_view.specs.declared.act.Act.{Act}
+use Rattle.fg_view.specs.declared.node_access.NodeAccess.{NodeAccess}
 use Rattle.fg_stated.specs.Found.{found_layout, found_owner, next_transfer, last_transfer, last_change}
 use Rattle.fg_stated.specs.Stated.{needs_owner}
 
@@ -29,25 +29,25 @@ handover = record { from = Compute; to = Graphics; layouts = None }
 abbrev view : View
 view = record {
   nodes = node Command 0 0 0 ∷ node Barrier 0 0 0 ∷ node Barrier 1 0 0 ∷ node Command 1 0 0 ∷ host_node 2 ∷ [];
-  uses = plain_use [] ∷ plain_use [] ∷ plain_use (access 0 (Acquire handover) ∷ []) ∷ plain_use [] ∷ plain_use [] ∷ [];
+  effects = plain_effect [] ∷ plain_effect [] ∷ plain_effect (access 0 (Acquire handover) ∷ []) ∷ plain_effect [] ∷ plain_effect [] ∷ [];
   pieces = piece 0 ∷ piece 32 ∷ piece 96 ∷ [];
   imported = false ∷ false ∷ false ∷ [];
   families = Compute ∷ Graphics ∷ [];
 }
 
-abbrev store : ℕ → ℕ → Act
-store n p = act n (access p (Store (agent.Of 0 1) None))
+abbrev store : ℕ → ℕ → NodeAccess
+store n p = node_access n (access p (Store (agent.Of 0 1) None))
 
-abbrev load : ℕ → ℕ → Act
-load n p = act n (access p (Load (agent.Of 0 1) None))
+abbrev load : ℕ → ℕ → NodeAccess
+load n p = node_access n (access p (Load (agent.Of 0 1) None))
 
 abbrev kept : Layouts
 kept = record { from = layouts.General; to = layouts.TransferSrc }
 
 -- LAYOUTS
 
-abbrev turned : List Act
-turned = act 1 (access 0 (Discard layouts.General)) ∷ act 1 (access 0 (Keep kept)) ∷ load 3 0 ∷ []
+abbrev turned : List NodeAccess
+turned = node_access 1 (access 0 (Discard layouts.General)) ∷ node_access 1 (access 0 (Transition kept)) ∷ load 3 0 ∷ []
 
 undefined_at_first : found_layout turned 0 0 ≡ layouts.Undefined
 undefined_at_first = refl
@@ -66,8 +66,8 @@ not_of_another = refl
 -- OWNERS AND TRANSFERS
 
 -- a host read, a store, the two halves, a load
-abbrev handed : List Act
-handed = act 4 (access 0 (Load agent.Host None)) ∷ store 0 0 ∷ act 1 (access 0 (Release handover)) ∷ act 2 (access 0 (Acquire handover)) ∷ load 3 0 ∷ []
+abbrev handed : List NodeAccess
+handed = node_access 4 (access 0 (Load agent.Host None)) ∷ store 0 0 ∷ node_access 1 (access 0 (Release handover)) ∷ node_access 2 (access 0 (Acquire handover)) ∷ load 3 0 ∷ []
 
 -- the first access but host reads owns it, also before it comes
 first_but_host : found_owner view handed 0 0 ≡ Some Compute
@@ -80,11 +80,11 @@ acquired : found_owner view handed 4 0 ≡ Some Graphics
 acquired = refl
 
 -- a discard takes the piece
-discarded : found_owner view (store 0 0 ∷ act 3 (access 0 (Discard layouts.General)) ∷ []) 2 0 ≡ Some Graphics
+discarded : found_owner view (store 0 0 ∷ node_access 3 (access 0 (Discard layouts.General)) ∷ []) 2 0 ≡ Some Graphics
 discarded = refl
 
 -- the node is an acquire
-acquire_needs_none : needs_owner view (act 2 (access 0 (Keep kept))) ≡ false
+acquire_needs_none : needs_owner view (node_access 2 (access 0 (Transition kept))) ≡ false
 acquire_needs_none = refl
 
 store_needs_one : needs_owner view (store 0 0) ≡ true
@@ -108,5 +108,5 @@ not_through_one_apart : last_change view (store 0 0 ∷ store 0 2 ∷ load 3 0 �
 not_through_one_apart = refl
 
 -- a discard leaves no bytes, and is a change
-changed_by_a_discard : last_change view (store 0 0 ∷ act 1 (access 0 (Discard layouts.General)) ∷ []) 2 0 ≡ Some (act 1 (access 0 (Discard layouts.General)))
+changed_by_a_discard : last_change view (store 0 0 ∷ node_access 1 (access 0 (Discard layouts.General)) ∷ []) 2 0 ≡ Some (node_access 1 (access 0 (Discard layouts.General)))
 changed_by_a_discard = refl

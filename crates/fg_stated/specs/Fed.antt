@@ -1,53 +1,53 @@
 -- Each load finds bytes that were stored through its piece, or an import's.
 use Rattle.std.specs.Prelude.{◌≡◌, ℕ, ◌<◌, List, true, Option, Some, None}
-use Rattle.fg_view.specs.Deeds.{loads, stores}
-use Rattle.fg_view.specs.Shapely.{ActAt}
+use Rattle.fg_view.specs.AccessKinds.{loads, stores}
+use Rattle.fg_view.specs.ShapedView.{NodeAccessAt}
 use Rattle.fg_view.specs.Views.{View, imported_at}
-use Rattle.fg_view.specs.declared.act.Act.{Act}
+use Rattle.fg_view.specs.declared.node_access.NodeAccess.{NodeAccess}
 use Rattle.fg_view.specs.declared.hazard.Hazard.{Hazard}
 use Rattle.fg_view.specs.declared.hazard.Hazard.TheVariants.{Stuck, Unordered, NotAvailable, NotVisible, BadLayout, BadOwner, Unmatched, Undefined, Aliased}
 use Rattle.fg_stated.specs.Found.{last_change}
 
 -- the last change went through the piece and left bytes, or there is none, and the piece is an import
-abbrev pub Feeds : View → ℕ → Option Act → Type 0
-Feeds V p (Some change) = (change.access.piece ≡ p) × (stores change.access.deed ≡ true)
+abbrev pub Feeds : View → ℕ → Option NodeAccess → Type 0
+Feeds V p (Some change) = (change.access.piece ≡ p) × (stores change.access.kind ≡ true)
 Feeds V p None = imported_at V p ≡ true
 
-abbrev pub FedAt : View → List Act → ℕ → Act → Type 0
-FedAt V acts j a = loads a.access.deed ≡ true → Feeds V a.access.piece (last_change V acts j a.access.piece)
+abbrev pub FedAt : View → List NodeAccess → ℕ → NodeAccess → Type 0
+FedAt V accesses j a = loads a.access.kind ≡ true → Feeds V a.access.piece (last_change V accesses j a.access.piece)
 
-abbrev pub FedBelow : View → List Act → ℕ → Type 0
-FedBelow V acts n = (j : ℕ) (a : Act) → j < n → ActAt acts j a → FedAt V acts j a
+abbrev pub FedBelow : View → List NodeAccess → ℕ → Type 0
+FedBelow V accesses n = (j : ℕ) (a : NodeAccess) → j < n → NodeAccessAt accesses j a → FedAt V accesses j a
 
-abbrev pub Fed : View → List Act → Type 0
-Fed V acts = (j : ℕ) (a : Act) → ActAt acts j a → FedAt V acts j a
+abbrev pub Fed : View → List NodeAccess → Type 0
+Fed V accesses = (j : ℕ) (a : NodeAccess) → NodeAccessAt accesses j a → FedAt V accesses j a
 
 -- THE FIRST LOAD THAT BREAKS IT
 
 -- no other piece was changed last
-abbrev pub IsOwn : ℕ → Option Act → Type 0
+abbrev pub IsOwn : ℕ → Option NodeAccess → Type 0
 IsOwn p (Some change) = change.access.piece ≡ p
 IsOwn p None = Unit {0}
 
 -- this other piece was
-abbrev pub IsOther : ℕ → ℕ → Option Act → Type 0
+abbrev pub IsOther : ℕ → ℕ → Option NodeAccess → Type 0
 IsOther p other (Some change) = (change.access.piece ≡ other) × (other ≡ p → ⊥)
 IsOther p other None = ⊥
 
-abbrev pub Unfed : Hazard → View → List Act → ℕ → Act → Type 0
-Unfed (Stuck q n) V acts j a = ⊥
-Unfed (Unordered n m) V acts j a = ⊥
-Unfed (NotAvailable n m) V acts j a = ⊥
-Unfed (NotVisible n m) V acts j a = ⊥
-Unfed (BadLayout n p found want) V acts j a = ⊥
-Unfed (BadOwner n p found want) V acts j a = ⊥
-Unfed (Unmatched n) V acts j a = ⊥
-Unfed (Undefined n p) V acts j a = (n ≡ a.node) × (p ≡ a.access.piece) × (loads a.access.deed ≡ true) × IsOwn p (last_change V acts j p) × (Feeds V p (last_change V acts j p) → ⊥)
-Unfed (Aliased n p other) V acts j a = (n ≡ a.node) × (p ≡ a.access.piece) × (loads a.access.deed ≡ true) × IsOther p other (last_change V acts j p)
+abbrev pub Unfed : Hazard → View → List NodeAccess → ℕ → NodeAccess → Type 0
+Unfed (Stuck q n) V accesses j a = ⊥
+Unfed (Unordered n m) V accesses j a = ⊥
+Unfed (NotAvailable n m) V accesses j a = ⊥
+Unfed (NotVisible n m) V accesses j a = ⊥
+Unfed (BadLayout n p found want) V accesses j a = ⊥
+Unfed (BadOwner n p found want) V accesses j a = ⊥
+Unfed (Unmatched n) V accesses j a = ⊥
+Unfed (Undefined n p) V accesses j a = (n ≡ a.node) × (p ≡ a.access.piece) × (loads a.access.kind ≡ true) × IsOwn p (last_change V accesses j p) × (Feeds V p (last_change V accesses j p) → ⊥)
+Unfed (Aliased n p other) V accesses j a = (n ≡ a.node) × (p ≡ a.access.piece) × (loads a.access.kind ≡ true) × IsOther p other (last_change V accesses j p)
 
-pub record FirstUnfed (V : View) (acts : List Act) (hazard : Hazard) : Type 0 where
+pub record FirstUnfed (V : View) (accesses : List NodeAccess) (hazard : Hazard) : Type 0 where
   pub place : ℕ
-  pub act : Act
-  pub at : ActAt acts place act
-  pub below : FedBelow V acts place
-  pub breaks : Unfed hazard V acts place act
+  pub node_access : NodeAccess
+  pub at : NodeAccessAt accesses place node_access
+  pub below : FedBelow V accesses place
+  pub breaks : Unfed hazard V accesses place node_access

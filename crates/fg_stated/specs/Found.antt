@@ -6,78 +6,78 @@ use Rattle.fg_base.specs.declared.shape.Family.{Family}
 use Rattle.fg_bits.specs.declared.layout.Layout.{Layout}
 use Rattle.fg_bits.specs.declared.layout.Layout.TheVariants.{Undefined}
 use Rattle.fg_hb.specs.Edges.{is_host, node_at}
-use Rattle.fg_view.specs.Deeds.{changes, turns, gives, transfers}
+use Rattle.fg_view.specs.AccessKinds.{changes, sets_layout, sets_owner, transfers}
 use Rattle.fg_view.specs.Views.{View, family_at, overlap}
-use Rattle.fg_view.specs.declared.access.Deed.{Deed}
-use Rattle.fg_view.specs.declared.access.Deed.TheVariants.{Load, Store, Keep, Discard, Release, Acquire}
-use Rattle.fg_view.specs.declared.act.Act.{Act}
+use Rattle.fg_view.specs.declared.access.AccessKind.{AccessKind}
+use Rattle.fg_view.specs.declared.access.AccessKind.TheVariants.{Load, Store, Transition, Discard, Release, Acquire}
+use Rattle.fg_view.specs.declared.node_access.NodeAccess.{NodeAccess}
 
 -- the last access that is so
-abbrev pub last_that : (Act → Bool) → List Act → Option Act
+abbrev pub last_that : (NodeAccess → Bool) → List NodeAccess → Option NodeAccess
 last_that test [] = None
-last_that test (a ∷ acts) = option_or (last_that test acts) (if test a then Some a else None)
+last_that test (a ∷ accesses) = option_or (last_that test accesses) (if test a then Some a else None)
 
 -- of the piece, and so
-abbrev pub on_piece : ℕ → (Deed → Bool) → Act → Bool
-on_piece p test a = (a.access.piece == p) && test a.access.deed
+abbrev pub on_piece : ℕ → (AccessKind → Bool) → NodeAccess → Bool
+on_piece p test a = (a.access.piece == p) && test a.access.kind
 
 -- of the first accesses the last one of the piece that is so
-abbrev pub last_on : (Deed → Bool) → ℕ → List Act → Option Act
-last_on test p acts = last_that (on_piece p test) acts
+abbrev pub last_on : (AccessKind → Bool) → ℕ → List NodeAccess → Option NodeAccess
+last_on test p accesses = last_that (on_piece p test) accesses
 
 -- LAYOUTS
 
-abbrev pub layout_left : Deed → Layout
+abbrev pub layout_left : AccessKind → Layout
 layout_left (Load agent layout) = Undefined
 layout_left (Store agent layout) = Undefined
-layout_left (Keep layouts) = layouts.to
+layout_left (Transition layouts) = layouts.to
 layout_left (Discard layout) = layout
 layout_left (Release handover) = Undefined
 layout_left (Acquire handover) = Undefined
 
 -- the layout that the last transition before access j left
-abbrev pub found_layout : List Act → ℕ → ℕ → Layout
-found_layout acts j p = option_map_or (λ a. layout_left a.access.deed) (last_on turns p (take j acts)) Undefined
+abbrev pub found_layout : List NodeAccess → ℕ → ℕ → Layout
+found_layout accesses j p = option_map_or (λ a. layout_left a.access.kind) (last_on sets_layout p (take j accesses)) Undefined
 
 -- OWNERS
 
 -- nobody owns a piece that is released
-abbrev pub owner_left : Deed → Option Family → Option Family
+abbrev pub owner_left : AccessKind → Option Family → Option Family
 owner_left (Load agent layout) family = family
 owner_left (Store agent layout) family = family
-owner_left (Keep layouts) family = family
+owner_left (Transition layouts) family = family
 owner_left (Discard layout) family = family
 owner_left (Release handover) family = None
 owner_left (Acquire handover) family = family
 
-abbrev pub on_queue : View → ℕ → Act → Bool
+abbrev pub on_queue : View → ℕ → NodeAccess → Bool
 on_queue V p a = (a.access.piece == p) && not (is_host (node_at V.nodes a.node).kind)
 
 -- whose piece it is by first use: the family of the first access that is not the host's
-abbrev pub first_owner : View → List Act → ℕ → Option Family
-first_owner V acts p = option_map_or (λ a. family_at V a.node) (find (on_queue V p) acts) None
+abbrev pub first_owner : View → List NodeAccess → ℕ → Option Family
+first_owner V accesses p = option_map_or (λ a. family_at V a.node) (find (on_queue V p) accesses) None
 
 -- the owner that the last discard, release or acquire before access j left
-abbrev pub found_owner : View → List Act → ℕ → ℕ → Option Family
-found_owner V acts j p = option_map_or (λ a. owner_left a.access.deed (family_at V a.node)) (last_on gives p (take j acts)) (first_owner V acts p)
+abbrev pub found_owner : View → List NodeAccess → ℕ → ℕ → Option Family
+found_owner V accesses j p = option_map_or (λ a. owner_left a.access.kind (family_at V a.node)) (last_on sets_owner p (take j accesses)) (first_owner V accesses p)
 
 -- TRANSFERS
 
-abbrev pub deed_of : Option Act → Option Deed
-deed_of found = option_map (λ a. a.access.deed) found
+abbrev pub deed_of : Option NodeAccess → Option AccessKind
+deed_of found = option_map (λ a. a.access.kind) found
 
 -- the next transfer of the piece after access j, and the last one before it
-abbrev pub next_transfer : List Act → ℕ → ℕ → Option Deed
-next_transfer acts j p = deed_of (find (on_piece p transfers) (drop (suc j) acts))
+abbrev pub next_transfer : List NodeAccess → ℕ → ℕ → Option AccessKind
+next_transfer accesses j p = deed_of (find (on_piece p transfers) (drop (suc j) accesses))
 
-abbrev pub last_transfer : List Act → ℕ → ℕ → Option Deed
-last_transfer acts j p = deed_of (last_on transfers p (take j acts))
+abbrev pub last_transfer : List NodeAccess → ℕ → ℕ → Option AccessKind
+last_transfer accesses j p = deed_of (last_on transfers p (take j accesses))
 
 -- CHANGES
 
-abbrev pub changes_bytes : View → ℕ → Act → Bool
-changes_bytes V p a = overlap V a.access.piece p && changes a.access.deed
+abbrev pub changes_bytes : View → ℕ → NodeAccess → Bool
+changes_bytes V p a = overlap V a.access.piece p && changes a.access.kind
 
 -- the last change of bytes of the piece before access j
-abbrev pub last_change : View → List Act → ℕ → ℕ → Option Act
-last_change V acts j p = last_that (changes_bytes V p) (take j acts)
+abbrev pub last_change : View → List NodeAccess → ℕ → ℕ → Option NodeAccess
+last_change V accesses j p = last_that (changes_bytes V p) (take j accesses)

@@ -1,12 +1,12 @@
 //! What comes after accesses.
 
 ghost use Rattle.std.specs.Prelude.{◌≡◌, ◌+◌, ◌<◌, List, None, length, replicate, IfOk};
-ghost use Rattle.fg_view.specs.Shapely.{ActAt, Listed, Shapely};
+ghost use Rattle.fg_view.specs.ShapedView.{NodeAccessAt, Listed, ShapedView};
 ghost use Rattle.fg_stated.specs.Tables.{IsAhead};
 
 use crate::table::{Table, deed_of};
 use fg_base::{List, NoMemory};
-use fg_view::{Act, Deed, View};
+use fg_view::{NodeAccess, AccessKind, View};
 use std::alloc::Global;
 
 /// The first accesses of pieces from some access on, and what comes after accesses.
@@ -17,7 +17,7 @@ pub(crate) struct Ahead {
     /// Of each piece its first transfer.
     pub(crate) transfers: Table,
     /// Of each access the next transfer of its piece.
-    pub(crate) next: List<Option<Deed>>,
+    pub(crate) next: List<Option<AccessKind>>,
 }
 
 impl Ahead {
@@ -35,31 +35,31 @@ impl Ahead {
     }
 
     // Goes back before access `j`.
-    fn add(&mut self, view: &View, act: Act, j: usize)
-        requires owners { act.access.piece < length self.old.owners }
-        requires transfers { act.access.piece < length self.old.transfers }
+    fn add(&mut self, view: &View, node_access: NodeAccess, j: usize)
+        requires owners { node_access.access.piece < length self.old.owners }
+        requires transfers { node_access.access.piece < length self.old.transfers }
         requires next { j < length self.old.next }
-        requires node { act.node < length view.now.nodes }
-        ensures { (acts : List Act) → ActAt acts j act → IsAhead view.now acts (j + 1) self.old → IsAhead view.now acts j self.new }
+        requires node { node_access.node < length view.now.nodes }
+        ensures { (accesses : List NodeAccess) → NodeAccessAt accesses j node_access → IsAhead view.now accesses (j + 1) self.old → IsAhead view.now accesses j self.new }
     {
         self.next
-            .set(j, deed_of(self.transfers.at(act.access.piece)));
-        self.transfers.keep(act, act.access.deed.transfers());
-        self.owners.keep(act, !view.node(act.node).kind.is_host());
+            .set(j, deed_of(self.transfers.at(node_access.access.piece)));
+        self.transfers.keep(node_access, node_access.access.kind.transfers());
+        self.owners.keep(node_access, !view.node(node_access.node).kind.is_host());
     }
 }
 
 /// What comes after each access.
-pub(crate) fn ahead_of(alloc: Global, view: &View, acts: &[Act]) -> Result<Ahead, NoMemory>
-    requires shape { Shapely view.now }
-    requires listed { Listed view.now acts.now }
-    ensures { IfOk result (λ ahead. IsAhead view.now acts.now 0 ahead) }
+pub(crate) fn ahead_of(alloc: Global, view: &View, accesses: &[NodeAccess]) -> Result<Ahead, NoMemory>
+    requires shape { ShapedView view.now }
+    requires listed { Listed view.now accesses.now }
+    ensures { IfOk result (λ ahead. IsAhead view.now accesses.now 0 ahead) }
 {
-    let mut ahead = Ahead::new(alloc, view.piece_count(), acts.len())?;
-    for k in 0..acts.len() {
-        let j = acts.len() - 1 - k;
-        let act = acts[j];
-        ahead.add(view, act, j);
+    let mut ahead = Ahead::new(alloc, view.piece_count(), accesses.len())?;
+    for k in 0..accesses.len() {
+        let j = accesses.len() - 1 - k;
+        let node_access = accesses[j];
+        ahead.add(view, node_access, j);
     }
     Ok(ahead)
 }

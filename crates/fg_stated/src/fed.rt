@@ -1,22 +1,22 @@
 //! The first load of bytes that were not stored through its piece.
 
 ghost use Rattle.std.specs.Prelude.{◌≡◌, ◌<◌, ℕ, List, length, IfOk, MatchOption};
-ghost use Rattle.fg_view.specs.Shapely.{Listed, Shapely};
+ghost use Rattle.fg_view.specs.ShapedView.{Listed, ShapedView};
 ghost use Rattle.fg_stated.specs.Fed.{Fed, FedAt, FirstUnfed, Unfed};
 ghost use Rattle.fg_stated.specs.Found.{last_change};
 
 use crate::table::Table;
 use fg_base::NoMemory;
-use fg_view::{Act, Hazard, View};
+use fg_view::{NodeAccess, Hazard, View};
 use std::alloc::Global;
 
 // What is wrong with the bytes that the access loads, after the last change of bytes of its piece.
-fn unfed(view: &View, act: Act, change: Option<Act>) -> Option<Hazard>
-    requires { act.access.piece < length view.now.imported }
-    ensures { (acts : List Act) (j : ℕ) → change ≡ last_change view.now acts j act.access.piece → MatchOption result (FedAt view.now acts j act) (λ hazard. Unfed hazard view.now acts j act) }
+fn unfed(view: &View, node_access: NodeAccess, change: Option<NodeAccess>) -> Option<Hazard>
+    requires { node_access.access.piece < length view.now.imported }
+    ensures { (accesses : List NodeAccess) (j : ℕ) → change ≡ last_change view.now accesses j node_access.access.piece → MatchOption result (FedAt view.now accesses j node_access) (λ hazard. Unfed hazard view.now accesses j node_access) }
 {
-    let (node, piece) = (act.node, act.access.piece);
-    if !act.access.deed.loads() {
+    let (node, piece) = (node_access.node, node_access.access.piece);
+    if !node_access.access.kind.loads() {
         return None;
     }
     match change {
@@ -25,25 +25,25 @@ fn unfed(view: &View, act: Act, change: Option<Act>) -> Option<Hazard>
             piece,
             other: change.access.piece,
         }),
-        Some(change) if change.access.deed.stores() => None,
+        Some(change) if change.access.kind.stores() => None,
         None if view.is_imported(piece) => None,
         _ => Some(Hazard::Undefined { node, piece }),
     }
 }
 
 /// What is wrong with the first load of bytes that nobody stored, or that were stored last through another piece.
-pub fn first_unfed(alloc: Global, view: &View, acts: &[Act]) -> Result<Option<Hazard>, NoMemory>
-    requires shape { Shapely view.now }
-    requires listed { Listed view.now acts.now }
-    ensures { IfOk result (λ first. MatchOption first (Fed view.now acts.now) (λ hazard. FirstUnfed view.now acts.now hazard)) }
+pub fn first_unfed(alloc: Global, view: &View, accesses: &[NodeAccess]) -> Result<Option<Hazard>, NoMemory>
+    requires shape { ShapedView view.now }
+    requires listed { Listed view.now accesses.now }
+    ensures { IfOk result (λ first. MatchOption first (Fed view.now accesses.now) (λ hazard. FirstUnfed view.now accesses.now hazard)) }
 {
     let mut changed = Table::new(alloc, view.piece_count())?;
-    for j in 0..acts.len() {
-        let act = acts[j];
-        if let Some(hazard) = unfed(view, act, changed.at(act.access.piece)) {
+    for j in 0..accesses.len() {
+        let node_access = accesses[j];
+        if let Some(hazard) = unfed(view, node_access, changed.at(node_access.access.piece)) {
             return Ok(Some(hazard));
         }
-        changed.keep_over(view, act);
+        changed.keep_over(view, node_access);
     }
     Ok(None)
 }

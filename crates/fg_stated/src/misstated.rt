@@ -1,8 +1,8 @@
 //! What is wrong with one access.
 
 ghost use Rattle.std.specs.Prelude.{◌≡◌, ◌<◌, ◌↔◌, Some, true, false, length, MatchOption, IfSome, IfNone, IsTrue};
-ghost use Rattle.fg_view.specs.Deeds.{wanted, transfers};
-ghost use Rattle.fg_view.specs.Shapely.{ActAt, Listed, Shapely};
+ghost use Rattle.fg_view.specs.AccessKinds.{wanted, transfers};
+ghost use Rattle.fg_view.specs.ShapedView.{NodeAccessAt, Listed, ShapedView};
 ghost use Rattle.fg_view.specs.Views.{family_at};
 ghost use Rattle.fg_stated.specs.Stated.{acquires, needs_owner, StatedAt, Misstated};
 ghost use Rattle.fg_stated.specs.Tables.{Finds};
@@ -11,14 +11,14 @@ use crate::found::Found;
 use crate::same::same_handover;
 use fg_base::Family;
 use fg_bits::Layout;
-use fg_view::{Act, Deed, Handover, Hazard, View};
+use fg_view::{NodeAccess, AccessKind, Handover, Hazard, View};
 
 // The layout that is wanted, where another one is found.
-fn missed_layout(deed: Deed, found: Layout) -> Option<Layout>
-    ensures none { IfNone result ((layout : Layout) → wanted deed ≡ Some layout → found ≡ layout) }
-    ensures some { IfSome result (λ want. (wanted deed ≡ Some want) × (found ≡ want → ⊥)) }
+fn missed_layout(kind: AccessKind, found: Layout) -> Option<Layout>
+    ensures none { IfNone result ((layout : Layout) → wanted kind ≡ Some layout → found ≡ layout) }
+    ensures some { IfSome result (λ want. (wanted kind ≡ Some want) × (found ≡ want → ⊥)) }
 {
-    match deed.wanted() {
+    match kind.wanted() {
         Some(wanted) if found != wanted => Some(wanted),
         _ => None,
     }
@@ -26,85 +26,85 @@ fn missed_layout(deed: Deed, found: Layout) -> Option<Layout>
 
 // Whether the node is an acquire.
 fn acquires(view: &View, n: u32) -> bool
-    requires { n < length view.now.uses }
+    requires { n < length view.now.effects }
     ensures { result ≡ acquires view.now n }
 {
-    let accesses = view.use_at(n).accesses.as_slice();
-    accesses.iter().any(|a| a.deed.is_acquire())
+    let accesses = view.effect_at(n).accesses.as_slice();
+    accesses.iter().any(|a| a.kind.is_acquire())
 }
 
 // Whether its own family has to own the piece.
-fn needs_owner(view: &View, act: Act) -> bool
-    requires node { act.node < length view.now.nodes }
-    requires uses { act.node < length view.now.uses }
-    requires piece { act.access.piece < length view.now.pieces }
-    ensures { result ≡ needs_owner view.now act }
+fn needs_owner(view: &View, node_access: NodeAccess) -> bool
+    requires node { node_access.node < length view.now.nodes }
+    requires effects { node_access.node < length view.now.effects }
+    requires piece { node_access.access.piece < length view.now.pieces }
+    ensures { result ≡ needs_owner view.now node_access }
 {
-    !(act.access.deed.is_discard()
-        || acquires(view, act.node)
-        || view.node(act.node).kind.is_host()
-        || view.is_shared(act.access.piece))
+    !(node_access.access.kind.is_discard()
+        || acquires(view, node_access.node)
+        || view.node(node_access.node).kind.is_host()
+        || view.is_shared(node_access.access.piece))
 }
 
 // The family that has to own the piece, where it does not.
-fn missed_owner(view: &View, act: Act, found: Option<Family>) -> Option<Family>
-    requires shape { Shapely view.now }
-    requires node { act.node < length view.now.nodes }
-    requires piece { act.access.piece < length view.now.pieces }
-    ensures none { IfNone result (needs_owner view.now act ≡ true → found ≡ family_at view.now act.node) }
-    ensures some { IfSome result (λ want. (needs_owner view.now act ≡ true) × (family_at view.now act.node ≡ Some want) × (found ≡ Some want → ⊥)) }
+fn missed_owner(view: &View, node_access: NodeAccess, found: Option<Family>) -> Option<Family>
+    requires shape { ShapedView view.now }
+    requires node { node_access.node < length view.now.nodes }
+    requires piece { node_access.access.piece < length view.now.pieces }
+    ensures none { IfNone result (needs_owner view.now node_access ≡ true → found ≡ family_at view.now node_access.node) }
+    ensures some { IfSome result (λ want. (needs_owner view.now node_access ≡ true) × (family_at view.now node_access.node ≡ Some want) × (found ≡ Some want → ⊥)) }
 {
-    if !needs_owner(view, act) {
+    if !needs_owner(view, node_access) {
         return None;
     }
-    let family = view.family(act.node);
+    let family = view.family(node_access.node);
     if found == family { None } else { family }
 }
 
 // Whether the other half of what is acquired is found before.
-fn is_released(handover: Handover, last: Option<Deed>) -> bool
-    ensures { IsTrue result ↔ last ≡ Some (Deed.Release handover) }
+fn is_released(handover: Handover, last: Option<AccessKind>) -> bool
+    ensures { IsTrue result ↔ last ≡ Some (AccessKind.Release handover) }
 {
     match last {
-        Some(Deed::Release(other)) => same_handover(other, handover),
+        Some(AccessKind::Release(other)) => same_handover(other, handover),
         _ => false,
     }
 }
 
 // Whether the other half of what is released comes next.
-fn is_acquired(handover: Handover, next: Option<Deed>) -> bool
-    ensures { IsTrue result ↔ next ≡ Some (Deed.Acquire handover) }
+fn is_acquired(handover: Handover, next: Option<AccessKind>) -> bool
+    ensures { IsTrue result ↔ next ≡ Some (AccessKind.Acquire handover) }
 {
     match next {
-        Some(Deed::Acquire(other)) => same_handover(other, handover),
+        Some(AccessKind::Acquire(other)) => same_handover(other, handover),
         _ => false,
     }
 }
 
 // Whether half of a transfer has its other half.
-fn is_matched(deed: Deed, last: Option<Deed>, next: Option<Deed>) -> bool
-    ensures release { (handover : Handover) → deed ≡ Deed.Release handover → IsTrue result ↔ next ≡ Some (Deed.Acquire handover) }
-    ensures acquire { (handover : Handover) → deed ≡ Deed.Acquire handover → IsTrue result ↔ last ≡ Some (Deed.Release handover) }
-    ensures other { transfers deed ≡ false → result ≡ true }
+fn is_matched(kind: AccessKind, last: Option<AccessKind>, next: Option<AccessKind>) -> bool
+    ensures release { (handover : Handover) → kind ≡ AccessKind.Release handover → IsTrue result ↔ next ≡ Some (AccessKind.Acquire handover) }
+    ensures acquire { (handover : Handover) → kind ≡ AccessKind.Acquire handover → IsTrue result ↔ last ≡ Some (AccessKind.Release handover) }
+    ensures other { transfers kind ≡ false → result ≡ true }
 {
-    match deed {
-        Deed::Release(handover) => is_acquired(handover, next),
-        Deed::Acquire(handover) => is_released(handover, last),
+    match kind {
+        AccessKind::Release(handover) => is_acquired(handover, next),
+        AccessKind::Acquire(handover) => is_released(handover, last),
         _ => true,
     }
 }
 
 /// What is wrong with access `j` beside bytes: its layout, else its owner, else its other half.
-pub(crate) fn misstated(view: &View, acts: &[Act], j: usize, found: Found) -> Option<Hazard>
-    requires shape { Shapely view.now }
-    requires listed { Listed view.now acts.now }
-    requires j { j < length acts.now }
-    requires found { (a : Act) → ActAt acts.now j a → Finds view.now acts.now j a.access.piece found }
-    ensures { (a : Act) → ActAt acts.now j a → MatchOption result (StatedAt view.now acts.now j a) (λ hazard. Misstated hazard view.now acts.now j a) }
+pub(crate) fn misstated(view: &View, accesses: &[NodeAccess], j: usize, found: Found) -> Option<Hazard>
+    requires shape { ShapedView view.now }
+    requires listed { Listed view.now accesses.now }
+    requires j { j < length accesses.now }
+    requires found { (a : NodeAccess) → NodeAccessAt accesses.now j a → Finds view.now accesses.now j a.access.piece found }
+    ensures { (a : NodeAccess) → NodeAccessAt accesses.now j a → MatchOption result (StatedAt view.now accesses.now j a) (λ hazard. Misstated hazard view.now accesses.now j a) }
 {
-    let act = acts[j];
-    let (node, piece, deed) = (act.node, act.access.piece, act.access.deed);
-    if let Some(wanted) = missed_layout(deed, found.layout) {
+    let node_access = accesses[j];
+    let (node, piece, kind) = (node_access.node, node_access.access.piece, node_access.access.kind);
+    if let Some(wanted) = missed_layout(kind, found.layout) {
         return Some(Hazard::BadLayout {
             node,
             piece,
@@ -112,7 +112,7 @@ pub(crate) fn misstated(view: &View, acts: &[Act], j: usize, found: Found) -> Op
             wanted,
         });
     }
-    if let Some(wanted) = missed_owner(view, act, found.owner) {
+    if let Some(wanted) = missed_owner(view, node_access, found.owner) {
         return Some(Hazard::BadOwner {
             node,
             piece,
@@ -120,7 +120,7 @@ pub(crate) fn misstated(view: &View, acts: &[Act], j: usize, found: Found) -> Op
             wanted,
         });
     }
-    if is_matched(deed, found.last, found.next) {
+    if is_matched(kind, found.last, found.next) {
         None
     } else {
         Some(Hazard::Unmatched { node })

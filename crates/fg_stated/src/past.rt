@@ -1,12 +1,12 @@
 //! What accesses find of earlier ones.
 
 ghost use Rattle.std.specs.Prelude.{◌+◌, ◌<◌, ℕ, List, [], length, take, IfOk};
-ghost use Rattle.fg_view.specs.Shapely.{ActAt};
+ghost use Rattle.fg_view.specs.ShapedView.{NodeAccessAt};
 ghost use Rattle.fg_stated.specs.Tables.{IsPast};
 
 use crate::table::Table;
 use fg_base::NoMemory;
-use fg_view::Act;
+use fg_view::NodeAccess;
 use std::alloc::Global;
 
 /// Of each piece the last access that left a layout, the last one that decided who owns it, and its last transfer.
@@ -30,15 +30,15 @@ impl Past {
     }
 
     /// Goes past an access.
-    pub(crate) fn add(&mut self, act: Act)
-        requires turned { act.access.piece < length self.old.turned }
-        requires given { act.access.piece < length self.old.given }
-        requires transferred { act.access.piece < length self.old.transferred }
-        ensures { (pieces : ℕ) (acts : List Act) (j : ℕ) → ActAt acts j act → IsPast pieces (take j acts) self.old → IsPast pieces (take (j + 1) acts) self.new }
+    pub(crate) fn add(&mut self, node_access: NodeAccess)
+        requires turned { node_access.access.piece < length self.old.turned }
+        requires given { node_access.access.piece < length self.old.given }
+        requires transferred { node_access.access.piece < length self.old.transferred }
+        ensures { (pieces : ℕ) (accesses : List NodeAccess) (j : ℕ) → NodeAccessAt accesses j node_access → IsPast pieces (take j accesses) self.old → IsPast pieces (take (j + 1) accesses) self.new }
     {
-        let deed = act.access.deed;
-        self.turned.keep(act, deed.turns());
-        self.given.keep(act, deed.gives());
-        self.transferred.keep(act, deed.transfers());
+        let kind = node_access.access.kind;
+        self.turned.keep(node_access, kind.sets_layout());
+        self.given.keep(node_access, kind.sets_owner());
+        self.transferred.keep(node_access, kind.transfers());
     }
 }

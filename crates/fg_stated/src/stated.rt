@@ -1,7 +1,7 @@
 //! The first access that finds another layout or another owner, or half of a transfer without its other half.
 
 ghost use Rattle.std.specs.Prelude.{IfOk, MatchOption};
-ghost use Rattle.fg_view.specs.Shapely.{Listed, Shapely};
+ghost use Rattle.fg_view.specs.ShapedView.{Listed, ShapedView};
 ghost use Rattle.fg_stated.specs.Stated.{FirstMisstated, Stated};
 
 use crate::ahead::ahead_of;
@@ -9,24 +9,24 @@ use crate::found::found_at;
 use crate::misstated::misstated;
 use crate::past::Past;
 use fg_base::NoMemory;
-use fg_view::{Act, Hazard, View};
+use fg_view::{NodeAccess, Hazard, View};
 use std::alloc::Global;
 
 /// What is wrong with the first access that finds another layout than the one that it wants, or another owner than its own
 /// family, or that is half of a transfer without its other half.
-pub fn first_misstated(alloc: Global, view: &View, acts: &[Act]) -> Result<Option<Hazard>, NoMemory>
-    requires shape { Shapely view.now }
-    requires listed { Listed view.now acts.now }
-    ensures { IfOk result (λ first. MatchOption first (Stated view.now acts.now) (λ hazard. FirstMisstated view.now acts.now hazard)) }
+pub fn first_misstated(alloc: Global, view: &View, accesses: &[NodeAccess]) -> Result<Option<Hazard>, NoMemory>
+    requires shape { ShapedView view.now }
+    requires listed { Listed view.now accesses.now }
+    ensures { IfOk result (λ first. MatchOption first (Stated view.now accesses.now) (λ hazard. FirstMisstated view.now accesses.now hazard)) }
 {
-    let ahead = ahead_of(alloc, view, acts)?;
+    let ahead = ahead_of(alloc, view, accesses)?;
     let mut past = Past::new(alloc, view.piece_count())?;
-    for j in 0..acts.len() {
-        let found = found_at(view, &past, &ahead, acts, j);
-        if let Some(hazard) = misstated(view, acts, j, found) {
+    for j in 0..accesses.len() {
+        let found = found_at(view, &past, &ahead, accesses, j);
+        if let Some(hazard) = misstated(view, accesses, j, found) {
             return Ok(Some(hazard));
         }
-        past.add(acts[j]);
+        past.add(accesses[j]);
     }
     Ok(None)
 }

@@ -5,23 +5,23 @@ ghost use Rattle.fg_stated.specs.Found.{changes_bytes, deed_of};
 ghost use Rattle.fg_stated.specs.Tables.{Kept};
 
 use fg_base::{List, NoMemory};
-use fg_view::{Act, Deed, View};
+use fg_view::{NodeAccess, AccessKind, View};
 use std::alloc::Global;
 use std::marker::Model;
 
 /// For each piece the access that was kept last, if there is one.
 #[derive(Drop)]
 pub(crate) struct Table {
-    acts: List<Option<Act>>,
+    accesses: List<Option<NodeAccess>>,
 }
 
 impl Model for Table {
     ghost use Rattle.std.specs.Prelude.{List, Option};
-    ghost use Rattle.fg_view.specs.declared.act.Act.{Act};
+    ghost use Rattle.fg_view.specs.declared.node_access.NodeAccess.{NodeAccess};
 
-    ghost Value = { List (Option Act) };
+    ghost Value = { List (Option NodeAccess) };
 
-    ghost view = { λ t. t.acts };
+    ghost view = { λ t. t.accesses };
 }
 
 impl Table {
@@ -29,56 +29,56 @@ impl Table {
         ensures { IfOk result (λ table. table ≡ replicate pieces None) }
     {
         Ok(Table {
-            acts: List::from_vec(vec![in alloc; None; pieces]?),
+            accesses: List::from_vec(vec![in alloc; None; pieces]?),
         })
     }
 
-    pub(crate) fn at(&self, piece: u32) -> Option<Act>
+    pub(crate) fn at(&self, piece: u32) -> Option<NodeAccess>
         requires { piece < length self.now }
         ensures { result ≡ get_or self.now piece None }
     {
-        self.acts[piece as usize]
+        self.accesses[piece as usize]
     }
 
     // Keeps the access for a piece, if it `is_so`.
-    fn keep_for(&mut self, piece: usize, act: Act, is_so: bool)
+    fn keep_for(&mut self, piece: usize, node_access: NodeAccess, is_so: bool)
         requires { piece < length self.old }
-        ensures { Kept (λ p. (piece == p) && is_so) act self.old self.new }
+        ensures { Kept (λ p. (piece == p) && is_so) node_access self.old self.new }
     {
         if is_so {
-            self.acts.set(piece, Some(act));
+            self.accesses.set(piece, Some(node_access));
         }
     }
 
     /// Keeps the access for its own piece, if it `is_so`.
-    pub(crate) fn keep(&mut self, act: Act, is_so: bool)
-        requires { act.access.piece < length self.old }
-        ensures { Kept (λ p. (act.access.piece == p) && is_so) act self.old self.new }
+    pub(crate) fn keep(&mut self, node_access: NodeAccess, is_so: bool)
+        requires { node_access.access.piece < length self.old }
+        ensures { Kept (λ p. (node_access.access.piece == p) && is_so) node_access self.old self.new }
     {
-        self.keep_for(act.access.piece as usize, act, is_so);
+        self.keep_for(node_access.access.piece as usize, node_access, is_so);
     }
 
     /// Keeps the access for each piece whose bytes it may change.
-    pub(crate) fn keep_over(&mut self, view: &View, act: Act)
+    pub(crate) fn keep_over(&mut self, view: &View, node_access: NodeAccess)
         requires size { length self.old ≡ length view.now.pieces }
         requires few { length self.old ≤ 512 }
-        requires piece { act.access.piece < length self.old }
-        ensures { Kept (λ p. changes_bytes view.now p act) act self.old self.new }
+        requires piece { node_access.access.piece < length self.old }
+        ensures { Kept (λ p. changes_bytes view.now p node_access) node_access self.old self.new }
     {
-        if !act.access.deed.changes() {
+        if !node_access.access.kind.changes() {
             return;
         }
         for p in 0..view.piece_count() {
-            self.keep_for(p, act, view.overlap(act.access.piece, p as u32));
+            self.keep_for(p, node_access, view.overlap(node_access.access.piece, p as u32));
         }
     }
 }
 
-pub(crate) fn deed_of(act: Option<Act>) -> Option<Deed>
-    ensures { result ≡ deed_of act }
+pub(crate) fn deed_of(node_access: Option<NodeAccess>) -> Option<AccessKind>
+    ensures { result ≡ deed_of node_access }
 {
-    match act {
-        Some(act) => Some(act.access.deed),
+    match node_access {
+        Some(node_access) => Some(node_access.access.kind),
         None => None,
     }
 }

@@ -6,11 +6,11 @@ use Rattle.std.proofs.lemmas.List.{get_or_past}
 use Rattle.std.proofs.lemmas.Option.{slice_get-map}
 use Rattle.fg_hb.specs.Orders.{Among, Distinct, before_in, Earlier}
 use Rattle.fg_hb.proofs.InOrder.{on_from}
-use Rattle.fg_view.specs.Shapely.{Shapely, AccessAt, Has, ActAt}
-use Rattle.fg_view.specs.Uses.{no_use}
-use Rattle.fg_view.specs.Views.{View, accesses_of, act, acts_of}
+use Rattle.fg_view.specs.ShapedView.{ShapedView, AccessAt, Has, NodeAccessAt}
+use Rattle.fg_view.specs.Effects.{no_effect}
+use Rattle.fg_view.specs.Views.{View, accesses_of, node_access, node_accesses_of}
 use Rattle.fg_view.specs.declared.access.Access.{Access}
-use Rattle.fg_view.specs.declared.act.Act.{Act}
+use Rattle.fg_view.specs.declared.node_access.NodeAccess.{NodeAccess}
 
 abbrev pub In : {X : Type 0} → X → List X → Type 0
 In x xs = (i : ℕ) × (slice_get xs i ≡ Some x)
@@ -49,55 +49,55 @@ two_parts (z ∷ xs) ys (suc i) (suc j) x y lt hx hy = ⊎_elim
 
 -- THE ACCESSES OF ONE NODE
 
-of_node : (n : ℕ) (xs : List Access) (i : ℕ) (a : Act) → slice_get (map (act n) xs) i ≡ Some a → (a.node ≡ n) × (slice_get xs i ≡ Some a.access)
+of_node : (n : ℕ) (xs : List Access) (i : ℕ) (a : NodeAccess) → slice_get (map (node_access n) xs) i ≡ Some a → (a.node ≡ n) × (slice_get xs i ≡ Some a.access)
 of_node n [] i a h = none a h
 of_node n (x ∷ xs) zero a h = (sym (ap (λ o. option_map_or (λ t. t.node) o 0) h), ap (λ o. option_map (λ t. t.access) o) h)
 of_node n (x ∷ xs) (suc i) a h = of_node n xs i a h
 
-acts_of_node : (V : View) (n : ℕ) (a : Act) → In a (map (act n) (accesses_of V n)) → (a.node ≡ n) × Has V a.node a.access
+acts_of_node : (V : View) (n : ℕ) (a : NodeAccess) → In a (map (node_access n) (accesses_of V n)) → (a.node ≡ n) × Has V a.node a.access
 acts_of_node V n a (i, h) = let t = of_node n (accesses_of V n) i a h in (t.0, (i, subst (λ m. AccessAt V m i a.access) (sym t.0) t.1))
 
 -- what has accesses is a node
-pub has_within : (V : View) (n : ℕ) (a : Access) → Shapely V → Has V n a → n < length V.nodes
+pub has_within : (V : View) (n : ℕ) (a : Access) → ShapedView V → Has V n a → n < length V.nodes
 has_within V n a S (i, h) = ⊎_elim
-    (λ lt. subst (λ m. n < m) S.uses lt)
-    (λ past. none a (subst (λ u. slice_get u.accesses i ≡ Some a) (get_or_past V.uses n no_use past) h))
-    (cases_lt n (length V.uses))
+    (λ lt. subst (λ m. n < m) S.effects lt)
+    (λ past. none a (subst (λ u. slice_get u.accesses i ≡ Some a) (get_or_past V.effects n no_effect past) h))
+    (cases_lt n (length V.effects))
 
 -- each access of a node of the order is listed
-pub listed_in : (V : View) (order : List ℕ) (n : ℕ) (a : Access) → Among n order → Has V n a → In (act n a) (acts_of V order)
+pub listed_in : (V : View) (order : List ℕ) (n : ℕ) (a : Access) → Among n order → Has V n a → In (node_access n a) (node_accesses_of V order)
 listed_in V [] n a m h = absurd m
 listed_in V (u ∷ order) n a (inl e) (i, h) = (
   i,
-  left_in (map (act u) (accesses_of V u)) (acts_of V order) i (act n a)
-      (subst (λ z. slice_get (map (act z) (accesses_of V z)) i ≡ Some (act n a)) e (slice_get-map (act n) (accesses_of V n) i ∙ ap (λ o. option_map (act n) o) h)),
+  left_in (map (node_access u) (accesses_of V u)) (node_accesses_of V order) i (node_access n a)
+      (subst (λ z. slice_get (map (node_access z) (accesses_of V z)) i ≡ Some (node_access n a)) e (slice_get-map (node_access n) (accesses_of V n) i ∙ ap (λ o. option_map (node_access n) o) h)),
 )
-listed_in V (u ∷ order) n a (inr m) h = right_in (map (act u) (accesses_of V u)) (acts_of V order) (act n a) (listed_in V order n a m h)
+listed_in V (u ∷ order) n a (inr m) h = right_in (map (node_access u) (accesses_of V u)) (node_accesses_of V order) (node_access n a) (listed_in V order n a m h)
 
 -- each listed access is one of a node of the order
-pub listed_of : (V : View) (order : List ℕ) (i : ℕ) (a : Act) → ActAt (acts_of V order) i a → Among a.node order × Has V a.node a.access
+pub listed_of : (V : View) (order : List ℕ) (i : ℕ) (a : NodeAccess) → NodeAccessAt (node_accesses_of V order) i a → Among a.node order × Has V a.node a.access
 listed_of V [] i a h = none a h
 listed_of V (u ∷ order) i a h = ⊎_elim
     (λ t. let s = acts_of_node V u a t in (inl s.0, s.1))
     (λ t. let s = listed_of V order t.0 a t.1 in (inr s.0, s.1))
-    (one_part (map (act u) (accesses_of V u)) (acts_of V order) i a h)
+    (one_part (map (node_access u) (accesses_of V u)) (node_accesses_of V order) i a h)
 
 -- EARLIER NODES
 
 -- the same node, or one before the other
-abbrev pub Turn : List ℕ → Act → Act → Type 0
+abbrev pub Turn : List ℕ → NodeAccess → NodeAccess → Type 0
 Turn order a b = (a.node ≡ b.node) ⊎ Earlier order a.node b.node
 
 -- what comes after the first node is another one
-further : (V : View) (u : ℕ) (order : List ℕ) (a b : Act) → (Among u order → ⊥) → In b (acts_of V order) → Among a.node (u ∷ before_in order b.node) → Earlier (u ∷ order) a.node b.node
+further : (V : View) (u : ℕ) (order : List ℕ) (a b : NodeAccess) → (Among u order → ⊥) → In b (node_accesses_of V order) → Among a.node (u ∷ before_in order b.node) → Earlier (u ∷ order) a.node b.node
 further V u order a b once (l, q) h = subst (λ l. Among a.node l) (sym (on_from u b.node order (λ e. once (subst (λ n. Among n order) (sym e) (listed_of V order l b q).0)))) h
 
-turn_of : (V : View) (u : ℕ) (order : List ℕ) (a b : Act) → (Among u order → ⊥) → (InTurn a b (acts_of V order) → Turn order a b) → (In a (map (act u) (accesses_of V u)) × In b (map (act u) (accesses_of V u))) ⊎ ((In a (map (act u) (accesses_of V u)) × In b (acts_of V order)) ⊎ InTurn a b (acts_of V order)) → Turn (u ∷ order) a b
+turn_of : (V : View) (u : ℕ) (order : List ℕ) (a b : NodeAccess) → (Among u order → ⊥) → (InTurn a b (node_accesses_of V order) → Turn order a b) → (In a (map (node_access u) (accesses_of V u)) × In b (map (node_access u) (accesses_of V u))) ⊎ ((In a (map (node_access u) (accesses_of V u)) × In b (node_accesses_of V order)) ⊎ InTurn a b (node_accesses_of V order)) → Turn (u ∷ order) a b
 turn_of V u order a b once rest (inl (p, q)) = inl ((acts_of_node V u a p).0 ∙ sym (acts_of_node V u b q).0)
 turn_of V u order a b once rest (inr (inl (p, q))) = inr (further V u order a b once q (inl (acts_of_node V u a p).0))
 turn_of V u order a b once rest (inr (inr t)) = ⊎_elim (λ e. inl e) (λ e. inr (further V u order a b once (t.1, t.4) (inr e))) (rest t)
 
 -- of two listed accesses the first one's node is the earlier one, if it is another
-pub in_turn : (V : View) (order : List ℕ) → Distinct order → (i j : ℕ) (a b : Act) → ActAt (acts_of V order) i a → ActAt (acts_of V order) j b → i < j → Turn order a b
+pub in_turn : (V : View) (order : List ℕ) → Distinct order → (i j : ℕ) (a b : NodeAccess) → NodeAccessAt (node_accesses_of V order) i a → NodeAccessAt (node_accesses_of V order) j b → i < j → Turn order a b
 in_turn V [] D i j a b ha hb lt = none a ha
-in_turn V (u ∷ order) D i j a b ha hb lt = turn_of V u order a b D.0 (λ t. in_turn V order D.1 t.0 t.1 a b t.3 t.4 t.2) (two_parts (map (act u) (accesses_of V u)) (acts_of V order) i j a b lt ha hb)
+in_turn V (u ∷ order) D i j a b ha hb lt = turn_of V u order a b D.0 (λ t. in_turn V order D.1 t.0 t.1 a b t.3 t.4 t.2) (two_parts (map (node_access u) (accesses_of V u)) (node_accesses_of V order) i j a b lt ha hb)

@@ -4,9 +4,9 @@ use Rattle.fg_hb.proofs.Filling.{edge_within}
 use Rattle.fg_reach.specs.Paths.{one, then_on}
 use Rattle.fg_view.specs.Views.{View}
 use Rattle.fg_view.specs.declared.access.Access.{Access}
-use Rattle.fg_view.specs.declared.access.Deed.{Deed}
-use Rattle.fg_view.specs.declared.access.Deed.TheVariants.{Load, Store, Keep, Discard, Release, Acquire}
-use Rattle.fg_view.specs.declared.act.Act.{Act}
+use Rattle.fg_view.specs.declared.access.AccessKind.{AccessKind}
+use Rattle.fg_view.specs.declared.access.AccessKind.TheVariants.{Load, Store, Transition, Discard, Release, Acquire}
+use Rattle.fg_view.specs.declared.node_access.NodeAccess.{NodeAccess}
 use Rattle.fg_ties.specs.Around.{up_from, down_from}
 use Rattle.fg_ties.specs.Passing.{Before, UpTo, Reaches, LeftBy, FoundBy, Left, Found, Available, Passed}
 use Rattle.fg_ties.specs.Rows.{Known}
@@ -26,29 +26,29 @@ before_within : (V : View) (x y : ℕ) → Before V x y → (x < length V.nodes)
 before_within V x y (one e) = edge_within V.nodes x y e
 before_within V x y (then_on {b = z} p q) = ((before_within V x z p).0, (before_within V z y q).1)
 
-left_by : (d : Deed) (V : View) (n piece x : ℕ) → LeftBy d V n piece x → UpTo V n x
+left_by : (d : AccessKind) (V : View) (n piece x : ℕ) → LeftBy d V n piece x → UpTo V n x
 left_by (Store agent layout) V n piece x h = inr (one h.0)
 left_by (Load agent layout) V n piece x h = inl h
-left_by (Keep layouts) V n piece x h = inl h
+left_by (Transition layouts) V n piece x h = inl h
 left_by (Discard layout) V n piece x h = inl h
 left_by (Release handover) V n piece x h = inl h
 left_by (Acquire handover) V n piece x h = inl h
 
-found_by : (d : Deed) (V : View) (n piece y : ℕ) → FoundBy d V n piece y → UpTo V y n
+found_by : (d : AccessKind) (V : View) (n piece y : ℕ) → FoundBy d V n piece y → UpTo V y n
 found_by (Load agent layout) V n piece y h = inr (reaches_before V y n h.0)
 found_by (Store agent layout) V n piece y h = inr (reaches_before V y n h.0)
-found_by (Keep layouts) V n piece y h = inl h
+found_by (Transition layouts) V n piece y h = inl h
 found_by (Discard layout) V n piece y h = inl h
 found_by (Release handover) V n piece y h = inl h
 found_by (Acquire handover) V n piece y h = inl h
 
 -- what an access left is made available at its node or after it
 pub left_up_to : (V : View) (n : ℕ) (a : Access) (x : ℕ) → Left V n a x → UpTo V n x
-left_up_to V n a x h = left_by a.deed V n a.piece x h
+left_up_to V n a x h = left_by a.kind V n a.piece x h
 
 -- memory is made visible to an access at its node or before it
 pub found_up_to : (V : View) (n : ℕ) (b : Access) (y : ℕ) → Found V n b y → UpTo V y n
-found_up_to V n b y h = found_by b.deed V n b.piece y h
+found_up_to V n b y h = found_by b.kind V n b.piece y h
 
 up_to_within : (V : View) (x y : ℕ) → UpTo V x y → y < length V.nodes → x < length V.nodes
 up_to_within V x y (inl e) h = subst (λ n. n < length V.nodes) (sym e) h
@@ -58,40 +58,40 @@ pub from_within : (V : View) (x y : ℕ) → UpTo V x y → x < length V.nodes �
 from_within V x y (inl e) h = subst (λ n. n < length V.nodes) e h
 from_within V x y (inr p) h = (before_within V x y p).1
 
-pub none_shown : (V : View) (x : ℕ) (b : Act) (count k : ℕ) → count ≡ length V.nodes → k ≡ count → Known V b → ((i : ℕ) → i < k → UpTo V x (down_from b.node count i) × Found V b.node b.access (down_from b.node count i) → ⊥) → Shown V x b → ⊥
+pub none_shown : (V : View) (x : ℕ) (b : NodeAccess) (count k : ℕ) → count ≡ length V.nodes → k ≡ count → Known V b → ((i : ℕ) → i < k → UpTo V x (down_from b.node count i) × Found V b.node b.access (down_from b.node count i) → ⊥) → Shown V x b → ⊥
 none_shown V x b count k e f K none (y, u, h) =
     let there : y < length V.nodes = up_to_within V y b.node (found_up_to V b.node b.access y h) K.node in
     let i = down_all b.node count y (subst (λ n. b.node < n) (sym e) K.node) (subst (λ n. y < n) (sym e) there) in
     none i.0 (subst (λ n. i.0 < n) (sym f) i.1) (subst (λ z. UpTo V x z × Found V b.node b.access z) (sym i.2) (u, h))
 
-pub shown_up_to : (V : View) (x : ℕ) (b : Act) → Shown V x b → UpTo V x b.node
+pub shown_up_to : (V : View) (x : ℕ) (b : NodeAccess) → Shown V x b → UpTo V x b.node
 shown_up_to V x b (y, u, f) = up_to_on V x y b.node u (found_up_to V b.node b.access y f)
 
 -- what is before a node is as dark
-pub dark_on : (V : View) (d x : ℕ) (b : Act) → (Shown V d b → ⊥) → Before V d x → Shown V x b → ⊥
+pub dark_on : (V : View) (d x : ℕ) (b : NodeAccess) → (Shown V d b → ⊥) → Before V d x → Shown V x b → ⊥
 dark_on V d x b dark p (y, u, f) = dark (y, up_to_on V d x y (inr p) u, f)
 
 -- one node more does not make it available
-pub until_more : (dark : Option ℕ) (V : View) (a b : Act) (count k : ℕ) → StoppedUntil dark V a b count k → (AvailableAt V a (up_from a.node count k) b.node → ⊥) → StoppedUntil dark V a b count (k + 1)
+pub until_more : (dark : Option ℕ) (V : View) (a b : NodeAccess) (count k : ℕ) → StoppedUntil dark V a b count k → (AvailableAt V a (up_from a.node count k) b.node → ⊥) → StoppedUntil dark V a b count (k + 1)
 until_more None V a b count k s none = below_more _ _ s none
 until_more (Some d) V a b count k s none = (s.0, s.1, below_more _ _ s.2 (λ l h. none (l, shown_up_to V (up_from a.node count k) b h)))
 
 -- one node more makes it available, and none after it visible
-pub until_seen : (dark : Option ℕ) (V : View) (a b : Act) (count k : ℕ) → StoppedUntil dark V a b count k → up_from a.node count k < length V.nodes → AvailableAt V a (up_from a.node count k) b.node → (Shown V (up_from a.node count k) b → ⊥) → StoppedUntil (Some (up_from a.node count k)) V a b count (k + 1)
+pub until_seen : (dark : Option ℕ) (V : View) (a b : NodeAccess) (count k : ℕ) → StoppedUntil dark V a b count k → up_from a.node count k < length V.nodes → AvailableAt V a (up_from a.node count k) b.node → (Shown V (up_from a.node count k) b → ⊥) → StoppedUntil (Some (up_from a.node count k)) V a b count (k + 1)
 until_seen None V a b count k s there here none = (record { node = there; dark = none }, here, below_more _ _ (λ i lt l h. s i lt (l, shown_up_to V (up_from a.node count i) b h)) (λ l h. none h))
 until_seen (Some d) V a b count k s there here none = (record { node = there; dark = none }, here, below_more _ _ s.2 (λ l h. none h))
 
-up_at : (V : View) (a : Act) (count : ℕ) → count ≡ length V.nodes → Known V a → (x : ℕ) → Left V a.node a.access x → (k : ℕ) × (k < count) × (up_from a.node count k ≡ x)
+up_at : (V : View) (a : NodeAccess) (count : ℕ) → count ≡ length V.nodes → Known V a → (x : ℕ) → Left V a.node a.access x → (k : ℕ) × (k < count) × (up_from a.node count k ≡ x)
 up_at V a count e K x l = up_all a.node count x (subst (λ n. a.node < n) (sym e) K.node) (subst (λ n. x < n) (sym e) (from_within V a.node x (left_up_to V a.node a.access x l) K.node))
 
 -- no node makes it available
-pub until_none : (V : View) (a b : Act) (count k : ℕ) → count ≡ length V.nodes → k ≡ count → Known V a → StoppedUntil None V a b count k → Available V a.node a.access b.node → ⊥
+pub until_none : (V : View) (a b : NodeAccess) (count k : ℕ) → count ≡ length V.nodes → k ≡ count → Known V a → StoppedUntil None V a b count k → Available V a.node a.access b.node → ⊥
 until_none V a b count k e f K s h =
     let i = up_at V a count e K h.0 h.1 in
     s i.0 (subst (λ n. i.0 < n) (sym f) i.1) (subst (λ z. AvailableAt V a z b.node) (sym i.2) (h.1, h.2))
 
 -- some do, and none makes it visible
-pub until_some : (V : View) (a b : Act) (d count k : ℕ) → count ≡ length V.nodes → k ≡ count → Known V a → StoppedUntil (Some d) V a b count k → Available V a.node a.access b.node × (Passed V a.node a.access b.node b.access → ⊥)
+pub until_some : (V : View) (a b : NodeAccess) (d count k : ℕ) → count ≡ length V.nodes → k ≡ count → Known V a → StoppedUntil (Some d) V a b count k → Available V a.node a.access b.node × (Passed V a.node a.access b.node b.access → ⊥)
 until_some V a b d count k e f K s = (
   (d, s.1.0, s.1.1),
   λ h.
@@ -100,6 +100,6 @@ until_some V a b d count k e f K s = (
 )
 
 -- of the node that was seen last
-pub until_dark : (dark : Option ℕ) (V : View) (a b : Act) (count k : ℕ) → StoppedUntil dark V a b count k → IfSome dark (λ d. IsDark V d b)
+pub until_dark : (dark : Option ℕ) (V : View) (a b : NodeAccess) (count k : ℕ) → StoppedUntil dark V a b count k → IfSome dark (λ d. IsDark V d b)
 until_dark None V a b count k s = _
 until_dark (Some d) V a b count k s = s.0

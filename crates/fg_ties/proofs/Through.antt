@@ -4,14 +4,14 @@ use Rattle.std.proofs.lemmas.Bool.{cases_eq, and_from, or_left, lt-ltb}
 use Rattle.fg_base.specs.Shapes.{bytes_of}
 use Rattle.fg_hb.proofs.Going.{clash}
 use Rattle.fg_reach.specs.Paths.{then_on}
-use Rattle.fg_view.specs.Deeds.{changes, transfers}
-use Rattle.fg_view.specs.Shapely.{Shapely}
+use Rattle.fg_view.specs.AccessKinds.{changes, transfers}
+use Rattle.fg_view.specs.ShapedView.{ShapedView}
 use Rattle.fg_view.specs.Views as views
 use Rattle.fg_view.specs.Views.{View, overlap, piece_at, is_before_end}
 use Rattle.fg_view.specs.declared.access.Access.{Access}
-use Rattle.fg_view.specs.declared.access.Deed.{Deed}
-use Rattle.fg_view.specs.declared.access.Deed.TheVariants.{Load, Store, Keep, Discard, Release, Acquire}
-use Rattle.fg_view.specs.declared.act.Act.{Act}
+use Rattle.fg_view.specs.declared.access.AccessKind.{AccessKind}
+use Rattle.fg_view.specs.declared.access.AccessKind.TheVariants.{Load, Store, Transition, Discard, Release, Acquire}
+use Rattle.fg_view.specs.declared.node_access.NodeAccess.{NodeAccess}
 use Rattle.fg_ties.specs.Passing.{Before, Passed}
 use Rattle.fg_ties.specs.Tied.{Clashing, PairTied}
 use Rattle.fg_ties.proofs.Passes.{up_to_on, left_up_to, found_up_to}
@@ -19,25 +19,25 @@ use Rattle.fg_ties.proofs.Passes.{up_to_on, left_up_to, found_up_to}
 pub passed_through : (V : View) (n m k : ℕ) (a c b : Access) → Passed V n a m c → Passed V m c k b → Passed V n a k b
 passed_through V n m k a c b (x, y, l, u, f) (z, w, g, v, h) = (x, w, l, up_to_on V x m w (up_to_on V x y m u (found_up_to V m c y f)) (up_to_on V m z w (left_up_to V m c z g) v), h)
 
-pub change_plain : (d : Deed) → changes d ≡ true → transfers d ≡ false
+pub change_plain : (d : AccessKind) → changes d ≡ true → transfers d ≡ false
 change_plain (Load agent layout) h = absurd (clash h)
 change_plain (Store agent layout) h = refl
-change_plain (Keep layouts) h = refl
+change_plain (Transition layouts) h = refl
 change_plain (Discard layout) h = refl
 change_plain (Release handover) h = absurd (clash h)
 change_plain (Acquire handover) h = absurd (clash h)
 
 -- a piece that has bytes overlaps itself
-pub itself : (V : View) (p : ℕ) → Shapely V → p < length V.pieces → overlap V p p ≡ true
+pub itself : (V : View) (p : ℕ) → ShapedView V → p < length V.pieces → overlap V p p ≡ true
 itself V p S h =
     let P = piece_at V p in
     let e : is_before_end P P ≡ true = lt-ltb P.offset (P.offset + bytes_of P.shape) (omega (arith, S.some p h)) in
     and_from (P.memory == P.memory) (is_before_end P P && is_before_end P P) (eq-eqb P.memory P.memory refl) (and_from (is_before_end P P) (is_before_end P P) e e)
 
-pub clash_change : (V : View) (a b : Access) → overlap V a.piece b.piece ≡ true → (changes a.deed || changes b.deed) ≡ true → views.clash V a b ≡ true
-clash_change V a b over change = or_left (overlap V a.piece b.piece && (changes a.deed || changes b.deed)) ((a.piece == b.piece) && (transfers a.deed || transfers b.deed)) (and_from (overlap V a.piece b.piece) (changes a.deed || changes b.deed) over change)
+pub clash_change : (V : View) (a b : Access) → overlap V a.piece b.piece ≡ true → (changes a.kind || changes b.kind) ≡ true → views.clash V a b ≡ true
+clash_change V a b over change = or_left (overlap V a.piece b.piece && (changes a.kind || changes b.kind)) ((a.piece == b.piece) && (transfers a.kind || transfers b.kind)) (and_from (overlap V a.piece b.piece) (changes a.kind || changes b.kind) over change)
 
-module _ (V : View) (a c b : Act) (change : changes c.access.deed ≡ true) (T : PairTied V a c) (U : PairTied V c b) (ac : views.clash V a.access c.access ≡ true) (cb : views.clash V c.access b.access ≡ true) where
+module _ (V : View) (a c b : NodeAccess) (change : changes c.access.kind ≡ true) (T : PairTied V a c) (U : PairTied V c b) (ac : views.clash V a.access c.access ≡ true) (cb : views.clash V c.access b.access ≡ true) where
   on_left : a.node ≢ c.node → Clashing V a.node a.access c.node c.access
   on_left h = record { apart = h; clash = ac }
 
@@ -51,11 +51,11 @@ module _ (V : View) (a c b : Act) (change : changes c.access.deed ≡ true) (T :
   ordered apart (inr g) (inr h) = then_on (T (on_left g)).0 (U (on_right h)).0
 
   -- after a node's change comes nothing of that node but its half of a transfer
-  pub through : (a.node ≡ c.node → changes a.access.deed ≡ true → transfers c.access.deed ≡ true) → (c.node ≡ b.node → transfers b.access.deed ≡ true) → PairTied V a b
+  pub through : (a.node ≡ c.node → changes a.access.kind ≡ true → transfers c.access.kind ≡ true) → (c.node ≡ b.node → transfers b.access.kind ≡ true) → PairTied V a b
   through first last C = (
     ordered C.apart (cases_eq a.node c.node) (cases_eq c.node b.node),
     λ ha hb.
         passed_through V a.node c.node b.node a.access c.access b.access
-        ((T (on_left (λ e. clash (sym (change_plain c.access.deed change) ∙ first e ha)))).1 ha (change_plain c.access.deed change))
+        ((T (on_left (λ e. clash (sym (change_plain c.access.kind change) ∙ first e ha)))).1 ha (change_plain c.access.kind change))
         ((U (on_right (λ e. clash (sym hb ∙ last e)))).1 change hb),
   )

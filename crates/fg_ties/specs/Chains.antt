@@ -1,22 +1,22 @@
 -- The accesses of each piece, from the latest back.
 use Rattle.std.specs.Prelude.{◌≡◌, ℕ, ◌-◌, ◌<◌, ◌≤◌, ◌||◌, Bool, true, List, get_or, length}
-use Rattle.fg_view.specs.declared.act.Act.{Act}
+use Rattle.fg_view.specs.declared.node_access.NodeAccess.{NodeAccess}
 use Rattle.fg_ties.specs.Places.{piece_of, deed_of, moves}
 use Rattle.fg_ties.specs.declared.chain.Chain.{Chain}
 
-abbrev pub IsIn : Bool → List Act → ℕ → Type 0
-IsIn loads acts i = (loads || moves (deed_of acts i)) ≡ true
+abbrev pub IsIn : Bool → List NodeAccess → ℕ → Type 0
+IsIn loads accesses i = (loads || moves (deed_of accesses i)) ≡ true
 
 -- m is one more than the last access of the piece before `bound`, or 0, where loads count or not
-pub record Latest (loads : Bool) (acts : List Act) (bound q m : ℕ) : Type 0 where
+pub record Latest (loads : Bool) (accesses : List NodeAccess) (bound q m : ℕ) : Type 0 where
   pub low : m ≤ bound
-  pub last : (i : ℕ) → i < bound → piece_of acts i ≡ q → IsIn loads acts i → i < m
-  pub its : 0 < m → piece_of acts (m - 1) ≡ q
+  pub last : (i : ℕ) → i < bound → piece_of accesses i ≡ q → IsIn loads accesses i → i < m
+  pub its : 0 < m → piece_of accesses (m - 1) ≡ q
 
 -- the first accesses are in the chain
-pub record Links (acts : List Act) (pieces bound : ℕ) (loads : Bool) (chain : Chain) : Type 0 where
+pub record Links (accesses : List NodeAccess) (pieces bound : ℕ) (loads : Bool) (chain : Chain) : Type 0 where
   pub kind : chain.loads ≡ loads
   pub table : length chain.last.items ≡ pieces
   pub size : length chain.prev.items ≡ bound
-  pub latest : (q : ℕ) → q < pieces → Latest loads acts bound q (get_or chain.last.items q 0)
-  pub earlier : (i : ℕ) → i < bound → Latest loads acts i (piece_of acts i) (get_or chain.prev.items i 0)
+  pub latest : (q : ℕ) → q < pieces → Latest loads accesses bound q (get_or chain.last.items q 0)
+  pub earlier : (i : ℕ) → i < bound → Latest loads accesses i (piece_of accesses i) (get_or chain.prev.items i 0)

@@ -2,10 +2,10 @@
 use Rattle.std.specs.Prelude.{◌≡◌, ◌⊎◌, ℕ, true}
 use Rattle.fg_hb.specs.Edges.{edge, is_host, node_at}
 use Rattle.fg_reach.specs.Paths.{Path}
-use Rattle.fg_view.specs.Views.{View, flushes, shows}
+use Rattle.fg_view.specs.Views.{View, makes_available, makes_visible}
 use Rattle.fg_view.specs.declared.access.Access.{Access}
-use Rattle.fg_view.specs.declared.access.Deed.{Deed}
-use Rattle.fg_view.specs.declared.access.Deed.TheVariants.{Load, Store, Keep, Discard, Release, Acquire}
+use Rattle.fg_view.specs.declared.access.AccessKind.{AccessKind}
+use Rattle.fg_view.specs.declared.access.AccessKind.TheVariants.{Load, Store, Transition, Discard, Release, Acquire}
 
 abbrev pub Before : View → ℕ → ℕ → Type 0
 Before V x y = Path (edge V.nodes) x y
@@ -18,29 +18,29 @@ abbrev pub Reaches : View → ℕ → ℕ → Type 0
 Reaches V y n = (edge V.nodes y n ≡ true) ⊎ ((is_host (node_at V.nodes n).kind ≡ true) × Before V y n)
 
 -- node x makes available what node n left on the piece: after a store one that waits for it, after a transition the node itself
-abbrev pub LeftBy : Deed → View → ℕ → ℕ → ℕ → Type 0
-LeftBy (Store agent layout) V n piece x = (edge V.nodes n x ≡ true) × (flushes V x agent piece ≡ true)
+abbrev pub LeftBy : AccessKind → View → ℕ → ℕ → ℕ → Type 0
+LeftBy (Store agent layout) V n piece x = (edge V.nodes n x ≡ true) × (makes_available V x agent piece ≡ true)
 LeftBy (Load agent layout) V n piece x = n ≡ x
-LeftBy (Keep layouts) V n piece x = n ≡ x
+LeftBy (Transition layouts) V n piece x = n ≡ x
 LeftBy (Discard layout) V n piece x = n ≡ x
 LeftBy (Release handover) V n piece x = n ≡ x
 LeftBy (Acquire handover) V n piece x = n ≡ x
 
 -- node y makes memory of the piece visible to node n: before a load or a store one that it waits for, before a transition the
 -- node itself
-abbrev pub FoundBy : Deed → View → ℕ → ℕ → ℕ → Type 0
-FoundBy (Load agent layout) V n piece y = Reaches V y n × (shows V y agent piece ≡ true)
-FoundBy (Store agent layout) V n piece y = Reaches V y n × (shows V y agent piece ≡ true)
-FoundBy (Keep layouts) V n piece y = y ≡ n
+abbrev pub FoundBy : AccessKind → View → ℕ → ℕ → ℕ → Type 0
+FoundBy (Load agent layout) V n piece y = Reaches V y n × (makes_visible V y agent piece ≡ true)
+FoundBy (Store agent layout) V n piece y = Reaches V y n × (makes_visible V y agent piece ≡ true)
+FoundBy (Transition layouts) V n piece y = y ≡ n
 FoundBy (Discard layout) V n piece y = y ≡ n
 FoundBy (Release handover) V n piece y = y ≡ n
 FoundBy (Acquire handover) V n piece y = y ≡ n
 
 abbrev pub Left : View → ℕ → Access → ℕ → Type 0
-Left V n a x = LeftBy a.deed V n a.piece x
+Left V n a x = LeftBy a.kind V n a.piece x
 
 abbrev pub Found : View → ℕ → Access → ℕ → Type 0
-Found V n b y = FoundBy b.deed V n b.piece y
+Found V n b y = FoundBy b.kind V n b.piece y
 
 -- what access a of node n left is made available up to node m
 abbrev pub Available : View → ℕ → Access → ℕ → Type 0

@@ -1,10 +1,10 @@
 -- Accesses that touch the same memory are in order, and changes are passed on.
 use Rattle.std.specs.Prelude.{◌≡◌, ◌≢◌, ◌⊎◌, ℕ, ◌<◌, List, true, false}
-use Rattle.fg_view.specs.Deeds.{changes, transfers}
-use Rattle.fg_view.specs.Shapely.{Has, ActAt}
+use Rattle.fg_view.specs.AccessKinds.{changes, transfers}
+use Rattle.fg_view.specs.ShapedView.{Has, NodeAccessAt}
 use Rattle.fg_view.specs.Views.{View, clash}
 use Rattle.fg_view.specs.declared.access.Access.{Access}
-use Rattle.fg_view.specs.declared.act.Act.{Act}
+use Rattle.fg_view.specs.declared.node_access.NodeAccess.{NodeAccess}
 use Rattle.fg_ties.specs.Passing.{Before, Available, Passed}
 use Rattle.fg_ties.specs.declared.tie.Flaw.{Flaw}
 use Rattle.fg_ties.specs.declared.tie.Flaw.TheVariants.{Unordered, NotAvailable, NotVisible}
@@ -17,33 +17,33 @@ pub record Clashing (V : View) (x : ℕ) (a : Access) (y : ℕ) (b : Access) : T
 -- of each two accesses that clash one node is before the other, and a change is passed on to what is no transfer
 pub record Tied (V : View) : Type 0 where
   pub ordered : (x y : ℕ) (a b : Access) → Has V x a → Has V y b → Clashing V x a y b → Before V x y ⊎ Before V y x
-  pub passed : (x y : ℕ) (a b : Access) → Has V x a → Has V y b → Clashing V x a y b → Before V x y → changes a.deed ≡ true → transfers b.deed ≡ false → Passed V x a y b
+  pub passed : (x y : ℕ) (a b : Access) → Has V x a → Has V y b → Clashing V x a y b → Before V x y → changes a.kind ≡ true → transfers b.kind ≡ false → Passed V x a y b
 
 -- THE FIRST PAIR
 
 -- an earlier access and a later one
-abbrev pub PassedOn : View → Act → Act → Type 0
-PassedOn V a b = changes a.access.deed ≡ true → transfers b.access.deed ≡ false → Passed V a.node a.access b.node b.access
+abbrev pub PassedOn : View → NodeAccess → NodeAccess → Type 0
+PassedOn V a b = changes a.access.kind ≡ true → transfers b.access.kind ≡ false → Passed V a.node a.access b.node b.access
 
-abbrev pub PairTied : View → Act → Act → Type 0
+abbrev pub PairTied : View → NodeAccess → NodeAccess → Type 0
 PairTied V a b = Clashing V a.node a.access b.node b.access → Before V a.node b.node × PassedOn V a b
 
 -- why they are not tied
-abbrev pub Flawed : Flaw → View → Act → Act → Type 0
+abbrev pub Flawed : Flaw → View → NodeAccess → NodeAccess → Type 0
 Flawed Unordered V a b = Before V a.node b.node → ⊥
-Flawed NotAvailable V a b = Before V a.node b.node × (changes a.access.deed ≡ true) × (transfers b.access.deed ≡ false) × (Available V a.node a.access b.node → ⊥)
-Flawed NotVisible V a b = Before V a.node b.node × (changes a.access.deed ≡ true) × (transfers b.access.deed ≡ false) × Available V a.node a.access b.node × (Passed V a.node a.access b.node b.access → ⊥)
+Flawed NotAvailable V a b = Before V a.node b.node × (changes a.access.kind ≡ true) × (transfers b.access.kind ≡ false) × (Available V a.node a.access b.node → ⊥)
+Flawed NotVisible V a b = Before V a.node b.node × (changes a.access.kind ≡ true) × (transfers b.access.kind ≡ false) × Available V a.node a.access b.node × (Passed V a.node a.access b.node b.access → ⊥)
 
 -- each pair is tied whose later access stands below n
-abbrev pub TiedBelow : View → List Act → ℕ → Type 0
-TiedBelow V acts n = (i j : ℕ) (a b : Act) → ActAt acts i a → ActAt acts j b → i < j → j < n → PairTied V a b
+abbrev pub TiedBelow : View → List NodeAccess → ℕ → Type 0
+TiedBelow V accesses n = (i j : ℕ) (a b : NodeAccess) → NodeAccessAt accesses i a → NodeAccessAt accesses j b → i < j → j < n → PairTied V a b
 
 -- the pair with the least later access, and of these with the least earlier one, that is not tied, and why
-pub record FirstFlaw (V : View) (acts : List Act) (i j : ℕ) (a b : Act) (flaw : Flaw) : Type 0 where
-  pub first : ActAt acts i a
-  pub second : ActAt acts j b
+pub record FirstFlaw (V : View) (accesses : List NodeAccess) (i j : ℕ) (a b : NodeAccess) (flaw : Flaw) : Type 0 where
+  pub first : NodeAccessAt accesses i a
+  pub second : NodeAccessAt accesses j b
   pub rising : i < j
   pub clashing : Clashing V a.node a.access b.node b.access
   pub flawed : Flawed flaw V a b
-  pub below : TiedBelow V acts j
-  pub least : (k : ℕ) (c : Act) → k < i → ActAt acts k c → PairTied V c b
+  pub below : TiedBelow V accesses j
+  pub least : (k : ℕ) (c : NodeAccess) → k < i → NodeAccessAt accesses k c → PairTied V c b

@@ -1,12 +1,12 @@
 //! The accesses of each piece, from the latest back.
 
 ghost use Rattle.std.specs.Prelude.{◌≡◌, ◌<◌, ◌+◌, List, length, get_or, IfOk, OnOk};
-ghost use Rattle.fg_view.specs.declared.act.Act.{Act};
+ghost use Rattle.fg_view.specs.declared.node_access.NodeAccess.{NodeAccess};
 ghost use Rattle.fg_ties.specs.Chains.{Links};
-ghost use Rattle.fg_ties.specs.Places.{act_at, moves};
+ghost use Rattle.fg_ties.specs.Places.{node_access_at, moves};
 
 use fg_base::NoMemory;
-use fg_view::{Access, Act, Deed};
+use fg_view::{Access, NodeAccess, AccessKind};
 use std::alloc::Global;
 
 /// For each piece the place of its latest access so far, and for each access that of the earlier one of its piece, each
@@ -20,16 +20,16 @@ pub(crate) struct Chain {
 }
 
 /// Whether it is more than a load, so that it may clash with one.
-pub(crate) fn moves(deed: Deed) -> bool
-    ensures { result ≡ moves deed }
+pub(crate) fn moves(kind: AccessKind) -> bool
+    ensures { result ≡ moves kind }
 {
-    deed.changes() || deed.transfers()
+    kind.changes() || kind.transfers()
 }
 
 impl Chain {
     /// A chain of no accesses yet.
     pub(crate) fn new(alloc: Global, loads: bool, pieces: usize) -> Result<Chain, NoMemory>
-        ensures { IfOk result (λ chain. (acts : List Act) → Links acts pieces 0 loads chain) }
+        ensures { IfOk result (λ chain. (accesses : List NodeAccess) → Links accesses pieces 0 loads chain) }
     {
         Ok(Chain {
             loads,
@@ -55,16 +55,16 @@ impl Chain {
     }
 
     /// Takes the access at the next place.
-    pub(crate) fn push(&mut self, acts: &[Act], j: usize) -> Result<(), NoMemory>
-        requires j { j < length acts.now }
-        requires piece { (act_at acts.now j).access.piece < length self.old.last.items }
-        requires links { Links acts.now (length self.old.last.items) j self.old.loads self.old }
-        ensures { OnOk result (Links acts.now (length self.old.last.items) (j + 1) self.old.loads self.new) }
+    pub(crate) fn push(&mut self, accesses: &[NodeAccess], j: usize) -> Result<(), NoMemory>
+        requires j { j < length accesses.now }
+        requires piece { (node_access_at accesses.now j).access.piece < length self.old.last.items }
+        requires links { Links accesses.now (length self.old.last.items) j self.old.loads self.old }
+        ensures { OnOk result (Links accesses.now (length self.old.last.items) (j + 1) self.old.loads self.new) }
     {
-        let Access { piece, deed } = acts[j].access;
+        let Access { piece, kind } = accesses[j].access;
         let earlier = self.last(piece);
         self.prev.push(earlier)?;
-        if self.loads || moves(deed) {
+        if self.loads || moves(kind) {
             self.last[piece as usize] = j + 1;
         }
         Ok(())

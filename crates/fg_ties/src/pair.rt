@@ -2,8 +2,8 @@
 
 ghost use Rattle.std.specs.Prelude.{◌≡◌, ◌↔◌, ◌<◌, ◌≤◌, ◌==◌, ◌||◌, length, true, false, IfSome, MatchOption};
 ghost use Rattle.fg_hb.specs.Before.{happens};
-ghost use Rattle.fg_view.specs.Deeds.{changes, transfers};
-ghost use Rattle.fg_view.specs.Shapely.{Shapely};
+ghost use Rattle.fg_view.specs.AccessKinds.{changes, transfers};
+ghost use Rattle.fg_view.specs.ShapedView.{ShapedView};
 ghost use Rattle.fg_ties.specs.Around.{up_from, down_from};
 ghost use Rattle.fg_ties.specs.Passing.{Left, Found, UpTo, Reaches, Passed};
 ghost use Rattle.fg_ties.specs.Rows.{Rows, Known};
@@ -12,7 +12,7 @@ ghost use Rattle.fg_ties.specs.Tied.{PairTied};
 
 use crate::Flaw;
 use fg_hb::Before;
-use fg_view::{Act, Deed, View};
+use fg_view::{NodeAccess, AccessKind, View};
 
 // Number `k` of those below `count`, which go from `start` up and then on from 0.
 fn up_from(start: u32, count: u32, k: u32) -> u32
@@ -65,39 +65,39 @@ fn reaches(view: &View, before: &Before, y: u32, n: u32) -> bool
 }
 
 // Whether node `x` makes available what the access left.
-fn is_left(view: &View, a: Act, x: u32) -> bool
-    requires shapely { Shapely view.now }
+fn is_left(view: &View, a: NodeAccess, x: u32) -> bool
+    requires shaped { ShapedView view.now }
     requires a { Known view.now a }
     requires x { x < length view.now.nodes }
     ensures { (result ≡ true) ↔ Left view.now a.node a.access x }
 {
-    match a.access.deed {
-        Deed::Store { agent, .. } => {
-            view.flushes(x, agent, a.access.piece) && view.edges().has(a.node, x)
+    match a.access.kind {
+        AccessKind::Store { agent, .. } => {
+            view.makes_available(x, agent, a.access.piece) && view.edges().has(a.node, x)
         }
         _ => x == a.node,
     }
 }
 
 // Whether node `y` makes memory visible to the access.
-fn is_found(view: &View, before: &Before, b: Act, y: u32) -> bool
-    requires shapely { Shapely view.now }
+fn is_found(view: &View, before: &Before, b: NodeAccess, y: u32) -> bool
+    requires shaped { ShapedView view.now }
     requires rows { Rows view.now before.now }
     requires b { Known view.now b }
     requires y { y < length view.now.nodes }
     ensures { (result ≡ true) ↔ Found view.now b.node b.access y }
 {
-    match b.access.deed {
-        Deed::Load { agent, .. } | Deed::Store { agent, .. } => {
-            view.shows(y, agent, b.access.piece) && reaches(view, before, y, b.node)
+    match b.access.kind {
+        AccessKind::Load { agent, .. } | AccessKind::Store { agent, .. } => {
+            view.makes_visible(y, agent, b.access.piece) && reaches(view, before, y, b.node)
         }
         _ => y == b.node,
     }
 }
 
 // Whether node `y` is node `x` or comes after it, and makes memory visible to the access.
-fn shows(view: &View, before: &Before, x: u32, b: Act, y: u32) -> bool
-    requires shapely { Shapely view.now }
+fn makes_visible(view: &View, before: &Before, x: u32, b: NodeAccess, y: u32) -> bool
+    requires shaped { ShapedView view.now }
     requires rows { Rows view.now before.now }
     requires x { x < length view.now.nodes }
     requires b { Known view.now b }
@@ -109,8 +109,8 @@ fn shows(view: &View, before: &Before, x: u32, b: Act, y: u32) -> bool
 
 // Whether memory is made visible to the access by node `x` or one that comes after it. Mostly it is one barrier that makes
 // a store available and visible, and so `x` is tried first.
-fn is_shown(view: &View, before: &Before, x: u32, b: Act) -> bool
-    requires shapely { Shapely view.now }
+fn is_shown(view: &View, before: &Before, x: u32, b: NodeAccess) -> bool
+    requires shaped { ShapedView view.now }
     requires rows { Rows view.now before.now }
     requires x { x < length view.now.nodes }
     requires b { Known view.now b }
@@ -121,7 +121,7 @@ fn is_shown(view: &View, before: &Before, x: u32, b: Act) -> bool
     }
     let count = view.count() as u32;
     for k in 0..count {
-        if shows(view, before, x, b, down_from(b.node, count, k)) {
+        if makes_visible(view, before, x, b, down_from(b.node, count, k)) {
             return true;
         }
     }
@@ -129,8 +129,8 @@ fn is_shown(view: &View, before: &Before, x: u32, b: Act) -> bool
 }
 
 // The same, where it may be known that no node from `dark` on makes it visible, and thus none from a later one on.
-fn is_shown_past(view: &View, before: &Before, dark: Option<u32>, x: u32, b: Act) -> bool
-    requires shapely { Shapely view.now }
+fn is_shown_past(view: &View, before: &Before, dark: Option<u32>, x: u32, b: NodeAccess) -> bool
+    requires shaped { ShapedView view.now }
     requires rows { Rows view.now before.now }
     requires dark { IfSome dark (λ d. IsDark view.now d b) }
     requires x { x < length view.now.nodes }
@@ -144,8 +144,8 @@ fn is_shown_past(view: &View, before: &Before, dark: Option<u32>, x: u32, b: Act
 }
 
 // Whether node `x` makes available what the first left, and is node `m` or comes before it.
-fn is_available(view: &View, before: &Before, a: Act, x: u32, m: u32) -> bool
-    requires shapely { Shapely view.now }
+fn is_available(view: &View, before: &Before, a: NodeAccess, x: u32, m: u32) -> bool
+    requires shaped { ShapedView view.now }
     requires rows { Rows view.now before.now }
     requires a { Known view.now a }
     requires x { x < length view.now.nodes }
@@ -156,8 +156,8 @@ fn is_available(view: &View, before: &Before, a: Act, x: u32, m: u32) -> bool
 }
 
 // Why what the first left does not reach the second, if it does not.
-fn stop(view: &View, before: &Before, a: Act, b: Act) -> Option<Flaw>
-    requires shapely { Shapely view.now }
+fn stop(view: &View, before: &Before, a: NodeAccess, b: NodeAccess) -> Option<Flaw>
+    requires shaped { ShapedView view.now }
     requires rows { Rows view.now before.now }
     requires a { Known view.now a }
     requires b { Known view.now b }
@@ -181,8 +181,8 @@ fn stop(view: &View, before: &Before, a: Act, b: Act) -> Option<Flaw>
 }
 
 /// Why the earlier access and the later one are not tied, if they are not.
-pub(crate) fn pair(view: &View, before: &Before, a: Act, b: Act) -> Option<Flaw>
-    requires shapely { Shapely view.now }
+pub(crate) fn pair(view: &View, before: &Before, a: NodeAccess, b: NodeAccess) -> Option<Flaw>
+    requires shaped { ShapedView view.now }
     requires rows { Rows view.now before.now }
     requires a { Known view.now a }
     requires b { Known view.now b }
@@ -194,7 +194,7 @@ pub(crate) fn pair(view: &View, before: &Before, a: Act, b: Act) -> Option<Flaw>
     if !before.has(a.node, b.node) {
         return Some(Flaw::Unordered);
     }
-    if !a.access.deed.changes() || b.access.deed.transfers() {
+    if !a.access.kind.changes() || b.access.kind.transfers() {
         return None;
     }
     stop(view, before, a, b)

@@ -3,7 +3,7 @@ use fg_base::{Family, List, NoMemory, Op, Shape};
 use fg_bits::{Accesses, Masks, Sharing, Stages};
 use fg_hb::{Drain, before_of, drain_of};
 use fg_subs::{Batch, Item, Memory, Piece, Program, Queue, Shaped, shape};
-use fg_view::{acts_of, view_of};
+use fg_view::{node_accesses_of, view_of};
 use std::alloc::Global;
 use std::test::Fail;
 
@@ -112,8 +112,8 @@ fn untied(alloc: Global, shaped: &Shaped) -> Result<Option<Untied>, NoMemory> {
         Drain::Stuck { .. } => Err(NoMemory),
         Drain::Whole(order) => {
             let before = before_of(alloc, shaped, view.edges(), &order)?;
-            let acts = acts_of(alloc, &view, &order)?;
-            first_flaw(alloc, &view, &before, &acts)
+            let accesses = node_accesses_of(alloc, &view, &order)?;
+            first_flaw(alloc, &view, &before, &accesses)
         }
     }
 }

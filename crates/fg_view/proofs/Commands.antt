@@ -16,12 +16,12 @@ use Rattle.fg_base.specs.declared.touch.Touch.{Touch}
 use Rattle.fg_subs.proofs.Within.{all_below}
 use Rattle.fg_subs.specs.Ranges.{has_operands}
 use Rattle.fg_view.proofs.Entries.{entry_of, one, each_of, if_some, Ends, loads_first}
-use Rattle.fg_view.specs.Deeds.{changes}
+use Rattle.fg_view.specs.AccessKinds.{changes}
 use Rattle.fg_view.specs.Roles.{load_access, store_access}
-use Rattle.fg_view.specs.Shapely.{IsOf}
-use Rattle.fg_view.specs.Uses.{access, role_agent, layout_wanted, touch_load, touch_store, touch_accesses, command_accesses}
+use Rattle.fg_view.specs.ShapedView.{IsByQueue}
+use Rattle.fg_view.specs.Effects.{access, role_agent, layout_wanted, touch_load, touch_store, touch_accesses, command_accesses}
 use Rattle.fg_view.specs.declared.access.Access.{Access}
-use Rattle.fg_view.specs.declared.access.Deed.TheVariants.{Load, Store}
+use Rattle.fg_view.specs.declared.access.AccessKind.TheVariants.{Load, Store}
 
 -- WHICH PIECES THEY ARE OF
 
@@ -62,10 +62,10 @@ touch_each P shapes q t load store =
     (if_some P (touch_load shapes q t) (load_access t.role t.whole) (λ kind. one P (loaded shapes q t kind) (load kind)))
     (if_some P (touch_store shapes q t) (store_access t.role) (λ kind. one P (stored shapes q t kind) (store kind)))
 
-pub by_own_agents : (shapes : List Shape) (q : ℕ) (op : Op ℕ) → All (λ a. IsOf q a.deed) (command_accesses shapes q op)
+pub by_own_agents : (shapes : List Shape) (q : ℕ) (op : Op ℕ) → All (λ a. IsByQueue q a.kind) (command_accesses shapes q op)
 by_own_agents shapes q op =
-    each_of (λ a. IsOf q a.deed) (touch_accesses shapes q) (touches_of shapes op)
-    (λ k d lt. touch_each (λ a. IsOf q a.deed) shapes q (get_or (touches_of shapes op) k d) (λ kind. refl) (λ kind. refl))
+    each_of (λ a. IsByQueue q a.kind) (touch_accesses shapes q) (touches_of shapes op)
+    (λ k d lt. touch_each (λ a. IsByQueue q a.kind) shapes q (get_or (touches_of shapes op) k d) (λ kind. refl) (λ kind. refl))
 
 pub to_known_pieces : (shapes : List Shape) (q : ℕ) (op : Op ℕ) → has_operands shapes op ≡ true → All (λ a. a.piece < length shapes) (command_accesses shapes q op)
 to_known_pieces shapes q op known =
@@ -87,9 +87,9 @@ source_stores_not (BufferToImage src dst offset) shape = refl
 source_stores_not (ImageToBuffer src dst offset) shape = refl
 source_stores_not op shape = kernel_stores_not shape
 
-source_loads : (shapes : List Shape) (q : ℕ) (op : Op ℕ) (n : ℕ) → All (λ a. changes a.deed ≡ false) (touch_accesses shapes q (source_touch shapes op n))
+source_loads : (shapes : List Shape) (q : ℕ) (op : Op ℕ) (n : ℕ) → All (λ a. changes a.kind ≡ false) (touch_accesses shapes q (source_touch shapes op n))
 source_loads shapes q op n =
-    let P : Access → Type 0 = λ a. changes a.deed ≡ false in
+    let P : Access → Type 0 = λ a. changes a.kind ≡ false in
     let t : Touch = source_touch shapes op n in
     All-append P (option_map_or (touch_load shapes q t) (load_access t.role t.whole) []) (option_map_or (touch_store shapes q t) (store_access t.role) [])
     (if_some P (touch_load shapes q t) (load_access t.role t.whole) (λ kind. one P (loaded shapes q t kind) refl))
@@ -107,6 +107,6 @@ store_last shapes q op =
     let last : Touch = destination_touch shapes op in
     subst Ends (sym (flat_map-append (touch_accesses shapes q) sources (last ∷ [])))
     (loads_first (flat_map (touch_accesses shapes q) sources) (flat_map (touch_accesses shapes q) (last ∷ []))
-    (each_of (λ a. changes a.deed ≡ false) (touch_accesses shapes q) sources
-    (All-map (λ t. All (λ a. changes a.deed ≡ false) (touch_accesses shapes q t)) (source_touch shapes op) (sources_of op) (λ k d lt. source_loads shapes q op (get_or (sources_of op) k d))))
+    (each_of (λ a. changes a.kind ≡ false) (touch_accesses shapes q) sources
+    (All-map (λ t. All (λ a. changes a.kind ≡ false) (touch_accesses shapes q t)) (source_touch shapes op) (sources_of op) (λ k d lt. source_loads shapes q op (get_or (sources_of op) k d))))
     (touch_ends shapes q last (load_access last.role last.whole) (store_access last.role)))

@@ -4,7 +4,7 @@ use Rattle.std.specs.List.{All, flat_map}
 use Rattle.std.specs.Option.{option_map_or}
 use Rattle.std.proofs.lemmas.List.Elements.{All-nil, All-cons, All-append}
 use Rattle.std.proofs.lemmas.Option.{get_or_from_slice_get, slice_get_within}
-use Rattle.fg_view.specs.Deeds.{changes, transfers}
+use Rattle.fg_view.specs.AccessKinds.{changes, transfers}
 use Rattle.fg_view.specs.declared.access.Access.{Access}
 
 pub entry_of : {X : Type 0} (P : X → Type 0) (xs : List X) (i : ℕ) (x : X) → All P xs → slice_get xs i ≡ Some x → P x
@@ -24,21 +24,21 @@ if_some P f (Some x) h = h x
 -- after a change comes nothing but transfers
 abbrev pub Ends : List Access → Type 0
 Ends [] = Unit {0}
-Ends (a ∷ rest) = (changes a.deed ≡ true → All (λ b. transfers b.deed ≡ true) rest) × Ends rest
+Ends (a ∷ rest) = (changes a.kind ≡ true → All (λ b. transfers b.kind ≡ true) rest) × Ends rest
 
-pub after_change : (xs : List Access) (i j : ℕ) (a b : Access) → Ends xs → slice_get xs i ≡ Some a → slice_get xs j ≡ Some b → i < j → changes a.deed ≡ true → transfers b.deed ≡ true
+pub after_change : (xs : List Access) (i j : ℕ) (a b : Access) → Ends xs → slice_get xs i ≡ Some a → slice_get xs j ≡ Some b → i < j → changes a.kind ≡ true → transfers b.kind ≡ true
 after_change [] i j a b h e f lt c = absurd cc
 after_change (x ∷ xs) i zero a b h e f lt c = absurd (omega (arith, lt))
 after_change (x ∷ xs) zero (suc j) a b h e f lt c =
     let same : a ≡ x = cc in
-    entry_of (λ y. transfers y.deed ≡ true) xs j b (h.0 (subst (λ y. changes y.deed ≡ true) same c)) f
+    entry_of (λ y. transfers y.kind ≡ true) xs j b (h.0 (subst (λ y. changes y.kind ≡ true) same c)) f
 after_change (x ∷ xs) (suc i) (suc j) a b h e f lt c = after_change xs i j a b h.1 e f (omega (arith, lt)) c
 
-pub loads_first : (xs ys : List Access) → All (λ a. changes a.deed ≡ false) xs → Ends ys → Ends (xs ++ ys)
+pub loads_first : (xs ys : List Access) → All (λ a. changes a.kind ≡ false) xs → Ends ys → Ends (xs ++ ys)
 loads_first [] ys none h = h
 loads_first (x ∷ xs) ys none h =
     (λ c. let none_here = none 0 x (omega arith) in absurd cc, loads_first xs ys (λ k d lt. none (suc k) d (omega arith)) h)
 
-pub transfer_last : (xs : List Access) (t : Access) → Ends xs → transfers t.deed ≡ true → changes t.deed ≡ false → Ends (xs ++ t ∷ [])
+pub transfer_last : (xs : List Access) (t : Access) → Ends xs → transfers t.kind ≡ true → changes t.kind ≡ false → Ends (xs ++ t ∷ [])
 transfer_last [] t h is keeps = (λ c. absurd cc, tt)
-transfer_last (x ∷ xs) t h is keeps = (λ c. All-append (λ b. transfers b.deed ≡ true) xs (t ∷ []) (h.0 c) (one (λ b. transfers b.deed ≡ true) t is), transfer_last xs t h.1 is keeps)
+transfer_last (x ∷ xs) t h is keeps = (λ c. All-append (λ b. transfers b.kind ≡ true) xs (t ∷ []) (h.0 c) (one (λ b. transfers b.kind ≡ true) t is), transfer_last xs t h.1 is keeps)

@@ -7,11 +7,11 @@ use Rattle.std.proofs.lemmas.Option.{slice_get-map, slice_get-get_or, slice_get_
 use Rattle.fg_hb.specs.Orders.{Among, Distinct, Order}
 use Rattle.fg_hb.specs.declared.node.Node.{Node}
 use Rattle.fg_view.proofs.Entries.{entry_of, each_of}
-use Rattle.fg_view.specs.Deeds.{changes, transfers}
-use Rattle.fg_view.specs.Shapely.{Shapely, Has, ActAt, Listed}
-use Rattle.fg_view.specs.Views.{View, accesses_of, act, acts_of}
+use Rattle.fg_view.specs.AccessKinds.{changes, transfers}
+use Rattle.fg_view.specs.ShapedView.{ShapedView, Has, NodeAccessAt, Listed}
+use Rattle.fg_view.specs.Views.{View, accesses_of, node_access, node_accesses_of}
 use Rattle.fg_view.specs.declared.access.Access.{Access}
-use Rattle.fg_view.specs.declared.act.Act.{Act}
+use Rattle.fg_view.specs.declared.node_access.NodeAccess.{NodeAccess}
 
 -- what holds of each number among those of a list
 pub all_among : (P : ℕ → Type 0) (xs : List ℕ) → ((n : ℕ) → Among n xs → P n) → All P xs
@@ -29,32 +29,32 @@ in_one_part [] ys i x e = inr (i, omega arith, e)
 in_one_part (z ∷ xs) ys zero x e = inl e
 in_one_part (z ∷ xs) ys (suc i) x e = ⊎_elim (λ f. inl f) (λ f. let later : i ≡ length xs + f.0 = f.1 in inr (f.0, omega (arith, later), f.2)) (in_one_part xs ys i x e)
 
-made_of : (n : ℕ) (o : Option Access) (a : Act) → option_map (act n) o ≡ Some a → (a.node ≡ n) × (o ≡ Some a.access)
+made_of : (n : ℕ) (o : Option Access) (a : NodeAccess) → option_map (node_access n) o ≡ Some a → (a.node ≡ n) × (o ≡ Some a.access)
 made_of n None a e = absurd cc
 made_of n (Some x) a e =
-    let same : act n x ≡ a = cc in
+    let same : node_access n x ≡ a = cc in
     (ap (λ b. b.node) (sym same), ap (λ b. Some b.access) same)
 
-of_node : (n : ℕ) (xs : List Access) (i : ℕ) (a : Act) → ActAt (map (act n) xs) i a → (a.node ≡ n) × (slice_get xs i ≡ Some a.access)
-of_node n xs i a e = made_of n (slice_get xs i) a (sym (slice_get-map (act n) xs i) ∙ e)
+of_node : (n : ℕ) (xs : List Access) (i : ℕ) (a : NodeAccess) → NodeAccessAt (map (node_access n) xs) i a → (a.node ≡ n) × (slice_get xs i ≡ Some a.access)
+of_node n xs i a e = made_of n (slice_get xs i) a (sym (slice_get-map (node_access n) xs i) ∙ e)
 
-each_act : (V : View) (P : Act → Type 0) (order : List ℕ) → All (λ n. All (λ x. P (act n x)) (accesses_of V n)) order → All P (acts_of V order)
-each_act V P order all = each_of P (λ n. map (act n) (accesses_of V n)) order (λ k d lt. All-map P (act (get_or order k d)) (accesses_of V (get_or order k d)) (all k d lt))
+each_node_access : (V : View) (P : NodeAccess → Type 0) (order : List ℕ) → All (λ n. All (λ x. P (node_access n x)) (accesses_of V n)) order → All P (node_accesses_of V order)
+each_node_access V P order all = each_of P (λ n. map (node_access n) (accesses_of V n)) order (λ k d lt. All-map P (node_access (get_or order k d)) (accesses_of V (get_or order k d)) (all k d lt))
 
-of_order : (V : View) (order : List ℕ) (i : ℕ) (a : Act) → ActAt (acts_of V order) i a → Among a.node order
+of_order : (V : View) (order : List ℕ) (i : ℕ) (a : NodeAccess) → NodeAccessAt (node_accesses_of V order) i a → Among a.node order
 of_order V order i a e =
-    entry_of (λ b. Among b.node order) (acts_of V order) i a
-    (each_act V (λ b. Among b.node order) order (all_among (λ n. All (λ x. Among n order) (accesses_of V n)) order (λ n m. λ k d lt. m))) e
+    entry_of (λ b. Among b.node order) (node_accesses_of V order) i a
+    (each_node_access V (λ b. Among b.node order) order (all_among (λ n. All (λ x. Among n order) (accesses_of V n)) order (λ n m. λ k d lt. m))) e
 
-module _ (V : View) (S : Shapely V) where
-  abbrev LastChange : List Act → Type 0
-  LastChange acts = (i j : ℕ) (a b : Act) → ActAt acts i a → ActAt acts j b → i < j → a.node ≡ b.node → changes a.access.deed ≡ true → transfers b.access.deed ≡ true
+module _ (V : View) (S : ShapedView V) where
+  abbrev LastChange : List NodeAccess → Type 0
+  LastChange node_accesses = (i j : ℕ) (a b : NodeAccess) → NodeAccessAt node_accesses i a → NodeAccessAt node_accesses j b → i < j → a.node ≡ b.node → changes a.access.kind ≡ true → transfers b.access.kind ≡ true
 
-  last_changes : (order : List ℕ) → Distinct order → LastChange (acts_of V order)
+  last_changes : (order : List ℕ) → Distinct order → LastChange (node_accesses_of V order)
   last_changes [] once i j a b e f lt same c = absurd cc
   last_changes (n ∷ rest) once i j a b e f lt same c =
-      let own = map (act n) (accesses_of V n) in
-      let others = acts_of V rest in
+      let own = map (node_access n) (accesses_of V n) in
+      let others = node_accesses_of V rest in
       ⊎_elim
       (λ (e_own : slice_get own i ≡ Some a).
       let of_a = of_node n (accesses_of V n) i a e_own in
@@ -77,10 +77,10 @@ module _ (V : View) (S : Shapely V) where
       (in_one_part own others j b f))
       (in_one_part own others i a e)
 
-  pub listed : (order : List ℕ) → Distinct order → ((n : ℕ) → Among n order → n < length V.nodes) → Listed V (acts_of V order)
+  pub listed : (order : List ℕ) → Distinct order → ((n : ℕ) → Among n order → n < length V.nodes) → Listed V (node_accesses_of V order)
   listed order once there = record {
     node = λ i a e. there a.node (of_order V order i a e);
-    has = λ i a e. entry_of (λ b. Has V b.node b.access) (acts_of V order) i a
-        (each_act V (λ b. Has V b.node b.access) order (λ m d lt. λ k x below. (k, slice_get-get_or (accesses_of V (get_or order m d)) k x below))) e;
+    has = λ i a e. entry_of (λ b. Has V b.node b.access) (node_accesses_of V order) i a
+        (each_node_access V (λ b. Has V b.node b.access) order (λ m d lt. λ k x below. (k, slice_get-get_or (accesses_of V (get_or order m d)) k x below))) e;
     last = last_changes order once;
   }

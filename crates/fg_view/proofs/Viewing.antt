@@ -21,33 +21,33 @@ use Rattle.fg_subs.specs.declared.rule.Rule.{Rule}
 use Rattle.fg_view.proofs.Entries.{entry_of, after_change}
 use Rattle.fg_view.proofs.Fitting.{Does, FitsNode, nowhere_fits}
 use Rattle.fg_view.proofs.Placing.{place_fits, place_family}
-use Rattle.fg_view.specs.Shapely.{IsOf, IsTurn, AccessAt, Shapely}
-use Rattle.fg_view.specs.Uses.{no_use, use_in}
-use Rattle.fg_view.specs.Views.{View, view_of, piece_imported, use_at, accesses_of, queue_at, family_at, has_agent, is_on, no_piece, piece_at}
+use Rattle.fg_view.specs.ShapedView.{IsByQueue, IsByBarrier, AccessAt, ShapedView}
+use Rattle.fg_view.specs.Effects.{no_effect, effect_in}
+use Rattle.fg_view.specs.Views.{View, view_of, piece_imported, effect_at, accesses_of, queue_at, family_at, has_agent, is_on, no_piece, piece_at}
 use Rattle.fg_view.specs.declared.access.Access.{Access}
 use Rattle.fg_view.specs.declared.access.Agent.{Agent}
 use Rattle.fg_view.specs.declared.access.Agent.TheVariants as agent
-use Rattle.fg_view.specs.declared.access.Deed.{Deed}
-use Rattle.fg_view.specs.declared.access.Deed.TheVariants as deeds
+use Rattle.fg_view.specs.declared.access.AccessKind.{AccessKind}
+use Rattle.fg_view.specs.declared.access.AccessKind.TheVariants as access_kinds
 
 -- KINDS
 
-command_does : (kind : Kind) (q : ℕ) (deed : Deed) → Does kind q deed → kind ≡ kinds.Command → IsOf q deed
-command_does kind q deed h e = subst (λ k. Does k q deed) e h
+command_does : (node_kind : Kind) (q : ℕ) (kind : AccessKind) → Does node_kind q kind → node_kind ≡ kinds.Command → IsByQueue q kind
+command_does node_kind q kind h e = subst (λ k. Does k q kind) e h
 
-sync_does : (kind : Kind) (q : ℕ) (deed : Deed) → Does kind q deed → is_sync kind ≡ true → IsTurn deed
-sync_does kinds.Command q deed h e = absurd cc
-sync_does kinds.Barrier q deed h e = h
-sync_does (kinds.Wait queue value) q deed h e = h
-sync_does (kinds.Signal value) q deed h e = h
-sync_does kinds.Host q deed h e = absurd cc
+sync_does : (node_kind : Kind) (q : ℕ) (kind : AccessKind) → Does node_kind q kind → is_sync node_kind ≡ true → IsByBarrier kind
+sync_does kinds.Command q kind h e = absurd cc
+sync_does kinds.Barrier q kind h e = h
+sync_does (kinds.Wait queue value) q kind h e = h
+sync_does (kinds.Signal value) q kind h e = h
+sync_does kinds.Host q kind h e = absurd cc
 
-host_does : (kind : Kind) (q : ℕ) (deed : Deed) → Does kind q deed → is_host kind ≡ true → deed ≡ deeds.Load agent.Host None
-host_does kinds.Command q deed h e = absurd cc
-host_does kinds.Barrier q deed h e = absurd cc
-host_does (kinds.Wait queue value) q deed h e = absurd cc
-host_does (kinds.Signal value) q deed h e = absurd cc
-host_does kinds.Host q deed h e = h
+host_does : (node_kind : Kind) (q : ℕ) (kind : AccessKind) → Does node_kind q kind → is_host node_kind ≡ true → kind ≡ access_kinds.Load agent.Host None
+host_does kinds.Command q kind h e = absurd cc
+host_does kinds.Barrier q kind h e = absurd cc
+host_does (kinds.Wait queue value) q kind h e = absurd cc
+host_does (kinds.Signal value) q kind h e = absurd cc
+host_does kinds.Host q kind h e = h
 
 -- AGENTS
 
@@ -61,9 +61,9 @@ nobody q (agent.Of queue bit) h =
     absurd cc
 nobody q agent.Host h = let f = nothing_meets 256 in absurd cc
 
-someone_syncs : (kind : Kind) (q set : ℕ) (a : Agent) → (is_sync kind ≡ true) ⊎ (set ≡ 0) → has_agent q set a ≡ true → is_sync kind ≡ true
-someone_syncs kind q set a (inl e) h = e
-someone_syncs kind q set a (inr e) h = absurd (nobody q a (subst (λ s. has_agent q s a ≡ true) e h))
+someone_syncs : (node_kind : Kind) (q set : ℕ) (a : Agent) → (is_sync node_kind ≡ true) ⊎ (set ≡ 0) → has_agent q set a ≡ true → is_sync node_kind ≡ true
+someone_syncs node_kind q set a (inl e) h = e
+someone_syncs node_kind q set a (inr e) h = absurd (nobody q a (subst (λ s. has_agent q s a ≡ true) e h))
 
 -- THE VIEW
 
@@ -86,20 +86,20 @@ module _ (program : Program) (keeps : (rule : Rule) → Keeps rule program) (sma
   stands : (n : ℕ) → n < length (nodes_of program) → IsNode program (place n)
   stands n lt = node_stands program n (place n) lt (slice_get-get_or (nodes_of program) n (at.Host 0) lt)
 
-  fits : (n : ℕ) → FitsNode pieces (node_at V.nodes n) (use_at V n)
+  fits : (n : ℕ) → FitsNode pieces (node_at V.nodes n) (effect_at V n)
   fits n = ⊎_elim
       (λ (lt : n < length (nodes_of program)).
-      subst (λ x. FitsNode pieces x (use_at V n)) (sym (node_is n lt))
-      (subst (λ u. FitsNode pieces (node_in program (place n)) u) (sym (get_or-map (use_in (shapes_of program) program) (nodes_of program) n (at.Host 0) no_use lt))
+      subst (λ x. FitsNode pieces x (effect_at V n)) (sym (node_is n lt))
+      (subst (λ u. FitsNode pieces (node_in program (place n)) u) (sym (get_or-map (effect_in (shapes_of program) program) (nodes_of program) n (at.Host 0) no_effect lt))
       (place_fits program keeps (place n) (stands n lt))))
       (λ (ge : length (nodes_of program) ≤ n).
-      subst (λ x. FitsNode pieces x (use_at V n)) (sym (get_or_past V.nodes n (nowhere 0) (subst (λ m. m ≤ n) (sym count) ge)))
-      (subst (λ u. FitsNode pieces (nowhere 0) u) (sym (get_or_past V.uses n no_use (subst (λ m. m ≤ n) (sym (length-map (nodes_of program) (use_in (shapes_of program) program))) ge)))
+      subst (λ x. FitsNode pieces x (effect_at V n)) (sym (get_or_past V.nodes n (nowhere 0) (subst (λ m. m ≤ n) (sym count) ge)))
+      (subst (λ u. FitsNode pieces (nowhere 0) u) (sym (get_or_past V.effects n no_effect (subst (λ m. m ≤ n) (sym (length-map (nodes_of program) (effect_in (shapes_of program) program))) ge)))
       (nowhere_fits pieces)))
       (cases_lt n (length (nodes_of program)))
 
-  does : (n i : ℕ) (a : Access) → AccessAt V n i a → Does (node_at V.nodes n).kind (queue_at V n) a.deed
-  does n i a e = entry_of (λ a. Does (node_at V.nodes n).kind (queue_at V n) a.deed) (accesses_of V n) i a (fits n).does e
+  does : (n i : ℕ) (a : Access) → AccessAt V n i a → Does (node_at V.nodes n).kind (queue_at V n) a.kind
+  does n i a e = entry_of (λ a. Does (node_at V.nodes n).kind (queue_at V n) a.kind) (accesses_of V n) i a (fits n).does e
 
   known : (n i : ℕ) (a : Access) → AccessAt V n i a → a.piece < length V.pieces
   known n i a e = subst (λ m. a.piece < m) (length-map program.pieces (λ piece. piece.shape)) (entry_of (λ a. a.piece < pieces) (accesses_of V n) i a (fits n).known e)
@@ -110,10 +110,10 @@ module _ (program : Program) (keeps : (rule : Rule) → Keeps rule program) (sma
       let least : 1 ≤ size = leb-true 1 size (and_parts _ _ (small.sizes p no_piece lt)).0 in
       omega (arith, least)
 
-  silent_flush : (n : ℕ) → (is_sync (node_at V.nodes n).kind ≡ true) ⊎ ((use_at V n).available ≡ 0)
+  silent_flush : (n : ℕ) → (is_sync (node_at V.nodes n).kind ≡ true) ⊎ ((effect_at V n).available ≡ 0)
   silent_flush n = ⊎_elim (λ e. inl e) (λ e. inr e.0) (fits n).silent
 
-  silent_show : (n : ℕ) → (is_sync (node_at V.nodes n).kind ≡ true) ⊎ ((use_at V n).visible ≡ 0)
+  silent_show : (n : ℕ) → (is_sync (node_at V.nodes n).kind ≡ true) ⊎ ((effect_at V n).visible ≡ 0)
   silent_show n = ⊎_elim (λ e. inl e) (λ e. inr e.1) (fits n).silent
 
   family : (n : ℕ) → n < length V.nodes → is_host (node_at V.nodes n).kind ≡ false → (f : Family) × (family_at V n ≡ Some f)
@@ -121,19 +121,19 @@ module _ (program : Program) (keeps : (rule : Rule) → Keeps rule program) (sma
       let below : n < length (nodes_of program) = subst (λ m. n < m) count lt in
       subst (λ x. is_host x.kind ≡ false → (f : Family) × (slice_get V.families x.queue ≡ Some f)) (sym (node_is n below)) (place_family program keeps (place n) (stands n below)) queued
 
-  pub shapely : Shapely V
-  shapely = record {
+  pub shaped : ShapedView V
+  shaped = record {
     few_nodes = subst (λ m. m ≤ 20000) (sym count) small.nodes;
     few_pieces = small.pieces;
-    uses = length-map (nodes_of program) (use_in (shapes_of program) program) ∙ sym count;
+    effects = length-map (nodes_of program) (effect_in (shapes_of program) program) ∙ sym count;
     imported = length-map program.pieces (piece_imported program.memories);
     known = known;
     some = some;
     last = λ n i j a b e f lt c. after_change (accesses_of V n) i j a b (fits n).last e f lt c;
-    command = λ n i a e k. command_does (node_at V.nodes n).kind (queue_at V n) a.deed (does n i a e) k;
-    sync = λ n i a e k. sync_does (node_at V.nodes n).kind (queue_at V n) a.deed (does n i a e) k;
-    host = λ n i a e k. host_does (node_at V.nodes n).kind (queue_at V n) a.deed (does n i a e) k;
-    flush = λ n p a h. someone_syncs (node_at V.nodes n).kind (queue_at V n) (use_at V n).available a (silent_flush n) (and_parts (has_agent (queue_at V n) (use_at V n).available a) (is_on p (use_at V n).scope) h).0;
-    show = λ n p a h. someone_syncs (node_at V.nodes n).kind (queue_at V n) (use_at V n).visible a (silent_show n) (and_parts (has_agent (queue_at V n) (use_at V n).visible a) (is_on p (use_at V n).scope) h).0;
+    command = λ n i a e k. command_does (node_at V.nodes n).kind (queue_at V n) a.kind (does n i a e) k;
+    sync = λ n i a e k. sync_does (node_at V.nodes n).kind (queue_at V n) a.kind (does n i a e) k;
+    host = λ n i a e k. host_does (node_at V.nodes n).kind (queue_at V n) a.kind (does n i a e) k;
+    available_by_sync = λ n p a h. someone_syncs (node_at V.nodes n).kind (queue_at V n) (effect_at V n).available a (silent_flush n) (and_parts (has_agent (queue_at V n) (effect_at V n).available a) (is_on p (effect_at V n).scope) h).0;
+    visible_by_sync = λ n p a h. someone_syncs (node_at V.nodes n).kind (queue_at V n) (effect_at V n).visible a (silent_show n) (and_parts (has_agent (queue_at V n) (effect_at V n).visible a) (is_on p (effect_at V n).scope) h).0;
     family = family;
   }

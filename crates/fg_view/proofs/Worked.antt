@@ -18,13 +18,13 @@ use Rattle.fg_bits.specs.declared.sharing.Sharing.TheVariants.{Exclusive}
 use Rattle.fg_subs.specs.declared.program.Item.TheVariants as items
 use Rattle.fg_subs.specs.declared.program.Piece.{Piece}
 use Rattle.fg_subs.specs.declared.program.Transfer.{Transfer}
-use Rattle.fg_view.specs.Uses.{access, command_accesses, turned_by, handover_of, acquire_accesses, item_use, all_agents}
+use Rattle.fg_view.specs.Effects.{access, command_accesses, layout_change, handover_of, acquire_accesses, item_effect, all_agents}
 use Rattle.fg_view.specs.Views.{View, pieces_overlap, clash}
 use Rattle.fg_view.specs.declared.access.Access.{Access}
 use Rattle.fg_view.specs.declared.access.Agent.TheVariants.{Of}
-use Rattle.fg_view.specs.declared.access.Deed.TheVariants.{Load, Store, Keep, Discard, Release, Acquire}
-use Rattle.fg_view.specs.declared.use_of.Scope.TheVariants.{Everywhere}
-use Rattle.fg_view.specs.declared.use_of.Use.{Use}
+use Rattle.fg_view.specs.declared.access.AccessKind.TheVariants.{Load, Store, Transition, Discard, Release, Acquire}
+use Rattle.fg_view.specs.declared.effect.Scope.TheVariants.{Everywhere}
+use Rattle.fg_view.specs.declared.effect.Effect.{Effect}
 
 -- COMMANDS
 
@@ -65,13 +65,13 @@ select_of_three = refl
 abbrev between : Layout → Layout → Layouts
 between from to = record { from = from; to = to }
 
-out_of_undefined : turned_by 3 (between Undefined General) ≡ access 3 (Discard General) ∷ []
+out_of_undefined : layout_change 3 (between Undefined General) ≡ access 3 (Discard General) ∷ []
 out_of_undefined = refl
 
-same_layouts : turned_by 3 (between General General) ≡ []
+same_layouts : layout_change 3 (between General General) ≡ []
 same_layouts = refl
 
-other_layout : turned_by 3 (between General TransferSrc) ≡ access 3 (Keep (between General TransferSrc)) ∷ []
+other_layout : layout_change 3 (between General TransferSrc) ≡ access 3 (Transition (between General TransferSrc)) ∷ []
 other_layout = refl
 
 -- from clears to copies
@@ -85,10 +85,10 @@ abbrev handed_buffer : Transfer
 handed_buffer = record { piece = 2; from_family = Compute; to_family = Graphics; layouts = None; masks = cleared }
 
 -- the transition is made by the acquire
-release_alone : (item_use images 0 (items.Release (handed General ShaderReadOnly))).accesses ≡ access 2 (Release (handover_of (handed General ShaderReadOnly))) ∷ []
+release_alone : (item_effect images 0 (items.Release (handed General ShaderReadOnly))).accesses ≡ access 2 (Release (handover_of (handed General ShaderReadOnly))) ∷ []
 release_alone = refl
 
-acquire_with_a_transition : acquire_accesses (handed General ShaderReadOnly) ≡ access 2 (Keep (between General ShaderReadOnly)) ∷ access 2 (Acquire (handover_of (handed General ShaderReadOnly))) ∷ []
+acquire_with_a_transition : acquire_accesses (handed General ShaderReadOnly) ≡ access 2 (Transition (between General ShaderReadOnly)) ∷ access 2 (Acquire (handover_of (handed General ShaderReadOnly))) ∷ []
 acquire_with_a_transition = refl
 
 acquire_without : acquire_accesses (handed General General) ≡ access 2 (Acquire (handover_of (handed General General))) ∷ []
@@ -97,10 +97,10 @@ acquire_without = refl
 acquire_of_a_buffer : acquire_accesses handed_buffer ≡ access 2 (Acquire (handover_of handed_buffer)) ∷ []
 acquire_of_a_buffer = refl
 
-abbrev only_clears : Use
+abbrev only_clears : Effect
 only_clears = record { accesses = []; available = 128; visible = 32; scope = Everywhere }
 
-global_barrier : item_use buffers 0 (items.Global cleared) ≡ only_clears
+global_barrier : item_effect buffers 0 (items.Global cleared) ≡ only_clears
 global_barrier = refl
 
 -- all but the host
@@ -125,7 +125,7 @@ other_memories = refl
 
 -- pieces 0 and 1 are the same bytes
 abbrev aliased : View
-aliased = record { nodes = []; uses = []; pieces = piece 0 0 16 ∷ piece 0 0 16 ∷ []; imported = []; families = [] }
+aliased = record { nodes = []; effects = []; pieces = piece 0 0 16 ∷ piece 0 0 16 ∷ []; imported = []; families = [] }
 
 abbrev loaded : ℕ → Access
 loaded p = access p (Load (Of 0 32) None)

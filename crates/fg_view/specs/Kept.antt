@@ -5,7 +5,7 @@ use Rattle.fg_view.specs.declared.view.View.TheInside.{Inside}
 abbrev pub view_in : Inside → View
 view_in inside = record {
   nodes = inside.edges;
-  uses = inside.uses;
+  effects = inside.effects;
   pieces = inside.pieces;
   imported = inside.imported;
   families = inside.families;

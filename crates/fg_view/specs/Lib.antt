@@ -1,6 +1,6 @@
-pub mod Deeds
+pub mod AccessKinds
 pub mod Kept
 pub mod Roles
-pub mod Shapely
-pub mod Uses
+pub mod ShapedView
+pub mod Effects
 pub mod Views

@@ -17,20 +17,20 @@ use Rattle.fg_subs.specs.declared.program.Memory.{Memory}
 use Rattle.fg_subs.specs.declared.program.Memory.TheVariants.{Plain, Import}
 use Rattle.fg_subs.specs.declared.program.Piece.{Piece}
 use Rattle.fg_subs.specs.declared.program.Program.{Program}
-use Rattle.fg_view.specs.Deeds.{changes, transfers}
-use Rattle.fg_view.specs.Uses.{use_in, no_use}
+use Rattle.fg_view.specs.AccessKinds.{changes, transfers}
+use Rattle.fg_view.specs.Effects.{effect_in, no_effect}
 use Rattle.fg_view.specs.declared.access.Access.{Access}
 use Rattle.fg_view.specs.declared.access.Agent.{Agent}
 use Rattle.fg_view.specs.declared.access.Agent.TheVariants as agent
-use Rattle.fg_view.specs.declared.act.Act.{Act}
-use Rattle.fg_view.specs.declared.use_of.Scope.{Scope}
-use Rattle.fg_view.specs.declared.use_of.Scope.TheVariants as scopes
-use Rattle.fg_view.specs.declared.use_of.Use.{Use}
+use Rattle.fg_view.specs.declared.node_access.NodeAccess.{NodeAccess}
+use Rattle.fg_view.specs.declared.effect.Scope.{Scope}
+use Rattle.fg_view.specs.declared.effect.Scope.TheVariants as scopes
+use Rattle.fg_view.specs.declared.effect.Effect.{Effect}
 
 -- nodes and what they do by their numbers, pieces and whether they begin with an import's bytes, families of queues
 pub record View : Type 0 where
   pub nodes : List Node
-  pub uses : List Use
+  pub effects : List Effect
   pub pieces : List Piece
   pub imported : List Bool
   pub families : List Family
@@ -46,7 +46,7 @@ piece_imported memories piece = is_buffer piece.shape && option_map_or is_import
 abbrev pub view_of : Program → View
 view_of program = record {
   nodes = program_nodes program;
-  uses = map (use_in (shapes_of program) program) (nodes_of program);
+  effects = map (effect_in (shapes_of program) program) (nodes_of program);
   pieces = program.pieces;
   imported = map (piece_imported program.memories) program.pieces;
   families = map (λ queue. queue.family) program.queues;
@@ -54,11 +54,11 @@ view_of program = record {
 
 -- NODES
 
-abbrev pub use_at : View → ℕ → Use
-use_at V n = get_or V.uses n no_use
+abbrev pub effect_at : View → ℕ → Effect
+effect_at V n = get_or V.effects n no_effect
 
 abbrev pub accesses_of : View → ℕ → List Access
-accesses_of V n = (use_at V n).accesses
+accesses_of V n = (effect_at V n).accesses
 
 abbrev pub queue_at : View → ℕ → ℕ
 queue_at V n = (node_at V.nodes n).queue
@@ -77,12 +77,12 @@ is_on p scopes.Everywhere = true
 is_on p (scopes.Piece piece) = piece == p
 
 -- node n makes the agent's stores to the piece available
-abbrev pub flushes : View → ℕ → Agent → ℕ → Bool
-flushes V n agent p = has_agent (queue_at V n) (use_at V n).available agent && is_on p (use_at V n).scope
+abbrev pub makes_available : View → ℕ → Agent → ℕ → Bool
+makes_available V n agent p = has_agent (queue_at V n) (effect_at V n).available agent && is_on p (effect_at V n).scope
 
 -- node n makes the piece's memory visible to the agent
-abbrev pub shows : View → ℕ → Agent → ℕ → Bool
-shows V n agent p = has_agent (queue_at V n) (use_at V n).visible agent && is_on p (use_at V n).scope
+abbrev pub makes_visible : View → ℕ → Agent → ℕ → Bool
+makes_visible V n agent p = has_agent (queue_at V n) (effect_at V n).visible agent && is_on p (effect_at V n).scope
 
 -- PIECES
 
@@ -115,16 +115,16 @@ imported_at V p = get_or V.imported p false
 
 -- ACCESSES IN AN ORDER
 
-abbrev pub act : ℕ → Access → Act
-act n access = record { node = n; access = access }
+abbrev pub node_access : ℕ → Access → NodeAccess
+node_access n access = record { node = n; access = access }
 
 -- node by node, and each node's in their order
-abbrev pub acts_of : View → List ℕ → List Act
-acts_of V order = flat_map (λ n. map (act n) (accesses_of V n)) order
+abbrev pub node_accesses_of : View → List ℕ → List NodeAccess
+node_accesses_of V order = flat_map (λ n. map (node_access n) (accesses_of V n)) order
 
 -- two accesses that may not be in either order: a change and what touches the same bytes, or a transfer and what touches the
 -- same piece
 abbrev pub clash : View → Access → Access → Bool
 clash V a b =
-    (overlap V a.piece b.piece && (changes a.deed || changes b.deed))
-    || ((a.piece == b.piece) && (transfers a.deed || transfers b.deed))
+    (overlap V a.piece b.piece && (changes a.kind || changes b.kind))
+    || ((a.piece == b.piece) && (transfers a.kind || transfers b.kind))

@@ -1,7 +1,7 @@
 //! Accesses of nodes to memory.
 
 ghost use Rattle.std.specs.Prelude.{◌≡◌};
-ghost use Rattle.fg_view.specs.Deeds.{changes, loads, stores, turns, gives, transfers, is_discard, is_acquire, wanted};
+ghost use Rattle.fg_view.specs.AccessKinds.{changes, loads, stores, sets_layout, sets_owner, transfers, is_discard, is_acquire, wanted};
 
 use fg_base::Family;
 use fg_bits::{Layout, Layouts};
@@ -24,7 +24,7 @@ pub struct Handover {
 
 /// What an access does to its piece.
 #[derive(Clone, Copy, Debug, PartialEq, Eq)]
-pub enum Deed {
+pub enum AccessKind {
     /// By an agent; an image has to be in the layout.
     Load {
         agent: Agent,
@@ -36,7 +36,7 @@ pub enum Deed {
         layout: Option<Layout>,
     },
     /// A transition that keeps the texels: a load and a store at once.
-    Keep(Layouts),
+    Transition(Layouts),
     /// A transition out of `UNDEFINED` into this layout.
     Discard(Layout),
     /// The first half of a transfer of ownership.
@@ -50,16 +50,16 @@ pub enum Deed {
 pub struct Access {
     /// The number of the piece.
     pub piece: u32,
-    pub deed: Deed,
+    pub kind: AccessKind,
 }
 
-impl Deed {
+impl AccessKind {
     /// Whether bytes may change: a store, a keeping transition or a discard.
     pub fn changes(self) -> bool
         ensures { result ≡ changes self }
     {
         match self {
-            Deed::Store { .. } | Deed::Keep(_) | Deed::Discard(_) => true,
+            AccessKind::Store { .. } | AccessKind::Transition(_) | AccessKind::Discard(_) => true,
             _ => false,
         }
     }
@@ -69,7 +69,7 @@ impl Deed {
         ensures { result ≡ loads self }
     {
         match self {
-            Deed::Load { .. } | Deed::Keep(_) => true,
+            AccessKind::Load { .. } | AccessKind::Transition(_) => true,
             _ => false,
         }
     }
@@ -79,17 +79,17 @@ impl Deed {
         ensures { result ≡ stores self }
     {
         match self {
-            Deed::Store { .. } | Deed::Keep(_) => true,
+            AccessKind::Store { .. } | AccessKind::Transition(_) => true,
             _ => false,
         }
     }
 
     /// Whether it leaves a layout: a keeping transition or a discard.
-    pub fn turns(self) -> bool
-        ensures { result ≡ turns self }
+    pub fn sets_layout(self) -> bool
+        ensures { result ≡ sets_layout self }
     {
         match self {
-            Deed::Keep(_) | Deed::Discard(_) => true,
+            AccessKind::Transition(_) | AccessKind::Discard(_) => true,
             _ => false,
         }
     }
@@ -99,17 +99,17 @@ impl Deed {
         ensures { result ≡ transfers self }
     {
         match self {
-            Deed::Release(_) | Deed::Acquire(_) => true,
+            AccessKind::Release(_) | AccessKind::Acquire(_) => true,
             _ => false,
         }
     }
 
     /// Whether it decides who owns the piece: a discard or half of a transfer.
-    pub fn gives(self) -> bool
-        ensures { result ≡ gives self }
+    pub fn sets_owner(self) -> bool
+        ensures { result ≡ sets_owner self }
     {
         match self {
-            Deed::Discard(_) | Deed::Release(_) | Deed::Acquire(_) => true,
+            AccessKind::Discard(_) | AccessKind::Release(_) | AccessKind::Acquire(_) => true,
             _ => false,
         }
     }
@@ -118,7 +118,7 @@ impl Deed {
         ensures { result ≡ is_discard self }
     {
         match self {
-            Deed::Discard(_) => true,
+            AccessKind::Discard(_) => true,
             _ => false,
         }
     }
@@ -127,7 +127,7 @@ impl Deed {
         ensures { result ≡ is_acquire self }
     {
         match self {
-            Deed::Acquire(_) => true,
+            AccessKind::Acquire(_) => true,
             _ => false,
         }
     }
@@ -137,8 +137,8 @@ impl Deed {
         ensures { result ≡ wanted self }
     {
         match self {
-            Deed::Load { layout, .. } | Deed::Store { layout, .. } => layout,
-            Deed::Keep(layouts) => Some(layouts.from),
+            AccessKind::Load { layout, .. } | AccessKind::Store { layout, .. } => layout,
+            AccessKind::Transition(layouts) => Some(layouts.from),
             _ => None,
         }
     }

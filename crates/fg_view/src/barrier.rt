@@ -2,40 +2,40 @@
 
 ghost use Rattle.std.specs.Prelude.{◌≡◌, [], option_to_list, IfOk};
 ghost use Rattle.std.specs.Option.{option_map_or};
-ghost use Rattle.fg_view.specs.Uses.{access, kept_through, turned_by, handover_of, acquire_accesses};
-ghost use Rattle.fg_view.specs.declared.access.Deed.TheVariants as deeds;
+ghost use Rattle.fg_view.specs.Effects.{access, transition_through, layout_change, handover_of, acquire_accesses};
+ghost use Rattle.fg_view.specs.declared.access.AccessKind.TheVariants as access_kinds;
 
 use crate::command::push_some;
-use crate::{Access, Deed, Handover};
+use crate::{Access, AccessKind, Handover};
 use fg_base::{List, NoMemory};
 use fg_bits::Layouts;
 use fg_subs::Transfer;
 use std::alloc::Global;
 
-fn kept_through(piece: u32, layouts: Layouts) -> Option<Access>
-    ensures { option_to_list result ≡ kept_through piece layouts }
+fn transition_through(piece: u32, layouts: Layouts) -> Option<Access>
+    ensures { option_to_list result ≡ transition_through piece layouts }
 {
     if layouts.from.is_undefined() || layouts.from.number() == layouts.to.number() {
         None
     } else {
         Some(Access {
             piece,
-            deed: Deed::Keep(layouts),
+            kind: AccessKind::Transition(layouts),
         })
     }
 }
 
 /// What the transition of an image barrier does.
-pub(crate) fn turned_by(piece: u32, layouts: Layouts) -> Option<Access>
-    ensures { option_to_list result ≡ turned_by piece layouts }
+pub(crate) fn layout_change(piece: u32, layouts: Layouts) -> Option<Access>
+    ensures { option_to_list result ≡ layout_change piece layouts }
 {
     if layouts.from.is_undefined() {
         Some(Access {
             piece,
-            deed: Deed::Discard(layouts.to),
+            kind: AccessKind::Discard(layouts.to),
         })
     } else {
-        kept_through(piece, layouts)
+        transition_through(piece, layouts)
     }
 }
 
@@ -51,19 +51,19 @@ fn handover_of(transfer: &Transfer) -> Handover
 
 /// What a release does.
 pub(crate) fn released(transfer: &Transfer) -> Access
-    ensures { result ≡ access transfer.now.piece (deeds.Release (handover_of transfer.now)) }
+    ensures { result ≡ access transfer.now.piece (access_kinds.Release (handover_of transfer.now)) }
 {
     Access {
         piece: transfer.piece,
-        deed: Deed::Release(handover_of(transfer)),
+        kind: AccessKind::Release(handover_of(transfer)),
     }
 }
 
 fn acquired_through(transfer: &Transfer) -> Option<Access>
-    ensures { option_to_list result ≡ option_map_or (kept_through transfer.now.piece) transfer.now.layouts [] }
+    ensures { option_to_list result ≡ option_map_or (transition_through transfer.now.piece) transfer.now.layouts [] }
 {
     match transfer.layouts {
-        Some(layouts) => kept_through(transfer.piece, layouts),
+        Some(layouts) => transition_through(transfer.piece, layouts),
         None => None,
     }
 }
@@ -76,7 +76,7 @@ pub(crate) fn acquire_accesses(alloc: Global, transfer: &Transfer) -> Result<Lis
     push_some(&mut accesses, acquired_through(transfer))?;
     accesses.push(Access {
         piece: transfer.piece,
-        deed: Deed::Acquire(handover_of(transfer)),
+        kind: AccessKind::Acquire(handover_of(transfer)),
     })?;
     Ok(accesses)
 }

@@ -4,10 +4,10 @@ ghost use Rattle.std.specs.Prelude.{◌≡◌, ◌<◌, ◌++◌, [], length, tr
 ghost use Rattle.std.specs.Option.{option_map_or};
 ghost use Rattle.fg_subs.specs.Ranges.{has_operands};
 ghost use Rattle.fg_view.specs.Roles.{load_access, store_access};
-ghost use Rattle.fg_view.specs.Uses.{role_agent, layout_wanted, touch_load, touch_store, touch_accesses, command_accesses};
+ghost use Rattle.fg_view.specs.Effects.{role_agent, layout_wanted, touch_load, touch_store, touch_accesses, command_accesses};
 
 use crate::role::{load_access, role_layout, role_stage, store_access};
-use crate::{Access, Agent, Deed};
+use crate::{Access, Agent, AccessKind};
 use fg_base::{List, NoMemory, Op, Role, Shape, Touch};
 use fg_bits::{Accesses, Layout, agents};
 use std::alloc::Global;
@@ -39,7 +39,7 @@ fn load_of(shapes: &[Shape], queue: u32, touch: Touch) -> Option<Access>
     match load_access(touch.role, touch.whole) {
         Some(kind) => Some(Access {
             piece: touch.what,
-            deed: Deed::Load {
+            kind: AccessKind::Load {
                 agent: role_agent(queue, touch.role, kind),
                 layout: layout_wanted(shapes[touch.what as usize], touch.role),
             },
@@ -55,7 +55,7 @@ fn store_of(shapes: &[Shape], queue: u32, touch: Touch) -> Option<Access>
     match store_access(touch.role) {
         Some(kind) => Some(Access {
             piece: touch.what,
-            deed: Deed::Store {
+            kind: AccessKind::Store {
                 agent: role_agent(queue, touch.role, kind),
                 layout: layout_wanted(shapes[touch.what as usize], touch.role),
             },

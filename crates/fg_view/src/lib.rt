@@ -2,19 +2,19 @@
 #![tactic(auto)]
 
 mod access;
-mod act;
+mod node_access;
 mod barrier;
 mod command;
 mod hazard;
 mod role;
-mod use_of;
-mod uses;
+mod effect;
+mod effects;
 mod view;
 
-pub use access::{Access, Agent, Deed, Handover};
-pub use act::{Act, acts_of};
+pub use access::{Access, Agent, AccessKind, Handover};
+pub use node_access::{NodeAccess, node_accesses_of};
 pub use hazard::Hazard;
-pub use use_of::{Scope, Use};
+pub use effect::{Scope, Effect};
 pub use view::{View, view_of};
 
 #[cfg(test)]

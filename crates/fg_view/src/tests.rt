@@ -34,47 +34,47 @@ const HANDED: Handover = Handover {
     layouts: Some(TO_SAMPLED),
 };
 
-const RAMP: Deed = Deed::Store {
+const RAMP: AccessKind = AccessKind::Store {
     agent: Agent::Of { queue: 1, bit: 4 },
     layout: Some(Layout::General),
 };
 
-const MAP_FROM: Deed = Deed::Load {
+const MAP_FROM: AccessKind = AccessKind::Load {
     agent: Agent::Of { queue: 0, bit: 1 },
     layout: Some(Layout::ShaderReadOnly),
 };
 
-const MAP_TO: Deed = Deed::Store {
+const MAP_TO: AccessKind = AccessKind::Store {
     agent: Agent::Of { queue: 0, bit: 4 },
     layout: Some(Layout::General),
 };
 
-const COPY_FROM: Deed = Deed::Load {
+const COPY_FROM: AccessKind = AccessKind::Load {
     agent: Agent::Of { queue: 0, bit: 32 },
     layout: Some(Layout::TransferSrc),
 };
 
-const COPY_TO: Deed = Deed::Store {
+const COPY_TO: AccessKind = AccessKind::Store {
     agent: Agent::Of { queue: 0, bit: 64 },
     layout: None,
 };
 
-const READ: Deed = Deed::Load {
+const READ: AccessKind = AccessKind::Load {
     agent: Agent::Host,
     layout: None,
 };
 
-// Node, piece and deed, in the least order: the queue of the map waits for that of the ramp, whose nodes are 8 to 11.
-const DONE: [(u32, u32, Deed); 12] = [
-    (8, 0, Deed::Discard(Layout::General)),
+// Node, piece and kind, in the least order: the queue of the map waits for that of the ramp, whose nodes are 8 to 11.
+const DONE: [(u32, u32, AccessKind); 12] = [
+    (8, 0, AccessKind::Discard(Layout::General)),
     (9, 0, RAMP),
-    (10, 0, Deed::Release(HANDED)),
-    (1, 0, Deed::Keep(TO_SAMPLED)),
-    (1, 0, Deed::Acquire(HANDED)),
-    (2, 1, Deed::Discard(Layout::General)),
+    (10, 0, AccessKind::Release(HANDED)),
+    (1, 0, AccessKind::Transition(TO_SAMPLED)),
+    (1, 0, AccessKind::Acquire(HANDED)),
+    (2, 1, AccessKind::Discard(Layout::General)),
     (3, 0, MAP_FROM),
     (3, 1, MAP_TO),
-    (4, 1, Deed::Keep(TO_SOURCE)),
+    (4, 1, AccessKind::Transition(TO_SOURCE)),
     (5, 1, COPY_FROM),
     (5, 2, COPY_TO),
     (12, 2, READ),
@@ -232,34 +232,34 @@ fn shaped(alloc: Global) -> Result<Shaped, NoMemory> {
     }
 }
 
-fn acts(alloc: Global) -> Result<List<Act>, NoMemory> {
+fn node_accesses(alloc: Global) -> Result<List<NodeAccess>, NoMemory> {
     let shaped = shaped(alloc)?;
     let view = view_of(alloc, &shaped)?;
     match drain_of(alloc, &shaped, view.edges())? {
-        Drain::Whole(order) => acts_of(alloc, &view, &order),
+        Drain::Whole(order) => node_accesses_of(alloc, &view, &order),
         Drain::Stuck { .. } => Err(NoMemory),
     }
 }
 
-fn are_done(acts: &[Act]) -> bool {
+fn are_done(node_accesses: &[NodeAccess]) -> bool {
     for k in 0..DONE.len() {
-        let (node, piece, deed) = DONE[k];
-        let access = Access { piece, deed };
-        match acts.get(k) {
-            Some(act) => {
-                if *act != (Act { node, access }) {
+        let (node, piece, kind) = DONE[k];
+        let access = Access { piece, kind };
+        match node_accesses.get(k) {
+            Some(node_access) => {
+                if *node_access != (NodeAccess { node, access }) {
                     return false;
                 }
             }
             None => return false,
         }
     }
-    acts.len() == DONE.len()
+    node_accesses.len() == DONE.len()
 }
 
 #[test]
 fn ramp_and_map(rt: HostRuntime) -> Result<(), Fail> {
-    let acts = acts(rt.alloc())?;
-    assert!(&rt; are_done(&acts));
+    let node_accesses = node_accesses(rt.alloc())?;
+    assert!(&rt; are_done(&node_accesses));
     Ok(())
 }

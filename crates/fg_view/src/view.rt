@@ -3,11 +3,11 @@
 ghost use Rattle.std.specs.Prelude.{◌≡◌, ◌<◌, ◌≤◌, length, map, slice_get, false, IfOk};
 ghost use Rattle.std.specs.Option.{option_map_or};
 ghost use Rattle.fg_hb.specs.Edges.{node_at};
-ghost use Rattle.fg_view.specs.Shapely.{Shapely};
-ghost use Rattle.fg_view.specs.Views.{view_of, is_import, piece_imported, use_at, piece_at, pieces_overlap, is_before_end, is_shared, has_agent, is_on, flushes, shows, clash, overlap, imported_at, shared_at, family_at};
+ghost use Rattle.fg_view.specs.ShapedView.{ShapedView};
+ghost use Rattle.fg_view.specs.Views.{view_of, is_import, piece_imported, effect_at, piece_at, pieces_overlap, is_before_end, is_shared, has_agent, is_on, makes_available, makes_visible, clash, overlap, imported_at, shared_at, family_at};
 
-use crate::uses::uses_of;
-use crate::{Access, Agent, Scope, Use};
+use crate::effects::effects_of;
+use crate::{Access, Agent, Scope, Effect};
 use fg_base::{Family, List, NoMemory};
 use fg_bits::Sharing;
 use fg_hb::{Edges, Node, direct};
@@ -19,7 +19,7 @@ use std::marker::Model;
 #[derive(Debug, Drop)]
 pub struct View {
     edges: Edges,
-    uses: List<Use>,
+    effects: List<Effect>,
     pieces: List<Piece>,
     imported: List<bool>,
     families: List<Family>,
@@ -59,11 +59,11 @@ impl View {
     }
 
     /// What the node with the number `n` does to memory.
-    pub fn use_at(&self, n: u32) -> &Use
-        requires { n < length self.now.uses }
-        ensures { result.now ≡ use_at self.now n }
+    pub fn effect_at(&self, n: u32) -> &Effect
+        requires { n < length self.now.effects }
+        ensures { result.now ≡ effect_at self.now n }
     {
-        &self.uses[n as usize]
+        &self.effects[n as usize]
     }
 
     /// The family of the node's queue. A host read has none.
@@ -115,22 +115,22 @@ impl View {
     }
 
     /// Whether the node makes the agent's stores to the piece available.
-    pub fn flushes(&self, n: u32, agent: Agent, p: u32) -> bool
+    pub fn makes_available(&self, n: u32, agent: Agent, p: u32) -> bool
         requires n { n < length self.now.nodes }
-        requires uses { length self.now.uses ≡ length self.now.nodes }
-        ensures { result ≡ flushes self.now n agent p }
+        requires effects { length self.now.effects ≡ length self.now.nodes }
+        ensures { result ≡ makes_available self.now n agent p }
     {
-        let (queue, effect) = (self.node(n).queue, self.use_at(n));
+        let (queue, effect) = (self.node(n).queue, self.effect_at(n));
         has_agent(queue, effect.available, agent) && is_on(p, effect.scope)
     }
 
     /// Whether the node makes the piece's memory visible to the agent.
-    pub fn shows(&self, n: u32, agent: Agent, p: u32) -> bool
+    pub fn makes_visible(&self, n: u32, agent: Agent, p: u32) -> bool
         requires n { n < length self.now.nodes }
-        requires uses { length self.now.uses ≡ length self.now.nodes }
-        ensures { result ≡ shows self.now n agent p }
+        requires effects { length self.now.effects ≡ length self.now.nodes }
+        ensures { result ≡ makes_visible self.now n agent p }
     {
-        let (queue, effect) = (self.node(n).queue, self.use_at(n));
+        let (queue, effect) = (self.node(n).queue, self.effect_at(n));
         has_agent(queue, effect.visible, agent) && is_on(p, effect.scope)
     }
 
@@ -141,8 +141,8 @@ impl View {
         requires b { b.piece < length self.now.pieces }
         ensures { result ≡ clash self.now a b }
     {
-        self.overlap(a.piece, b.piece) && (a.deed.changes() || b.deed.changes())
-            || a.piece == b.piece && (a.deed.transfers() || b.deed.transfers())
+        self.overlap(a.piece, b.piece) && (a.kind.changes() || b.kind.changes())
+            || a.piece == b.piece && (a.kind.transfers() || b.kind.transfers())
     }
 }
 
@@ -226,17 +226,17 @@ fn families_of(alloc: Global, queues: &[Queue]) -> Result<List<Family>, NoMemory
 }
 
 /// A program as it is checked.
-#[tactic(auto, using(crate::proofs::Viewing::shapely))]
+#[tactic(auto, using(crate::proofs::Viewing::shaped))]
 pub fn view_of(alloc: Global, program: &Shaped) -> Result<View, NoMemory>
     ensures view { IfOk result (λ view. view ≡ view_of program.now) }
-    ensures shapely { IfOk result (λ view. Shapely view) }
+    ensures shaped { IfOk result (λ view. ShapedView view) }
 {
     let edges = direct(alloc, program)?;
-    let uses = uses_of(alloc, program)?;
+    let effects = effects_of(alloc, program)?;
     let plain = program.program();
     Ok(View {
         edges,
-        uses,
+        effects,
         pieces: plain.pieces.copy(alloc)?,
         imported: imported_of(alloc, plain)?,
         families: families_of(alloc, &plain.queues)?,

@@ -3,4 +3,4 @@ use Rattle.fg_stated.specs.Tables.{IsAhead}
 use Rattle.fg_stated.proofs.ahead.ahead_of.Given as goal
 
 abbrev pub invariant-loop-k : goal.invariant-loop-k
-invariant-loop-k l = IsAhead l.view l.acts (length l.acts - l.k) l.ahead
+invariant-loop-k l = IsAhead l.view l.accesses (length l.accesses - l.k) l.ahead

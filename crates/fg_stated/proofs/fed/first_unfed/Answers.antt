@@ -10,22 +10,22 @@ use Rattle.fg_stated.proofs.fed.first_unfed.Goals as goal
 pub returns-in-Some : goal.returns-in-Some
 returns-in-Some c = record {
   place = c.loop-j.j;
-  act = _;
-  at = slice_get-get_or c.args.acts.now c.loop-j.j _ c.loop-j-test.true;
+  node_access = _;
+  at = slice_get-get_or c.args.accesses.now c.loop-j.j _ c.loop-j-test.true;
   below = c.loop-j.invariant.below;
-  breaks = c.in-Some.ensures c.args.acts.now c.loop-j.j (c.at.ensures ∙ c.loop-j.invariant.changed.each _ (read_piece c.args.view.now c.args.acts.now c.requires.shape c.requires.listed c.loop-j.j _ c.loop-j-test.true));
+  breaks = c.in-Some.ensures c.args.accesses.now c.loop-j.j (c.at.ensures ∙ c.loop-j.invariant.changed.each _ (read_piece c.args.view.now c.args.accesses.now c.requires.shape c.requires.listed c.loop-j.j _ c.loop-j-test.true));
 }
 
 pub keep_over-requires-clause-piece : goal.keep_over-requires-clause-piece
-keep_over-requires-clause-piece c = read_within c.args.view.now c.args.acts.now c.requires.shape c.requires.listed c.loop-j.j _ c.loop-j.changed c.loop-j-test.true c.loop-j.invariant.changed.size
+keep_over-requires-clause-piece c = read_within c.args.view.now c.args.accesses.now c.requires.shape c.requires.listed c.loop-j.j _ c.loop-j.changed c.loop-j-test.true c.loop-j.invariant.changed.size
 
 pub loop-j-preserved : goal.loop-j-preserved
 loop-j-preserved c =
-    let at = slice_get-get_or c.args.acts.now c.loop-j.j _ c.loop-j-test.true in
+    let at = slice_get-get_or c.args.accesses.now c.loop-j.j _ c.loop-j-test.true in
     record {
-      changed = is_last_more (changes_bytes c.args.view.now) (length c.args.view.now.pieces) c.args.acts.now c.loop-j.j _ c.loop-j.changed c.keep_over.new.self at c.loop-j.invariant.changed c.keep_over.ensures;
-      below = below_step (λ j a. FedAt c.args.view.now c.args.acts.now j a) c.args.acts.now c.loop-j.j _ c.loop-j.invariant.below at (c.in_default.ensures c.args.acts.now c.loop-j.j (c.at.ensures ∙ c.loop-j.invariant.changed.each _ (read_piece c.args.view.now c.args.acts.now c.requires.shape c.requires.listed c.loop-j.j _ c.loop-j-test.true)));
+      changed = is_last_more (changes_bytes c.args.view.now) (length c.args.view.now.pieces) c.args.accesses.now c.loop-j.j _ c.loop-j.changed c.keep_over.new.self at c.loop-j.invariant.changed c.keep_over.ensures;
+      below = below_step (λ j a. FedAt c.args.view.now c.args.accesses.now j a) c.args.accesses.now c.loop-j.j _ c.loop-j.invariant.below at (c.in_default.ensures c.args.accesses.now c.loop-j.j (c.at.ensures ∙ c.loop-j.invariant.changed.each _ (read_piece c.args.view.now c.args.accesses.now c.requires.shape c.requires.listed c.loop-j.j _ c.loop-j-test.true)));
     }
 
 pub returns : goal.returns
-returns c = below_all (λ j a. FedAt c.args.view.now c.args.acts.now j a) c.args.acts.now c.loop-j.j (omega arith) c.loop-j.invariant.below
+returns c = below_all (λ j a. FedAt c.args.view.now c.args.accesses.now j a) c.args.accesses.now c.loop-j.j (omega arith) c.loop-j.invariant.below

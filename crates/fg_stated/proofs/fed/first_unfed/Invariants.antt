@@ -6,6 +6,6 @@ use Rattle.fg_stated.proofs.fed.first_unfed.Given as goal
 
 abbrev pub invariant-loop-j : goal.invariant-loop-j
 invariant-loop-j l = record {
-  changed : IsLast (changes_bytes l.view) (length l.view.pieces) (take l.j l.acts) l.changed;
-  below : FedBelow l.view l.acts l.j;
+  changed : IsLast (changes_bytes l.view) (length l.view.pieces) (take l.j l.accesses) l.changed;
+  below : FedBelow l.view l.accesses l.j;
 }

@@ -9,23 +9,23 @@ use Rattle.fg_stated.proofs.found.found_at.Goals as goal
 
 pub owner_after-requires-clause-gift : goal.owner_after-requires-clause-gift
 owner_after-requires-clause-gift c =
-    let lt = known_piece c.args.view.now c.args.acts.now c.requires.shape c.requires.listed c.args.j _ (slice_get-get_or c.args.acts.now c.args.j _ c.requires.j) in
-    subst (λ o. IfSome o (λ a. a.node < length c.args.view.now.nodes)) (sym c.at-2.ensures) (last_known c.args.view.now c.args.acts.now c.requires.listed _ _ c.args.j _ c.args.past.now.given c.requires.past.given lt)
+    let lt = known_piece c.args.view.now c.args.accesses.now c.requires.shape c.requires.listed c.args.j _ (slice_get-get_or c.args.accesses.now c.args.j _ c.requires.j) in
+    subst (λ o. IfSome o (λ a. a.node < length c.args.view.now.nodes)) (sym c.at-2.ensures) (last_known c.args.view.now c.args.accesses.now c.requires.listed _ _ c.args.j _ c.args.past.now.given c.requires.past.given lt)
 
 pub owner_after-requires-clause-first : goal.owner_after-requires-clause-first
 owner_after-requires-clause-first c =
-    let lt = known_piece c.args.view.now c.args.acts.now c.requires.shape c.requires.listed c.args.j _ (slice_get-get_or c.args.acts.now c.args.j _ c.requires.j) in
-    subst (λ o. IfSome o (λ a. a.node < length c.args.view.now.nodes)) (sym c.at-3.ensures) (first_known c.args.view.now c.args.acts.now c.requires.listed _ _ _ c.args.ahead.now.owners c.requires.ahead.owners lt)
+    let lt = known_piece c.args.view.now c.args.accesses.now c.requires.shape c.requires.listed c.args.j _ (slice_get-get_or c.args.accesses.now c.args.j _ c.requires.j) in
+    subst (λ o. IfSome o (λ a. a.node < length c.args.view.now.nodes)) (sym c.at-3.ensures) (first_known c.args.view.now c.args.accesses.now c.requires.listed _ _ _ c.args.ahead.now.owners c.requires.ahead.owners lt)
 
 pub at-requires-4 : goal.at-requires-4
-at-requires-4 c = read_within c.args.view.now c.args.acts.now c.requires.shape c.requires.listed c.args.j _ c.args.past.now.transferred c.requires.j c.requires.past.transferred.size
+at-requires-4 c = read_within c.args.view.now c.args.accesses.now c.requires.shape c.requires.listed c.args.j _ c.args.past.now.transferred c.requires.j c.requires.past.transferred.size
 
 pub returns : goal.returns
 returns c = λ a at.
-    let lt = known_piece c.args.view.now c.args.acts.now c.requires.shape c.requires.listed c.args.j a at in
+    let lt = known_piece c.args.view.now c.args.accesses.now c.requires.shape c.requires.listed c.args.j a at in
     let next = get_or_from_slice_get c.args.ahead.now.next c.args.j c.index.result.now None (slice_get_read c.args.ahead.now.next (length c.args.ahead.now.next) c.args.j c.index.result.now refl (omega (arith, c.requires.j, c.requires.ahead.size)) c.index.ensures) in
-    finds c.args.view.now c.args.acts.now c.args.past.now c.args.ahead.now c.args.j a _ c.at-2.result c.at-3.result (record { layout = c.layout_after.result; owner = c.owner_after.result; last = c.deed_of.result; next = c.index.result.now }) (get_or_from_slice_get c.args.acts.now c.args.j a _ at) at lt c.requires.past c.requires.ahead
-    (c.layout_after.ensures ∙ ap (λ o. option_map_or (λ x. layout_left x.access.deed) o Undefined) c.at.ensures)
+    finds c.args.view.now c.args.accesses.now c.args.past.now c.args.ahead.now c.args.j a _ c.at-2.result c.at-3.result (record { layout = c.layout_after.result; owner = c.owner_after.result; last = c.deed_of.result; next = c.index.result.now }) (get_or_from_slice_get c.args.accesses.now c.args.j a _ at) at lt c.requires.past c.requires.ahead
+    (c.layout_after.ensures ∙ ap (λ o. option_map_or (λ x. layout_left x.access.kind) o Undefined) c.at.ensures)
     c.at-2.ensures c.at-3.ensures c.owner_after.ensures
     (c.deed_of.ensures ∙ ap deed_of c.at-4.ensures)
     (sym next)

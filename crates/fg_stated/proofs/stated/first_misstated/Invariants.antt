@@ -5,6 +5,6 @@ use Rattle.fg_stated.proofs.stated.first_misstated.Given as goal
 
 abbrev pub invariant-loop-j : goal.invariant-loop-j
 invariant-loop-j l = record {
-  past : IsPast (length l.view.pieces) (take l.j l.acts) l.past;
-  below : StatedBelow l.view l.acts l.j;
+  past : IsPast (length l.view.pieces) (take l.j l.accesses) l.past;
+  below : StatedBelow l.view l.accesses l.j;
 }

@@ -5,7 +5,7 @@ use Rattle.fg_ties.proofs.Passes.{none_shown}
 use Rattle.fg_ties.proofs.pair.is_shown.Goals as goal
 
 pub loop-k-preserved : goal.loop-k-preserved
-loop-k-preserved c = below_more _ _ c.loop-k.invariant (λ h. clash (sym c.if-shows.false ∙ c.shows.ensures.1 (subst (λ y. UpTo c.args.view.now c.args.x y × Found c.args.view.now c.args.b.node c.args.b.access y) (sym c.down_from.ensures.is) h)))
+loop-k-preserved c = below_more _ _ c.loop-k.invariant (λ h. clash (sym c.if-makes_visible.false ∙ c.makes_visible.ensures.1 (subst (λ y. UpTo c.args.view.now c.args.x y × Found c.args.view.now c.args.b.node c.args.b.access y) (sym c.down_from.ensures.is) h)))
 
 pub returns : goal.returns
 returns c =

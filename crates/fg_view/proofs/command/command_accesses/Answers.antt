@@ -1,6 +1,6 @@
 use Rattle.fg_base.specs.Touches.{touches_of}
 use Rattle.fg_view.proofs.Growing.{one_part}
-use Rattle.fg_view.specs.Uses.{touch_accesses}
+use Rattle.fg_view.specs.Effects.{touch_accesses}
 use Rattle.fg_view.proofs.command.command_accesses.Goals as goal
 
 pub loop-k-preserved : goal.loop-k-preserved

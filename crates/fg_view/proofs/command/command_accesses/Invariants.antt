@@ -1,7 +1,7 @@
 use Rattle.std.proofs.Common.{◌≡◌, take}
 use Rattle.std.specs.List.{flat_map}
 use Rattle.fg_base.specs.Touches.{touches_of}
-use Rattle.fg_view.specs.Uses.{touch_accesses}
+use Rattle.fg_view.specs.Effects.{touch_accesses}
 use Rattle.fg_view.proofs.command.command_accesses.Given as goal
 
 abbrev pub invariant-loop-k : goal.invariant-loop-k

@@ -4,4 +4,4 @@ use Rattle.fg_stated.specs.Tables.{Kept}
 use Rattle.fg_stated.proofs.table.Table.keep_over.Given as goal
 
 abbrev pub invariant-loop-p : goal.invariant-loop-p
-invariant-loop-p l = Kept (λ q. nat_lt q l.p && overlap l.view l.act.access.piece q) l.act l.initial.self l.self
+invariant-loop-p l = Kept (λ q. nat_lt q l.p && overlap l.view l.node_access.access.piece q) l.node_access l.initial.self l.self

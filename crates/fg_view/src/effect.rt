@@ -14,7 +14,7 @@ pub enum Scope {
 /// What a node does to memory: its accesses in order, and of which agents of its queue it makes the stores available, and to
 /// which it makes memory visible, as `fg_bits::agents`.
 #[derive(Debug, Drop)]
-pub struct Use {
+pub struct Effect {
     pub accesses: List<Access>,
     pub available: u16,
     pub visible: u16,

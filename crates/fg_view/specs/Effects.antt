@@ -29,15 +29,15 @@ use Rattle.fg_view.specs.Roles.{load_access, store_access, role_layout}
 use Rattle.fg_view.specs.declared.access.Access.{Access}
 use Rattle.fg_view.specs.declared.access.Agent.{Agent}
 use Rattle.fg_view.specs.declared.access.Agent.TheVariants as agent
-use Rattle.fg_view.specs.declared.access.Deed.{Deed}
-use Rattle.fg_view.specs.declared.access.Deed.TheVariants as deeds
+use Rattle.fg_view.specs.declared.access.AccessKind.{AccessKind}
+use Rattle.fg_view.specs.declared.access.AccessKind.TheVariants as access_kinds
 use Rattle.fg_view.specs.declared.access.Handover.{Handover}
-use Rattle.fg_view.specs.declared.use_of.Scope.{Scope}
-use Rattle.fg_view.specs.declared.use_of.Scope.TheVariants.{Everywhere, Piece}
-use Rattle.fg_view.specs.declared.use_of.Use.{Use}
+use Rattle.fg_view.specs.declared.effect.Scope.{Scope}
+use Rattle.fg_view.specs.declared.effect.Scope.TheVariants.{Everywhere, Piece}
+use Rattle.fg_view.specs.declared.effect.Effect.{Effect}
 
-abbrev pub access : ℕ → Deed → Access
-access piece deed = record { piece = piece; deed = deed }
+abbrev pub access : ℕ → AccessKind → Access
+access piece kind = record { piece = piece; kind = kind }
 
 -- ACCESSES OF COMMANDS
 
@@ -50,10 +50,10 @@ abbrev pub layout_wanted : Shape → Role → Option Layout
 layout_wanted shape role = if is_image shape then Some (role_layout role) else None
 
 abbrev pub touch_load : List Shape → ℕ → Touch → ℕ → List Access
-touch_load shapes q touch kind = access touch.what (deeds.Load (role_agent q touch.role kind) (layout_wanted (shape_at shapes touch.what) touch.role)) ∷ []
+touch_load shapes q touch kind = access touch.what (access_kinds.Load (role_agent q touch.role kind) (layout_wanted (shape_at shapes touch.what) touch.role)) ∷ []
 
 abbrev pub touch_store : List Shape → ℕ → Touch → ℕ → List Access
-touch_store shapes q touch kind = access touch.what (deeds.Store (role_agent q touch.role kind) (layout_wanted (shape_at shapes touch.what) touch.role)) ∷ []
+touch_store shapes q touch kind = access touch.what (access_kinds.Store (role_agent q touch.role kind) (layout_wanted (shape_at shapes touch.what) touch.role)) ∷ []
 
 -- a load, and then a store
 abbrev pub touch_accesses : List Shape → ℕ → Touch → List Access
@@ -71,73 +71,73 @@ abbrev pub same_layout : Layouts → Bool
 same_layout layouts = layout_number layouts.from == layout_number layouts.to
 
 -- where the layouts differ and the old one is known, the texels are kept
-abbrev pub kept_through : ℕ → Layouts → List Access
-kept_through piece layouts = if is_undefined layouts.from || same_layout layouts then [] else access piece (deeds.Keep layouts) ∷ []
+abbrev pub transition_through : ℕ → Layouts → List Access
+transition_through piece layouts = if is_undefined layouts.from || same_layout layouts then [] else access piece (access_kinds.Transition layouts) ∷ []
 
 -- out of UNDEFINED they are let go
-abbrev pub turned_by : ℕ → Layouts → List Access
-turned_by piece layouts = if is_undefined layouts.from then access piece (deeds.Discard layouts.to) ∷ [] else kept_through piece layouts
+abbrev pub layout_change : ℕ → Layouts → List Access
+layout_change piece layouts = if is_undefined layouts.from then access piece (access_kinds.Discard layouts.to) ∷ [] else transition_through piece layouts
 
 abbrev pub handover_of : Transfer → Handover
 handover_of t = record { from = t.from_family; to = t.to_family; layouts = t.layouts }
 
 -- an acquire makes an image's transition, if there is one
 abbrev pub acquire_accesses : Transfer → List Access
-acquire_accesses t = option_map_or (kept_through t.piece) t.layouts [] ++ access t.piece (deeds.Acquire (handover_of t)) ∷ []
+acquire_accesses t = option_map_or (transition_through t.piece) t.layouts [] ++ access t.piece (access_kinds.Acquire (handover_of t)) ∷ []
 
 -- USES OF NODES
 
 -- accesses alone
-abbrev pub plain_use : List Access → Use
-plain_use accesses = record { accesses = accesses; available = 0; visible = 0; scope = Everywhere }
+abbrev pub plain_effect : List Access → Effect
+plain_effect accesses = record { accesses = accesses; available = 0; visible = 0; scope = Everywhere }
 
 -- what stands at no place does nothing
-abbrev pub no_use : Use
-no_use = plain_use []
+abbrev pub no_effect : Effect
+no_effect = plain_effect []
 
-abbrev pub barrier_use : List Access → Masks → Scope → Use
-barrier_use accesses masks scope = record {
+abbrev pub barrier_effect : List Access → Masks → Scope → Effect
+barrier_effect accesses masks scope = record {
   accesses = accesses;
   available = agents masks.src_stages.0 masks.src_accesses.0;
   visible = agents masks.dst_stages.0 masks.dst_accesses.0;
   scope = scope;
 }
 
-abbrev pub item_use : List Shape → ℕ → Item → Use
-item_use shapes q (Command op) = plain_use (command_accesses shapes q op)
-item_use shapes q (Global masks) = barrier_use [] masks Everywhere
-item_use shapes q (BufferBarrier piece masks) = barrier_use [] masks (Piece piece)
-item_use shapes q (ImageBarrier piece layouts masks) = barrier_use (turned_by piece layouts) masks (Piece piece)
-item_use shapes q (Release t) = barrier_use (access t.piece (deeds.Release (handover_of t)) ∷ []) t.masks (Piece t.piece)
-item_use shapes q (Acquire t) = barrier_use (acquire_accesses t) t.masks (Piece t.piece)
+abbrev pub item_effect : List Shape → ℕ → Item → Effect
+item_effect shapes q (Command op) = plain_effect (command_accesses shapes q op)
+item_effect shapes q (Global masks) = barrier_effect [] masks Everywhere
+item_effect shapes q (BufferBarrier piece masks) = barrier_effect [] masks (Piece piece)
+item_effect shapes q (ImageBarrier piece layouts masks) = barrier_effect (layout_change piece layouts) masks (Piece piece)
+item_effect shapes q (Release t) = barrier_effect (access t.piece (access_kinds.Release (handover_of t)) ∷ []) t.masks (Piece t.piece)
+item_effect shapes q (Acquire t) = barrier_effect (acquire_accesses t) t.masks (Piece t.piece)
 
 -- every agent of these stages
 abbrev pub all_agents : ℕ → ℕ
 all_agents stages = agents stages (bit_or memory_read memory_write)
 
 -- a wait makes memory visible
-abbrev pub wait_use : WaitFor → Use
-wait_use wait = record { accesses = []; available = 0; visible = all_agents wait.stages.0; scope = Everywhere }
+abbrev pub wait_effect : WaitFor → Effect
+wait_effect wait = record { accesses = []; available = 0; visible = all_agents wait.stages.0; scope = Everywhere }
 
 -- a signal makes memory available
-abbrev pub signal_use : Signal → Use
-signal_use signal = record { accesses = []; available = all_agents signal.stages.0; visible = 0; scope = Everywhere }
+abbrev pub signal_effect : Signal → Effect
+signal_effect signal = record { accesses = []; available = all_agents signal.stages.0; visible = 0; scope = Everywhere }
 
-abbrev pub host_use : ℕ → Use
-host_use piece = plain_use (access piece (deeds.Load agent.Host None) ∷ [])
+abbrev pub host_effect : ℕ → Effect
+host_effect piece = plain_effect (access piece (access_kinds.Load agent.Host None) ∷ [])
 
 -- the use of what stands at a place of a batch
-abbrev pub batch_use : List Shape → NodeAt → Batch → Use
-batch_use shapes (at.Wait q b k) batch = option_map_or wait_use (slice_get batch.waits k) no_use
-batch_use shapes (at.Item q b k) batch = option_map_or (item_use shapes q) (slice_get batch.items k) no_use
-batch_use shapes (at.Signal q b) batch = option_map_or signal_use batch.signal no_use
-batch_use shapes (at.Host k) batch = no_use
+abbrev pub batch_effect : List Shape → NodeAt → Batch → Effect
+batch_effect shapes (at.Wait q b k) batch = option_map_or wait_effect (slice_get batch.waits k) no_effect
+batch_effect shapes (at.Item q b k) batch = option_map_or (item_effect shapes q) (slice_get batch.items k) no_effect
+batch_effect shapes (at.Signal q b) batch = option_map_or signal_effect batch.signal no_effect
+batch_effect shapes (at.Host k) batch = no_effect
 
-abbrev pub queued_use : List Shape → Program → NodeAt → ℕ → ℕ → Use
-queued_use shapes program place q b = option_map_or (λ queue. option_map_or (batch_use shapes place) (slice_get queue.batches b) no_use) (slice_get program.queues q) no_use
+abbrev pub queued_effect : List Shape → Program → NodeAt → ℕ → ℕ → Effect
+queued_effect shapes program place q b = option_map_or (λ queue. option_map_or (batch_effect shapes place) (slice_get queue.batches b) no_effect) (slice_get program.queues q) no_effect
 
-abbrev pub use_in : List Shape → Program → NodeAt → Use
-use_in shapes program (at.Wait q b k) = queued_use shapes program (at.Wait q b k) q b
-use_in shapes program (at.Item q b k) = queued_use shapes program (at.Item q b k) q b
-use_in shapes program (at.Signal q b) = queued_use shapes program (at.Signal q b) q b
-use_in shapes program (at.Host k) = option_map_or host_use (slice_get program.readbacks k) no_use
+abbrev pub effect_in : List Shape → Program → NodeAt → Effect
+effect_in shapes program (at.Wait q b k) = queued_effect shapes program (at.Wait q b k) q b
+effect_in shapes program (at.Item q b k) = queued_effect shapes program (at.Item q b k) q b
+effect_in shapes program (at.Signal q b) = queued_effect shapes program (at.Signal q b) q b
+effect_in shapes program (at.Host k) = option_map_or host_effect (slice_get program.readbacks k) no_effect

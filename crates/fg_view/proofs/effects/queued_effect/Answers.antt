@@ -1,8 +1,8 @@
 use Rattle.fg_view.proofs.Growing.{batch_known, was_read}
-use Rattle.fg_view.proofs.uses.queued_use.Goals as goal
+use Rattle.fg_view.proofs.effects.queued_effect.Goals as goal
 
-pub batch_use-requires : goal.batch_use-requires
-batch_use-requires c =
+pub batch_effect-requires : goal.batch_effect-requires
+batch_effect-requires c =
     let program = c.args.program.now in
     let queue = c.in-Some.found.now in
     let batch = c.in-Some-get.batch.now in

@@ -4,12 +4,12 @@ use Rattle.fg_hb.specs.Answers.{Answers}
 use Rattle.fg_hb.specs.Nodes.{program_nodes}
 use Rattle.fg_hb.specs.Orders.{IsLeast}
 use Rattle.fg_view.proofs.Listing.{all_there}
-use Rattle.fg_view.proofs.tests.acts.Goals as goal
+use Rattle.fg_view.proofs.tests.node_accesses.Goals as goal
 
-pub acts_of-requires : goal.acts_of-requires
-acts_of-requires c =
+pub node_accesses_of-requires : goal.node_accesses_of-requires
+node_accesses_of-requires c =
     let nodes = program_nodes c.in_ok-shaped.shaped in
     let view = c.in_ok-view.view in
     let least : IsLeast nodes c.in-Whole.order = subst (Answers nodes) c.in-Whole.is c.in_ok-order.ensures in
-    subst (All (λ n. n < length view.uses)) (sym c.deref.ensures)
-    (all_there nodes (length view.uses) c.in-Whole.order (c.in_ok-view.ensures.shapely.uses ∙ ap (λ v. length v.nodes) c.in_ok-view.ensures.view) least.order)
+    subst (All (λ n. n < length view.effects)) (sym c.deref.ensures)
+    (all_there nodes (length view.effects) c.in-Whole.order (c.in_ok-view.ensures.shaped.effects ∙ ap (λ v. length v.nodes) c.in_ok-view.ensures.view) least.order)

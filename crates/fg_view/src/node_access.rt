@@ -1,0 +1,33 @@
+//! Accesses in an order.
+
+ghost use Rattle.std.specs.Prelude.{◌≡◌, ◌<◌, length, IfOk};
+ghost use Rattle.std.specs.List.{All};
+ghost use Rattle.fg_view.specs.Views.{node_accesses_of};
+
+use crate::{Access, View};
+use fg_base::{List, NoMemory};
+use std::alloc::Global;
+
+/// An access, and the number of its node.
+#[derive(Clone, Copy, Debug, PartialEq, Eq)]
+pub struct NodeAccess {
+    pub node: u32,
+    pub access: Access,
+}
+
+/// The accesses of the nodes of `order`, node by node.
+pub fn node_accesses_of(alloc: Global, view: &View, order: &[u32]) -> Result<List<NodeAccess>, NoMemory>
+    requires { All (λ n. n < length view.now.effects) order.now }
+    ensures { IfOk result (λ node_accesses. node_accesses ≡ node_accesses_of view.now order.now) }
+{
+    let mut node_accesses = List::new(alloc);
+    for n in order {
+        for access in view.effect_at(*n).accesses.as_slice() {
+            node_accesses.push(NodeAccess {
+                node: *n,
+                access: *access,
+            })?;
+        }
+    }
+    Ok(node_accesses)
+}
