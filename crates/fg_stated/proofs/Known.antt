@@ -7,8 +7,8 @@ use Rattle.std.specs.Prelude.{IfSome, if◌then◌else◌}
 use Rattle.fg_view.specs.ShapedView.{NodeAccessAt, Listed, ShapedView}
 use Rattle.fg_view.specs.Views.{View}
 use Rattle.fg_view.specs.declared.node_access.NodeAccess.{NodeAccess}
-use Rattle.fg_stated.specs.Found.{last_that}
-use Rattle.fg_stated.specs.Tables.{IsLast, IsFirst}
+use Rattle.fg_stated.specs.PieceStates.{last_that}
+use Rattle.fg_stated.specs.Code.Tables.{IsLast, IsFirst}
 
 pub known_piece : (V : View) (accesses : List NodeAccess) → ShapedView V → Listed V accesses → (j : ℕ) (a : NodeAccess) → NodeAccessAt accesses j a → a.access.piece < length V.pieces
 known_piece V accesses S L j a at = let h = L.has j a at in S.known a.node h.0 a.access h.1

@@ -1,6 +1,6 @@
 pub mod Judged
-pub mod Tables
 pub mod Known
-pub mod Walks
 pub mod Laws
-pub mod Worked
+pub mod Tables
+pub mod Walks
+mod Worked

@@ -9,8 +9,8 @@ use Rattle.fg_view.specs.ShapedView.{NodeAccessAt}
 use Rattle.fg_view.specs.AccessKinds.{transfers}
 use Rattle.fg_view.specs.declared.access.AccessKind.{AccessKind}
 use Rattle.fg_view.specs.declared.node_access.NodeAccess.{NodeAccess}
-use Rattle.fg_stated.specs.Found.{last_that, on_piece, deed_of}
-use Rattle.fg_stated.specs.Tables.{Kept, IsLast, IsFirst, NextFrom}
+use Rattle.fg_stated.specs.PieceStates.{last_that, on_piece, kind_of}
+use Rattle.fg_stated.specs.Code.Tables.{PutWhere, IsLast, IsFirst, NextFrom}
 
 last_more : (test : NodeAccess → Bool) (accesses : List NodeAccess) (j : ℕ) (a : NodeAccess) → NodeAccessAt accesses j a → last_that test (take (suc j) accesses) ≡ (if test a then Some a else last_that test (take j accesses))
 last_more test [] j a h = absurd cc
@@ -29,7 +29,7 @@ first_more test [] j a h = absurd cc
 first_more test (x ∷ accesses) zero a h = let e : x ≡ a = cc in subst (λ z. find test (x ∷ accesses) ≡ (if test z then Some z else find test accesses)) e refl
 first_more test (x ∷ accesses) (suc j) a h = first_more test accesses j a h
 
-pub is_last_more : (test : ℕ → NodeAccess → Bool) (pieces : ℕ) (accesses : List NodeAccess) (j : ℕ) (a : NodeAccess) (old new : List (Option NodeAccess)) → NodeAccessAt accesses j a → IsLast test pieces (take j accesses) old → Kept (λ p. test p a) a old new → IsLast test pieces (take (j + 1) accesses) new
+pub is_last_more : (test : ℕ → NodeAccess → Bool) (pieces : ℕ) (accesses : List NodeAccess) (j : ℕ) (a : NodeAccess) (old new : List (Option NodeAccess)) → NodeAccessAt accesses j a → IsLast test pieces (take j accesses) old → PutWhere (λ p. test p a) a old new → IsLast test pieces (take (j + 1) accesses) new
 is_last_more test pieces accesses j a old new h L K = record {
   size = K.size ∙ L.size;
   each = λ p lt.
@@ -37,7 +37,7 @@ is_last_more test pieces accesses j a old new h L K = record {
       rw (e, last_more (test p) accesses j a h, ← L.each p lt) (K.each p (omega (arith, lt, L.size)));
 }
 
-pub is_first_more : (test : ℕ → NodeAccess → Bool) (pieces : ℕ) (accesses : List NodeAccess) (j : ℕ) (a : NodeAccess) (old new : List (Option NodeAccess)) → NodeAccessAt accesses j a → IsFirst test pieces (drop (j + 1) accesses) old → Kept (λ p. test p a) a old new → IsFirst test pieces (drop j accesses) new
+pub is_first_more : (test : ℕ → NodeAccess → Bool) (pieces : ℕ) (accesses : List NodeAccess) (j : ℕ) (a : NodeAccess) (old new : List (Option NodeAccess)) → NodeAccessAt accesses j a → IsFirst test pieces (drop (j + 1) accesses) old → PutWhere (λ p. test p a) a old new → IsFirst test pieces (drop j accesses) new
 is_first_more test pieces accesses j a old new h F K = record {
   size = K.size ∙ F.size;
   each = λ p lt.
@@ -47,8 +47,8 @@ is_first_more test pieces accesses j a old new h F K = record {
 }
 
 -- one piece more
-pub kept_more : (test : ℕ → Bool) (p : ℕ) (a : NodeAccess) (first old new : List (Option NodeAccess)) → Kept (λ q. nat_lt q p && test q) a first old → Kept (λ q. (p == q) && test p) a old new → Kept (λ q. nat_lt q (p + 1) && test q) a first new
-kept_more test p a first old new F K = record {
+pub put_more : (test : ℕ → Bool) (p : ℕ) (a : NodeAccess) (first old new : List (Option NodeAccess)) → PutWhere (λ q. nat_lt q p && test q) a first old → PutWhere (λ q. (p == q) && test p) a old new → PutWhere (λ q. nat_lt q (p + 1) && test q) a first new
+put_more test p a first old new F K = record {
   size = K.size ∙ F.size;
   each = λ q lt. K.each q (omega (arith, lt, F.size)) ∙ ap (λ z. if (p == q) && test p then Some a else z) (F.each q lt) ∙ step q;
 }
@@ -56,26 +56,26 @@ kept_more test p a first old new F K = record {
     step : (q : ℕ) → (if (p == q) && test p then Some a else (if nat_lt q p && test q then Some a else get_or first q None)) ≡ (if nat_lt q (p + 1) && test q then Some a else get_or first q None)
     step q = grind (arith, nat_tests)
 
-pub kept_none : (test : ℕ → Bool) (a : NodeAccess) (first : List (Option NodeAccess)) → Kept (λ q. nat_lt q 0 && test q) a first first
-kept_none test a first = record { size = refl; each = λ q lt. grind (arith, nat_tests) }
+pub put_nowhere : (test : ℕ → Bool) (a : NodeAccess) (first : List (Option NodeAccess)) → PutWhere (λ q. nat_lt q 0 && test q) a first first
+put_nowhere test a first = record { size = refl; each = λ q lt. grind (arith, nat_tests) }
 
 -- the access is of the piece, and so
 abbrev pub own : (NodeAccess → Bool) → ℕ → NodeAccess → Bool
 own test p a = (a.access.piece == p) && test a
 
-pub last_own_more : (test : NodeAccess → Bool) (pieces : ℕ) (accesses : List NodeAccess) (j : ℕ) (a : NodeAccess) (told : Bool) (old new : List (Option NodeAccess)) → NodeAccessAt accesses j a → told ≡ test a → Kept (λ p. (a.access.piece == p) && told) a old new → IsLast (own test) pieces (take j accesses) old → IsLast (own test) pieces (take (j + 1) accesses) new
-last_own_more test pieces accesses j a told old new h e K L = is_last_more (own test) pieces accesses j a old new h L (subst (λ b. Kept (λ p. (a.access.piece == p) && b) a old new) e K)
+pub last_own_more : (test : NodeAccess → Bool) (pieces : ℕ) (accesses : List NodeAccess) (j : ℕ) (a : NodeAccess) (told : Bool) (old new : List (Option NodeAccess)) → NodeAccessAt accesses j a → told ≡ test a → PutWhere (λ p. (a.access.piece == p) && told) a old new → IsLast (own test) pieces (take j accesses) old → IsLast (own test) pieces (take (j + 1) accesses) new
+last_own_more test pieces accesses j a told old new h e K L = is_last_more (own test) pieces accesses j a old new h L (subst (λ b. PutWhere (λ p. (a.access.piece == p) && b) a old new) e K)
 
-pub first_own_more : (test : NodeAccess → Bool) (pieces : ℕ) (accesses : List NodeAccess) (j : ℕ) (a : NodeAccess) (told : Bool) (old new : List (Option NodeAccess)) → NodeAccessAt accesses j a → told ≡ test a → Kept (λ p. (a.access.piece == p) && told) a old new → IsFirst (own test) pieces (drop (j + 1) accesses) old → IsFirst (own test) pieces (drop j accesses) new
-first_own_more test pieces accesses j a told old new h e K F = is_first_more (own test) pieces accesses j a old new h F (subst (λ b. Kept (λ p. (a.access.piece == p) && b) a old new) e K)
+pub first_own_more : (test : NodeAccess → Bool) (pieces : ℕ) (accesses : List NodeAccess) (j : ℕ) (a : NodeAccess) (told : Bool) (old new : List (Option NodeAccess)) → NodeAccessAt accesses j a → told ≡ test a → PutWhere (λ p. (a.access.piece == p) && told) a old new → IsFirst (own test) pieces (drop (j + 1) accesses) old → IsFirst (own test) pieces (drop j accesses) new
+first_own_more test pieces accesses j a told old new h e K F = is_first_more (own test) pieces accesses j a old new h F (subst (λ b. PutWhere (λ p. (a.access.piece == p) && b) a old new) e K)
 
-pub next_more : (pieces : ℕ) (accesses : List NodeAccess) (j : ℕ) (a : NodeAccess) (table : List (Option NodeAccess)) (next : List (Option AccessKind)) → NodeAccessAt accesses j a → IsFirst (λ p. on_piece p transfers) pieces (drop (j + 1) accesses) table → a.access.piece < length table → j < length next → NextFrom accesses (j + 1) next → NextFrom accesses j (slice_set next j (deed_of (get_or table a.access.piece None)))
+pub next_more : (pieces : ℕ) (accesses : List NodeAccess) (j : ℕ) (a : NodeAccess) (table : List (Option NodeAccess)) (next : List (Option AccessKind)) → NodeAccessAt accesses j a → IsFirst (λ p. on_piece p transfers) pieces (drop (j + 1) accesses) table → a.access.piece < length table → j < length next → NextFrom accesses (j + 1) next → NextFrom accesses j (slice_set next j (kind_of (get_or table a.access.piece None)))
 next_more pieces accesses j a table next h F lp lj N i b le at = ⊎_elim
     (λ (s : i ≡ j).
     let same : b ≡ a = let k : NodeAccessAt accesses j b = subst (λ z. NodeAccessAt accesses z b) s at in cc in
     let e : j + 1 ≡ suc j = omega arith in
     let f : get_or table a.access.piece None ≡ find (on_piece a.access.piece transfers) (drop (suc j) accesses) = rw (← e) (F.each a.access.piece (omega (arith, lp, F.size))) in
-    subst (λ z. get_or (slice_set next j (deed_of (get_or table a.access.piece None))) z None ≡ deed_of (find (on_piece b.access.piece transfers) (drop (suc z) accesses))) (sym s)
-    (get_or-set_same next j (deed_of (get_or table a.access.piece None)) None lj ∙ ap deed_of f ∙ ap (λ z. deed_of (find (on_piece z.access.piece transfers) (drop (suc j) accesses))) (sym same)))
-    (λ (s : i ≢ j). get_or-set_other next j i (deed_of (get_or table a.access.piece None)) None s ∙ N i b (omega (arith, le, s)) at)
+    subst (λ z. get_or (slice_set next j (kind_of (get_or table a.access.piece None))) z None ≡ kind_of (find (on_piece b.access.piece transfers) (drop (suc z) accesses))) (sym s)
+    (get_or-set_same next j (kind_of (get_or table a.access.piece None)) None lj ∙ ap kind_of f ∙ ap (λ z. kind_of (find (on_piece z.access.piece transfers) (drop (suc j) accesses))) (sym same)))
+    (λ (s : i ≢ j). get_or-set_other next j i (kind_of (get_or table a.access.piece None)) None s ∙ N i b (omega (arith, le, s)) at)
     (cases_eq i j)

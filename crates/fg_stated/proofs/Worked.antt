@@ -14,7 +14,7 @@ use Rattle.fg_view.specs.declared.access.Agent.TheVariants as agent
 use Rattle.fg_view.specs.declared.access.AccessKind.TheVariants.{Load, Store, Transition, Discard, Release, Acquire}
 use Rattle.fg_view.specs.declared.access.Handover.{Handover}
 use Rattle.fg_view.specs.declared.node_access.NodeAccess.{NodeAccess}
-use Rattle.fg_stated.specs.Found.{found_layout, found_owner, next_transfer, last_transfer, last_change}
+use Rattle.fg_stated.specs.PieceStates.{found_layout, found_owner, next_transfer, last_transfer, last_change}
 use Rattle.fg_stated.specs.Stated.{needs_owner}
 
 -- 64 bytes of memory 0
@@ -41,26 +41,26 @@ store n p = node_access n (access p (Store (agent.Of 0 1) None))
 abbrev load : ℕ → ℕ → NodeAccess
 load n p = node_access n (access p (Load (agent.Of 0 1) None))
 
-abbrev kept : Layouts
-kept = record { from = layouts.General; to = layouts.TransferSrc }
+abbrev to_source : Layouts
+to_source = record { from = layouts.General; to = layouts.TransferSrc }
 
 -- LAYOUTS
 
-abbrev turned : List NodeAccess
-turned = node_access 1 (access 0 (Discard layouts.General)) ∷ node_access 1 (access 0 (Transition kept)) ∷ load 3 0 ∷ []
+abbrev transitions : List NodeAccess
+transitions = node_access 1 (access 0 (Discard layouts.General)) ∷ node_access 1 (access 0 (Transition to_source)) ∷ load 3 0 ∷ []
 
-undefined_at_first : found_layout turned 0 0 ≡ layouts.Undefined
+undefined_at_first : found_layout transitions 0 0 ≡ layouts.Undefined
 undefined_at_first = refl
 
-left_by_a_discard : found_layout turned 1 0 ≡ layouts.General
+left_by_a_discard : found_layout transitions 1 0 ≡ layouts.General
 left_by_a_discard = refl
 
 -- it leaves the layout that it goes to
-left_by_a_keep : found_layout turned 2 0 ≡ layouts.TransferSrc
-left_by_a_keep = refl
+left_by_a_transition : found_layout transitions 2 0 ≡ layouts.TransferSrc
+left_by_a_transition = refl
 
 -- pieces have layouts of their own, also where they overlap
-not_of_another : found_layout turned 2 1 ≡ layouts.Undefined
+not_of_another : found_layout transitions 2 1 ≡ layouts.Undefined
 not_of_another = refl
 
 -- OWNERS AND TRANSFERS
@@ -84,7 +84,7 @@ discarded : found_owner view (store 0 0 ∷ node_access 3 (access 0 (Discard lay
 discarded = refl
 
 -- the node is an acquire
-acquire_needs_none : needs_owner view (node_access 2 (access 0 (Transition kept))) ≡ false
+acquire_needs_none : needs_owner view (node_access 2 (access 0 (Transition to_source))) ≡ false
 acquire_needs_none = refl
 
 store_needs_one : needs_owner view (store 0 0) ≡ true

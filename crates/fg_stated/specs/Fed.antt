@@ -4,9 +4,9 @@ use Rattle.fg_view.specs.AccessKinds.{loads, stores}
 use Rattle.fg_view.specs.ShapedView.{NodeAccessAt}
 use Rattle.fg_view.specs.Views.{View, imported_at}
 use Rattle.fg_view.specs.declared.node_access.NodeAccess.{NodeAccess}
-use Rattle.fg_view.specs.declared.hazard.Hazard.{Hazard}
-use Rattle.fg_view.specs.declared.hazard.Hazard.TheVariants.{Stuck, Unordered, NotAvailable, NotVisible, BadLayout, BadOwner, Unmatched, Undefined, Aliased}
-use Rattle.fg_stated.specs.Found.{last_change}
+use Rattle.fg_stated.specs.PieceStates.{last_change}
+use Rattle.fg_stated.specs.declared.unfed.Unfed.{Unfed}
+use Rattle.fg_stated.specs.declared.unfed.Unfed.TheVariants.{Undefined, Aliased}
 
 -- the last change went through the piece and left bytes, or there is none, and the piece is an import
 abbrev pub Feeds : View → ℕ → Option NodeAccess → Type 0
@@ -34,20 +34,13 @@ abbrev pub IsOther : ℕ → ℕ → Option NodeAccess → Type 0
 IsOther p other (Some change) = (change.access.piece ≡ other) × (other ≡ p → ⊥)
 IsOther p other None = ⊥
 
-abbrev pub Unfed : Hazard → View → List NodeAccess → ℕ → NodeAccess → Type 0
-Unfed (Stuck q n) V accesses j a = ⊥
-Unfed (Unordered n m) V accesses j a = ⊥
-Unfed (NotAvailable n m) V accesses j a = ⊥
-Unfed (NotVisible n m) V accesses j a = ⊥
-Unfed (BadLayout n p found want) V accesses j a = ⊥
-Unfed (BadOwner n p found want) V accesses j a = ⊥
-Unfed (Unmatched n) V accesses j a = ⊥
-Unfed (Undefined n p) V accesses j a = (n ≡ a.node) × (p ≡ a.access.piece) × (loads a.access.kind ≡ true) × IsOwn p (last_change V accesses j p) × (Feeds V p (last_change V accesses j p) → ⊥)
-Unfed (Aliased n p other) V accesses j a = (n ≡ a.node) × (p ≡ a.access.piece) × (loads a.access.kind ≡ true) × IsOther p other (last_change V accesses j p)
+abbrev pub IsUnfed : Unfed → View → List NodeAccess → ℕ → NodeAccess → Type 0
+IsUnfed (Undefined n p) V accesses j a = (n ≡ a.node) × (p ≡ a.access.piece) × (loads a.access.kind ≡ true) × IsOwn p (last_change V accesses j p) × (Feeds V p (last_change V accesses j p) → ⊥)
+IsUnfed (Aliased n p other) V accesses j a = (n ≡ a.node) × (p ≡ a.access.piece) × (loads a.access.kind ≡ true) × IsOther p other (last_change V accesses j p)
 
-pub record FirstUnfed (V : View) (accesses : List NodeAccess) (hazard : Hazard) : Type 0 where
+pub record FirstUnfed (V : View) (accesses : List NodeAccess) (unfed : Unfed) : Type 0 where
   pub place : ℕ
   pub node_access : NodeAccess
   pub at : NodeAccessAt accesses place node_access
   pub below : FedBelow V accesses place
-  pub breaks : Unfed hazard V accesses place node_access
+  pub breaks : IsUnfed unfed V accesses place node_access

@@ -1,4 +1,4 @@
+pub mod Code
 pub mod Fed
-pub mod Found
+pub mod PieceStates
 pub mod Stated
-pub mod Tables

@@ -7,11 +7,11 @@ use Rattle.fg_view.specs.AccessKinds.{wanted, is_discard, is_acquire}
 use Rattle.fg_view.specs.ShapedView.{NodeAccessAt}
 use Rattle.fg_view.specs.Views.{View, accesses_of, family_at, shared_at}
 use Rattle.fg_view.specs.declared.access.AccessKind.{AccessKind}
-use Rattle.fg_view.specs.declared.access.AccessKind.TheVariants.{Load, Store, Transition, Discard, Release, Acquire}
+use Rattle.fg_view.specs.declared.access.AccessKind.TheVariants.{Release, Acquire}
 use Rattle.fg_view.specs.declared.node_access.NodeAccess.{NodeAccess}
-use Rattle.fg_view.specs.declared.hazard.Hazard.{Hazard}
-use Rattle.fg_view.specs.declared.hazard.Hazard.TheVariants.{Stuck, Unordered, NotAvailable, NotVisible, BadLayout, BadOwner, Unmatched, Undefined, Aliased}
-use Rattle.fg_stated.specs.Found.{found_layout, found_owner, next_transfer, last_transfer}
+use Rattle.fg_stated.specs.PieceStates.{found_layout, found_owner, next_transfer, last_transfer}
+use Rattle.fg_stated.specs.declared.misstatement.Misstatement.{Misstatement}
+use Rattle.fg_stated.specs.declared.misstatement.Misstatement.TheVariants.{BadLayout, BadOwner, Unmatched}
 
 -- the node is an acquire
 abbrev pub acquires : View → ℕ → Bool
@@ -31,12 +31,9 @@ OwnerAt V accesses j a = needs_owner V a ≡ true → found_owner V accesses j a
 
 -- after a release comes its acquire, and before an acquire its release
 abbrev pub Matches : AccessKind → List NodeAccess → ℕ → ℕ → Type 0
-Matches (Load agent layout) accesses j p = Unit {0}
-Matches (Store agent layout) accesses j p = Unit {0}
-Matches (Transition layouts) accesses j p = Unit {0}
-Matches (Discard layout) accesses j p = Unit {0}
 Matches (Release handover) accesses j p = next_transfer accesses j p ≡ Some (Acquire handover)
 Matches (Acquire handover) accesses j p = last_transfer accesses j p ≡ Some (Release handover)
+Matches kind accesses j p = Unit {0}
 
 abbrev pub MatchAt : List NodeAccess → ℕ → NodeAccess → Type 0
 MatchAt accesses j a = Matches a.access.kind accesses j a.access.piece
@@ -55,20 +52,14 @@ Stated V accesses = (j : ℕ) (a : NodeAccess) → NodeAccessAt accesses j a →
 -- THE FIRST ACCESS THAT BREAKS IT
 
 -- another layout, else another owner, else no other half
-abbrev pub Misstated : Hazard → View → List NodeAccess → ℕ → NodeAccess → Type 0
-Misstated (Stuck q n) V accesses j a = ⊥
-Misstated (Unordered n m) V accesses j a = ⊥
-Misstated (NotAvailable n m) V accesses j a = ⊥
-Misstated (NotVisible n m) V accesses j a = ⊥
-Misstated (BadLayout n p found want) V accesses j a = (n ≡ a.node) × (p ≡ a.access.piece) × (wanted a.access.kind ≡ Some want) × (found ≡ found_layout accesses j p) × (found ≡ want → ⊥)
-Misstated (BadOwner n p found want) V accesses j a = (n ≡ a.node) × (p ≡ a.access.piece) × LayoutAt accesses j a × (needs_owner V a ≡ true) × (family_at V n ≡ Some want) × (found ≡ found_owner V accesses j p) × (found ≡ Some want → ⊥)
-Misstated (Unmatched n) V accesses j a = (n ≡ a.node) × LayoutAt accesses j a × OwnerAt V accesses j a × (MatchAt accesses j a → ⊥)
-Misstated (Undefined n p) V accesses j a = ⊥
-Misstated (Aliased n p other) V accesses j a = ⊥
+abbrev pub IsMisstated : Misstatement → View → List NodeAccess → ℕ → NodeAccess → Type 0
+IsMisstated (BadLayout n p found want) V accesses j a = (n ≡ a.node) × (p ≡ a.access.piece) × (wanted a.access.kind ≡ Some want) × (found ≡ found_layout accesses j p) × (found ≡ want → ⊥)
+IsMisstated (BadOwner n p found want) V accesses j a = (n ≡ a.node) × (p ≡ a.access.piece) × LayoutAt accesses j a × (needs_owner V a ≡ true) × (family_at V n ≡ Some want) × (found ≡ found_owner V accesses j p) × (found ≡ Some want → ⊥)
+IsMisstated (Unmatched n) V accesses j a = (n ≡ a.node) × LayoutAt accesses j a × OwnerAt V accesses j a × (MatchAt accesses j a → ⊥)
 
-pub record FirstMisstated (V : View) (accesses : List NodeAccess) (hazard : Hazard) : Type 0 where
+pub record FirstMisstated (V : View) (accesses : List NodeAccess) (misstatement : Misstatement) : Type 0 where
   pub place : ℕ
   pub node_access : NodeAccess
   pub at : NodeAccessAt accesses place node_access
   pub below : StatedBelow V accesses place
-  pub breaks : Misstated hazard V accesses place node_access
+  pub breaks : IsMisstated misstatement V accesses place node_access

@@ -2,11 +2,11 @@
 
 ghost use Rattle.std.specs.Prelude.{◌≡◌, ◌+◌, ◌<◌, List, None, length, replicate, IfOk};
 ghost use Rattle.fg_view.specs.ShapedView.{NodeAccessAt, Listed, ShapedView};
-ghost use Rattle.fg_stated.specs.Tables.{IsAhead};
+ghost use Rattle.fg_stated.specs.Code.Tables.{IsAhead};
 
-use crate::table::{Table, deed_of};
+use crate::table::{Table, kind_of};
 use fg_base::{List, NoMemory};
-use fg_view::{NodeAccess, AccessKind, View};
+use fg_view::{AccessKind, NodeAccess, View};
 use std::alloc::Global;
 
 /// The first accesses of pieces from some access on, and what comes after accesses.
@@ -43,14 +43,20 @@ impl Ahead {
         ensures { (accesses : List NodeAccess) → NodeAccessAt accesses j node_access → IsAhead view.now accesses (j + 1) self.old → IsAhead view.now accesses j self.new }
     {
         self.next
-            .set(j, deed_of(self.transfers.at(node_access.access.piece)));
-        self.transfers.keep(node_access, node_access.access.kind.transfers());
-        self.owners.keep(node_access, !view.node(node_access.node).kind.is_host());
+            .set(j, kind_of(self.transfers.at(node_access.access.piece)));
+        self.transfers
+            .put(node_access, node_access.access.kind.transfers());
+        self.owners
+            .put(node_access, !view.node(node_access.node).kind.is_host());
     }
 }
 
 /// What comes after each access.
-pub(crate) fn ahead_of(alloc: Global, view: &View, accesses: &[NodeAccess]) -> Result<Ahead, NoMemory>
+pub(crate) fn ahead_of(
+    alloc: Global,
+    view: &View,
+    accesses: &[NodeAccess],
+) -> Result<Ahead, NoMemory>
     requires shape { ShapedView view.now }
     requires listed { Listed view.now accesses.now }
     ensures { IfOk result (λ ahead. IsAhead view.now accesses.now 0 ahead) }

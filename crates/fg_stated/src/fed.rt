@@ -1,49 +1,55 @@
 //! The first load of bytes that were not stored through its piece.
 
-ghost use Rattle.std.specs.Prelude.{◌≡◌, ◌<◌, ℕ, List, length, IfOk, MatchOption};
+ghost use Rattle.std.specs.Prelude.{◌≡◌, ◌<◌, ℕ, List, length, IfOk, IfSome, MatchOption};
 ghost use Rattle.fg_view.specs.ShapedView.{Listed, ShapedView};
-ghost use Rattle.fg_stated.specs.Fed.{Fed, FedAt, FirstUnfed, Unfed};
-ghost use Rattle.fg_stated.specs.Found.{last_change};
+ghost use Rattle.fg_stated.specs.Fed.{Fed, FedAt, FirstUnfed, IsUnfed};
+ghost use Rattle.fg_stated.specs.PieceStates.{last_change};
 
+use crate::Unfed;
 use crate::table::Table;
 use fg_base::NoMemory;
-use fg_view::{NodeAccess, Hazard, View};
+use fg_view::{NodeAccess, View};
 use std::alloc::Global;
 
 // What is wrong with the bytes that the access loads, after the last change of bytes of its piece.
-fn unfed(view: &View, node_access: NodeAccess, change: Option<NodeAccess>) -> Option<Hazard>
+fn check_load(view: &View, node_access: NodeAccess, change: Option<NodeAccess>) -> Option<Unfed>
     requires { node_access.access.piece < length view.now.imported }
-    ensures { (accesses : List NodeAccess) (j : ℕ) → change ≡ last_change view.now accesses j node_access.access.piece → MatchOption result (FedAt view.now accesses j node_access) (λ hazard. Unfed hazard view.now accesses j node_access) }
+    ensures { (accesses : List NodeAccess) (j : ℕ) → change ≡ last_change view.now accesses j node_access.access.piece → MatchOption result (FedAt view.now accesses j node_access) (λ unfed. IsUnfed unfed view.now accesses j node_access) }
 {
     let (node, piece) = (node_access.node, node_access.access.piece);
     if !node_access.access.kind.loads() {
         return None;
     }
     match change {
-        Some(change) if change.access.piece != piece => Some(Hazard::Aliased {
+        Some(change) if change.access.piece != piece => Some(Unfed::Aliased {
             node,
             piece,
             other: change.access.piece,
         }),
         Some(change) if change.access.kind.stores() => None,
         None if view.is_imported(piece) => None,
-        _ => Some(Hazard::Undefined { node, piece }),
+        _ => Some(Unfed::Undefined { node, piece }),
     }
 }
 
 /// What is wrong with the first load of bytes that nobody stored, or that were stored last through another piece.
-pub fn first_unfed(alloc: Global, view: &View, accesses: &[NodeAccess]) -> Result<Option<Hazard>, NoMemory>
+pub fn first_unfed(
+    alloc: Global,
+    view: &View,
+    accesses: &[NodeAccess],
+) -> Result<Option<Unfed>, NoMemory>
     requires shape { ShapedView view.now }
     requires listed { Listed view.now accesses.now }
-    ensures { IfOk result (λ first. MatchOption first (Fed view.now accesses.now) (λ hazard. FirstUnfed view.now accesses.now hazard)) }
+    ensures first { IfOk result (λ first. MatchOption first (Fed view.now accesses.now) (λ unfed. FirstUnfed view.now accesses.now unfed)) }
+    ensures refutes { IfOk result (λ first. IfSome first (λ unfed. Fed view.now accesses.now → ⊥)) }
 {
     let mut changed = Table::new(alloc, view.piece_count())?;
     for j in 0..accesses.len() {
         let node_access = accesses[j];
-        if let Some(hazard) = unfed(view, node_access, changed.at(node_access.access.piece)) {
-            return Ok(Some(hazard));
+        if let Some(unfed) = check_load(view, node_access, changed.at(node_access.access.piece)) {
+            return Ok(Some(unfed));
         }
-        changed.keep_over(view, node_access);
+        changed.put_over(view, node_access);
     }
     Ok(None)
 }

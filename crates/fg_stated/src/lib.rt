@@ -3,12 +3,16 @@
 
 mod ahead;
 mod fed;
-mod found;
 mod misstated;
+mod misstatement;
 mod past;
+mod piece_state;
 mod same;
 mod stated;
 mod table;
+mod unfed;
 
 pub use fed::first_unfed;
+pub use misstatement::Misstatement;
 pub use stated::first_misstated;
+pub use unfed::Unfed;

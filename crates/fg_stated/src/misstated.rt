@@ -4,14 +4,15 @@ ghost use Rattle.std.specs.Prelude.{◌≡◌, ◌<◌, ◌↔◌, Some, true, f
 ghost use Rattle.fg_view.specs.AccessKinds.{wanted, transfers};
 ghost use Rattle.fg_view.specs.ShapedView.{NodeAccessAt, Listed, ShapedView};
 ghost use Rattle.fg_view.specs.Views.{family_at};
-ghost use Rattle.fg_stated.specs.Stated.{acquires, needs_owner, StatedAt, Misstated};
-ghost use Rattle.fg_stated.specs.Tables.{Finds};
+ghost use Rattle.fg_stated.specs.Stated.{acquires, needs_owner, StatedAt, IsMisstated};
+ghost use Rattle.fg_stated.specs.Code.Tables.{Finds};
 
-use crate::found::Found;
+use crate::Misstatement;
+use crate::piece_state::PieceState;
 use crate::same::same_handover;
 use fg_base::Family;
 use fg_bits::Layout;
-use fg_view::{NodeAccess, AccessKind, Handover, Hazard, View};
+use fg_view::{AccessKind, Handover, NodeAccess, View};
 
 // The layout that is wanted, where another one is found.
 fn missed_layout(kind: AccessKind, found: Layout) -> Option<Layout>
@@ -95,17 +96,26 @@ fn is_matched(kind: AccessKind, last: Option<AccessKind>, next: Option<AccessKin
 }
 
 /// What is wrong with access `j` beside bytes: its layout, else its owner, else its other half.
-pub(crate) fn misstated(view: &View, accesses: &[NodeAccess], j: usize, found: Found) -> Option<Hazard>
+pub(crate) fn misstated(
+    view: &View,
+    accesses: &[NodeAccess],
+    j: usize,
+    found: PieceState,
+) -> Option<Misstatement>
     requires shape { ShapedView view.now }
     requires listed { Listed view.now accesses.now }
     requires j { j < length accesses.now }
     requires found { (a : NodeAccess) → NodeAccessAt accesses.now j a → Finds view.now accesses.now j a.access.piece found }
-    ensures { (a : NodeAccess) → NodeAccessAt accesses.now j a → MatchOption result (StatedAt view.now accesses.now j a) (λ hazard. Misstated hazard view.now accesses.now j a) }
+    ensures { (a : NodeAccess) → NodeAccessAt accesses.now j a → MatchOption result (StatedAt view.now accesses.now j a) (λ misstatement. IsMisstated misstatement view.now accesses.now j a) }
 {
     let node_access = accesses[j];
-    let (node, piece, kind) = (node_access.node, node_access.access.piece, node_access.access.kind);
+    let (node, piece, kind) = (
+        node_access.node,
+        node_access.access.piece,
+        node_access.access.kind,
+    );
     if let Some(wanted) = missed_layout(kind, found.layout) {
-        return Some(Hazard::BadLayout {
+        return Some(Misstatement::BadLayout {
             node,
             piece,
             found: found.layout,
@@ -113,7 +123,7 @@ pub(crate) fn misstated(view: &View, accesses: &[NodeAccess], j: usize, found: F
         });
     }
     if let Some(wanted) = missed_owner(view, node_access, found.owner) {
-        return Some(Hazard::BadOwner {
+        return Some(Misstatement::BadOwner {
             node,
             piece,
             found: found.owner,
@@ -123,6 +133,6 @@ pub(crate) fn misstated(view: &View, accesses: &[NodeAccess], j: usize, found: F
     if is_matched(kind, found.last, found.next) {
         None
     } else {
-        Some(Hazard::Unmatched { node })
+        Some(Misstatement::Unmatched { node })
     }
 }

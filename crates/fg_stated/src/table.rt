@@ -1,15 +1,15 @@
 //! An access for each piece.
 
 ghost use Rattle.std.specs.Prelude.{◌≡◌, ◌==◌, ◌&&◌, ◌<◌, ◌≤◌, length, get_or, replicate, IfOk, None};
-ghost use Rattle.fg_stated.specs.Found.{changes_bytes, deed_of};
-ghost use Rattle.fg_stated.specs.Tables.{Kept};
+ghost use Rattle.fg_stated.specs.PieceStates.{changes_bytes, kind_of};
+ghost use Rattle.fg_stated.specs.Code.Tables.{PutWhere};
 
 use fg_base::{List, NoMemory};
-use fg_view::{NodeAccess, AccessKind, View};
+use fg_view::{AccessKind, NodeAccess, View};
 use std::alloc::Global;
 use std::marker::Model;
 
-/// For each piece the access that was kept last, if there is one.
+/// For each piece the access that was put there last, if there is one.
 #[derive(Drop)]
 pub(crate) struct Table {
     accesses: List<Option<NodeAccess>>,
@@ -40,42 +40,43 @@ impl Table {
         self.accesses[piece as usize]
     }
 
-    // Keeps the access for a piece, if it `is_so`.
-    fn keep_for(&mut self, piece: usize, node_access: NodeAccess, is_so: bool)
+    // Puts the access to a piece, if it `is_so`.
+    fn put_for(&mut self, piece: usize, node_access: NodeAccess, is_so: bool)
         requires { piece < length self.old }
-        ensures { Kept (λ p. (piece == p) && is_so) node_access self.old self.new }
+        ensures { PutWhere (λ p. (piece == p) && is_so) node_access self.old self.new }
     {
         if is_so {
             self.accesses.set(piece, Some(node_access));
         }
     }
 
-    /// Keeps the access for its own piece, if it `is_so`.
-    pub(crate) fn keep(&mut self, node_access: NodeAccess, is_so: bool)
+    /// Puts the access to its own piece, if it `is_so`.
+    pub(crate) fn put(&mut self, node_access: NodeAccess, is_so: bool)
         requires { node_access.access.piece < length self.old }
-        ensures { Kept (λ p. (node_access.access.piece == p) && is_so) node_access self.old self.new }
+        ensures { PutWhere (λ p. (node_access.access.piece == p) && is_so) node_access self.old self.new }
     {
-        self.keep_for(node_access.access.piece as usize, node_access, is_so);
+        self.put_for(node_access.access.piece as usize, node_access, is_so);
     }
 
-    /// Keeps the access for each piece whose bytes it may change.
-    pub(crate) fn keep_over(&mut self, view: &View, node_access: NodeAccess)
+    /// Puts the access to each piece whose bytes it may change.
+    pub(crate) fn put_over(&mut self, view: &View, node_access: NodeAccess)
         requires size { length self.old ≡ length view.now.pieces }
         requires few { length self.old ≤ 512 }
         requires piece { node_access.access.piece < length self.old }
-        ensures { Kept (λ p. changes_bytes view.now p node_access) node_access self.old self.new }
+        ensures { PutWhere (λ p. changes_bytes view.now p node_access) node_access self.old self.new }
     {
         if !node_access.access.kind.changes() {
             return;
         }
         for p in 0..view.piece_count() {
-            self.keep_for(p, node_access, view.overlap(node_access.access.piece, p as u32));
+            let overlaps = view.overlap(node_access.access.piece, p as u32);
+            self.put_for(p, node_access, overlaps);
         }
     }
 }
 
-pub(crate) fn deed_of(node_access: Option<NodeAccess>) -> Option<AccessKind>
-    ensures { result ≡ deed_of node_access }
+pub(crate) fn kind_of(node_access: Option<NodeAccess>) -> Option<AccessKind>
+    ensures { result ≡ kind_of node_access }
 {
     match node_access {
         Some(node_access) => Some(node_access.access.kind),

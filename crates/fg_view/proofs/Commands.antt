@@ -15,8 +15,7 @@ use Rattle.fg_base.specs.declared.shape.Shape.TheVariants.{Buffer, Image}
 use Rattle.fg_base.specs.declared.touch.Touch.{Touch}
 use Rattle.fg_subs.proofs.Within.{all_below}
 use Rattle.fg_subs.specs.Ranges.{has_operands}
-use Rattle.fg_view.proofs.Entries.{entry_of, one, each_of, if_some, Ends, loads_first}
-use Rattle.fg_view.specs.AccessKinds.{changes}
+use Rattle.fg_view.proofs.Entries.{entry_of, one, each_of, if_some, Ends, Quiet, alone, quiet_first}
 use Rattle.fg_view.specs.Roles.{load_access, store_access}
 use Rattle.fg_view.specs.ShapedView.{IsByQueue}
 use Rattle.fg_view.specs.Effects.{access, role_agent, layout_wanted, touch_load, touch_store, touch_accesses, command_accesses}
@@ -87,26 +86,25 @@ source_stores_not (BufferToImage src dst offset) shape = refl
 source_stores_not (ImageToBuffer src dst offset) shape = refl
 source_stores_not op shape = kernel_stores_not shape
 
-source_loads : (shapes : List Shape) (q : ℕ) (op : Op ℕ) (n : ℕ) → All (λ a. changes a.kind ≡ false) (touch_accesses shapes q (source_touch shapes op n))
+source_loads : (shapes : List Shape) (q : ℕ) (op : Op ℕ) (n : ℕ) → All Quiet (touch_accesses shapes q (source_touch shapes op n))
 source_loads shapes q op n =
-    let P : Access → Type 0 = λ a. changes a.kind ≡ false in
     let t : Touch = source_touch shapes op n in
-    All-append P (option_map_or (touch_load shapes q t) (load_access t.role t.whole) []) (option_map_or (touch_store shapes q t) (store_access t.role) [])
-    (if_some P (touch_load shapes q t) (load_access t.role t.whole) (λ kind. one P (loaded shapes q t kind) refl))
-    (subst (λ o. All P (option_map_or (touch_store shapes q t) o [])) (sym (source_stores_not op (shape_at shapes n))) (All-nil P))
+    All-append Quiet (option_map_or (touch_load shapes q t) (load_access t.role t.whole) []) (option_map_or (touch_store shapes q t) (store_access t.role) [])
+    (if_some Quiet (touch_load shapes q t) (load_access t.role t.whole) (λ kind. one Quiet (loaded shapes q t kind) (refl, refl)))
+    (subst (λ o. All Quiet (option_map_or (touch_store shapes q t) o [])) (sym (source_stores_not op (shape_at shapes n))) (All-nil Quiet))
 
 touch_ends : (shapes : List Shape) (q : ℕ) (t : Touch) (load store : Option ℕ) → Ends ((option_map_or (touch_load shapes q t) load [] ++ option_map_or (touch_store shapes q t) store []) ++ [])
 touch_ends shapes q t None None = tt
-touch_ends shapes q t None (Some store) = (λ c. All-nil _, tt)
-touch_ends shapes q t (Some load) None = (λ c. All-nil _, tt)
-touch_ends shapes q t (Some load) (Some store) = (λ c. absurd cc, (λ c. All-nil _, tt))
+touch_ends shapes q t None (Some store) = alone (stored shapes q t store)
+touch_ends shapes q t (Some load) None = alone (loaded shapes q t load)
+touch_ends shapes q t (Some load) (Some store) = (λ c. absurd cc, λ c. absurd cc, alone (stored shapes q t store))
 
 pub store_last : (shapes : List Shape) (q : ℕ) (op : Op ℕ) → Ends (command_accesses shapes q op)
 store_last shapes q op =
     let sources = map (source_touch shapes op) (sources_of op) in
     let last : Touch = destination_touch shapes op in
     subst Ends (sym (flat_map-append (touch_accesses shapes q) sources (last ∷ [])))
-    (loads_first (flat_map (touch_accesses shapes q) sources) (flat_map (touch_accesses shapes q) (last ∷ []))
-    (each_of (λ a. changes a.kind ≡ false) (touch_accesses shapes q) sources
-    (All-map (λ t. All (λ a. changes a.kind ≡ false) (touch_accesses shapes q t)) (source_touch shapes op) (sources_of op) (λ k d lt. source_loads shapes q op (get_or (sources_of op) k d))))
+    (quiet_first (flat_map (touch_accesses shapes q) sources) (flat_map (touch_accesses shapes q) (last ∷ []))
+    (each_of Quiet (touch_accesses shapes q) sources
+    (All-map (λ t. All Quiet (touch_accesses shapes q t)) (source_touch shapes op) (sources_of op) (λ k d lt. source_loads shapes q op (get_or (sources_of op) k d))))
     (touch_ends shapes q last (load_access last.role last.whole) (store_access last.role)))

@@ -1,10 +1,10 @@
--- What holds of each entry of a list of accesses, and what comes after a change.
-use Rattle.std.proofs.Common.{◌≡◌, ◌<◌, ℕ, zero, suc, true, false, List, [], ◌∷◌, ◌++◌, slice_get, Option, Some, None, subst, arith}
+-- What holds of each entry of a list of accesses, and what comes after a change or a change of the owner.
+use Rattle.std.proofs.Common.{◌≡◌, ◌<◌, ℕ, zero, suc, true, false, List, [], ◌∷◌, ◌++◌, slice_get, Option, Some, None, refl, subst, arith}
 use Rattle.std.specs.List.{All, flat_map}
 use Rattle.std.specs.Option.{option_map_or}
 use Rattle.std.proofs.lemmas.List.Elements.{All-nil, All-cons, All-append}
 use Rattle.std.proofs.lemmas.Option.{get_or_from_slice_get, slice_get_within}
-use Rattle.fg_view.specs.AccessKinds.{changes, transfers}
+use Rattle.fg_view.specs.AccessKinds.{changes, sets_owner, transfers}
 use Rattle.fg_view.specs.declared.access.Access.{Access}
 
 pub entry_of : {X : Type 0} (P : X → Type 0) (xs : List X) (i : ℕ) (x : X) → All P xs → slice_get xs i ≡ Some x → P x
@@ -21,10 +21,13 @@ pub if_some : {X Y : Type 0} (P : Y → Type 0) (f : X → List Y) (o : Option X
 if_some P f None h = All-nil P
 if_some P f (Some x) h = h x
 
--- after a change comes nothing but transfers
+-- after a change comes nothing but transfers, and after what decides the owner nothing at all
 abbrev pub Ends : List Access → Type 0
 Ends [] = Unit {0}
-Ends (a ∷ rest) = (changes a.kind ≡ true → All (λ b. transfers b.kind ≡ true) rest) × Ends rest
+Ends (a ∷ rest) = (changes a.kind ≡ true → All (λ b. transfers b.kind ≡ true) rest) × (sets_owner a.kind ≡ true → rest ≡ []) × Ends rest
+
+pub alone : (a : Access) → Ends (a ∷ [])
+alone a = (λ c. All-nil (λ b. transfers b.kind ≡ true), λ c. refl, tt)
 
 pub after_change : (xs : List Access) (i j : ℕ) (a b : Access) → Ends xs → slice_get xs i ≡ Some a → slice_get xs j ≡ Some b → i < j → changes a.kind ≡ true → transfers b.kind ≡ true
 after_change [] i j a b h e f lt c = absurd cc
@@ -32,13 +35,25 @@ after_change (x ∷ xs) i zero a b h e f lt c = absurd (omega (arith, lt))
 after_change (x ∷ xs) zero (suc j) a b h e f lt c =
     let same : a ≡ x = cc in
     entry_of (λ y. transfers y.kind ≡ true) xs j b (h.0 (subst (λ y. changes y.kind ≡ true) same c)) f
-after_change (x ∷ xs) (suc i) (suc j) a b h e f lt c = after_change xs i j a b h.1 e f (omega (arith, lt)) c
+after_change (x ∷ xs) (suc i) (suc j) a b h e f lt c = after_change xs i j a b h.2 e f (omega (arith, lt)) c
 
-pub loads_first : (xs ys : List Access) → All (λ a. changes a.kind ≡ false) xs → Ends ys → Ends (xs ++ ys)
-loads_first [] ys none h = h
-loads_first (x ∷ xs) ys none h =
-    (λ c. let none_here = none 0 x (omega arith) in absurd cc, loads_first xs ys (λ k d lt. none (suc k) d (omega arith)) h)
+nothing_there : (j : ℕ) (b : Access) → slice_get [] j ≡ Some b → ⊥
+nothing_there j b e = absurd cc
 
-pub transfer_last : (xs : List Access) (t : Access) → Ends xs → transfers t.kind ≡ true → changes t.kind ≡ false → Ends (xs ++ t ∷ [])
-transfer_last [] t h is keeps = (λ c. absurd cc, tt)
-transfer_last (x ∷ xs) t h is keeps = (λ c. All-append (λ b. transfers b.kind ≡ true) xs (t ∷ []) (h.0 c) (one (λ b. transfers b.kind ≡ true) t is), transfer_last xs t h.1 is keeps)
+pub after_owner : (xs : List Access) (i j : ℕ) (a b : Access) → Ends xs → slice_get xs i ≡ Some a → slice_get xs j ≡ Some b → i < j → sets_owner a.kind ≡ true → ⊥
+after_owner [] i j a b h e f lt c = absurd cc
+after_owner (x ∷ xs) i zero a b h e f lt c = absurd (omega (arith, lt))
+after_owner (x ∷ xs) zero (suc j) a b h e f lt c =
+    let same : a ≡ x = cc in
+    nothing_there j b (subst (λ l. slice_get l j ≡ Some b) (h.1 (subst (λ y. sets_owner y.kind ≡ true) same c)) f)
+after_owner (x ∷ xs) (suc i) (suc j) a b h e f lt c = after_owner xs i j a b h.2 e f (omega (arith, lt)) c
+
+-- it neither changes bytes nor decides the owner
+abbrev pub Quiet : Access → Type 0
+Quiet a = (changes a.kind ≡ false) × (sets_owner a.kind ≡ false)
+
+pub quiet_first : (xs ys : List Access) → All Quiet xs → Ends ys → Ends (xs ++ ys)
+quiet_first [] ys quiet h = h
+quiet_first (x ∷ xs) ys quiet h =
+    let here = quiet 0 x (omega arith) in
+    (λ c. let e = here.0 in absurd cc, λ c. let e = here.1 in absurd cc, quiet_first xs ys (λ k d lt. quiet (suc k) d (omega arith)) h)

@@ -1,5 +1,5 @@
 -- What a node does, by what it is.
-use Rattle.std.proofs.Common.{◌≡◌, ◌⊎◌, inl, inr, ◌<◌, ◌||◌, ℕ, Bool, true, false, List, [], ◌∷◌, length, Option, Some, None, if◌then◌else◌, refl}
+use Rattle.std.proofs.Common.{◌≡◌, ◌⊎◌, inl, inr, ◌<◌, ◌++◌, ◌||◌, ℕ, Bool, true, false, List, [], ◌∷◌, length, Option, Some, None, if◌then◌else◌, refl}
 use Rattle.std.specs.List.{All}
 use Rattle.std.specs.Option.{option_map_or}
 use Rattle.std.proofs.lemmas.Bool.{ltb-true}
@@ -20,7 +20,7 @@ use Rattle.fg_subs.specs.declared.program.Signal.{Signal}
 use Rattle.fg_subs.specs.declared.program.Transfer.{Transfer}
 use Rattle.fg_subs.specs.declared.program.WaitFor.{WaitFor}
 use Rattle.fg_view.proofs.Commands.{by_own_agents, to_known_pieces, store_last}
-use Rattle.fg_view.proofs.Entries.{one, if_some, Ends, transfer_last}
+use Rattle.fg_view.proofs.Entries.{one, if_some, Ends, alone}
 use Rattle.fg_view.specs.AccessKinds.{transfers}
 use Rattle.fg_view.specs.ShapedView.{IsByQueue, IsByBarrier}
 use Rattle.fg_view.specs.Effects.{access, same_layout, transition_through, layout_change, handover_of, acquire_accesses, no_effect, barrier_effect, item_effect, wait_effect, signal_effect, host_effect}
@@ -50,46 +50,51 @@ pub record FitsNode (pieces : ℕ) (node : Node) (effect : Effect) : Type 0 wher
 barrier_fits : (n q : ℕ) (accesses : List Access) (masks : Masks) (scope : Scope) → All (λ a. a.piece < n) accesses → Ends accesses → All (λ a. IsByBarrier a.kind) accesses → FitsNode n (barrier_node q masks) (barrier_effect accesses masks scope)
 barrier_fits n q accesses masks scope known last does = record { known = known; last = last; does = does; silent = inl refl }
 
-kept_each : (P : Access → Type 0) (piece : ℕ) (layouts : Layouts) → P (access piece (access_kinds.Transition layouts)) → All P (transition_through piece layouts)
-kept_each P piece layouts p = by_test (is_undefined layouts.from || same_layout layouts)
+transition_each : (P : Access → Type 0) (piece : ℕ) (layouts : Layouts) → P (access piece (access_kinds.Transition layouts)) → All P (transition_through piece layouts)
+transition_each P piece layouts p = by_test (is_undefined layouts.from || same_layout layouts)
   where
     by_test : (b : Bool) → All P (if b then [] else access piece (access_kinds.Transition layouts) ∷ [])
     by_test true = All-nil P
     by_test false = one P (access piece (access_kinds.Transition layouts)) p
 
-turned_each : (P : Access → Type 0) (piece : ℕ) (layouts : Layouts) → P (access piece (access_kinds.Discard layouts.to)) → P (access piece (access_kinds.Transition layouts)) → All P (layout_change piece layouts)
-turned_each P piece layouts d k = by_test (is_undefined layouts.from)
+layout_change_each : (P : Access → Type 0) (piece : ℕ) (layouts : Layouts) → P (access piece (access_kinds.Discard layouts.to)) → P (access piece (access_kinds.Transition layouts)) → All P (layout_change piece layouts)
+layout_change_each P piece layouts d k = by_test (is_undefined layouts.from)
   where
     by_test : (b : Bool) → All P (if b then access piece (access_kinds.Discard layouts.to) ∷ [] else transition_through piece layouts)
     by_test true = one P (access piece (access_kinds.Discard layouts.to)) d
-    by_test false = kept_each P piece layouts k
+    by_test false = transition_each P piece layouts k
 
-single : (a : Access) → Ends (a ∷ [])
-single a = (λ c. All-nil (λ b. transfers b.kind ≡ true), tt)
-
-kept_ends : (piece : ℕ) (layouts : Layouts) → Ends (transition_through piece layouts)
-kept_ends piece layouts = by_test (is_undefined layouts.from || same_layout layouts)
+transition_ends : (piece : ℕ) (layouts : Layouts) → Ends (transition_through piece layouts)
+transition_ends piece layouts = by_test (is_undefined layouts.from || same_layout layouts)
   where
     by_test : (b : Bool) → Ends (if b then [] else access piece (access_kinds.Transition layouts) ∷ [])
     by_test true = tt
-    by_test false = single (access piece (access_kinds.Transition layouts))
+    by_test false = alone (access piece (access_kinds.Transition layouts))
 
-turned_ends : (piece : ℕ) (layouts : Layouts) → Ends (layout_change piece layouts)
-turned_ends piece layouts = by_test (is_undefined layouts.from)
+layout_change_ends : (piece : ℕ) (layouts : Layouts) → Ends (layout_change piece layouts)
+layout_change_ends piece layouts = by_test (is_undefined layouts.from)
   where
     by_test : (b : Bool) → Ends (if b then access piece (access_kinds.Discard layouts.to) ∷ [] else transition_through piece layouts)
-    by_test true = single (access piece (access_kinds.Discard layouts.to))
-    by_test false = kept_ends piece layouts
+    by_test true = alone (access piece (access_kinds.Discard layouts.to))
+    by_test false = transition_ends piece layouts
 
-acquired_ends : (piece : ℕ) (o : Option Layouts) → Ends (option_map_or (transition_through piece) o [])
-acquired_ends piece None = tt
-acquired_ends piece (Some layouts) = kept_ends piece layouts
+acquire_ends : (t : Transfer) → Ends (acquire_accesses t)
+acquire_ends t = by_layouts t.layouts
+  where
+    abbrev last : Access
+    last = access t.piece (access_kinds.Acquire (handover_of t))
+    by_test : (layouts : Layouts) (b : Bool) → Ends ((if b then [] else access t.piece (access_kinds.Transition layouts) ∷ []) ++ last ∷ [])
+    by_test layouts true = alone last
+    by_test layouts false = (λ c. one (λ b. transfers b.kind ≡ true) last refl, λ c. absurd cc, alone last)
+    by_layouts : (o : Option Layouts) → Ends (option_map_or (transition_through t.piece) o [] ++ last ∷ [])
+    by_layouts None = alone last
+    by_layouts (Some layouts) = by_test layouts (is_undefined layouts.from || same_layout layouts)
 
 acquire_each : (P : Access → Type 0) (t : Transfer) → ((layouts : Layouts) → P (access t.piece (access_kinds.Transition layouts))) → P (access t.piece (access_kinds.Acquire (handover_of t))) → All P (acquire_accesses t)
 acquire_each P t k a =
     let last = access t.piece (access_kinds.Acquire (handover_of t)) in
     All-append P (option_map_or (transition_through t.piece) t.layouts []) (last ∷ [])
-    (if_some P (transition_through t.piece) t.layouts (λ layouts. kept_each P t.piece layouts (k layouts)))
+    (if_some P (transition_through t.piece) t.layouts (λ layouts. transition_each P t.piece layouts (k layouts)))
     (one P last a)
 
 -- ITEMS
@@ -101,9 +106,9 @@ item_fits shapes q (BufferBarrier piece masks) h = record { known = All-nil (λ 
 item_fits shapes q (ImageBarrier piece layouts masks) h =
     let lt : piece < length shapes = ltb-true piece (length shapes) h in
     record {
-      known = turned_each (λ a. a.piece < length shapes) piece layouts lt lt;
-      last = turned_ends piece layouts;
-      does = turned_each (λ a. IsByBarrier a.kind) piece layouts (inl refl) (inl refl);
+      known = layout_change_each (λ a. a.piece < length shapes) piece layouts lt lt;
+      last = layout_change_ends piece layouts;
+      does = layout_change_each (λ a. IsByBarrier a.kind) piece layouts (inl refl) (inl refl);
       silent = inl refl;
     }
 item_fits shapes q (Release t) h =
@@ -111,7 +116,7 @@ item_fits shapes q (Release t) h =
     let release = access t.piece (access_kinds.Release (handover_of t)) in
     record {
       known = one (λ a. a.piece < length shapes) release lt;
-      last = single release;
+      last = alone release;
       does = one (λ a. IsByBarrier a.kind) release (inr refl);
       silent = inl refl;
     }
@@ -119,7 +124,7 @@ item_fits shapes q (Acquire t) h =
     let lt : t.piece < length shapes = ltb-true t.piece (length shapes) h in
     record {
       known = acquire_each (λ a. a.piece < length shapes) t (λ layouts. lt) lt;
-      last = transfer_last (option_map_or (transition_through t.piece) t.layouts []) (access t.piece (access_kinds.Acquire (handover_of t))) (acquired_ends t.piece t.layouts) refl refl;
+      last = acquire_ends t;
       does = acquire_each (λ a. IsByBarrier a.kind) t (λ layouts. inl refl) (inr refl);
       silent = inl refl;
     }
@@ -135,7 +140,7 @@ signal_fits n q signal = record { known = All-nil (λ a. a.piece < n); last = tt
 pub host_fits : (n queues piece : ℕ) → piece < n → FitsNode n (host_node queues) (host_effect piece)
 host_fits n queues piece lt =
     let read = access piece (access_kinds.Load agent.Host None) in
-    record { known = one (λ a. a.piece < n) read lt; last = single read; does = one (λ a. a.kind ≡ access_kinds.Load agent.Host None) read refl; silent = inr (refl, refl) }
+    record { known = one (λ a. a.piece < n) read lt; last = alone read; does = one (λ a. a.kind ≡ access_kinds.Load agent.Host None) read refl; silent = inr (refl, refl) }
 
 pub nowhere_fits : (n : ℕ) → FitsNode n (nowhere 0) no_effect
 nowhere_fits n = record { known = All-nil (λ a. a.piece < n); last = tt; does = All-nil (λ a. IsByQueue 0 a.kind); silent = inr (refl, refl) }

@@ -5,22 +5,21 @@ use Rattle.std.specs.Option.{option_map}
 use Rattle.std.proofs.lemmas.List.Elements.{All-nil, All-cons, All-map}
 use Rattle.std.proofs.lemmas.Option.{slice_get-map, slice_get-get_or, slice_get_within}
 use Rattle.fg_hb.specs.Orders.{Among, Distinct, Order}
-use Rattle.fg_hb.specs.declared.node.Node.{Node}
 use Rattle.fg_view.proofs.Entries.{entry_of, each_of}
-use Rattle.fg_view.specs.AccessKinds.{changes, transfers}
-use Rattle.fg_view.specs.ShapedView.{ShapedView, Has, NodeAccessAt, Listed}
+use Rattle.fg_view.specs.ShapedView.{ShapedView, Has, NodeAccessAt, Listed, Precedes}
 use Rattle.fg_view.specs.Views.{View, accesses_of, node_access, node_accesses_of}
 use Rattle.fg_view.specs.declared.access.Access.{Access}
 use Rattle.fg_view.specs.declared.node_access.NodeAccess.{NodeAccess}
 
 -- what holds of each number among those of a list
-pub all_among : (P : ℕ → Type 0) (xs : List ℕ) → ((n : ℕ) → Among n xs → P n) → All P xs
+all_among : (P : ℕ → Type 0) (xs : List ℕ) → ((n : ℕ) → Among n xs → P n) → All P xs
 all_among P [] h = All-nil P
 all_among P (x ∷ xs) h = All-cons P x xs (h x (inl refl)) (all_among P xs (λ n m. h n (inr m)))
 
--- the numbers of an order are those of nodes, and so there are uses with these numbers
-pub all_there : (nodes : List Node) (count : ℕ) (order : List ℕ) → count ≡ length nodes → Order nodes order → All (λ n. n < count) order
-all_there nodes count order same O = all_among (λ n. n < count) order (λ n m. subst (λ k. n < k) (sym same) (O.only n m))
+pub among_at : (order : List ℕ) (k d : ℕ) → k < length order → Among (get_or order k d) order
+among_at [] k d lt = absurd (omega (arith, lt))
+among_at (x ∷ order) zero d lt = inl refl
+among_at (x ∷ order) (suc k) d lt = inr (among_at order k d (omega (arith, lt)))
 
 -- ONE NODE AND THE OTHERS
 
@@ -46,23 +45,24 @@ of_order V order i a e =
     entry_of (λ b. Among b.node order) (node_accesses_of V order) i a
     (each_node_access V (λ b. Among b.node order) order (all_among (λ n. All (λ x. Among n order) (accesses_of V n)) order (λ n m. λ k d lt. m))) e
 
-module _ (V : View) (S : ShapedView V) where
-  abbrev LastChange : List NodeAccess → Type 0
-  LastChange node_accesses = (i j : ℕ) (a b : NodeAccess) → NodeAccessAt node_accesses i a → NodeAccessAt node_accesses j b → i < j → a.node ≡ b.node → changes a.access.kind ≡ true → transfers b.access.kind ≡ true
+module _ (V : View) where
+  own_order : (n i j : ℕ) (a b : NodeAccess) → NodeAccessAt (map (node_access n) (accesses_of V n)) i a → NodeAccessAt (map (node_access n) (accesses_of V n)) j b → i < j → Precedes V a.node a.access b.access
+  own_order n i j a b e f lt =
+      let of_a = of_node n (accesses_of V n) i a e in
+      let of_b = of_node n (accesses_of V n) j b f in
+      subst (λ m. Precedes V m a.access b.access) (sym of_a.0) (i, j, lt, of_a.1, of_b.1)
 
-  last_changes : (order : List ℕ) → Distinct order → LastChange (node_accesses_of V order)
-  last_changes [] once i j a b e f lt same c = absurd cc
-  last_changes (n ∷ rest) once i j a b e f lt same c =
+  in_their_order : (order : List ℕ) → Distinct order → (i j : ℕ) (a b : NodeAccess) → NodeAccessAt (node_accesses_of V order) i a → NodeAccessAt (node_accesses_of V order) j b → i < j → a.node ≡ b.node → Precedes V a.node a.access b.access
+  in_their_order [] once i j a b e f lt same = absurd cc
+  in_their_order (n ∷ rest) once i j a b e f lt same =
       let own = map (node_access n) (accesses_of V n) in
       let others = node_accesses_of V rest in
       ⊎_elim
       (λ (e_own : slice_get own i ≡ Some a).
-      let of_a = of_node n (accesses_of V n) i a e_own in
       ⊎_elim
-      (λ (f_own : slice_get own j ≡ Some b).
-      S.last n i j a.access b.access of_a.1 (of_node n (accesses_of V n) j b f_own).1 lt c)
+      (λ (f_own : slice_get own j ≡ Some b). own_order n i j a b e_own f_own lt)
       (λ (f_other : (k : ℕ) × (j ≡ length own + k) × (slice_get others k ≡ Some b)).
-      absurd (once.0 (subst (λ m. Among m rest) (sym same ∙ of_a.0) (of_order V rest f_other.0 b f_other.2))))
+      absurd (once.0 (subst (λ m. Among m rest) (sym same ∙ (of_node n (accesses_of V n) i a e_own).0) (of_order V rest f_other.0 b f_other.2))))
       (in_one_part own others j b f))
       (λ (e_other : (k : ℕ) × (i ≡ length own + k) × (slice_get others k ≡ Some a)).
       ⊎_elim
@@ -73,14 +73,17 @@ module _ (V : View) (S : ShapedView V) where
       (λ (f_other : (k : ℕ) × (j ≡ length own + k) × (slice_get others k ≡ Some b)).
       let p : i ≡ length own + e_other.0 = e_other.1 in
       let q : j ≡ length own + f_other.0 = f_other.1 in
-      last_changes rest once.1 e_other.0 f_other.0 a b e_other.2 f_other.2 (omega (arith, p, q, lt)) same c)
+      in_their_order rest once.1 e_other.0 f_other.0 a b e_other.2 f_other.2 (omega (arith, p, q, lt)) same)
       (in_one_part own others j b f))
       (in_one_part own others i a e)
 
-  pub listed : (order : List ℕ) → Distinct order → ((n : ℕ) → Among n order → n < length V.nodes) → Listed V (node_accesses_of V order)
-  listed order once there = record {
-    node = λ i a e. there a.node (of_order V order i a e);
+  pub listed : (order : List ℕ) → ShapedView V → Order V.nodes order → Listed V (node_accesses_of V order)
+  listed order S O = record {
+    node = λ i a e. O.only a.node (of_order V order i a e);
     has = λ i a e. entry_of (λ b. Has V b.node b.access) (node_accesses_of V order) i a
         (each_node_access V (λ b. Has V b.node b.access) order (λ m d lt. λ k x below. (k, slice_get-get_or (accesses_of V (get_or order m d)) k x below))) e;
-    last = last_changes order once;
+    in_order = in_their_order order O.once;
+    last = λ i j a b e f lt same c.
+        let p = in_their_order order O.once i j a b e f lt same in
+        S.last a.node p.0 p.1 a.access b.access p.3 p.4 p.2 c;
   }

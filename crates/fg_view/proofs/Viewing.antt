@@ -1,7 +1,7 @@
--- The view of a program that breaks no rule is shapely.
+-- The view of a program that breaks no rule.
 use Rattle.std.proofs.Common.{◌≡◌, ◌⊎◌, inl, inr, ◌<◌, ◌≤◌, ◌==◌, ℕ, true, false, not, length, get_or, slice_get, Some, None, sym, ap, ◌∙◌, subst, ⊎_elim, arith}
 use Rattle.std.specs.Int.Bits.{bit_and, and_zero_l}
-use Rattle.std.proofs.lemmas.Bool.{cases_lt, and_parts, leb-true}
+use Rattle.std.proofs.lemmas.Bool.{cases_lt, and_parts, false_from_ne_true, leb-true}
 use Rattle.std.proofs.lemmas.List.{get_or-map, get_or_past, length-map}
 use Rattle.std.proofs.lemmas.Option.{slice_get-get_or}
 use Rattle.fg_base.specs.Shapes.{bytes_of}
@@ -18,9 +18,10 @@ use Rattle.fg_subs.specs.declared.nodes.NodeAt.{NodeAt}
 use Rattle.fg_subs.specs.declared.nodes.NodeAt.TheVariants as at
 use Rattle.fg_subs.specs.declared.program.Program.{Program}
 use Rattle.fg_subs.specs.declared.rule.Rule.{Rule}
-use Rattle.fg_view.proofs.Entries.{entry_of, after_change}
+use Rattle.fg_view.proofs.Entries.{entry_of, after_change, after_owner}
 use Rattle.fg_view.proofs.Fitting.{Does, FitsNode, nowhere_fits}
 use Rattle.fg_view.proofs.Placing.{place_fits, place_family}
+use Rattle.fg_view.specs.AccessKinds.{sets_owner}
 use Rattle.fg_view.specs.ShapedView.{IsByQueue, IsByBarrier, AccessAt, ShapedView}
 use Rattle.fg_view.specs.Effects.{no_effect, effect_in}
 use Rattle.fg_view.specs.Views.{View, view_of, piece_imported, effect_at, accesses_of, queue_at, family_at, has_agent, is_on, no_piece, piece_at}
@@ -110,11 +111,11 @@ module _ (program : Program) (keeps : (rule : Rule) → Keeps rule program) (sma
       let least : 1 ≤ size = leb-true 1 size (and_parts _ _ (small.sizes p no_piece lt)).0 in
       omega (arith, least)
 
-  silent_flush : (n : ℕ) → (is_sync (node_at V.nodes n).kind ≡ true) ⊎ ((effect_at V n).available ≡ 0)
-  silent_flush n = ⊎_elim (λ e. inl e) (λ e. inr e.0) (fits n).silent
+  silent_available : (n : ℕ) → (is_sync (node_at V.nodes n).kind ≡ true) ⊎ ((effect_at V n).available ≡ 0)
+  silent_available n = ⊎_elim (λ e. inl e) (λ e. inr e.0) (fits n).silent
 
-  silent_show : (n : ℕ) → (is_sync (node_at V.nodes n).kind ≡ true) ⊎ ((effect_at V n).visible ≡ 0)
-  silent_show n = ⊎_elim (λ e. inl e) (λ e. inr e.1) (fits n).silent
+  silent_visible : (n : ℕ) → (is_sync (node_at V.nodes n).kind ≡ true) ⊎ ((effect_at V n).visible ≡ 0)
+  silent_visible n = ⊎_elim (λ e. inl e) (λ e. inr e.1) (fits n).silent
 
   family : (n : ℕ) → n < length V.nodes → is_host (node_at V.nodes n).kind ≡ false → (f : Family) × (family_at V n ≡ Some f)
   family n lt queued =
@@ -130,10 +131,11 @@ module _ (program : Program) (keeps : (rule : Rule) → Keeps rule program) (sma
     known = known;
     some = some;
     last = λ n i j a b e f lt c. after_change (accesses_of V n) i j a b (fits n).last e f lt c;
+    final = λ n i j a b e f lt. false_from_ne_true (sets_owner a.kind) (λ c. after_owner (accesses_of V n) i j a b (fits n).last e f lt c);
     command = λ n i a e k. command_does (node_at V.nodes n).kind (queue_at V n) a.kind (does n i a e) k;
     sync = λ n i a e k. sync_does (node_at V.nodes n).kind (queue_at V n) a.kind (does n i a e) k;
     host = λ n i a e k. host_does (node_at V.nodes n).kind (queue_at V n) a.kind (does n i a e) k;
-    available_by_sync = λ n p a h. someone_syncs (node_at V.nodes n).kind (queue_at V n) (effect_at V n).available a (silent_flush n) (and_parts (has_agent (queue_at V n) (effect_at V n).available a) (is_on p (effect_at V n).scope) h).0;
-    visible_by_sync = λ n p a h. someone_syncs (node_at V.nodes n).kind (queue_at V n) (effect_at V n).visible a (silent_show n) (and_parts (has_agent (queue_at V n) (effect_at V n).visible a) (is_on p (effect_at V n).scope) h).0;
+    available_by_sync = λ n p a h. someone_syncs (node_at V.nodes n).kind (queue_at V n) (effect_at V n).available a (silent_available n) (and_parts (has_agent (queue_at V n) (effect_at V n).available a) (is_on p (effect_at V n).scope) h).0;
+    visible_by_sync = λ n p a h. someone_syncs (node_at V.nodes n).kind (queue_at V n) (effect_at V n).visible a (silent_visible n) (and_parts (has_agent (queue_at V n) (effect_at V n).visible a) (is_on p (effect_at V n).scope) h).0;
     family = family;
   }

@@ -1,6 +1,6 @@
 pub mod AccessKinds
-pub mod Kept
+pub mod Code
+pub mod Effects
 pub mod Roles
 pub mod ShapedView
-pub mod Effects
 pub mod Views

@@ -1,10 +1,10 @@
--- What the rules on programs give of a view.
+-- What holds of the view of a program that breaks no rule.
 use Rattle.std.specs.Prelude.{◌≡◌, ◌⊎◌, ℕ, ◌<◌, ◌≤◌, List, length, slice_get, true, false, Some, None}
 use Rattle.fg_base.specs.Shapes.{bytes_of}
 use Rattle.fg_base.specs.declared.shape.Family.{Family}
 use Rattle.fg_hb.specs.Edges.{is_host, is_sync, node_at}
 use Rattle.fg_hb.specs.declared.kind.Kind.TheVariants.{Command}
-use Rattle.fg_view.specs.AccessKinds.{changes, sets_layout, transfers}
+use Rattle.fg_view.specs.AccessKinds.{changes, sets_layout, sets_owner, transfers}
 use Rattle.fg_view.specs.Views.{View, accesses_of, queue_at, family_at, piece_at, makes_available, makes_visible}
 use Rattle.fg_view.specs.declared.access.Access.{Access}
 use Rattle.fg_view.specs.declared.access.Agent.{Agent}
@@ -24,7 +24,7 @@ IsByQueue q (Discard layout) = ⊥
 IsByQueue q (Release handover) = ⊥
 IsByQueue q (Acquire handover) = ⊥
 
--- a transition, or half of a transfer of ownership
+-- a transition or a discard, or half of a transfer of ownership
 abbrev pub IsByBarrier : AccessKind → Type 0
 IsByBarrier kind = (sets_layout kind ≡ true) ⊎ (transfers kind ≡ true)
 
@@ -41,7 +41,9 @@ pub record ShapedView (V : View) : Type 0 where
   pub some : (p : ℕ) → p < length V.pieces → 0 < bytes_of (piece_at V p).shape
   -- after a node's change comes nothing but its half of a transfer
   pub last : (n i j : ℕ) (a b : Access) → AccessAt V n i a → AccessAt V n j b → i < j → changes a.kind ≡ true → transfers b.kind ≡ true
-  -- commands load and store by agents of their queue, barriers turn and transfer, a host read loads, and all else does nothing
+  -- after a discard, a release or an acquire comes nothing
+  pub final : (n i j : ℕ) (a b : Access) → AccessAt V n i a → AccessAt V n j b → i < j → sets_owner a.kind ≡ false
+  -- commands load and store by agents of their queue, barriers set layouts and transfer, a host read loads, and all else does nothing
   pub command : (n i : ℕ) (a : Access) → AccessAt V n i a → (node_at V.nodes n).kind ≡ Command → IsByQueue (queue_at V n) a.kind
   pub sync : (n i : ℕ) (a : Access) → AccessAt V n i a → is_sync (node_at V.nodes n).kind ≡ true → IsByBarrier a.kind
   pub host : (n i : ℕ) (a : Access) → AccessAt V n i a → is_host (node_at V.nodes n).kind ≡ true → a.kind ≡ Load agent.Host None
@@ -54,6 +56,10 @@ pub record ShapedView (V : View) : Type 0 where
 abbrev pub Has : View → ℕ → Access → Type 0
 Has V n a = (i : ℕ) × AccessAt V n i a
 
+-- of the accesses of node n one comes before another
+abbrev pub Precedes : View → ℕ → Access → Access → Type 0
+Precedes V n a b = (i : ℕ) × (j : ℕ) × (i < j) × AccessAt V n i a × AccessAt V n j b
+
 abbrev pub NodeAccessAt : List NodeAccess → ℕ → NodeAccess → Type 0
 NodeAccessAt node_accesses i a = slice_get node_accesses i ≡ Some a
 
@@ -61,5 +67,7 @@ NodeAccessAt node_accesses i a = slice_get node_accesses i ≡ Some a
 pub record Listed (V : View) (node_accesses : List NodeAccess) : Type 0 where
   pub node : (i : ℕ) (a : NodeAccess) → NodeAccessAt node_accesses i a → a.node < length V.nodes
   pub has : (i : ℕ) (a : NodeAccess) → NodeAccessAt node_accesses i a → Has V a.node a.access
+  -- those of one node stand in their order
+  pub in_order : (i j : ℕ) (a b : NodeAccess) → NodeAccessAt node_accesses i a → NodeAccessAt node_accesses j b → i < j → a.node ≡ b.node → Precedes V a.node a.access b.access
   -- after a node's change comes nothing of that node but its half of a transfer
   pub last : (i j : ℕ) (a b : NodeAccess) → NodeAccessAt node_accesses i a → NodeAccessAt node_accesses j b → i < j → a.node ≡ b.node → changes a.access.kind ≡ true → transfers b.access.kind ≡ true

@@ -1,6 +1,6 @@
 -- A program as it is checked, by the numbers of its nodes and pieces.
 use Rattle.std.specs.Prelude.{ℕ, List, ◌+◌, ◌==◌, ◌&&◌, ◌||◌, nat_lt, map, get_or, slice_get, Bool, true, false, Option}
-use Rattle.std.specs.List.{flat_map}
+use Rattle.std.specs.List.{filter, flat_map}
 use Rattle.std.specs.Option.{option_map_or}
 use Rattle.fg_base.specs.Shapes.{bytes_of, is_buffer}
 use Rattle.fg_base.specs.declared.shape.Family.{Family}
@@ -17,7 +17,7 @@ use Rattle.fg_subs.specs.declared.program.Memory.{Memory}
 use Rattle.fg_subs.specs.declared.program.Memory.TheVariants.{Plain, Import}
 use Rattle.fg_subs.specs.declared.program.Piece.{Piece}
 use Rattle.fg_subs.specs.declared.program.Program.{Program}
-use Rattle.fg_view.specs.AccessKinds.{changes, transfers}
+use Rattle.fg_view.specs.AccessKinds.{changes, loads, transfers}
 use Rattle.fg_view.specs.Effects.{effect_in, no_effect}
 use Rattle.fg_view.specs.declared.access.Access.{Access}
 use Rattle.fg_view.specs.declared.access.Agent.{Agent}
@@ -59,6 +59,10 @@ effect_at V n = get_or V.effects n no_effect
 
 abbrev pub accesses_of : View → ℕ → List Access
 accesses_of V n = (effect_at V n).accesses
+
+-- the loads of a node, in their order
+abbrev pub loads_of : View → ℕ → List Access
+loads_of V n = filter (λ a. loads a.kind) (accesses_of V n)
 
 abbrev pub queue_at : View → ℕ → ℕ
 queue_at V n = (node_at V.nodes n).queue

@@ -1,7 +1,7 @@
 //! Accesses of nodes to memory.
 
 ghost use Rattle.std.specs.Prelude.{◌≡◌};
-ghost use Rattle.fg_view.specs.AccessKinds.{changes, loads, stores, sets_layout, sets_owner, transfers, is_discard, is_acquire, wanted};
+ghost use Rattle.fg_view.specs.AccessKinds.{loads, changes, stores, sets_layout, transfers, sets_owner, is_discard, is_acquire, wanted};
 
 use fg_base::Family;
 use fg_bits::{Layout, Layouts};
@@ -35,7 +35,7 @@ pub enum AccessKind {
         agent: Agent,
         layout: Option<Layout>,
     },
-    /// A transition that keeps the texels: a load and a store at once.
+    /// A transition that keeps the texels, a load and a store at once.
     Transition(Layouts),
     /// A transition out of `UNDEFINED` into this layout.
     Discard(Layout),
@@ -54,82 +54,64 @@ pub struct Access {
 }
 
 impl AccessKind {
-    /// Whether bytes may change: a store, a keeping transition or a discard.
-    pub fn changes(self) -> bool
-        ensures { result ≡ changes self }
-    {
-        match self {
-            AccessKind::Store { .. } | AccessKind::Transition(_) | AccessKind::Discard(_) => true,
-            _ => false,
-        }
-    }
-
-    /// Whether old bytes matter: a load or a keeping transition.
+    /// Whether old bytes matter: a load or a transition.
     pub fn loads(self) -> bool
         ensures { result ≡ loads self }
     {
-        match self {
-            AccessKind::Load { .. } | AccessKind::Transition(_) => true,
-            _ => false,
-        }
+        matches!(self, AccessKind::Load { .. } | AccessKind::Transition(_))
     }
 
-    /// Whether bytes are there afterwards: a store or a keeping transition.
+    /// Whether bytes may change: a store, a transition or a discard.
+    pub fn changes(self) -> bool
+        ensures { result ≡ changes self }
+    {
+        matches!(
+            self,
+            AccessKind::Store { .. } | AccessKind::Transition(_) | AccessKind::Discard(_)
+        )
+    }
+
+    /// Whether bytes are there afterwards: a store or a transition.
     pub fn stores(self) -> bool
         ensures { result ≡ stores self }
     {
-        match self {
-            AccessKind::Store { .. } | AccessKind::Transition(_) => true,
-            _ => false,
-        }
+        matches!(self, AccessKind::Store { .. } | AccessKind::Transition(_))
     }
 
-    /// Whether it leaves a layout: a keeping transition or a discard.
+    /// Whether it sets a layout: a transition or a discard.
     pub fn sets_layout(self) -> bool
         ensures { result ≡ sets_layout self }
     {
-        match self {
-            AccessKind::Transition(_) | AccessKind::Discard(_) => true,
-            _ => false,
-        }
+        matches!(self, AccessKind::Transition(_) | AccessKind::Discard(_))
     }
 
     /// Whether it is half of a transfer of ownership.
     pub fn transfers(self) -> bool
         ensures { result ≡ transfers self }
     {
-        match self {
-            AccessKind::Release(_) | AccessKind::Acquire(_) => true,
-            _ => false,
-        }
+        matches!(self, AccessKind::Release(_) | AccessKind::Acquire(_))
     }
 
     /// Whether it decides who owns the piece: a discard or half of a transfer.
     pub fn sets_owner(self) -> bool
         ensures { result ≡ sets_owner self }
     {
-        match self {
-            AccessKind::Discard(_) | AccessKind::Release(_) | AccessKind::Acquire(_) => true,
-            _ => false,
-        }
+        matches!(
+            self,
+            AccessKind::Discard(_) | AccessKind::Release(_) | AccessKind::Acquire(_)
+        )
     }
 
     pub fn is_discard(self) -> bool
         ensures { result ≡ is_discard self }
     {
-        match self {
-            AccessKind::Discard(_) => true,
-            _ => false,
-        }
+        matches!(self, AccessKind::Discard(_))
     }
 
     pub fn is_acquire(self) -> bool
         ensures { result ≡ is_acquire self }
     {
-        match self {
-            AccessKind::Acquire(_) => true,
-            _ => false,
-        }
+        matches!(self, AccessKind::Acquire(_))
     }
 
     /// The layout that it has to find.

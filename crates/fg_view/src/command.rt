@@ -7,7 +7,7 @@ ghost use Rattle.fg_view.specs.Roles.{load_access, store_access};
 ghost use Rattle.fg_view.specs.Effects.{role_agent, layout_wanted, touch_load, touch_store, touch_accesses, command_accesses};
 
 use crate::role::{load_access, role_layout, role_stage, store_access};
-use crate::{Access, Agent, AccessKind};
+use crate::{Access, AccessKind, Agent};
 use fg_base::{List, NoMemory, Op, Role, Shape, Touch};
 use fg_bits::{Accesses, Layout, agents};
 use std::alloc::Global;

@@ -9,9 +9,9 @@ ghost use Rattle.fg_subs.specs.Rules.{shapes_of};
 ghost use Rattle.fg_subs.specs.declared.rule.Rule.TheVariants as rules;
 ghost use Rattle.fg_view.specs.Effects.{plain_effect, no_effect, barrier_effect, item_effect, all_agents, wait_effect, signal_effect, host_effect, batch_effect, queued_effect, effect_in};
 
-use crate::barrier::{acquire_accesses, released, layout_change};
+use crate::barrier::{acquire_accesses, layout_change, released};
 use crate::command::{command_accesses, push_some};
-use crate::{Access, Agent, AccessKind, Scope, Effect};
+use crate::{Access, AccessKind, Agent, Effect, Scope};
 use bitflags::Flags;
 use fg_base::{List, NoMemory, Shape};
 use fg_bits::{Accesses, Masks, Stages, agents};

@@ -2,19 +2,19 @@
 #![tactic(auto)]
 
 mod access;
-mod node_access;
 mod barrier;
 mod command;
-mod hazard;
-mod role;
 mod effect;
 mod effects;
+mod hazard;
+mod node_access;
+mod role;
 mod view;
 
-pub use access::{Access, Agent, AccessKind, Handover};
-pub use node_access::{NodeAccess, node_accesses_of};
+pub use access::{Access, AccessKind, Agent, Handover};
+pub use effect::{Effect, Scope};
 pub use hazard::Hazard;
-pub use effect::{Scope, Effect};
+pub use node_access::{NodeAccess, node_accesses_of};
 pub use view::{View, view_of};
 
 #[cfg(test)]

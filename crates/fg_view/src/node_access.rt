@@ -1,7 +1,8 @@
 //! Accesses in an order.
 
-ghost use Rattle.std.specs.Prelude.{◌≡◌, ◌<◌, length, IfOk};
-ghost use Rattle.std.specs.List.{All};
+ghost use Rattle.std.specs.Prelude.{◌≡◌, ◌<◌, ℕ, length, IfOk};
+ghost use Rattle.fg_hb.specs.Orders.{Among, Order};
+ghost use Rattle.fg_view.specs.ShapedView.{Listed, ShapedView};
 ghost use Rattle.fg_view.specs.Views.{node_accesses_of};
 
 use crate::{Access, View};
@@ -16,9 +17,14 @@ pub struct NodeAccess {
 }
 
 /// The accesses of the nodes of `order`, node by node.
-pub fn node_accesses_of(alloc: Global, view: &View, order: &[u32]) -> Result<List<NodeAccess>, NoMemory>
-    requires { All (λ n. n < length view.now.effects) order.now }
-    ensures { IfOk result (λ node_accesses. node_accesses ≡ node_accesses_of view.now order.now) }
+pub fn node_accesses_of(
+    alloc: Global,
+    view: &View,
+    order: &[u32],
+) -> Result<List<NodeAccess>, NoMemory>
+    requires { (n : ℕ) → Among n order.now → n < length view.now.effects }
+    ensures listed { IfOk result (λ node_accesses. ShapedView view.now → Order view.now.nodes order.now → Listed view.now node_accesses) }
+    ensures accesses { IfOk result (λ node_accesses. node_accesses ≡ node_accesses_of view.now order.now) }
 {
     let mut node_accesses = List::new(alloc);
     for n in order {

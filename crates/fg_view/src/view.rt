@@ -7,7 +7,7 @@ ghost use Rattle.fg_view.specs.ShapedView.{ShapedView};
 ghost use Rattle.fg_view.specs.Views.{view_of, is_import, piece_imported, effect_at, piece_at, pieces_overlap, is_before_end, is_shared, has_agent, is_on, makes_available, makes_visible, clash, overlap, imported_at, shared_at, family_at};
 
 use crate::effects::effects_of;
-use crate::{Access, Agent, Scope, Effect};
+use crate::{Access, Agent, Effect, Scope};
 use fg_base::{Family, List, NoMemory};
 use fg_bits::Sharing;
 use fg_hb::{Edges, Node, direct};
@@ -27,7 +27,7 @@ pub struct View {
 
 impl Model for View {
     ghost use Rattle.fg_view.specs.Views.{View};
-    ghost use Rattle.fg_view.specs.Kept.{view_in};
+    ghost use Rattle.fg_view.specs.Code.Inside.{view_in};
 
     ghost Value = { View };
 

@@ -1,7 +1,7 @@
 use Rattle.std.proofs.Common.{length, take}
 use Rattle.fg_stated.specs.Fed.{FedBelow}
-use Rattle.fg_stated.specs.Found.{changes_bytes}
-use Rattle.fg_stated.specs.Tables.{IsLast}
+use Rattle.fg_stated.specs.PieceStates.{changes_bytes}
+use Rattle.fg_stated.specs.Code.Tables.{IsLast}
 use Rattle.fg_stated.proofs.fed.first_unfed.Given as goal
 
 abbrev pub invariant-loop-j : goal.invariant-loop-j

@@ -1,6 +1,6 @@
 use Rattle.std.proofs.Common.{length, take}
 use Rattle.fg_stated.specs.Stated.{StatedBelow}
-use Rattle.fg_stated.specs.Tables.{IsPast}
+use Rattle.fg_stated.specs.Code.Tables.{IsPast}
 use Rattle.fg_stated.proofs.stated.first_misstated.Given as goal
 
 abbrev pub invariant-loop-j : goal.invariant-loop-j

@@ -1,4 +1,4 @@
--- What a view keeps.
+-- What contracts see of the fields of a view.
 use Rattle.fg_view.specs.Views.{View}
 use Rattle.fg_view.specs.declared.view.View.TheInside.{Inside}
 

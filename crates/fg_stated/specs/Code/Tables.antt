@@ -6,13 +6,13 @@ use Rattle.fg_view.specs.ShapedView.{NodeAccessAt}
 use Rattle.fg_view.specs.Views.{View}
 use Rattle.fg_view.specs.declared.access.AccessKind.{AccessKind}
 use Rattle.fg_view.specs.declared.node_access.NodeAccess.{NodeAccess}
-use Rattle.fg_stated.specs.Found.{last_that, on_piece, on_queue, found_layout, found_owner, next_transfer, last_transfer}
+use Rattle.fg_stated.specs.PieceStates.{last_that, on_piece, on_queue, found_layout, found_owner, next_transfer, last_transfer}
 use Rattle.fg_stated.specs.declared.ahead.Ahead.{Ahead}
-use Rattle.fg_stated.specs.declared.found.Found.{Found}
+use Rattle.fg_stated.specs.declared.piece_state.PieceState.{PieceState}
 use Rattle.fg_stated.specs.declared.past.Past.{Past}
 
 -- the access is put where the test passes
-pub record Kept (test : ℕ → Bool) (a : NodeAccess) (old new : List (Option NodeAccess)) : Type 0 where
+pub record PutWhere (test : ℕ → Bool) (a : NodeAccess) (old new : List (Option NodeAccess)) : Type 0 where
   pub size : length new ≡ length old
   pub each : (p : ℕ) → p < length old → get_or new p None ≡ (if test p then Some a else get_or old p None)
 
@@ -28,9 +28,9 @@ pub record IsFirst (test : ℕ → NodeAccess → Bool) (pieces : ℕ) (accesses
 
 -- what comes before an access
 pub record IsPast (pieces : ℕ) (accesses : List NodeAccess) (past : Past) : Type 0 where
-  pub turned : IsLast (λ p. on_piece p access_kinds.sets_layout) pieces accesses past.turned
-  pub given : IsLast (λ p. on_piece p access_kinds.sets_owner) pieces accesses past.given
-  pub transferred : IsLast (λ p. on_piece p access_kinds.transfers) pieces accesses past.transferred
+  pub layouts : IsLast (λ p. on_piece p access_kinds.sets_layout) pieces accesses past.layouts
+  pub owners : IsLast (λ p. on_piece p access_kinds.sets_owner) pieces accesses past.owners
+  pub transfers : IsLast (λ p. on_piece p access_kinds.transfers) pieces accesses past.transfers
 
 -- of each access from j on the next transfer of its piece
 abbrev pub NextFrom : List NodeAccess → ℕ → List (Option AccessKind) → Type 0
@@ -45,7 +45,7 @@ pub record IsAhead (V : View) (accesses : List NodeAccess) (j : ℕ) (ahead : Ah
   pub next : NextFrom accesses j ahead.next
 
 -- what access j finds of a piece
-pub record Finds (V : View) (accesses : List NodeAccess) (j p : ℕ) (found : Found) : Type 0 where
+pub record Finds (V : View) (accesses : List NodeAccess) (j p : ℕ) (found : PieceState) : Type 0 where
   pub layout : found.layout ≡ found_layout accesses j p
   pub owner : found.owner ≡ found_owner V accesses j p
   pub last : found.last ≡ last_transfer accesses j p

@@ -9,7 +9,7 @@ use Rattle.fg_hb.specs.Edges.{is_host, node_at}
 use Rattle.fg_view.specs.AccessKinds.{changes, sets_layout, sets_owner, transfers}
 use Rattle.fg_view.specs.Views.{View, family_at, overlap}
 use Rattle.fg_view.specs.declared.access.AccessKind.{AccessKind}
-use Rattle.fg_view.specs.declared.access.AccessKind.TheVariants.{Load, Store, Transition, Discard, Release, Acquire}
+use Rattle.fg_view.specs.declared.access.AccessKind.TheVariants.{Transition, Discard, Release}
 use Rattle.fg_view.specs.declared.node_access.NodeAccess.{NodeAccess}
 
 -- the last access that is so
@@ -27,28 +27,21 @@ last_on test p accesses = last_that (on_piece p test) accesses
 
 -- LAYOUTS
 
-abbrev pub layout_left : AccessKind → Layout
-layout_left (Load agent layout) = Undefined
-layout_left (Store agent layout) = Undefined
-layout_left (Transition layouts) = layouts.to
-layout_left (Discard layout) = layout
-layout_left (Release handover) = Undefined
-layout_left (Acquire handover) = Undefined
+abbrev pub layout_after : AccessKind → Layout
+layout_after (Transition layouts) = layouts.to
+layout_after (Discard layout) = layout
+layout_after kind = Undefined
 
--- the layout that the last transition before access j left
+-- the layout that the last transition or discard before access j set
 abbrev pub found_layout : List NodeAccess → ℕ → ℕ → Layout
-found_layout accesses j p = option_map_or (λ a. layout_left a.access.kind) (last_on sets_layout p (take j accesses)) Undefined
+found_layout accesses j p = option_map_or (λ a. layout_after a.access.kind) (last_on sets_layout p (take j accesses)) Undefined
 
 -- OWNERS
 
 -- nobody owns a piece that is released
-abbrev pub owner_left : AccessKind → Option Family → Option Family
-owner_left (Load agent layout) family = family
-owner_left (Store agent layout) family = family
-owner_left (Transition layouts) family = family
-owner_left (Discard layout) family = family
-owner_left (Release handover) family = None
-owner_left (Acquire handover) family = family
+abbrev pub owner_after : AccessKind → Option Family → Option Family
+owner_after (Release handover) family = None
+owner_after kind family = family
 
 abbrev pub on_queue : View → ℕ → NodeAccess → Bool
 on_queue V p a = (a.access.piece == p) && not (is_host (node_at V.nodes a.node).kind)
@@ -57,21 +50,21 @@ on_queue V p a = (a.access.piece == p) && not (is_host (node_at V.nodes a.node).
 abbrev pub first_owner : View → List NodeAccess → ℕ → Option Family
 first_owner V accesses p = option_map_or (λ a. family_at V a.node) (find (on_queue V p) accesses) None
 
--- the owner that the last discard, release or acquire before access j left
+-- the owner that the last discard, release or acquire before access j set
 abbrev pub found_owner : View → List NodeAccess → ℕ → ℕ → Option Family
-found_owner V accesses j p = option_map_or (λ a. owner_left a.access.kind (family_at V a.node)) (last_on sets_owner p (take j accesses)) (first_owner V accesses p)
+found_owner V accesses j p = option_map_or (λ a. owner_after a.access.kind (family_at V a.node)) (last_on sets_owner p (take j accesses)) (first_owner V accesses p)
 
 -- TRANSFERS
 
-abbrev pub deed_of : Option NodeAccess → Option AccessKind
-deed_of found = option_map (λ a. a.access.kind) found
+abbrev pub kind_of : Option NodeAccess → Option AccessKind
+kind_of found = option_map (λ a. a.access.kind) found
 
 -- the next transfer of the piece after access j, and the last one before it
 abbrev pub next_transfer : List NodeAccess → ℕ → ℕ → Option AccessKind
-next_transfer accesses j p = deed_of (find (on_piece p transfers) (drop (suc j) accesses))
+next_transfer accesses j p = kind_of (find (on_piece p transfers) (drop (suc j) accesses))
 
 abbrev pub last_transfer : List NodeAccess → ℕ → ℕ → Option AccessKind
-last_transfer accesses j p = deed_of (last_on transfers p (take j accesses))
+last_transfer accesses j p = kind_of (last_on transfers p (take j accesses))
 
 -- CHANGES
 
