@@ -3,7 +3,7 @@
 
     bench/compare.py OTHER [--ours PROGRAM] [--runs 5] [--case NAME ..]
 
-First whole commands: `run`, `meaning` and `cull` of the deferred frame of examples/, `cull` of nearly 16 MiB of imports and
+First whole commands: `run`, `meaning` and `cull` of the deferred frame of examples/frames/, `cull` of nearly 16 MiB of imports and
 of 256 passes that read and change each of 256 buffers, and `check` of submissions with as many nodes as there can be:
 barriers alone; fills of one buffer with a full barrier between each two; one fill and its many readers; fills of many
 buffers that share memory. Then each operation: a frame applies it again and again to images of 1920 by 1080 texels and
@@ -183,7 +183,7 @@ def written(folder, name, value):
 
 def commands(folder):
     """Name, word and file."""
-    deferred = TOP / "examples" / "deferred.json"
+    deferred = TOP / "examples/frames/deferred.json"
     for word in ("run", "meaning", "cull"):
         yield f"{word} deferred", word, deferred
     yield "cull 16 MiB", "cull", written(folder, "large.json", large())

@@ -11,6 +11,7 @@ pub mod Names
 pub mod Operands
 pub mod Paths
 pub mod Reads
+pub mod Rooms
 pub mod Runs
 pub mod Shapes
 pub mod Taps

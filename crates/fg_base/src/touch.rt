@@ -18,6 +18,23 @@ pub struct Touch {
     pub whole: bool,
 }
 
+impl<R: Copy> Op<R> {
+    /// As what it stores to its destination. A draw that does not clear loads it first.
+    pub fn destination_role(&self) -> Role
+        ensures { result ≡ destination_role self.now }
+    {
+        match self {
+            Op::FillBuffer { .. } | Op::ClearImage { .. } => Role::ClearWrite,
+            Op::CopyBuffer { .. } | Op::CopyImage { .. } => Role::CopyWrite,
+            Op::BufferToImage { .. } | Op::ImageToBuffer { .. } => Role::CopyWrite,
+            Op::Draw { clear, .. } => Role::Attachment {
+                load: clear.is_none(),
+            },
+            _ => Role::StorageWrite,
+        }
+    }
+}
+
 impl Op<u32> {
     /// Whether the resource with the number `n` is one of its operands.
     pub fn touches(&self, n: u32) -> bool
@@ -41,7 +58,7 @@ impl Op<u32> {
         if k + 1 == self.touch_count() {
             return Touch {
                 what,
-                role: destination_role(self),
+                role: self.destination_role(),
                 whole: is_whole(self, shapes),
             };
         }
@@ -69,19 +86,5 @@ fn kernel_role(shape: Shape) -> Role
     match shape {
         Shape::Buffer { .. } => Role::StorageRead,
         Shape::Image { .. } => Role::Sampled,
-    }
-}
-
-fn destination_role(op: &Op<u32>) -> Role
-    ensures { result ≡ destination_role op.now }
-{
-    match op {
-        Op::FillBuffer { .. } | Op::ClearImage { .. } => Role::ClearWrite,
-        Op::CopyBuffer { .. } | Op::CopyImage { .. } => Role::CopyWrite,
-        Op::BufferToImage { .. } | Op::ImageToBuffer { .. } => Role::CopyWrite,
-        Op::Draw { clear, .. } => Role::Attachment {
-            load: clear.is_none(),
-        },
-        _ => Role::StorageWrite,
     }
 }

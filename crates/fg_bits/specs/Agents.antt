@@ -33,3 +33,7 @@ agents_from stages accesses bit (agent ∷ rows) found =
 -- bit k stands for agent k
 abbrev pub agents : ℕ → ℕ → ℕ
 agents stages accesses = agents_from (expand stages) (expand_accesses accesses) 1 agent_table 0
+
+-- the last row's bit: the agents of each queue are before it
+abbrev pub host_agent : ℕ
+host_agent = 256

@@ -2,6 +2,7 @@ pub mod Accesses
 pub mod Agents
 pub mod Families
 pub mod Layouts
+pub mod Roles
 pub mod Sets
 pub mod Stages
 pub mod Support

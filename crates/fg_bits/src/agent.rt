@@ -6,6 +6,9 @@ ghost use Rattle.fg_bits.specs.Agents.{agents};
 use crate::{Accesses, Stages};
 use bitflags::Flags;
 
+/// The bit of the host among agents.
+pub const HOST_AGENT: u16 = 256;
+
 // The bit of an agent, where its stage and its access are there.
 fn part(has_stage: bool, has_access: bool, bit: u16) -> u16
     ensures { result ≡ (if has_stage && has_access then bit else 0) }
@@ -13,8 +16,8 @@ fn part(has_stage: bool, has_access: bool, bit: u16) -> u16
     if has_stage && has_access { bit } else { 0 }
 }
 
-/// The agents of a queue with these stages and accesses, after both are expanded. Bit k stands for agent k, and bit 8 for
-/// the host.
+/// The agents of a queue with these stages and accesses, after both are expanded. Bit k stands for agent k, and
+/// the bit `HOST_AGENT` for the host.
 pub fn agents(stages: Stages, accesses: Accesses) -> u16
     ensures { result ≡ agents stages.0 accesses.0 }
 {
@@ -38,5 +41,5 @@ pub fn agents(stages: Stages, accesses: Accesses) -> u16
         | part(copy, accesses.contains(Accesses::TRANSFER_READ), 32)
         | part(copy, store, 64)
         | part(clear, store, 128)
-        | part(host, accesses.contains(Accesses::HOST_READ), 256)
+        | part(host, accesses.contains(Accesses::HOST_READ), HOST_AGENT)
 }

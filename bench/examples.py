@@ -1,0 +1,93 @@
+#!/usr/bin/env python3
+"""Runs the program on every file of examples/ and compares what it prints with the tables of docs/EXAMPLES.md.
+
+    bench/examples.py [--program PROGRAM]
+
+A submission has to print its hazard with status 1, and its twin the other text with status 0. A frame's `cull` has to begin
+with the line of the table; `run` has to print that line, the culled passes and then what `meaning` prints; and the frame's
+canonical text has to be its own canonical text, and to run as the frame does. Each file of the folders needs a row, and each
+hazard H1 to H9 a file.
+"""
+
+import argparse
+import re
+import subprocess
+import sys
+from pathlib import Path
+
+TOP = Path(__file__).resolve().parent.parent
+BUILT = TOP / "crates/framec/out/framec"
+FRAMES = TOP / "examples/frames"
+SUBMISSIONS = TOP / "examples/submissions"
+
+
+def rows(heading):
+    """The cells of the table under a heading of docs/EXAMPLES.md, without its first two lines."""
+    text = (TOP / "docs/EXAMPLES.md").read_text(encoding="utf-8")
+    part = text.split(f"## {heading}\n", 1)[1].split("\n## ", 1)[0]
+    lines = [line for line in part.splitlines() if line.startswith("|")]
+    return [[cell.strip() for cell in line.strip("|").split("|")] for line in lines[2:]]
+
+
+def code(cell):
+    """The text of a cell that is one piece of code."""
+    found = re.fullmatch(r"`([^`]+)`", cell)
+    return found.group(1) if found else sys.exit(f"docs/EXAMPLES.md: {cell} is no code")
+
+
+class Runs:
+    def __init__(self, program):
+        self.program = program
+        self.count = 0
+        self.differences = []
+
+    def run(self, word, text):
+        done = subprocess.run([self.program, word], input=text, capture_output=True)
+        self.count += 1
+        return done.returncode, done.stdout
+
+    def expect(self, what, got, wanted):
+        if got != wanted:
+            self.differences.append(f"{what}: got {got!r}, wanted {wanted!r}"[:600])
+
+    def submission(self, path, line, status):
+        self.expect(f"check < {path.name}", self.run("check", path.read_bytes()), (status, f"{line}\n".encode()))
+
+    def frame(self, path, first):
+        text = path.read_bytes()
+        status, culled = self.run("cull", text)
+        lines = culled.decode().splitlines()
+        self.expect(f"cull < {path.name}", (status, lines[:1]), (0, [first]))
+        named = [f"culled {line.split()[1]}" for line in lines[1:] if line.endswith(" culled")]
+        _, exports = self.run("meaning", text)
+        ran = self.run("run", text)
+        self.expect(f"run < {path.name}", ran, (0, "".join(f"{line}\n" for line in [first, *named]).encode() + exports))
+        _, canonical = self.run("migrate", text)
+        self.expect(f"migrate < {path.name}, twice", self.run("migrate", canonical), (0, canonical))
+        self.expect(f"run of the canonical text of {path.name}", self.run("run", canonical), ran)
+
+
+def main():
+    parser = argparse.ArgumentParser(description=__doc__, formatter_class=argparse.RawDescriptionHelpFormatter)
+    parser.add_argument("--program", default=str(BUILT))
+    runs = Runs(parser.parse_args().program)
+    submissions = {code(row[0]): row for row in rows("Submissions that are wrong")}
+    for name, row in submissions.items():
+        runs.submission(SUBMISSIONS / name, code(row[2]), 1)
+        runs.submission(SUBMISSIONS / name.replace(".json", "_mended.json"), code(row[4]), 0)
+    twins = {name.replace(".json", "_mended.json") for name in submissions}
+    runs.expect("files of examples/submissions", {path.name for path in SUBMISSIONS.iterdir()}, twins | set(submissions))
+    shown = {code(row[2]).split()[1] for row in submissions.values()}
+    runs.expect("hazards that are shown", shown, {f"H{number}" for number in range(1, 10)})
+    frames = {code(row[0]): code(row[2]) for row in rows("Frames")}
+    for name, first in frames.items():
+        runs.frame(FRAMES / name, first)
+    runs.expect("files of examples/frames", {path.name for path in FRAMES.iterdir()}, set(frames))
+    for line in runs.differences:
+        print(line, file=sys.stderr)
+    print(f"examples: {runs.count} runs, {len(runs.differences)} differences")
+    sys.exit(1 if runs.differences else 0)
+
+
+if __name__ == "__main__":
+    main()

@@ -1,0 +1,296 @@
+#!/usr/bin/env python3
+"""Draws the pictures of docs/MODEL.md and docs/ARCHITECTURE.md into docs/pictures/.
+
+    bench/pictures.py [--check]
+
+The crates come from crates.txt, the passes from examples/frames/deferred.json. With --check nothing is written, and the status
+is 1 where a picture is not what would be drawn.
+"""
+
+import argparse
+import json
+import sys
+from pathlib import Path
+from xml.sax.saxutils import escape
+
+TOP = Path(__file__).resolve().parent.parent
+FOLDER = TOP / "docs/pictures"
+
+INK, PALE, LINE = "#1c2430", "#8a93a3", "#5b6678"
+FILLS = {"plain": "#eef2f7", "blue": "#dbe8fb", "green": "#dff2e1", "amber": "#fdeccb", "rose": "#fbdfdf", "none": "#ffffff"}
+
+
+class Picture:
+    def __init__(self, width, height):
+        self.width, self.height, self.parts = width, height, []
+
+    def box(self, x, y, width, height, lines, fill="plain", dashed=False):
+        dash = ' stroke-dasharray="5 4"' if dashed else ""
+        ink = PALE if dashed else INK
+        self.parts.append(f'<rect x="{x}" y="{y}" width="{width}" height="{height}" rx="5" fill="{FILLS[fill]}" stroke="{LINE}"{dash}/>')
+        first = y + height / 2 - 8 * (len(lines) - 1) + 4.5
+        for k, line in enumerate(lines):
+            self.text(x + width / 2, first + 16 * k, line, ink=ink)
+
+    def text(self, x, y, line, size=13, anchor="middle", ink=INK, weight="normal"):
+        self.parts.append(f'<text x="{x:g}" y="{y:g}" font-size="{size}" text-anchor="{anchor}" fill="{ink}" font-weight="{weight}">{escape(line)}</text>')
+
+    def line(self, points, dashed=False, head=True, ink=LINE):
+        path = "M" + " L".join(f"{x:g} {y:g}" for x, y in points)
+        self.path(path, dashed, head, ink)
+
+    def path(self, path, dashed=False, head=True, ink=LINE):
+        dash = ' stroke-dasharray="5 4"' if dashed else ""
+        mark = ' marker-end="url(#head)"' if head else ""
+        self.parts.append(f'<path d="{path}" fill="none" stroke="{ink}"{dash}{mark}/>')
+
+    def svg(self):
+        head = (
+            f'<svg xmlns="http://www.w3.org/2000/svg" width="{self.width}" height="{self.height}" viewBox="0 0 {self.width} {self.height}"'
+            ' font-family="Helvetica, Arial, sans-serif">\n'
+            '<defs><marker id="head" markerWidth="9" markerHeight="8" refX="8" refY="4" orient="auto">'
+            f'<path d="M0 0 L9 4 L0 8 z" fill="{LINE}"/></marker></defs>\n'
+            f'<rect width="{self.width}" height="{self.height}" fill="#ffffff"/>\n'
+        )
+        return head + "\n".join(self.parts) + "\n</svg>\n"
+
+
+def reached(edges, start):
+    """What is reached from a name by one step or more."""
+    found, left = set(), list(edges.get(start, ()))
+    while left:
+        name = left.pop()
+        if name not in found:
+            found.add(name)
+            left += edges.get(name, ())
+    return found
+
+
+def crate_lines():
+    """The crates of the repository that each of them stands on."""
+    lines = [line.split(":") for line in (TOP / "crates.txt").read_text(encoding="utf-8").splitlines() if ":" in line and not line.startswith("#")]
+    names = [name.split()[0] for name, _ in lines]
+    return {name.split()[0]: [dep for dep in deps.split() if dep in names] for name, deps in lines}
+
+
+GROUPS = [
+    ("blue", "frames", {"fg_frame", "fg_versions", "fg_meaning", "fg_pixels", "fg_draw"}),
+    ("rose", "submissions", {"fg_subs", "fg_hb", "fg_view", "fg_ties", "fg_stated", "fg_checker", "fg_reach"}),
+    ("green", "files", {"fg_forms", "fg_opforms", "fg_shapeforms", "fg_framefile", "fg_subfile"}),
+    ("amber", "the program", {"fg_words", "fg_lines", "fg_report", "fg_top", "framec"}),
+]
+
+
+def fill_of(crate):
+    return next((fill for fill, _, crates in GROUPS if crate in crates), "plain")
+
+
+def levels(deps):
+    """The crates by the longest way down, lowest first."""
+    depth = {}
+
+    def of(name):
+        if name not in depth:
+            depth[name] = 1 + max((of(dep) for dep in deps[name]), default=-1)
+        return depth[name]
+
+    rows = [[] for _ in range(1 + max(of(name) for name in deps))]
+    for name in deps:
+        rows[depth[name]].append(name)
+    return rows
+
+
+def crates():
+    """Each crate above those that it stands on; a line that others stand for is left out."""
+    deps = crate_lines()
+    direct = {name: [dep for dep in below if not any(dep in reached(deps, other) for other in below)] for name, below in deps.items()}
+    rows = levels(deps)
+    level = {name: k for k, row in enumerate(rows) for name in row}
+    chains = []
+    for name, below in direct.items():
+        for dep in below:
+            bends = [(name, dep, k) for k in range(level[name] - 1, level[dep], -1)]
+            for bend in bends:
+                rows[bend[2]].append(bend)
+            chains.append([name, *bends, dep])
+    beside = {item: [] for row in rows for item in row}
+    for chain in chains:
+        for upper, lower in zip(chain, chain[1:]):
+            beside[upper].append(lower)
+            beside[lower].append(upper)
+    wide, high, gap, between = 112, 30, 50, 18
+    place = {}
+
+    def set_out(row, order):
+        """Puts a row's crates and bends side by side, round the middle."""
+        widths = [wide if isinstance(item, str) else 0 for item in order]
+        left = -(sum(widths) + between * (len(order) - 1)) / 2
+        for item, width in zip(order, widths):
+            place[item] = left + width / 2
+            left += width + between
+
+    for row in rows:
+        set_out(row, sorted(row, key=str))
+    for _ in range(40):
+        for row in [*rows, *reversed(rows)]:
+            wish = {item: sum(place[other] for other in beside[item]) / max(1, len(beside[item])) for item in row}
+            set_out(row, sorted(row, key=lambda item: (wish[item], str(item))))
+    left = min(place.values()) - wide / 2
+    picture = Picture(round(max(place.values()) + wide / 2 - left) + 40, len(rows) * (high + gap) + 46)
+
+    def spot(item):
+        k = level[item] if isinstance(item, str) else item[2]
+        return round(place[item] - left + 20), 20 + (len(rows) - 1 - k) * (high + gap)
+
+    for chain in chains:
+        x, y = spot(chain[0])
+        path = f"M{x} {y + high}"
+        for item in chain[1:]:
+            to_x, to_y = spot(item)
+            turn = (to_y - y - high) // 2
+            path += f" C{x} {y + high + turn} {to_x} {to_y - turn} {to_x} {to_y}"
+            if not isinstance(item, str):
+                path += f" L{to_x} {to_y + high}"
+            x, y = to_x, to_y
+        picture.path(path, head=False, ink=PALE)
+    for name in deps:
+        x, y = spot(name)
+        picture.box(x - wide // 2, y, wide, high, [name], fill_of(name))
+    for k, (fill, word, _) in enumerate([*GROUPS, ("plain", "all of them", set())]):
+        picture.box(20 + k * 130, picture.height - 34, 18, 18, [], fill)
+        picture.text(44 + k * 130, picture.height - 20, word, anchor="start")
+    return picture
+
+
+def passes():
+    """The passes of the deferred frame by queue, what each reads of another, and which are culled."""
+    frame = json.loads((TOP / "examples/frames/deferred.json").read_text(encoding="utf-8"))
+    maker, edges, depth = {}, {}, {}
+    for one in frame["passes"]:
+        edges[one["name"]] = sorted({maker[name] for name in one.get("reads", [])})
+        depth[one["name"]] = 1 + max((depth[name] for name in edges[one["name"]]), default=-1)
+        for write in one["writes"]:
+            maker[write["new"]] = one["name"]
+    seen = {maker[name] for name in frame["exports"]}
+    for name in list(seen):
+        seen |= reached(edges, name)
+    lanes = [queue["name"] for queue in frame["queues"]]
+    columns = {}
+    for one in frame["passes"]:
+        columns.setdefault((depth[one["name"]], one["queue"]), []).append(one["name"])
+    tall = {lane: max([len(names) for (_, queue), names in columns.items() if queue == lane], default=1) for lane in lanes}
+    wide, high, column, row = 62, 26, 92, 36
+    top, tops = 16, {}
+    for lane in lanes:
+        tops[lane] = top
+        top += tall[lane] * row + 26
+    picture = Picture(110 + (1 + max(depth.values())) * column + 20, top + 20)
+    spots = {}
+    for (level, lane), names in columns.items():
+        for k, name in enumerate(names):
+            spots[name] = 110 + level * column, tops[lane] + 8 + k * row
+    families = {queue["name"]: queue["family"] for queue in frame["queues"]}
+    for lane in lanes:
+        picture.parts.append(f'<rect x="8" y="{tops[lane]}" width="{picture.width - 16}" height="{tall[lane] * row + 16}" rx="6" fill="#f7f9fc" stroke="#d5dbe4"/>')
+        picture.text(18, tops[lane] + (tall[lane] * row + 16) / 2 + 4, f"{families[lane]}", anchor="start", weight="bold")
+    for name, below in edges.items():
+        x, y = spots[name]
+        for source in below:
+            from_x, from_y = spots[source]
+            start, end, turn = from_x + wide, x - 2, max(14, (x - from_x - wide) / 2)
+            picture.path(f"M{start:g} {from_y + high / 2:g} C{start + turn:g} {from_y + high / 2:g} {end - turn:g} {y + high / 2:g} {end:g} {y + high / 2:g}", name not in seen, ink=PALE)
+    for name, (x, y) in spots.items():
+        picture.box(x, y, wide, high, [name], "green" if name in seen else "none", name not in seen)
+    picture.text(18, picture.height - 10, "from a maker to its reader; dashed: culled, since no export needs it", anchor="start", size=12)
+    return picture
+
+
+def passed():
+    """What a store needs before a load finds its bytes, and the hazard where a link is not there."""
+    picture = Picture(980, 260)
+    boxes = [
+        (20, "rose", ["store", "of a draw, by its agent:", "COLOR_ATTACHMENT_WRITE"]),
+        (266, "amber", ["made available", "by a barrier's source", "stages and accesses"]),
+        (514, "amber", ["made visible", "by a barrier's destination", "stages and accesses"]),
+        (762, "green", ["load", "of a blur, by its agent:", "SHADER_SAMPLED_READ"]),
+    ]
+    for x, fill, lines in boxes:
+        picture.box(x, 16, 198, 70, lines, fill)
+    for x in (218, 464, 712):
+        picture.line([(x, 51), (x + 48, 51)])
+    picture.box(20, 132, 198, 40, ["the draw's cache"], "none")
+    picture.box(266, 132, 446, 40, ["memory"], "none")
+    picture.box(762, 132, 198, 40, ["the sampler's cache"], "none")
+    for x in (119, 365, 613, 861):
+        picture.line([(x, 86), (x, 130)], dashed=True)
+    for x in (218, 712):
+        picture.line([(x, 152), (x + 48, 152)])
+    picture.text(242, 122, "written", size=12)
+    picture.text(737, 122, "read", size=12)
+    for x, words in ((242, ["no barrier: H2", "no source access: H3"]), (737, ["another stage: H2", "another destination access: H4"])):
+        for k, word in enumerate(words):
+            picture.text(x, 200 + 18 * k, word, size=12)
+    picture.text(490, 246, "Each arrow above is an edge: the stages of both ends meet. A transition is available from its own node on, and finds memory by itself.", size=12)
+    return picture
+
+
+def transfer():
+    """A transfer of ownership between two queues."""
+    picture = Picture(940, 330)
+    for y, word in ((52, "compute queue"), (176, "graphics queue")):
+        picture.parts.append(f'<rect x="8" y="{y}" width="924" height="84" rx="6" fill="#f7f9fc" stroke="#d5dbe4"/>')
+        picture.text(20, y + 20, word, anchor="start", weight="bold")
+    nodes = [
+        (140, 80, "plain", ["transition"]),
+        (264, 80, "green", ["ramp stores"]),
+        (388, 80, "amber", ["release"]),
+        (512, 80, "plain", ["signal 1"]),
+        (540, 204, "plain", ["wait for 1"]),
+        (664, 204, "amber", ["acquire"]),
+        (788, 204, "green", ["box3 loads"]),
+    ]
+    for x, y, fill, lines in nodes:
+        picture.box(x, y, 104, 38, lines, fill)
+    for x in (244, 368, 492):
+        picture.line([(x, 99), (x + 18, 99)])
+    for x in (644, 768):
+        picture.line([(x, 223), (x + 18, 223)])
+    picture.line([(570, 118), (586, 202)])
+    picture.path("M440 118 C440 165 690 150 712 202", dashed=True)
+    picture.text(430, 158, "two halves of one transfer:", size=12, anchor="end")
+    picture.text(430, 172, "the same families and layouts", size=12, anchor="end")
+    rows = [
+        (30, "owner", [(140, "compute, which touches it first"), (412, "nobody"), (688, "graphics")]),
+        (290, "layout", [(140, "GENERAL"), (640, "SHADER_READ_ONLY_OPTIMAL, by the acquire")]),
+        (314, "hazards", [(140, "no release or no acquire: H7"), (400, "neither: H6"), (640, "no wait: H2")]),
+    ]
+    for y, word, notes in rows:
+        picture.text(20, y, word, anchor="start", weight="bold")
+        for x, note in notes:
+            picture.text(x, y, note, anchor="start", size=12)
+    return picture
+
+
+PICTURES = {"crates": crates, "deferred": passes, "passed": passed, "transfer": transfer}
+
+
+def main():
+    parser = argparse.ArgumentParser(description=__doc__, formatter_class=argparse.RawDescriptionHelpFormatter)
+    parser.add_argument("--check", action="store_true")
+    check = parser.parse_args().check
+    FOLDER.mkdir(exist_ok=True)
+    stale = []
+    for name, draw in PICTURES.items():
+        path, text = FOLDER / f"{name}.svg", draw().svg()
+        if check and (not path.exists() or path.read_text(encoding="utf-8") != text):
+            stale.append(path.relative_to(TOP))
+        if not check:
+            path.write_text(text, encoding="utf-8")
+    for path in stale:
+        print(f"{path} is not what bench/pictures.py draws", file=sys.stderr)
+    print(f"pictures: {len(PICTURES)}, {len(stale)} stale")
+    sys.exit(1 if stale else 0)
+
+
+if __name__ == "__main__":
+    main()

@@ -1,0 +1,94 @@
+#!/usr/bin/env python3
+"""Runs each command line that the README and the docs print, and compares what comes with what stands there.
+
+    bench/printed.py [--program PROGRAM]
+
+A fenced block marked `console` has command lines that begin with `$ `, each with its whole text below it: standard output and
+standard error. A line `...` stands for any lines, and `$ echo $?` prints the status of the line before. The lines are run at
+the top of the repository, with the built program in place of `./framec`. No other block may have a line that begins with `$ `.
+"""
+
+import argparse
+import subprocess
+import sys
+from pathlib import Path
+
+TOP = Path(__file__).resolve().parent.parent
+BUILT = TOP / "crates/framec/out/framec"
+
+
+def pages():
+    return sorted([*TOP.glob("*.md"), *TOP.glob("docs/*.md"), *TOP.glob("crates/*/*.md")])
+
+
+def blocks(path):
+    """Number of the first line, mark and lines of each fenced block."""
+    start, mark, inside = None, "", []
+    for number, line in enumerate(path.read_text(encoding="utf-8").splitlines(), 1):
+        if line.startswith("```"):
+            if start is None:
+                start, mark, inside = number + 1, line[3:].strip(), []
+            else:
+                yield start, mark, inside
+                start = None
+        elif start is not None:
+            inside.append(line)
+
+
+def commands(start, lines):
+    """Number of the line, command and text of each command line of a block."""
+    found = []
+    for number, line in enumerate(lines, start):
+        if line.startswith("$ "):
+            found.append((number, line[2:], []))
+        elif found:
+            found[-1][2].append(line)
+        else:
+            sys.exit(f"a block begins with {line!r}, which is no command line")
+    return found
+
+
+def is_as_printed(got, wanted):
+    """Whether the lines are those that were wanted, where `...` stands for any lines."""
+    if not wanted:
+        return not got
+    if wanted[0] == "...":
+        return any(is_as_printed(got[k:], wanted[1:]) for k in range(len(got) + 1))
+    return bool(got) and got[0] == wanted[0] and is_as_printed(got[1:], wanted[1:])
+
+
+def printed(command, program, status):
+    """The lines that a command line prints, and its status."""
+    if command == "echo $?":
+        return [str(status)], 0
+    if command.startswith("./framec"):
+        command = f"'{program}'" + command[len("./framec"):]
+    done = subprocess.run(["bash", "-c", command], cwd=TOP, stdout=subprocess.PIPE, stderr=subprocess.STDOUT)
+    return done.stdout.decode(errors="replace").splitlines(), done.returncode
+
+
+def main():
+    parser = argparse.ArgumentParser(description=__doc__, formatter_class=argparse.RawDescriptionHelpFormatter)
+    parser.add_argument("--program", default=str(BUILT))
+    program = Path(parser.parse_args().program).resolve()
+    ran, wrong = 0, []
+    for path in pages():
+        name = path.relative_to(TOP)
+        for start, mark, lines in blocks(path):
+            if mark != "console":
+                wrong += [f"{name}:{start}: a command line in a block that is not marked" for line in lines if line.startswith("$ ")]
+                continue
+            status = 0
+            for number, command, wanted in commands(start, lines):
+                got, status = printed(command, program, status)
+                ran += 1
+                if not is_as_printed(got, wanted):
+                    wrong.append(f"{name}:{number}: {command} prints\n" + "\n".join(got[:40]))
+    for line in wrong:
+        print(line, file=sys.stderr)
+    print(f"printed: {ran} command lines, {len(wrong)} differences")
+    sys.exit(1 if wrong else 0)
+
+
+if __name__ == "__main__":
+    main()
