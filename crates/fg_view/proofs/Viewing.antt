@@ -1,29 +1,30 @@
 -- The view of a program that breaks no rule.
-use Rattle.std.proofs.Common.{◌≡◌, ◌⊎◌, inl, inr, ◌<◌, ◌≤◌, ◌==◌, ℕ, true, false, not, length, get_or, slice_get, Some, None, sym, ap, ◌∙◌, subst, ⊎_elim, arith}
+use Rattle.std.proofs.Common.{List, ◌≡◌, ◌⊎◌, inl, inr, ◌<◌, ◌≤◌, ◌==◌, ℕ, true, false, not, length, get_or, slice_get, Some, None, sym, ap, ◌∙◌, subst, ⊎_elim, arith}
 use Rattle.std.specs.Int.Bits.{bit_and, and_zero_l}
+use Rattle.std.specs.List.{All}
 use Rattle.std.proofs.lemmas.Bool.{cases_lt, and_parts, false_from_ne_true, leb-true}
 use Rattle.std.proofs.lemmas.List.{get_or-map, get_or_past, length-map}
 use Rattle.std.proofs.lemmas.Option.{slice_get-get_or}
 use Rattle.fg_base.specs.Shapes.{bytes_of}
 use Rattle.fg_base.specs.declared.shape.Family.{Family}
+use Rattle.fg_base.specs.declared.shape.Shape.{Shape}
+use Rattle.fg_bits.specs.Agents.{host_agent}
 use Rattle.fg_hb.specs.Edges.{is_host, is_sync, node_at}
-use Rattle.fg_hb.specs.Nodes.{node_in, nowhere}
+use Rattle.fg_hb.specs.Nodes.{entry_node, nowhere}
 use Rattle.fg_hb.specs.declared.kind.Kind.{Kind}
 use Rattle.fg_hb.specs.declared.kind.Kind.TheVariants as kinds
-use Rattle.fg_subs.proofs.Standing.{node_stands}
-use Rattle.fg_subs.specs.Kept.{IsNode, IsSmall, Keeps}
-use Rattle.fg_subs.specs.Nodes.{nodes_of}
+use Rattle.fg_subs.specs.Entries.{Entry, OfHost, entries_of}
+use Rattle.fg_subs.specs.Obeys.{EntryObeys, IsSmall}
 use Rattle.fg_subs.specs.Rules.{shapes_of}
-use Rattle.fg_subs.specs.declared.nodes.NodeAt.{NodeAt}
-use Rattle.fg_subs.specs.declared.nodes.NodeAt.TheVariants as at
 use Rattle.fg_subs.specs.declared.program.Program.{Program}
 use Rattle.fg_subs.specs.declared.rule.Rule.{Rule}
+use Rattle.fg_subs.specs.declared.rule.Rule.TheVariants as rules
 use Rattle.fg_view.proofs.Entries.{entry_of, after_change, after_owner}
 use Rattle.fg_view.proofs.Fitting.{Does, FitsNode, nowhere_fits}
-use Rattle.fg_view.proofs.Placing.{place_fits, place_family}
+use Rattle.fg_view.proofs.Placing.{entry_fits, entry_family}
 use Rattle.fg_view.specs.AccessKinds.{sets_owner}
 use Rattle.fg_view.specs.ShapedView.{IsByQueue, IsByBarrier, AccessAt, ShapedView}
-use Rattle.fg_view.specs.Effects.{no_effect, effect_in}
+use Rattle.fg_view.specs.Effects.{no_effect, entry_effect}
 use Rattle.fg_view.specs.Views.{View, view_of, piece_imported, effect_at, accesses_of, queue_at, family_at, has_agent, is_on, no_piece, piece_at}
 use Rattle.fg_view.specs.declared.access.Access.{Access}
 use Rattle.fg_view.specs.declared.access.Agent.{Agent}
@@ -60,7 +61,7 @@ nobody q (agent.Of queue bit) h =
     let e = (and_parts (queue == q) (not (bit_and 0 bit == 0)) h).1 in
     let f = nothing_meets bit in
     absurd cc
-nobody q agent.Host h = let f = nothing_meets 256 in absurd cc
+nobody q agent.Host h = let f = nothing_meets host_agent in absurd cc
 
 someone_syncs : (node_kind : Kind) (q set : ℕ) (a : Agent) → (is_sync node_kind ≡ true) ⊎ (set ≡ 0) → has_agent q set a ≡ true → is_sync node_kind ≡ true
 someone_syncs node_kind q set a (inl e) h = e
@@ -68,42 +69,48 @@ someone_syncs node_kind q set a (inr e) h = absurd (nobody q a (subst (λ s. has
 
 -- THE VIEW
 
-module _ (program : Program) (keeps : (rule : Rule) → Keeps rule program) (small : IsSmall program) where
+module _ (program : Program) (small : IsSmall program) (obeys : (rule : Rule) → All (EntryObeys rule program) (entries_of program)) where
   abbrev V : View
   V = view_of program
 
-  abbrev pieces : ℕ
-  pieces = length (shapes_of program)
+  abbrev shapes : List Shape
+  shapes = shapes_of program
 
-  count : length V.nodes ≡ length (nodes_of program)
-  count = length-map (nodes_of program) (node_in program)
+  abbrev queues : ℕ
+  queues = length program.queues
 
-  abbrev place : ℕ → NodeAt
-  place n = get_or (nodes_of program) n (at.Host 0)
+  abbrev entry : ℕ → Entry
+  entry n = get_or (entries_of program) n (OfHost 0)
 
-  node_is : (n : ℕ) → n < length (nodes_of program) → node_at V.nodes n ≡ node_in program (place n)
-  node_is n lt = get_or-map (node_in program) (nodes_of program) n (at.Host 0) (nowhere 0) lt
+  count : length V.nodes ≡ length (entries_of program)
+  count = length-map (entries_of program) (entry_node queues)
 
-  stands : (n : ℕ) → n < length (nodes_of program) → IsNode program (place n)
-  stands n lt = node_stands program n (place n) lt (slice_get-get_or (nodes_of program) n (at.Host 0) lt)
+  effect_count : length V.effects ≡ length (entries_of program)
+  effect_count = length-map (entries_of program) (entry_effect shapes)
 
-  fits : (n : ℕ) → FitsNode pieces (node_at V.nodes n) (effect_at V n)
+  node_is : (n : ℕ) → n < length (entries_of program) → node_at V.nodes n ≡ entry_node queues (entry n)
+  node_is n lt = get_or-map (entry_node queues) (entries_of program) n (OfHost 0) (nowhere 0) lt
+
+  known_entry : (n : ℕ) → n < length (entries_of program) → EntryObeys rules.Known program (entry n)
+  known_entry n lt = obeys rules.Known n (OfHost 0) lt
+
+  fits : (n : ℕ) → FitsNode (length shapes) (node_at V.nodes n) (effect_at V n)
   fits n = ⊎_elim
-      (λ (lt : n < length (nodes_of program)).
-      subst (λ x. FitsNode pieces x (effect_at V n)) (sym (node_is n lt))
-      (subst (λ u. FitsNode pieces (node_in program (place n)) u) (sym (get_or-map (effect_in (shapes_of program) program) (nodes_of program) n (at.Host 0) no_effect lt))
-      (place_fits program keeps (place n) (stands n lt))))
-      (λ (ge : length (nodes_of program) ≤ n).
-      subst (λ x. FitsNode pieces x (effect_at V n)) (sym (get_or_past V.nodes n (nowhere 0) (subst (λ m. m ≤ n) (sym count) ge)))
-      (subst (λ u. FitsNode pieces (nowhere 0) u) (sym (get_or_past V.effects n no_effect (subst (λ m. m ≤ n) (sym (length-map (nodes_of program) (effect_in (shapes_of program) program))) ge)))
-      (nowhere_fits pieces)))
-      (cases_lt n (length (nodes_of program)))
+      (λ (lt : n < length (entries_of program)).
+      subst (λ x. FitsNode (length shapes) x (effect_at V n)) (sym (node_is n lt))
+      (subst (λ u. FitsNode (length shapes) (entry_node queues (entry n)) u) (sym (get_or-map (entry_effect shapes) (entries_of program) n (OfHost 0) no_effect lt))
+      (entry_fits program (entry n) (known_entry n lt))))
+      (λ (ge : length (entries_of program) ≤ n).
+      subst (λ x. FitsNode (length shapes) x (effect_at V n)) (sym (get_or_past V.nodes n (nowhere 0) (subst (λ m. m ≤ n) (sym count) ge)))
+      (subst (λ u. FitsNode (length shapes) (nowhere 0) u) (sym (get_or_past V.effects n no_effect (subst (λ m. m ≤ n) (sym effect_count) ge)))
+      (nowhere_fits (length shapes))))
+      (cases_lt n (length (entries_of program)))
 
   does : (n i : ℕ) (a : Access) → AccessAt V n i a → Does (node_at V.nodes n).kind (queue_at V n) a.kind
   does n i a e = entry_of (λ a. Does (node_at V.nodes n).kind (queue_at V n) a.kind) (accesses_of V n) i a (fits n).does e
 
   known : (n i : ℕ) (a : Access) → AccessAt V n i a → a.piece < length V.pieces
-  known n i a e = subst (λ m. a.piece < m) (length-map program.pieces (λ piece. piece.shape)) (entry_of (λ a. a.piece < pieces) (accesses_of V n) i a (fits n).known e)
+  known n i a e = subst (λ m. a.piece < m) (length-map program.pieces (λ piece. piece.shape)) (entry_of (λ a. a.piece < length shapes) (accesses_of V n) i a (fits n).known e)
 
   some : (p : ℕ) → p < length V.pieces → 0 < bytes_of (piece_at V p).shape
   some p lt =
@@ -119,14 +126,14 @@ module _ (program : Program) (keeps : (rule : Rule) → Keeps rule program) (sma
 
   family : (n : ℕ) → n < length V.nodes → is_host (node_at V.nodes n).kind ≡ false → (f : Family) × (family_at V n ≡ Some f)
   family n lt queued =
-      let below : n < length (nodes_of program) = subst (λ m. n < m) count lt in
-      subst (λ x. is_host x.kind ≡ false → (f : Family) × (slice_get V.families x.queue ≡ Some f)) (sym (node_is n below)) (place_family program keeps (place n) (stands n below)) queued
+      let below : n < length (entries_of program) = subst (λ m. n < m) count lt in
+      subst (λ x. is_host x.kind ≡ false → (f : Family) × (slice_get V.families x.queue ≡ Some f)) (sym (node_is n below)) (entry_family program (entry n) (known_entry n below)) queued
 
   pub shaped : ShapedView V
   shaped = record {
     few_nodes = subst (λ m. m ≤ 20000) (sym count) small.nodes;
     few_pieces = small.pieces;
-    effects = length-map (nodes_of program) (effect_in (shapes_of program) program) ∙ sym count;
+    effects = effect_count ∙ sym count;
     imported = length-map program.pieces (piece_imported program.memories);
     known = known;
     some = some;

@@ -1,2 +1,3 @@
 -- Definitions that serve the code alone.
 pub mod Inside
+pub mod KnownEntries

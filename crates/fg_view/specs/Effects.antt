@@ -1,5 +1,5 @@
 -- What each node of a program does to memory.
-use Rattle.std.specs.Prelude.{ℕ, List, [], ◌∷◌, ◌++◌, ◌==◌, ◌||◌, slice_get, Bool, Option, Some, None, if◌then◌else◌}
+use Rattle.std.specs.Prelude.{ℕ, List, [], ◌∷◌, ◌++◌, ◌==◌, ◌||◌, Bool, Option, Some, None, if◌then◌else◌}
 use Rattle.std.specs.Int.RustNames.{bit_or}
 use Rattle.std.specs.List.{flat_map}
 use Rattle.std.specs.Option.{option_map_or}
@@ -12,20 +12,16 @@ use Rattle.fg_base.specs.declared.touch.Touch.{Touch}
 use Rattle.fg_bits.specs.Accesses.{memory_read, memory_write}
 use Rattle.fg_bits.specs.Agents.{agents}
 use Rattle.fg_bits.specs.Layouts.{layout_number, is_undefined}
+use Rattle.fg_bits.specs.Roles.{role_stage, load_access, store_access, role_layout}
 use Rattle.fg_bits.specs.declared.layout.Layout.{Layout}
 use Rattle.fg_bits.specs.declared.layout.Layouts.{Layouts}
 use Rattle.fg_bits.specs.declared.masks.Masks.{Masks}
-use Rattle.fg_hb.specs.Nodes.{role_stage}
-use Rattle.fg_subs.specs.declared.nodes.NodeAt.{NodeAt}
-use Rattle.fg_subs.specs.declared.nodes.NodeAt.TheVariants as at
-use Rattle.fg_subs.specs.declared.program.Batch.{Batch}
+use Rattle.fg_subs.specs.Entries.{Entry, OfWait, OfItem, OfSignal, OfHost}
 use Rattle.fg_subs.specs.declared.program.Item.{Item}
 use Rattle.fg_subs.specs.declared.program.Item.TheVariants.{Command, Global, BufferBarrier, ImageBarrier, Release, Acquire}
-use Rattle.fg_subs.specs.declared.program.Program.{Program}
 use Rattle.fg_subs.specs.declared.program.Signal.{Signal}
 use Rattle.fg_subs.specs.declared.program.Transfer.{Transfer}
 use Rattle.fg_subs.specs.declared.program.WaitFor.{WaitFor}
-use Rattle.fg_view.specs.Roles.{load_access, store_access, role_layout}
 use Rattle.fg_view.specs.declared.access.Access.{Access}
 use Rattle.fg_view.specs.declared.access.Agent.{Agent}
 use Rattle.fg_view.specs.declared.access.Agent.TheVariants as agent
@@ -85,13 +81,13 @@ handover_of t = record { from = t.from_family; to = t.to_family; layouts = t.lay
 abbrev pub acquire_accesses : Transfer → List Access
 acquire_accesses t = option_map_or (transition_through t.piece) t.layouts [] ++ access t.piece (access_kinds.Acquire (handover_of t)) ∷ []
 
--- USES OF NODES
+-- EFFECTS OF NODES
 
 -- accesses alone
 abbrev pub plain_effect : List Access → Effect
 plain_effect accesses = record { accesses = accesses; available = 0; visible = 0; scope = Everywhere }
 
--- what stands at no place does nothing
+-- of a number that no node has
 abbrev pub no_effect : Effect
 no_effect = plain_effect []
 
@@ -126,18 +122,10 @@ signal_effect signal = record { accesses = []; available = all_agents signal.sta
 abbrev pub host_effect : ℕ → Effect
 host_effect piece = plain_effect (access piece (access_kinds.Load agent.Host None) ∷ [])
 
--- the use of what stands at a place of a batch
-abbrev pub batch_effect : List Shape → NodeAt → Batch → Effect
-batch_effect shapes (at.Wait q b k) batch = option_map_or wait_effect (slice_get batch.waits k) no_effect
-batch_effect shapes (at.Item q b k) batch = option_map_or (item_effect shapes q) (slice_get batch.items k) no_effect
-batch_effect shapes (at.Signal q b) batch = option_map_or signal_effect batch.signal no_effect
-batch_effect shapes (at.Host k) batch = no_effect
+-- OF EACH NODE
 
-abbrev pub queued_effect : List Shape → Program → NodeAt → ℕ → ℕ → Effect
-queued_effect shapes program place q b = option_map_or (λ queue. option_map_or (batch_effect shapes place) (slice_get queue.batches b) no_effect) (slice_get program.queues q) no_effect
-
-abbrev pub effect_in : List Shape → Program → NodeAt → Effect
-effect_in shapes program (at.Wait q b k) = queued_effect shapes program (at.Wait q b k) q b
-effect_in shapes program (at.Item q b k) = queued_effect shapes program (at.Item q b k) q b
-effect_in shapes program (at.Signal q b) = queued_effect shapes program (at.Signal q b) q b
-effect_in shapes program (at.Host k) = option_map_or host_effect (slice_get program.readbacks k) no_effect
+abbrev pub entry_effect : List Shape → Entry → Effect
+entry_effect shapes (OfWait q wait) = wait_effect wait
+entry_effect shapes (OfItem q item) = item_effect shapes q item
+entry_effect shapes (OfSignal q signal) = signal_effect signal
+entry_effect shapes (OfHost piece) = host_effect piece

@@ -5,20 +5,21 @@ use Rattle.std.specs.Option.{option_map_or}
 use Rattle.fg_base.specs.Shapes.{bytes_of, is_buffer}
 use Rattle.fg_base.specs.declared.shape.Family.{Family}
 use Rattle.fg_base.specs.declared.shape.Shape.TheVariants.{Buffer}
+use Rattle.fg_bits.specs.Agents.{host_agent}
 use Rattle.fg_bits.specs.Sets.{meets}
 use Rattle.fg_bits.specs.declared.sharing.Sharing.{Sharing}
 use Rattle.fg_bits.specs.declared.sharing.Sharing.TheVariants.{Exclusive, Concurrent}
 use Rattle.fg_hb.specs.Edges.{node_at}
 use Rattle.fg_hb.specs.Nodes.{program_nodes}
 use Rattle.fg_hb.specs.declared.node.Node.{Node}
-use Rattle.fg_subs.specs.Nodes.{nodes_of}
+use Rattle.fg_subs.specs.Entries.{entries_of}
 use Rattle.fg_subs.specs.Rules.{shapes_of}
 use Rattle.fg_subs.specs.declared.program.Memory.{Memory}
 use Rattle.fg_subs.specs.declared.program.Memory.TheVariants.{Plain, Import}
 use Rattle.fg_subs.specs.declared.program.Piece.{Piece}
 use Rattle.fg_subs.specs.declared.program.Program.{Program}
 use Rattle.fg_view.specs.AccessKinds.{changes, loads, transfers}
-use Rattle.fg_view.specs.Effects.{effect_in, no_effect}
+use Rattle.fg_view.specs.Effects.{entry_effect, no_effect}
 use Rattle.fg_view.specs.declared.access.Access.{Access}
 use Rattle.fg_view.specs.declared.access.Agent.{Agent}
 use Rattle.fg_view.specs.declared.access.Agent.TheVariants as agent
@@ -46,7 +47,7 @@ piece_imported memories piece = is_buffer piece.shape && option_map_or is_import
 abbrev pub view_of : Program → View
 view_of program = record {
   nodes = program_nodes program;
-  effects = map (effect_in (shapes_of program) program) (nodes_of program);
+  effects = map (entry_effect (shapes_of program)) (entries_of program);
   pieces = program.pieces;
   imported = map (piece_imported program.memories) program.pieces;
   families = map (λ queue. queue.family) program.queues;
@@ -74,7 +75,7 @@ family_at V n = slice_get V.families (queue_at V n)
 -- agents of a queue and the host, as a set, have the agent
 abbrev pub has_agent : ℕ → ℕ → Agent → Bool
 has_agent q set (agent.Of queue bit) = (queue == q) && meets set bit
-has_agent q set agent.Host = meets set 256
+has_agent q set agent.Host = meets set host_agent
 
 abbrev pub is_on : ℕ → Scope → Bool
 is_on p scopes.Everywhere = true

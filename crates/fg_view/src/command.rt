@@ -2,14 +2,13 @@
 
 ghost use Rattle.std.specs.Prelude.{◌≡◌, ◌<◌, ◌++◌, [], length, true, option_to_list, IfOk, OnOk};
 ghost use Rattle.std.specs.Option.{option_map_or};
+ghost use Rattle.fg_bits.specs.Roles.{load_access, store_access};
 ghost use Rattle.fg_subs.specs.Ranges.{has_operands};
-ghost use Rattle.fg_view.specs.Roles.{load_access, store_access};
 ghost use Rattle.fg_view.specs.Effects.{role_agent, layout_wanted, touch_load, touch_store, touch_accesses, command_accesses};
 
-use crate::role::{load_access, role_layout, role_stage, store_access};
 use crate::{Access, AccessKind, Agent};
 use fg_base::{List, NoMemory, Op, Role, Shape, Touch};
-use fg_bits::{Accesses, Layout, agents};
+use fg_bits::{Accesses, Layout, agents, load_access, role_layout, role_stage, store_access};
 use std::alloc::Global;
 
 // The agent of a queue that makes such an access in the stage of the role.

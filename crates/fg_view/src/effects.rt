@@ -1,13 +1,11 @@
 //! What each node of a program does to memory.
 
 ghost use Rattle.std.specs.Prelude.{◌≡◌, map, true, option_to_list, IfOk};
-ghost use Rattle.std.specs.List.{All};
-ghost use Rattle.fg_subs.specs.Kept.{Keeps};
-ghost use Rattle.fg_subs.specs.Nodes.{nodes_of};
+ghost use Rattle.fg_subs.specs.Entries.{entries_of, seen};
 ghost use Rattle.fg_subs.specs.Numbers.{item_known};
 ghost use Rattle.fg_subs.specs.Rules.{shapes_of};
-ghost use Rattle.fg_subs.specs.declared.rule.Rule.TheVariants as rules;
-ghost use Rattle.fg_view.specs.Effects.{plain_effect, no_effect, barrier_effect, item_effect, all_agents, wait_effect, signal_effect, host_effect, batch_effect, queued_effect, effect_in};
+ghost use Rattle.fg_view.specs.Code.KnownEntries.{IsKnown};
+ghost use Rattle.fg_view.specs.Effects.{plain_effect, barrier_effect, item_effect, all_agents, wait_effect, signal_effect, host_effect, entry_effect};
 
 use crate::barrier::{acquire_accesses, layout_change, released};
 use crate::command::{command_accesses, push_some};
@@ -15,7 +13,7 @@ use crate::{Access, AccessKind, Agent, Effect, Scope};
 use bitflags::Flags;
 use fg_base::{List, NoMemory, Shape};
 use fg_bits::{Accesses, Masks, Stages, agents};
-use fg_subs::{Batch, Item, NodeAt, Program, Shaped, Signal, WaitFor};
+use fg_subs::{Entry, Item, Shaped, Signal, WaitFor};
 use std::alloc::Global;
 
 fn plain_effect(accesses: List<Access>) -> Effect
@@ -121,88 +119,27 @@ fn host_effect(alloc: Global, piece: u32) -> Result<Effect, NoMemory>
     Ok(plain_effect(list_of(alloc, Some(access))?))
 }
 
-fn no_effect(alloc: Global) -> Effect
-    ensures { result ≡ no_effect }
+// What the node does that is this part of the program.
+fn entry_effect(alloc: Global, shapes: &[Shape], entry: Entry<'_>) -> Result<Effect, NoMemory>
+    requires { IsKnown shapes.now (seen entry.entry) }
+    ensures { IfOk result (λ effect. effect ≡ entry_effect shapes.now (seen entry.entry)) }
 {
-    plain_effect(List::new(alloc))
-}
-
-fn batch_effect(alloc: Global, shapes: &[Shape], place: NodeAt, batch: &Batch) -> Result<Effect, NoMemory>
-    requires { All (λ item. item_known shapes.now item ≡ true) batch.now.items }
-    ensures { IfOk result (λ effect. effect ≡ batch_effect shapes.now place batch.now) }
-{
-    match place {
-        NodeAt::Wait { at, .. } => match batch.waits.get(at as usize) {
-            Some(wait) => Ok(wait_effect(alloc, wait)),
-            None => Ok(no_effect(alloc)),
-        },
-        NodeAt::Item { queue, at, .. } => match batch.items.get(at as usize) {
-            Some(item) => item_effect(alloc, shapes, queue, item),
-            None => Ok(no_effect(alloc)),
-        },
-        NodeAt::Signal { .. } => match &batch.signal {
-            Some(signal) => Ok(signal_effect(alloc, signal)),
-            None => Ok(no_effect(alloc)),
-        },
-        NodeAt::Host { .. } => Ok(no_effect(alloc)),
-    }
-}
-
-fn queued_effect(
-    alloc: Global,
-    shapes: &[Shape],
-    program: &Program,
-    place: NodeAt,
-    queue: u32,
-    batch: u32,
-) -> Result<Effect, NoMemory>
-    requires known { Keeps rules.Known program.now }
-    requires shapes { shapes.now ≡ shapes_of program.now }
-    ensures { IfOk result (λ effect. effect ≡ queued_effect shapes.now program.now place queue batch) }
-{
-    match program.queues.get(queue as usize) {
-        Some(found) => match found.batches.get(batch as usize) {
-            Some(batch) => batch_effect(alloc, shapes, place, batch),
-            None => Ok(no_effect(alloc)),
-        },
-        None => Ok(no_effect(alloc)),
-    }
-}
-
-fn effect_in(
-    alloc: Global,
-    shapes: &[Shape],
-    program: &Program,
-    place: NodeAt,
-) -> Result<Effect, NoMemory>
-    requires known { Keeps rules.Known program.now }
-    requires shapes { shapes.now ≡ shapes_of program.now }
-    ensures { IfOk result (λ effect. effect ≡ effect_in shapes.now program.now place) }
-{
-    match place {
-        NodeAt::Wait { queue, batch, .. } => queued_effect(
-            alloc, shapes, program, place, queue, batch,
-        ),
-        NodeAt::Item { queue, batch, .. } => queued_effect(
-            alloc, shapes, program, place, queue, batch,
-        ),
-        NodeAt::Signal { queue, batch } => queued_effect(alloc, shapes, program, place, queue, batch),
-        NodeAt::Host { readback } => match program.readbacks.get(readback as usize) {
-            Some(piece) => host_effect(alloc, *piece),
-            None => Ok(no_effect(alloc)),
-        },
+    match entry {
+        Entry::Wait { wait, .. } => Ok(wait_effect(alloc, wait)),
+        Entry::Item { queue, item } => item_effect(alloc, shapes, queue, item),
+        Entry::Signal { signal, .. } => Ok(signal_effect(alloc, signal)),
+        Entry::Host { piece } => host_effect(alloc, piece),
     }
 }
 
 /// What each node does, in the order of their numbers.
 pub(crate) fn effects_of(alloc: Global, shaped: &Shaped) -> Result<List<Effect>, NoMemory>
-    ensures { IfOk result (λ effects. effects ≡ map (effect_in (shapes_of shaped.now) shaped.now) (nodes_of shaped.now)) }
+    ensures { IfOk result (λ effects. effects ≡ map (entry_effect (shapes_of shaped.now)) (entries_of shaped.now)) }
 {
-    let program = shaped.program();
-    let shapes = program.shapes(alloc)?;
+    let shapes = shaped.program().shapes(alloc)?;
     let mut effects = List::new(alloc);
     for n in 0..shaped.node_count() {
-        effects.push(effect_in(alloc, &shapes, program, shaped.node(n))?)?;
+        effects.push(entry_effect(alloc, &shapes, shaped.entry(n))?)?;
     }
     Ok(effects)
 }

@@ -8,7 +8,6 @@ mod effect;
 mod effects;
 mod hazard;
 mod node_access;
-mod role;
 mod view;
 
 pub use access::{Access, AccessKind, Agent, Handover};

@@ -9,7 +9,7 @@ ghost use Rattle.fg_view.specs.Views.{view_of, is_import, piece_imported, effect
 use crate::effects::effects_of;
 use crate::{Access, Agent, Effect, Scope};
 use fg_base::{Family, List, NoMemory};
-use fg_bits::Sharing;
+use fg_bits::{HOST_AGENT, Sharing};
 use fg_hb::{Edges, Node, direct};
 use fg_subs::{Memory, Piece, Program, Queue, Shaped};
 use std::alloc::Global;
@@ -174,7 +174,7 @@ fn has_agent(of: u32, set: u16, agent: Agent) -> bool
 {
     match agent {
         Agent::Of { queue, bit } => queue == of && set & bit != 0,
-        Agent::Host => set & 256 != 0,
+        Agent::Host => set & HOST_AGENT != 0,
     }
 }
 
