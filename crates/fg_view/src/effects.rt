@@ -127,7 +127,12 @@ fn no_effect(alloc: Global) -> Effect
     plain_effect(List::new(alloc))
 }
 
-fn batch_effect(alloc: Global, shapes: &[Shape], place: NodeAt, batch: &Batch) -> Result<Effect, NoMemory>
+fn batch_effect(
+    alloc: Global,
+    shapes: &[Shape],
+    place: NodeAt,
+    batch: &Batch,
+) -> Result<Effect, NoMemory>
     requires { All (λ item. item_known shapes.now item ≡ true) batch.now.items }
     ensures { IfOk result (λ effect. effect ≡ batch_effect shapes.now place batch.now) }
 {
@@ -186,7 +191,9 @@ fn effect_in(
         NodeAt::Item { queue, batch, .. } => queued_effect(
             alloc, shapes, program, place, queue, batch,
         ),
-        NodeAt::Signal { queue, batch } => queued_effect(alloc, shapes, program, place, queue, batch),
+        NodeAt::Signal { queue, batch } => queued_effect(
+            alloc, shapes, program, place, queue, batch,
+        ),
         NodeAt::Host { readback } => match program.readbacks.get(readback as usize) {
             Some(piece) => host_effect(alloc, *piece),
             None => Ok(no_effect(alloc)),
