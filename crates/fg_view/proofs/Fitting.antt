@@ -78,24 +78,25 @@ layout_change_ends piece layouts = by_test (is_undefined layouts.from)
     by_test true = alone (access piece (access_kinds.Discard layouts.to))
     by_test false = transition_ends piece layouts
 
+abbrev acquire : Transfer → Access
+acquire t = access t.piece (access_kinds.Acquire (handover_of t))
+
 acquire_ends : (t : Transfer) → Ends (acquire_accesses t)
 acquire_ends t = by_layouts t.layouts
   where
-    abbrev last : Access
-    last = access t.piece (access_kinds.Acquire (handover_of t))
-    by_test : (layouts : Layouts) (b : Bool) → Ends ((if b then [] else access t.piece (access_kinds.Transition layouts) ∷ []) ++ last ∷ [])
-    by_test layouts true = alone last
-    by_test layouts false = (λ c. one (λ b. transfers b.kind ≡ true) last refl, λ c. absurd cc, alone last)
-    by_layouts : (o : Option Layouts) → Ends (option_map_or (transition_through t.piece) o [] ++ last ∷ [])
-    by_layouts None = alone last
+    by_test : (layouts : Layouts) (b : Bool) → Ends ((if b then [] else access t.piece (access_kinds.Transition layouts) ∷ []) ++ acquire t ∷ [])
+    by_test layouts true = alone (acquire t)
+    by_test layouts false = (λ c. one (λ b. transfers b.kind ≡ true) (acquire t) refl, λ c. absurd cc, alone (acquire t))
+
+    by_layouts : (o : Option Layouts) → Ends (option_map_or (transition_through t.piece) o [] ++ acquire t ∷ [])
+    by_layouts None = alone (acquire t)
     by_layouts (Some layouts) = by_test layouts (is_undefined layouts.from || same_layout layouts)
 
 acquire_each : (P : Access → Type 0) (t : Transfer) → ((layouts : Layouts) → P (access t.piece (access_kinds.Transition layouts))) → P (access t.piece (access_kinds.Acquire (handover_of t))) → All P (acquire_accesses t)
 acquire_each P t k a =
-    let last = access t.piece (access_kinds.Acquire (handover_of t)) in
-    All-append P (option_map_or (transition_through t.piece) t.layouts []) (last ∷ [])
+    All-append P (option_map_or (transition_through t.piece) t.layouts []) (acquire t ∷ [])
     (if_some P (transition_through t.piece) t.layouts (λ layouts. transition_each P t.piece layouts (k layouts)))
-    (one P last a)
+    (one P (acquire t) a)
 
 -- ITEMS
 
