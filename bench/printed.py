@@ -68,8 +68,7 @@ def printed(command, program, status):
     """The lines that a command line prints, and its status."""
     if command == "echo $?":
         return [str(status)], 0
-    if command.startswith("./framec"):
-        command = f"'{program}'" + command[len("./framec"):]
+    command = command.replace("./framec", f"'{program}'")
     done = subprocess.run(["bash", "-c", command], cwd=TOP, stdout=subprocess.PIPE, stderr=subprocess.STDOUT)
     return done.stdout.decode(errors="replace").splitlines(), done.returncode
 
