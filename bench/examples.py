@@ -3,7 +3,8 @@
 
     bench/examples.py [--program PROGRAM]
 
-A submission has to print its hazard with status 1, and its twin the other text with status 0. A frame's `cull` has to begin
+A submission has to print its hazard with status 1, and its twin the other text with status 0; those of examples/profile/ are
+accepted. A frame's `cull` has to begin
 with the line of the table; `run` has to print that line, the culled passes and then what `meaning` prints; and the frame's
 canonical text has to be its own canonical text, and to run as the frame does. Each file of the folders needs a row, and each
 hazard H1 to H9 a file.
@@ -19,6 +20,7 @@ TOP = Path(__file__).resolve().parent.parent
 BUILT = TOP / "crates/framec/out/framec"
 FRAMES = TOP / "examples/frames"
 SUBMISSIONS = TOP / "examples/submissions"
+PROFILE = TOP / "examples/profile"
 
 
 def rows(heading):
@@ -79,6 +81,10 @@ def main():
     runs.expect("files of examples/submissions", {path.name for path in SUBMISSIONS.iterdir()}, twins | set(submissions))
     shown = {code(row[2]).split()[1] for row in submissions.values()}
     runs.expect("hazards that are shown", shown, {f"H{number}" for number in range(1, 10)})
+    profile = {code(row[0]): code(row[2]) for row in rows("Submissions that are accepted where Vulkan asks more")}
+    for name, line in profile.items():
+        runs.submission(PROFILE / name, line, 0)
+    runs.expect("files of examples/profile", {path.name for path in PROFILE.iterdir()}, set(profile))
     frames = {code(row[0]): code(row[2]) for row in rows("Frames")}
     for name, first in frames.items():
         runs.frame(FRAMES / name, first)

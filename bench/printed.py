@@ -5,10 +5,12 @@
 
 A fenced block marked `console` has command lines that begin with `$ `, each with its whole text below it: standard output and
 standard error. A line `...` stands for any lines, and `$ echo $?` prints the status of the line before. The lines are run at
-the top of the repository, with the built program in place of `./framec`. No other block may have a line that begins with `$ `.
+the top of the repository, with the built program in place of `./framec`; one whose program is not there is left out. No other
+block may have a line that begins with `$ `.
 """
 
 import argparse
+import shutil
 import subprocess
 import sys
 from pathlib import Path
@@ -57,12 +59,16 @@ def is_as_printed(got, wanted):
     return bool(got) and got[0] == wanted[0] and is_as_printed(got[1:], wanted[1:])
 
 
+def can_run(command):
+    """Whether the program of a command line is there."""
+    return command.startswith(("./framec", "echo")) or shutil.which(command.split()[0]) is not None
+
+
 def printed(command, program, status):
     """The lines that a command line prints, and its status."""
     if command == "echo $?":
         return [str(status)], 0
-    if command.startswith("./framec"):
-        command = f"'{program}'" + command[len("./framec"):]
+    command = command.replace("./framec", f"'{program}'")
     done = subprocess.run(["bash", "-c", command], cwd=TOP, stdout=subprocess.PIPE, stderr=subprocess.STDOUT)
     return done.stdout.decode(errors="replace").splitlines(), done.returncode
 
@@ -80,6 +86,8 @@ def main():
                 continue
             status = 0
             for number, command, wanted in commands(start, lines):
+                if not can_run(command):
+                    continue
                 got, status = printed(command, program, status)
                 ran += 1
                 if not is_as_printed(got, wanted):

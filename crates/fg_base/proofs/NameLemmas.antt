@@ -1,8 +1,8 @@
 -- A name's bytes are ASCII, and zeros follow them up to 32.
-use Rattle.std.proofs.Common.{◌≡◌, ℕ, zero, suc, ◌<◌, Bool, true, false, List, [], ◌∷◌, ◌++◌, length, drop, replicate, refl, ap, arith}
-use Rattle.std.specs.Prelude.{◌&&◌}
+use Rattle.std.proofs.Common.{◌≡◌, ℕ, zero, suc, ◌<◌, true, List, [], ◌∷◌, ◌++◌, length, drop, replicate, ap, arith}
 use Rattle.std.specs.List.{list_all}
 use Rattle.std.specs.Str.{IsAscii, IsUtf8}
+use Rattle.std.proofs.lemmas.Bool.{and_parts}
 use Rattle.std.proofs.lemmas.Bool.Decides.{nat_tests}
 use Rattle.std.proofs.lemmas.List.{drop-replicate}
 use Rattle.std.proofs.lemmas.Str.{IsUtf8-from_ascii}
@@ -11,19 +11,13 @@ use Rattle.fg_base.specs.Names.{is_name, is_name_byte, padded_name}
 pub front_padded : (s : List ℕ) → s ++ drop (length s) (replicate 32 0) ≡ padded_name s
 front_padded s = ap (λ t. s ++ t) (drop-replicate (length s) 32 0)
 
-both : (a b : Bool) → (a && b) ≡ true → (a ≡ true) × (b ≡ true)
-both true true e = (refl, refl)
-both true false e = absurd cc
-both false true e = absurd cc
-both false false e = absurd cc
-
 byte_small : (b : ℕ) → is_name_byte b ≡ true → b < 128
 byte_small b e = grind (arith, nat_tests)
 
 all_small : (bytes : List ℕ) → list_all is_name_byte bytes ≡ true → IsAscii bytes
 all_small [] e i = omega arith
-all_small (b ∷ bytes) e zero = byte_small b (both (is_name_byte b) _ e).0
-all_small (b ∷ bytes) e (suc i) = all_small bytes (both (is_name_byte b) _ e).1 i
+all_small (b ∷ bytes) e zero = byte_small b (and_parts (is_name_byte b) _ e).0
+all_small (b ∷ bytes) e (suc i) = all_small bytes (and_parts (is_name_byte b) _ e).1 i
 
 pub name_is_text : (bytes : List ℕ) → is_name bytes ≡ true → IsUtf8 bytes
-name_is_text bytes e = IsUtf8-from_ascii bytes (all_small bytes (both _ (list_all is_name_byte bytes) e).1)
+name_is_text bytes e = IsUtf8-from_ascii bytes (all_small bytes (and_parts _ (list_all is_name_byte bytes) e).1)

@@ -1,5 +1,6 @@
 -- What sides and sizes a resource may have.
 use Rattle.std.specs.Prelude.{ℕ, nat_le, Bool, true, ◌&&◌}
+use Rattle.fg_base.specs.Maxima.{max_side, max_size}
 use Rattle.fg_base.specs.Shapes.{bytes_of}
 use Rattle.fg_base.specs.declared.shape.Shape.{Shape}
 use Rattle.fg_base.specs.declared.shape.Shape.TheVariants.{Buffer, Image}
@@ -10,8 +11,8 @@ is_between least most n = nat_le least n && nat_le n most
 -- each side of an image has 1 to 4,096 texels
 abbrev pub sides_allowed : Shape → Bool
 sides_allowed (Buffer size) = true
-sides_allowed (Image width height texel) = is_between 1 4096 width && is_between 1 4096 height
+sides_allowed (Image width height texel) = is_between 1 max_side width && is_between 1 max_side height
 
 -- a buffer, or one layer of an image, has 1 byte to 16 MiB
 abbrev pub size_allowed : Shape → Bool
-size_allowed shape = is_between 1 16777216 (bytes_of shape)
+size_allowed shape = is_between 1 max_size (bytes_of shape)

@@ -1,11 +1,13 @@
 pub mod Applied
 pub mod Bounds
+pub mod Broken
 pub mod Counts
 pub mod Families
 pub mod Fits
 pub mod InPlace
 pub mod Kernels
 pub mod Limits
+pub mod Maxima
 pub mod Memory
 pub mod Names
 pub mod Operands

@@ -1,6 +1,7 @@
 //! Names, shapes, operations, events and limits of frames, and what the program reads from, writes to and tells.
 #![tactic(auto)]
 
+mod broken;
 mod count_tap;
 mod event;
 mod fits;
@@ -9,6 +10,8 @@ mod grid;
 mod in_place;
 mod limit;
 mod list;
+mod mapped;
+mod maxima;
 mod memory_sink;
 mod memory_source;
 mod name;
@@ -31,6 +34,7 @@ mod whole;
 mod within;
 mod write_sink;
 
+pub use broken::Broken;
 pub use count_tap::CountTap;
 pub use event::Event;
 pub use fits::op_fits;
@@ -39,6 +43,11 @@ pub use grid::Grid;
 pub use in_place::op_in_place;
 pub use limit::Limit;
 pub use list::{List, Text};
+pub use maxima::{
+    MAX_EXPORTS, MAX_LAYERS, MAX_MEMORIES, MAX_MEMORY_BYTES, MAX_NODES, MAX_OPS, MAX_PASSES,
+    MAX_PIECES, MAX_QUEUES, MAX_READBACKS, MAX_RECTS, MAX_RESOURCE_BYTES, MAX_SIDE, MAX_SIZE,
+    MAX_UNITS,
+};
 pub use memory_sink::MemorySink;
 pub use memory_source::MemorySource;
 pub use name::Name;

@@ -1,10 +1,9 @@
 //! Operations, over any way to name what they work on.
 
-ghost use Rattle.std.specs.Prelude.{◌≡◌, ◌<◌, [], ◌∷◌, length, slice_get, IfOk, Some};
+ghost use Rattle.std.specs.Prelude.{◌≡◌, ◌<◌, [], ◌∷◌, length, slice_get, Some};
 ghost use Rattle.fg_base.specs.Operands.{operands_of, rect_count};
 
-use crate::{List, NoMemory};
-use std::alloc::Global;
+use crate::List;
 
 /// What a kernel makes of two texels of one size; results wrap. `Sub` takes the second from the first. `Shl` and `Shr`
 /// shift the first, by the second reduced to less than the texel's bits.
@@ -198,121 +197,6 @@ impl<R: Copy> Op<R> {
             Op::Draw { rects, .. } => rects.len(),
             _ => 0,
         }
-    }
-
-    /// An equal operation.
-    pub fn copy(&self, alloc: Global) -> Result<Op<R>, NoMemory>
-        ensures { IfOk result (λ op. op ≡ self.now) }
-    {
-        Ok(match self {
-            Op::FillBuffer {
-                dst,
-                offset,
-                size,
-                word,
-            } => Op::FillBuffer {
-                dst: *dst,
-                offset: *offset,
-                size: *size,
-                word: *word,
-            },
-            Op::ClearImage { dst, value } => Op::ClearImage {
-                dst: *dst,
-                value: *value,
-            },
-            Op::CopyBuffer {
-                src,
-                dst,
-                src_offset,
-                dst_offset,
-                size,
-            } => Op::CopyBuffer {
-                src: *src,
-                dst: *dst,
-                src_offset: *src_offset,
-                dst_offset: *dst_offset,
-                size: *size,
-            },
-            Op::CopyImage {
-                src,
-                dst,
-                src_x,
-                src_y,
-                dst_x,
-                dst_y,
-                width,
-                height,
-            } => Op::CopyImage {
-                src: *src,
-                dst: *dst,
-                src_x: *src_x,
-                src_y: *src_y,
-                dst_x: *dst_x,
-                dst_y: *dst_y,
-                width: *width,
-                height: *height,
-            },
-            Op::BufferToImage { src, dst, offset } => Op::BufferToImage {
-                src: *src,
-                dst: *dst,
-                offset: *offset,
-            },
-            Op::ImageToBuffer { src, dst, offset } => Op::ImageToBuffer {
-                src: *src,
-                dst: *dst,
-                offset: *offset,
-            },
-            Op::Ramp { dst, base, dx, dy } => Op::Ramp {
-                dst: *dst,
-                base: *base,
-                dx: *dx,
-                dy: *dy,
-            },
-            Op::Map {
-                src,
-                dst,
-                fun,
-                value,
-            } => Op::Map {
-                src: *src,
-                dst: *dst,
-                fun: *fun,
-                value: *value,
-            },
-            Op::Combine { a, b, dst, fun } => Op::Combine {
-                a: *a,
-                b: *b,
-                dst: *dst,
-                fun: *fun,
-            },
-            Op::Select { mask, a, b, dst } => Op::Select {
-                mask: *mask,
-                a: *a,
-                b: *b,
-                dst: *dst,
-            },
-            Op::Convert { src, dst } => Op::Convert {
-                src: *src,
-                dst: *dst,
-            },
-            Op::Box3 { src, dst } => Op::Box3 {
-                src: *src,
-                dst: *dst,
-            },
-            Op::Halve { src, dst } => Op::Halve {
-                src: *src,
-                dst: *dst,
-            },
-            Op::Histogram { src, dst } => Op::Histogram {
-                src: *src,
-                dst: *dst,
-            },
-            Op::Draw { dst, clear, rects } => Op::Draw {
-                dst: *dst,
-                clear: *clear,
-                rects: rects.copy(alloc)?,
-            },
-        })
     }
 }
 

@@ -7,6 +7,7 @@ ghost use Rattle.fg_base.specs.Shapes.{bytes_of, texel_bytes, grid_of, is_buffer
 ghost use Rattle.fg_base.specs.declared.shape.Shape.TheVariants.{Buffer};
 
 use crate::Grid;
+use crate::maxima::{MAX_SIDE, MAX_SIZE};
 
 /// A queue family, by what its queues can do: graphics queues everything, compute queues all but draws, transfer queues
 /// only copies and fills of buffers.
@@ -120,7 +121,7 @@ impl Shape {
         match self {
             Shape::Buffer { .. } => true,
             Shape::Image { width, height, .. } => {
-                1 <= width && width <= 4096 && (1 <= height && height <= 4096)
+                1 <= width && width <= MAX_SIDE && (1 <= height && height <= MAX_SIDE)
             }
         }
     }
@@ -130,7 +131,7 @@ impl Shape {
         ensures { result ≡ size_allowed self }
     {
         let bytes = self.bytes();
-        1 <= bytes && bytes <= 16_777_216
+        1 <= bytes && bytes <= MAX_SIZE
     }
 
     // An image with such texels.

@@ -1,6 +1,8 @@
 -- Which families have which stages.
 use Rattle.std.specs.Prelude.{ℕ, Bool, ◌==◌, if◌then◌else◌}
 use Rattle.std.specs.List.{list_any}
+use Rattle.fg_base.specs.declared.shape.Family.{Family}
+use Rattle.fg_base.specs.declared.shape.Family.TheVariants.{Graphics, Compute, Transfer}
 use Rattle.fg_bits.specs.Sets.{has, union_over}
 use Rattle.fg_bits.specs.Stages.{Stage, stages}
 
@@ -13,3 +15,9 @@ stages_of family = union_over (family_part family) stages
 
 abbrev pub on_family : ℕ → ℕ → Bool
 on_family set family = has (stages_of family) set
+
+-- the number by which masks know a family
+abbrev pub family_number : Family → ℕ
+family_number Graphics = 0
+family_number Compute = 1
+family_number Transfer = 2

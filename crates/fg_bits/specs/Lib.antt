@@ -4,6 +4,7 @@ pub mod Families
 pub mod Layouts
 pub mod Roles
 pub mod Sets
+pub mod Sharings
 pub mod Stages
 pub mod Support
 pub mod Texts

@@ -1,10 +1,22 @@
 //! Which queue families have which stages.
 
 ghost use Rattle.std.specs.Prelude.{◌≡◌};
-ghost use Rattle.fg_bits.specs.Families.{on_family, stages_of};
+ghost use Rattle.fg_bits.specs.Families.{on_family, stages_of, family_number};
 
 use crate::Stages;
 use bitflags::Flags;
+use fg_base::Family;
+
+/// The number by which masks know a queue family.
+pub fn family_number(family: Family) -> u32
+    ensures { result ≡ family_number family }
+{
+    match family {
+        Family::Graphics => 0,
+        Family::Compute => 1,
+        Family::Transfer => 2,
+    }
+}
 
 // The stages that every family has.
 fn common() -> Stages

@@ -14,7 +14,7 @@ mod support;
 
 pub use accesses::Accesses;
 pub use agent::{HOST_AGENT, agents};
-pub use families::on_family;
+pub use families::{family_number, on_family};
 pub use layout::{Layout, Layouts};
 pub use masks::Masks;
 pub use role::{load_access, op_stage, role_layout, role_stage, store_access};
