@@ -1,6 +1,7 @@
 //! An access for each piece.
 
 ghost use Rattle.std.specs.Prelude.{◌≡◌, ◌==◌, ◌&&◌, ◌<◌, ◌≤◌, length, get_or, replicate, IfOk, None};
+ghost use Rattle.fg_base.specs.Maxima.{max_pieces};
 ghost use Rattle.fg_stated.specs.PieceStates.{changes_bytes, kind_of};
 ghost use Rattle.fg_stated.specs.Code.Tables.{PutWhere};
 
@@ -61,7 +62,7 @@ impl Table {
     /// Puts the access to each piece whose bytes it may change.
     pub(crate) fn put_over(&mut self, view: &View, node_access: NodeAccess)
         requires size { length self.old ≡ length view.now.pieces }
-        requires few { length self.old ≤ 512 }
+        requires few { length self.old ≤ max_pieces }
         requires piece { node_access.access.piece < length self.old }
         ensures { PutWhere (λ p. changes_bytes view.now p node_access) node_access self.old self.new }
     {

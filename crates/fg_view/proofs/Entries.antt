@@ -1,21 +1,11 @@
 -- What holds of each entry of a list of accesses, and what comes after a change or a change of the owner.
 use Rattle.std.proofs.Common.{◌≡◌, ◌<◌, ℕ, zero, suc, true, false, List, [], ◌∷◌, ◌++◌, slice_get, Option, Some, None, refl, subst, arith}
-use Rattle.std.specs.List.{All, flat_map}
+use Rattle.std.specs.List.{All}
 use Rattle.std.specs.Option.{option_map_or}
-use Rattle.std.proofs.lemmas.List.Elements.{All-nil, All-cons, All-append}
-use Rattle.std.proofs.lemmas.Option.{get_or_from_slice_get, slice_get_within}
+use Rattle.std.proofs.lemmas.List.Elements.{All-nil}
+use Rattle.fg_base.proofs.Lists.{entry_of}
 use Rattle.fg_view.specs.AccessKinds.{changes, sets_owner, transfers}
 use Rattle.fg_view.specs.declared.access.Access.{Access}
-
-pub entry_of : {X : Type 0} (P : X → Type 0) (xs : List X) (i : ℕ) (x : X) → All P xs → slice_get xs i ≡ Some x → P x
-entry_of P xs i x all is = subst P (get_or_from_slice_get xs i x x is) (all i x (slice_get_within xs i x is))
-
-pub one : {X : Type 0} (P : X → Type 0) (x : X) → P x → All P (x ∷ [])
-one P x p = All-cons P x [] p (All-nil P)
-
-pub each_of : {X Y : Type 0} (P : Y → Type 0) (f : X → List Y) (xs : List X) → All (λ x. All P (f x)) xs → All P (flat_map f xs)
-each_of P f [] all = All-nil P
-each_of P f (x ∷ xs) all = All-append P (f x) (flat_map f xs) (all 0 x (omega arith)) (each_of P f xs (λ k d lt. all (suc k) d (omega arith)))
 
 pub if_some : {X Y : Type 0} (P : Y → Type 0) (f : X → List Y) (o : Option X) → ((x : X) → All P (f x)) → All P (option_map_or f o [])
 if_some P f None h = All-nil P

@@ -5,7 +5,7 @@ use Rattle.std.specs.Option.{option_map}
 use Rattle.std.proofs.lemmas.List.Elements.{All-nil, All-cons, All-map}
 use Rattle.std.proofs.lemmas.Option.{slice_get-map, slice_get-get_or, slice_get_within}
 use Rattle.fg_hb.specs.Orders.{Among, Distinct, Order}
-use Rattle.fg_view.proofs.Entries.{entry_of, each_of}
+use Rattle.fg_base.proofs.Lists.{each_of, entry_of}
 use Rattle.fg_view.specs.ShapedView.{ShapedView, Has, NodeAccessAt, Listed, Precedes}
 use Rattle.fg_view.specs.Views.{View, accesses_of, node_access, node_accesses_of}
 use Rattle.fg_view.specs.declared.access.Access.{Access}

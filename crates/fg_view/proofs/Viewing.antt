@@ -5,6 +5,7 @@ use Rattle.std.specs.List.{All}
 use Rattle.std.proofs.lemmas.Bool.{cases_lt, and_parts, false_from_ne_true, leb-true}
 use Rattle.std.proofs.lemmas.List.{get_or-map, get_or_past, length-map}
 use Rattle.std.proofs.lemmas.Option.{slice_get-get_or}
+use Rattle.fg_base.specs.Maxima.{max_nodes}
 use Rattle.fg_base.specs.Shapes.{bytes_of}
 use Rattle.fg_base.specs.declared.shape.Family.{Family}
 use Rattle.fg_base.specs.declared.shape.Shape.{Shape}
@@ -19,7 +20,8 @@ use Rattle.fg_subs.specs.Rules.{shapes_of}
 use Rattle.fg_subs.specs.declared.program.Program.{Program}
 use Rattle.fg_subs.specs.declared.rule.Rule.{Rule}
 use Rattle.fg_subs.specs.declared.rule.Rule.TheVariants as rules
-use Rattle.fg_view.proofs.Entries.{entry_of, after_change, after_owner}
+use Rattle.fg_base.proofs.Lists.{entry_of}
+use Rattle.fg_view.proofs.Entries.{after_change, after_owner}
 use Rattle.fg_view.proofs.Fitting.{Does, FitsNode, nowhere_fits}
 use Rattle.fg_view.proofs.Placing.{entry_fits, entry_family}
 use Rattle.fg_view.specs.AccessKinds.{sets_owner}
@@ -131,7 +133,7 @@ module _ (program : Program) (small : IsSmall program) (obeys : (rule : Rule) �
 
   pub shaped : ShapedView V
   shaped = record {
-    few_nodes = subst (λ m. m ≤ 20000) (sym count) small.nodes;
+    few_nodes = subst (λ m. m ≤ max_nodes) (sym count) small.nodes;
     few_pieces = small.pieces;
     effects = effect_count ∙ sym count;
     imported = length-map program.pieces (piece_imported program.memories);

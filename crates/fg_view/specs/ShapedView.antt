@@ -1,5 +1,6 @@
 -- What holds of the view of a program that breaks no rule.
 use Rattle.std.specs.Prelude.{◌≡◌, ◌⊎◌, ℕ, ◌<◌, ◌≤◌, List, length, slice_get, true, false, Some, None}
+use Rattle.fg_base.specs.Maxima.{max_nodes, max_pieces}
 use Rattle.fg_base.specs.Shapes.{bytes_of}
 use Rattle.fg_base.specs.declared.shape.Family.{Family}
 use Rattle.fg_hb.specs.Edges.{is_host, is_sync, node_at}
@@ -32,8 +33,8 @@ abbrev pub AccessAt : View → ℕ → ℕ → Access → Type 0
 AccessAt V n i a = slice_get (accesses_of V n) i ≡ Some a
 
 pub record ShapedView (V : View) : Type 0 where
-  pub few_nodes : length V.nodes ≤ 20000
-  pub few_pieces : length V.pieces ≤ 512
+  pub few_nodes : length V.nodes ≤ max_nodes
+  pub few_pieces : length V.pieces ≤ max_pieces
   pub effects : length V.effects ≡ length V.nodes
   pub imported : length V.imported ≡ length V.pieces
   -- pieces are there, and have bytes

@@ -7,8 +7,8 @@ use Rattle.fg_base.specs.declared.shape.Family.{Family}
 use Rattle.fg_base.specs.declared.shape.Shape.TheVariants.{Buffer}
 use Rattle.fg_bits.specs.Agents.{host_agent}
 use Rattle.fg_bits.specs.Sets.{meets}
-use Rattle.fg_bits.specs.declared.sharing.Sharing.{Sharing}
-use Rattle.fg_bits.specs.declared.sharing.Sharing.TheVariants.{Exclusive, Concurrent}
+use Rattle.fg_bits.specs.Sharings.{is_shared}
+use Rattle.fg_bits.specs.declared.sharing.Sharing.TheVariants.{Exclusive}
 use Rattle.fg_hb.specs.Edges.{node_at}
 use Rattle.fg_hb.specs.Nodes.{program_nodes}
 use Rattle.fg_hb.specs.declared.node.Node.{Node}
@@ -107,10 +107,6 @@ pieces_overlap a b = (a.memory == b.memory) && (is_before_end a b && is_before_e
 
 abbrev pub overlap : View → ℕ → ℕ → Bool
 overlap V p q = pieces_overlap (piece_at V p) (piece_at V q)
-
-abbrev pub is_shared : Sharing → Bool
-is_shared Exclusive = false
-is_shared Concurrent = true
 
 abbrev pub shared_at : View → ℕ → Bool
 shared_at V p = is_shared (piece_at V p).sharing

@@ -4,12 +4,12 @@ ghost use Rattle.std.specs.Prelude.{◌≡◌, ◌<◌, ◌≤◌, length, map, 
 ghost use Rattle.std.specs.Option.{option_map_or};
 ghost use Rattle.fg_hb.specs.Edges.{node_at};
 ghost use Rattle.fg_view.specs.ShapedView.{ShapedView};
-ghost use Rattle.fg_view.specs.Views.{view_of, is_import, piece_imported, effect_at, piece_at, pieces_overlap, is_before_end, is_shared, has_agent, is_on, makes_available, makes_visible, clash, overlap, imported_at, shared_at, family_at};
+ghost use Rattle.fg_view.specs.Views.{view_of, is_import, piece_imported, effect_at, piece_at, pieces_overlap, is_before_end, has_agent, is_on, makes_available, makes_visible, clash, overlap, imported_at, shared_at, family_at};
 
 use crate::effects::effects_of;
 use crate::{Access, Agent, Effect, Scope};
 use fg_base::{Family, List, NoMemory};
-use fg_bits::{HOST_AGENT, Sharing};
+use fg_bits::HOST_AGENT;
 use fg_hb::{Edges, Node, direct};
 use fg_subs::{Memory, Piece, Program, Queue, Shaped};
 use std::alloc::Global;
@@ -103,7 +103,7 @@ impl View {
         requires { p < length self.now.pieces }
         ensures { result ≡ shared_at self.now p }
     {
-        is_shared(self.piece(p).sharing)
+        self.piece(p).sharing.is_shared()
     }
 
     /// Whether the piece begins with an import's bytes.
@@ -157,15 +157,6 @@ fn pieces_overlap(a: Piece, b: Piece) -> bool
     ensures { result ≡ pieces_overlap a b }
 {
     a.memory == b.memory && is_before_end(a, b) && is_before_end(b, a)
-}
-
-fn is_shared(sharing: Sharing) -> bool
-    ensures { result ≡ is_shared sharing }
-{
-    match sharing {
-        Sharing::Exclusive => false,
-        Sharing::Concurrent => true,
-    }
 }
 
 // Whether a set of agents of a queue, and of the host, has the agent.
