@@ -8,7 +8,7 @@ use Rattle.fg_base.specs.declared.shape.Shape.{Shape}
 use Rattle.fg_bits.specs.declared.layout.Layouts.{Layouts}
 use Rattle.fg_bits.specs.declared.masks.Masks.{Masks}
 use Rattle.fg_hb.specs.Edges.{is_sync}
-use Rattle.fg_hb.specs.Nodes.{wait_node, barrier_node, item_node, signal_node, host_node, nowhere}
+use Rattle.fg_hb.specs.Nodes.{wait_node, barrier_node, item_node, signal_node, host_node, no_node}
 use Rattle.fg_hb.specs.declared.kind.Kind.{Kind}
 use Rattle.fg_hb.specs.declared.kind.Kind.TheVariants as kinds
 use Rattle.fg_hb.specs.declared.node.Node.{Node}
@@ -144,5 +144,5 @@ host_fits n queues piece lt =
     let read = access piece (access_kinds.Load agent.Host None) in
     record { known = one (λ a. a.piece < n) read lt; last = alone read; does = one (λ a. a.kind ≡ access_kinds.Load agent.Host None) read refl; silent = inr (refl, refl) }
 
-pub nowhere_fits : (n : ℕ) → FitsNode n (nowhere 0) no_effect
-nowhere_fits n = record { known = All-nil (λ a. a.piece < n); last = tt; does = All-nil (λ a. IsByQueue 0 a.kind); silent = inr (refl, refl) }
+pub no_node_fits : (n : ℕ) → FitsNode n no_node no_effect
+no_node_fits n = record { known = All-nil (λ a. a.piece < n); last = tt; does = All-nil (λ a. IsByQueue 0 a.kind); silent = inr (refl, refl) }

@@ -11,7 +11,7 @@ use Rattle.fg_base.specs.declared.shape.Family.{Family}
 use Rattle.fg_base.specs.declared.shape.Shape.{Shape}
 use Rattle.fg_bits.specs.Agents.{host_agent}
 use Rattle.fg_hb.specs.Edges.{is_host, is_sync, node_at}
-use Rattle.fg_hb.specs.Nodes.{entry_node, nowhere}
+use Rattle.fg_hb.specs.Nodes.{entry_node, no_node}
 use Rattle.fg_hb.specs.declared.kind.Kind.{Kind}
 use Rattle.fg_hb.specs.declared.kind.Kind.TheVariants as kinds
 use Rattle.fg_subs.specs.Entries.{Entry, OfHost, entries_of}
@@ -22,7 +22,7 @@ use Rattle.fg_subs.specs.declared.rule.Rule.{Rule}
 use Rattle.fg_subs.specs.declared.rule.Rule.TheVariants as rules
 use Rattle.fg_base.proofs.Lists.{entry_of}
 use Rattle.fg_view.proofs.Entries.{after_change, after_owner}
-use Rattle.fg_view.proofs.Fitting.{Does, FitsNode, nowhere_fits}
+use Rattle.fg_view.proofs.Fitting.{Does, FitsNode, no_node_fits}
 use Rattle.fg_view.proofs.Placing.{entry_fits, entry_family}
 use Rattle.fg_view.specs.AccessKinds.{sets_owner}
 use Rattle.fg_view.specs.ShapedView.{IsByQueue, IsByBarrier, AccessAt, ShapedView}
@@ -91,7 +91,7 @@ module _ (program : Program) (small : IsSmall program) (obeys : (rule : Rule) �
   effect_count = length-map (entries_of program) (entry_effect shapes)
 
   node_is : (n : ℕ) → n < length (entries_of program) → node_at V.nodes n ≡ entry_node queues (entry n)
-  node_is n lt = get_or-map (entry_node queues) (entries_of program) n (OfHost 0) (nowhere 0) lt
+  node_is n lt = get_or-map (entry_node queues) (entries_of program) n (OfHost 0) no_node lt
 
   known_entry : (n : ℕ) → n < length (entries_of program) → EntryObeys rules.Known program (entry n)
   known_entry n lt = obeys rules.Known n (OfHost 0) lt
@@ -103,9 +103,9 @@ module _ (program : Program) (small : IsSmall program) (obeys : (rule : Rule) �
       (subst (λ u. FitsNode (length shapes) (entry_node queues (entry n)) u) (sym (get_or-map (entry_effect shapes) (entries_of program) n (OfHost 0) no_effect lt))
       (entry_fits program (entry n) (known_entry n lt))))
       (λ (ge : length (entries_of program) ≤ n).
-      subst (λ x. FitsNode (length shapes) x (effect_at V n)) (sym (get_or_past V.nodes n (nowhere 0) (subst (λ m. m ≤ n) (sym count) ge)))
-      (subst (λ u. FitsNode (length shapes) (nowhere 0) u) (sym (get_or_past V.effects n no_effect (subst (λ m. m ≤ n) (sym effect_count) ge)))
-      (nowhere_fits (length shapes))))
+      subst (λ x. FitsNode (length shapes) x (effect_at V n)) (sym (get_or_past V.nodes n no_node (subst (λ m. m ≤ n) (sym count) ge)))
+      (subst (λ u. FitsNode (length shapes) no_node u) (sym (get_or_past V.effects n no_effect (subst (λ m. m ≤ n) (sym effect_count) ge)))
+      (no_node_fits (length shapes))))
       (cases_lt n (length (entries_of program)))
 
   does : (n i : ℕ) (a : Access) → AccessAt V n i a → Does (node_at V.nodes n).kind (queue_at V n) a.kind
@@ -133,7 +133,7 @@ module _ (program : Program) (small : IsSmall program) (obeys : (rule : Rule) �
 
   pub shaped : ShapedView V
   shaped = record {
-    few_nodes = subst (λ m. m ≤ max_nodes) (sym count) small.nodes;
+    few_nodes = subst (λ m. m ≤ max_nodes) (sym count) small.entries;
     few_pieces = small.pieces;
     effects = effect_count ∙ sym count;
     imported = length-map program.pieces (piece_imported program.memories);
