@@ -41,7 +41,7 @@ impl Layout {
         }
     }
 
-    /// Whether it is `UNDEFINED`: a transition from it keeps no texel.
+    /// Whether it is `UNDEFINED`: a transition from it may drop the texels, and none leads to it.
     pub fn is_undefined(self) -> bool
         ensures { result ≡ is_undefined self }
     {

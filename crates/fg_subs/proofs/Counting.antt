@@ -1,16 +1,18 @@
 -- How many nodes there are.
-use Rattle.std.proofs.Common.{◌≡◌, ℕ, suc, ◌+◌, ◌<◌, ◌++◌, List, [], ◌∷◌, length, map, get_or, drop, Some, None, Option, refl, sym, ap, ap₂, ◌∙◌, add-one, drop-cons, arith}
-use Rattle.std.specs.List.{range_with_len}
-use Rattle.std.proofs.lemmas.List.{length-append}
-use Rattle.std.proofs.lemmas.List.FromFn.{length-map-range_with_len}
+use Rattle.std.proofs.Common.{◌≡◌, ℕ, suc, ◌+◌, ◌<◌, ◌≤◌, List, [], ◌∷◌, ◌++◌, length, map, get_or, drop, take, Option, Some, None, option_to_list, refl, sym, ap, ap₂, ◌∙◌, add-one, drop-cons, arith}
+use Rattle.std.specs.List.{flat_map}
+use Rattle.std.proofs.lemmas.List.{length-append, length-map}
 use Rattle.fg_subs.specs.Counts.{signal_count, batch_count, batches_count, queues_count}
-use Rattle.fg_subs.specs.Nodes.{signal_nodes, batch_nodes, queue_nodes, nodes_of}
+use Rattle.fg_subs.specs.Entries.{OfWait, OfItem, OfSignal, OfHost, batch_entries, queue_entries, entries_of, first_node}
+use Rattle.fg_subs.specs.FirstFault.{first_broken}
+use Rattle.fg_subs.specs.Nodes.{nodes_of}
 use Rattle.fg_subs.specs.Places.{all_in}
-use Rattle.fg_subs.specs.declared.nodes.NodeAt.TheVariants as node
 use Rattle.fg_subs.specs.declared.program.Batch.{Batch}
 use Rattle.fg_subs.specs.declared.program.Program.{Program}
 use Rattle.fg_subs.specs.declared.program.Queue.{Queue}
 use Rattle.fg_subs.specs.declared.program.Signal.{Signal}
+use Rattle.fg_subs.proofs.Entering.{as_many, by_queue}
+use Rattle.fg_subs.proofs.Few.{is_small}
 
 -- the count from one entry on
 pub batches_on : (xs : List Batch) (i : ℕ) (x : Batch) → i < length xs → x ≡ get_or xs i x → batches_count (drop i xs) ≡ batch_count x + batches_count (drop (i + 1) xs)
@@ -19,29 +21,46 @@ batches_on xs i x lt is = rw add-one (ap batches_count (drop-cons xs i x lt) ∙
 pub queues_on : (xs : List Queue) (i : ℕ) (x : Queue) → i < length xs → x ≡ get_or xs i x → queues_count (drop i xs) ≡ batches_count x.batches + queues_count (drop (i + 1) xs)
 queues_on xs i x lt is = rw add-one (ap queues_count (drop-cons xs i x lt) ∙ ap (λ y. batches_count y.batches + queues_count (drop (suc i) xs)) (sym is))
 
-signals : (q b : ℕ) (signal : Option Signal) → length (signal_nodes q b signal) ≡ signal_count signal
-signals q b None = refl
-signals q b (Some signal) = refl
+signals : (signal : Option Signal) → length (option_to_list signal) ≡ signal_count signal
+signals None = refl
+signals (Some signal) = refl
 
-in_batch : (q b : ℕ) (batch : Batch) → length (batch_nodes q b batch) ≡ batch_count batch
-in_batch q b batch =
-    let waits = map (node.Wait q b) (range_with_len 0 (length batch.waits)) in
-    let items = map (node.Item q b) (range_with_len 0 (length batch.items)) in
+in_batch : (q : ℕ) (batch : Batch) → length (batch_entries q batch) ≡ batch_count batch
+in_batch q batch =
+    let waits = map (OfWait q) batch.waits in
+    let items = map (OfItem q) batch.items in
+    let ends = map (OfSignal q) (option_to_list batch.signal) in
     let first = length-append waits items in
-    let all = length-append (waits ++ items) (signal_nodes q b batch.signal) in
-    let own = length-map-range_with_len (node.Wait q b) 0 (length batch.waits) in
-    let next = length-map-range_with_len (node.Item q b) 0 (length batch.items) in
-    let ends = signals q b batch.signal in
-    let sum : length (waits ++ items) + length (signal_nodes q b batch.signal) ≡ length batch.waits + length batch.items + signal_count batch.signal = omega (arith, first, own, next, ends) in
+    let all = length-append (waits ++ items) ends in
+    let own = length-map batch.waits (OfWait q) in
+    let next = length-map batch.items (OfItem q) in
+    let last = length-map (option_to_list batch.signal) (OfSignal q) in
+    let one = signals batch.signal in
+    let sum : length (waits ++ items) + length ends ≡ length batch.waits + length batch.items + signal_count batch.signal = omega (arith, first, own, next, last, one) in
     all ∙ sum
 
-in_batches : (q b : ℕ) (batches : List Batch) → length (all_in (batch_nodes q) b batches) ≡ batches_count batches
-in_batches q b [] = refl
-in_batches q b (batch ∷ batches) = length-append _ _ ∙ ap₂ (λ m n. m + n) (in_batch q b batch) (in_batches q (suc b) batches)
+in_batches : (q : ℕ) (batches : List Batch) → length (flat_map (batch_entries q) batches) ≡ batches_count batches
+in_batches q [] = refl
+in_batches q (batch ∷ batches) = length-append (batch_entries q batch) (flat_map (batch_entries q) batches) ∙ ap₂ (λ m n. m + n) (in_batch q batch) (in_batches q batches)
 
-in_queues : (q : ℕ) (queues : List Queue) → length (all_in queue_nodes q queues) ≡ queues_count queues
+in_queues : (q : ℕ) (queues : List Queue) → length (all_in queue_entries q queues) ≡ queues_count queues
 in_queues q [] = refl
-in_queues q (queue ∷ queues) = length-append _ _ ∙ ap₂ (λ m n. m + n) (in_batches q 0 queue.batches) (in_queues (suc q) queues)
+in_queues q (queue ∷ queues) = length-append (queue_entries q queue) (all_in queue_entries (suc q) queues) ∙ ap₂ (λ m n. m + n) (in_batches q queue.batches) (in_queues (suc q) queues)
+
+entries_count : (program : Program) → length (entries_of program) ≡ queues_count program.queues + length program.readbacks
+entries_count program = length-append (all_in queue_entries 0 program.queues) (map OfHost program.readbacks) ∙ ap₂ (λ m n. m + n) (in_queues 0 program.queues) (length-map program.readbacks OfHost)
 
 pub nodes_count : (program : Program) → length (nodes_of program) ≡ queues_count program.queues + length program.readbacks
-nodes_count program = length-append _ _ ∙ ap₂ (λ m n. m + n) (in_queues 0 program.queues) (length-map-range_with_len node.Host 0 (length program.readbacks))
+nodes_count program = as_many program ∙ entries_count program
+
+pub first_is : (program : Program) (q : ℕ) → queues_count (take q program.queues) ≡ first_node program q
+first_is program q = sym (in_queues 0 (take q program.queues))
+
+pub first_few : (program : Program) (q : ℕ) → first_broken program ≡ None → q ≤ length program.queues → queues_count (take q program.queues) ≤ 20000
+first_few program q none le =
+    let few = (is_small program none).nodes in
+    let same = as_many program in
+    let all = (by_queue program).count in
+    let low = (by_queue program).rising q (length program.queues) le in
+    let is = first_is program q in
+    omega (arith, few, same, all, low, is)

@@ -1,13 +1,14 @@
 -- A program that breaks no rule is small.
-use Rattle.std.proofs.Common.{◌≡◌, ◌≤◌, ◌+◌, ◌-◌, ℕ, suc, Bool, true, false, nat_le, nat_lt, not, List, [], ◌∷◌, Option, Some, None, Ok, Err, length, if◌then◌else◌, refl, arith}
+use Rattle.std.proofs.Common.{◌≡◌, ◌≤◌, ◌+◌, ◌-◌, ℕ, suc, Bool, true, false, nat_le, nat_lt, not, List, [], ◌∷◌, Option, Some, None, Ok, Err, length, if◌then◌else◌, refl, subst, arith}
 use Rattle.std.specs.List.{position}
 use Rattle.std.specs.Option.{option_or, option_map}
 use Rattle.std.proofs.lemmas.Bool.{leb-true, ltb-false, and_parts}
 use Rattle.fg_base.specs.Bounds.{is_between, sides_allowed, size_allowed}
 use Rattle.fg_base.specs.declared.limit.Limit.TheVariants as limits
 use Rattle.fg_base.proofs.Absence.{or_first, or_second, map_none, has_it, all_pass}
+use Rattle.fg_subs.proofs.Entering.{as_many}
 use Rattle.fg_subs.specs.FirstFault.{first_broken, rules_broken}
-use Rattle.fg_subs.specs.Kept.{IsSmall}
+use Rattle.fg_subs.specs.Obeys.{IsSmall}
 use Rattle.fg_subs.specs.Limits.{over, memory_bytes, all_bytes, spend_memory, rects_over, bytes_over, count_broken, size_broken, limit_broken}
 use Rattle.fg_subs.specs.Nodes.{nodes_of}
 use Rattle.fg_subs.specs.Places.{go_on, spend_in, not_lasting}
@@ -85,13 +86,17 @@ module _ (program : Program) (none : first_broken program ≡ None) where
   between : (nat_le 1 (length program.queues) ≡ true) × (nat_le (length program.queues) 4 ≡ true)
   between = and_parts (nat_le 1 (length program.queues)) (nat_le (length program.queues) 4) (has_it (is_between 1 4 (length program.queues)) (over limits.Queues at.Queues) (or_first queues (option_or memories (option_or pieces (option_or nodes (option_or rects readbacks)))) counts))
 
+  few : length (nodes_of program) ≤ 20000
+  few = leb-true (length (nodes_of program)) 20000 (has_it (nat_le (length (nodes_of program)) 20000) (over limits.Nodes at.Whole) (or_first nodes (option_or rects readbacks) after_pieces))
+
   pub is_small : IsSmall program
   is_small = record {
     some_queue = leb-true 1 (length program.queues) between.0;
     queues = leb-true (length program.queues) 4 between.1;
     memories = leb-true (length program.memories) 512 (has_it (nat_le (length program.memories) 512) (over limits.Memories at.Memories) (or_first memories (option_or pieces (option_or nodes (option_or rects readbacks))) after_queues));
     pieces = leb-true (length program.pieces) 512 (has_it (nat_le (length program.pieces) 512) (over limits.Pieces at.Pieces) (or_first pieces (option_or nodes (option_or rects readbacks)) after_memories));
-    nodes = leb-true (length (nodes_of program)) 20000 (has_it (nat_le (length (nodes_of program)) 20000) (over limits.Nodes at.Whole) (or_first nodes (option_or rects readbacks) after_pieces));
+    nodes = few;
+    entries = subst (λ n. n ≤ 20000) (as_many program) few;
     readbacks = leb-true (length program.readbacks) 32 (has_it (nat_le (length program.readbacks) 32) (over limits.Readbacks at.Readbacks) (or_second rects readbacks after_nodes));
     sides = all_pass (λ piece. sides_allowed piece.shape) program.pieces (map_none (λ i. over limits.Side (at.Piece i)) (position (λ piece. not (sides_allowed piece.shape)) program.pieces) (or_first sides (option_or sizes bytes) small));
     sizes = all_pass (λ piece. size_allowed piece.shape) program.pieces (map_none (λ i. over limits.Size (at.Piece i)) (position (λ piece. not (size_allowed piece.shape)) program.pieces) (or_first sizes bytes after_sides));

@@ -1,14 +1,16 @@
--- A program that breaks no rule keeps each.
-use Rattle.std.proofs.Common.{◌≡◌, ℕ, length, take, not, true, Option, None, Some, IfSome}
-use Rattle.std.specs.List.{position}
+-- A program that breaks no rule obeys each.
+use Rattle.std.proofs.Common.{◌≡◌, ℕ, subst, slice_get, length, take, not, true, Option, None, Some, IfSome}
+use Rattle.std.specs.List.{All, position}
 use Rattle.std.specs.Option.{option_or, option_map}
 use Rattle.fg_base.specs.Walks.{first_in}
 use Rattle.fg_base.specs.declared.shape.Family.{Family}
 use Rattle.fg_base.proofs.Absence.{or_first, or_second, map_none, has_it, all_pass, none_from}
+use Rattle.fg_subs.proofs.Entering.{batch_each, queue_each, program_each}
+use Rattle.fg_subs.specs.Entries.{entries_of}
 use Rattle.fg_subs.specs.FirstFault.{broken, rule_broken, form_broken, use_broken, rules_broken, first_broken}
-use Rattle.fg_subs.specs.Kept.{BatchKeeps, Keeps}
+use Rattle.fg_subs.specs.Obeys.{BatchObeys, EntryObeys, Obeys}
 use Rattle.fg_subs.specs.Limits.{limit_broken}
-use Rattle.fg_subs.specs.Rules.{piece_keeps, wait_keeps, item_keeps, signal_keeps, readback_keeps, signal_place, batch_place, next_place, queue_place, broken_at, shapes_of}
+use Rattle.fg_subs.specs.Rules.{piece_obeys, wait_obeys, item_obeys, signal_obeys, readback_obeys, signal_place, batch_place, next_place, queue_place, broken_at, shapes_of}
 use Rattle.fg_subs.specs.Timelines.{highest}
 use Rattle.fg_subs.specs.declared.place.Broken.{Broken}
 use Rattle.fg_subs.specs.declared.place.Place.TheVariants as at
@@ -61,37 +63,50 @@ module _ (program : Program) (none : first_broken program ≡ None) where
 
 -- EACH PART
 
-signal_passes : (rule : Rule) (family : Family) (reached q b : ℕ) (signal : Option Signal) → signal_place rule family reached q b signal ≡ None → IfSome signal (λ s. signal_keeps rule family reached s ≡ true)
+signal_passes : (rule : Rule) (family : Family) (reached q b : ℕ) (signal : Option Signal) → signal_place rule family reached q b signal ≡ None → IfSome signal (λ s. signal_obeys rule family reached s ≡ true)
 signal_passes rule family reached q b None none = tt
-signal_passes rule family reached q b (Some signal) none = has_it (signal_keeps rule family reached signal) (at.Signal q b) none
+signal_passes rule family reached q b (Some signal) none = has_it (signal_obeys rule family reached signal) (at.Signal q b) none
 
-batch_passes : (rule : Rule) (program : Program) (queue : Queue) (q b : ℕ) (batch : Batch) → batch_place rule (length program.queues) (shapes_of program) queue.family (highest (take b queue.batches)) q b batch ≡ None → BatchKeeps rule program queue b batch
+batch_passes : (rule : Rule) (program : Program) (queue : Queue) (q b : ℕ) (batch : Batch) → batch_place rule (length program.queues) (shapes_of program) queue.family (highest (take b queue.batches)) q b batch ≡ None → BatchObeys rule program queue b batch
 batch_passes rule program queue q b batch none =
-    let waits = position (λ wait. not (wait_keeps rule (length program.queues) queue.family wait)) batch.waits in
-    let items = position (λ item. not (item_keeps rule (shapes_of program) queue.family item)) batch.items in
+    let waits = position (λ wait. not (wait_obeys rule (length program.queues) queue.family wait)) batch.waits in
+    let items = position (λ item. not (item_obeys rule (shapes_of program) queue.family item)) batch.items in
     let signal = signal_place rule queue.family (highest (take b queue.batches)) q b batch.signal in
     let after = or_second (option_map (λ k. at.Wait q b k) waits) (option_or (option_map (λ k. at.Item q b k) items) signal) none in
     record {
-      waits = all_pass (wait_keeps rule (length program.queues) queue.family) batch.waits (map_none (λ k. at.Wait q b k) waits (or_first (option_map (λ k. at.Wait q b k) waits) (option_or (option_map (λ k. at.Item q b k) items) signal) none));
-      items = all_pass (item_keeps rule (shapes_of program) queue.family) batch.items (map_none (λ k. at.Item q b k) items (or_first (option_map (λ k. at.Item q b k) items) signal after));
+      waits = all_pass (wait_obeys rule (length program.queues) queue.family) batch.waits (map_none (λ k. at.Wait q b k) waits (or_first (option_map (λ k. at.Wait q b k) waits) (option_or (option_map (λ k. at.Item q b k) items) signal) none));
+      items = all_pass (item_obeys rule (shapes_of program) queue.family) batch.items (map_none (λ k. at.Item q b k) items (or_first (option_map (λ k. at.Item q b k) items) signal after));
       signal = signal_passes rule queue.family (highest (take b queue.batches)) q b batch.signal (or_second (option_map (λ k. at.Item q b k) items) signal after);
     }
 
-pub keeps : (program : Program) → first_broken program ≡ None → (rule : Rule) → Keeps rule program
+pub keeps : (program : Program) → first_broken program ≡ None → (rule : Rule) → Obeys rule program
 keeps program none rule =
     let shapes = shapes_of program in
     let count = length program.queues in
-    let pieces = option_map (λ i. at.Piece i) (position (λ piece. not (piece_keeps rule program.memories piece)) program.pieces) in
+    let pieces = option_map (λ i. at.Piece i) (position (λ piece. not (piece_obeys rule program.memories piece)) program.pieces) in
     let queues = first_in (queue_place rule count shapes) 0 program.queues in
-    let readbacks = option_map (λ k. at.Readback k) (position (λ piece. not (readback_keeps rule shapes piece)) program.readbacks) in
+    let readbacks = option_map (λ k. at.Readback k) (position (λ piece. not (readback_obeys rule shapes piece)) program.readbacks) in
     let all = no_place program none rule in
     let after = or_second pieces (option_or queues readbacks) all in
     let no_queue = or_first queues readbacks after in
     record {
-      pieces = all_pass (piece_keeps rule program.memories) program.pieces (map_none (λ i. at.Piece i) (position (λ piece. not (piece_keeps rule program.memories piece)) program.pieces) (or_first pieces (option_or queues readbacks) all));
+      pieces = all_pass (piece_obeys rule program.memories) program.pieces (map_none (λ i. at.Piece i) (position (λ piece. not (piece_obeys rule program.memories piece)) program.pieces) (or_first pieces (option_or queues readbacks) all));
       batches = λ q b queue batch there.
           let in_queue : queue_place rule count shapes q queue ≡ None = none_from (queue_place rule count shapes) program.queues no_queue q queue there.queue_is in
           let in_batch : next_place rule count shapes queue.family q queue.batches b batch ≡ None = none_from (next_place rule count shapes queue.family q queue.batches) queue.batches in_queue b batch there.batch_is in
           batch_passes rule program queue q b batch in_batch;
-      readbacks = all_pass (readback_keeps rule shapes) program.readbacks (map_none (λ k. at.Readback k) (position (λ piece. not (readback_keeps rule shapes piece)) program.readbacks) (or_second queues readbacks after));
+      readbacks = all_pass (readback_obeys rule shapes) program.readbacks (map_none (λ k. at.Readback k) (position (λ piece. not (readback_obeys rule shapes piece)) program.readbacks) (or_second queues readbacks after));
     }
+
+pub entries_obey : (program : Program) (rule : Rule) → Obeys rule program → All (EntryObeys rule program) (entries_of program)
+entries_obey program rule obeyed =
+    program_each (EntryObeys rule program) program
+    (λ q queue is. queue_each (EntryObeys rule program) q queue
+    (λ b batch at.
+    let each = obeyed.batches q b queue batch (record { queue_is = is; batch_is = at }) in
+    let reached = highest (take b queue.batches) in
+    batch_each (EntryObeys rule program) q batch
+    (λ i d lt. (queue, is, each.waits i d lt))
+    (λ i d lt. (queue, is, each.items i d lt))
+    (λ s here. (queue, reached, is, subst (λ o. IfSome o (λ signal. signal_obeys rule queue.family reached signal ≡ true)) here each.signal))))
+    (λ i d lt. obeyed.readbacks i d lt)

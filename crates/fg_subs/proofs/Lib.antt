@@ -1,4 +1,5 @@
 pub mod Counting
+pub mod Entering
 pub mod Few
 pub mod Growing
 pub mod Keeping

@@ -4,7 +4,7 @@ use Rattle.std.specs.List.{All, range_with_len}
 use Rattle.std.proofs.lemmas.List.Elements.{All-nil, All-cons, All-append, All-map}
 use Rattle.std.proofs.lemmas.List.FromFn.{length-range_with_len, get_or-range_with_len}
 use Rattle.std.proofs.lemmas.Option.{get_or_from_slice_get}
-use Rattle.fg_subs.specs.Kept.{BatchAt, IsNode}
+use Rattle.fg_subs.specs.Obeys.{BatchAt, IsNode}
 use Rattle.fg_subs.specs.Nodes.{signal_nodes, batch_nodes, queue_nodes, nodes_of}
 use Rattle.fg_subs.specs.Places.{all_in}
 use Rattle.fg_subs.specs.declared.nodes.NodeAt.{NodeAt}

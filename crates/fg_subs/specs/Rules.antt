@@ -25,58 +25,58 @@ use Rattle.fg_subs.specs.declared.program.WaitFor.{WaitFor}
 use Rattle.fg_subs.specs.declared.rule.Rule.{Rule}
 use Rattle.fg_subs.specs.declared.rule.Rule.TheVariants as rules
 
--- WHICH PARTS KEEP A RULE
+-- WHICH PARTS OBEY A RULE
 
-abbrev pub piece_keeps : Rule → List Memory → Piece → Bool
-piece_keeps rules.Range memories piece = piece_in_range memories piece
-piece_keeps rules.Known memories piece = nat_lt piece.memory (length memories)
-piece_keeps rule memories piece = true
+abbrev pub piece_obeys : Rule → List Memory → Piece → Bool
+piece_obeys rules.Range memories piece = piece_in_range memories piece
+piece_obeys rules.Known memories piece = nat_lt piece.memory (length memories)
+piece_obeys rule memories piece = true
 
 -- of so many queues, on a queue of a family
-abbrev pub wait_keeps : Rule → ℕ → Family → WaitFor → Bool
-wait_keeps rules.Known count family wait = nat_lt wait.queue count
-wait_keeps rules.Stages count family wait = has_stages wait.stages.0
-wait_keeps rules.OnQueue count family wait = on_queue family wait.stages.0
-wait_keeps rules.Timeline count family wait = nat_le 1 wait.value
-wait_keeps rule count family wait = true
+abbrev pub wait_obeys : Rule → ℕ → Family → WaitFor → Bool
+wait_obeys rules.Known count family wait = nat_lt wait.queue count
+wait_obeys rules.Stages count family wait = has_stages wait.stages.0
+wait_obeys rules.OnQueue count family wait = on_queue family wait.stages.0
+wait_obeys rules.Timeline count family wait = nat_le 1 wait.value
+wait_obeys rule count family wait = true
 
 abbrev pub item_runs : Family → Item → Bool
 item_runs family (Command op) = runs op family
 item_runs family item = true
 
-abbrev pub item_keeps : Rule → List Shape → Family → Item → Bool
-item_keeps rules.Range shapes family item = item_in_range shapes family item
-item_keeps rules.Known shapes family item = item_known shapes item
-item_keeps rules.Stages shapes family item = masks_are both_have_stages item
-item_keeps rules.Ignored shapes family item = nothing_ignored item
-item_keeps rules.Supported shapes family item = masks_are both_supported item
-item_keeps rules.OnQueue shapes family item = masks_are (both_on_family family) item
-item_keeps rules.Runs shapes family item = item_runs family item
-item_keeps rules.Timeline shapes family item = true
+abbrev pub item_obeys : Rule → List Shape → Family → Item → Bool
+item_obeys rules.Range shapes family item = item_in_range shapes family item
+item_obeys rules.Known shapes family item = item_known shapes item
+item_obeys rules.Stages shapes family item = masks_are both_have_stages item
+item_obeys rules.Ignored shapes family item = nothing_ignored item
+item_obeys rules.Supported shapes family item = masks_are both_supported item
+item_obeys rules.OnQueue shapes family item = masks_are (both_on_family family) item
+item_obeys rules.Runs shapes family item = item_runs family item
+item_obeys rules.Timeline shapes family item = true
 
 -- where the signals before it reach a value
-abbrev pub signal_keeps : Rule → Family → ℕ → Signal → Bool
-signal_keeps rules.Stages family reached signal = has_stages signal.stages.0
-signal_keeps rules.OnQueue family reached signal = on_queue family signal.stages.0
-signal_keeps rules.Timeline family reached signal = nat_lt reached signal.value
-signal_keeps rule family reached signal = true
+abbrev pub signal_obeys : Rule → Family → ℕ → Signal → Bool
+signal_obeys rules.Stages family reached signal = has_stages signal.stages.0
+signal_obeys rules.OnQueue family reached signal = on_queue family signal.stages.0
+signal_obeys rules.Timeline family reached signal = nat_lt reached signal.value
+signal_obeys rule family reached signal = true
 
-abbrev pub readback_keeps : Rule → List Shape → ℕ → Bool
-readback_keeps rules.Range shapes piece = is_so is_buffer shapes piece
-readback_keeps rules.Known shapes piece = has_piece shapes piece
-readback_keeps rule shapes piece = true
+abbrev pub readback_obeys : Rule → List Shape → ℕ → Bool
+readback_obeys rules.Range shapes piece = is_so is_buffer shapes piece
+readback_obeys rules.Known shapes piece = has_piece shapes piece
+readback_obeys rule shapes piece = true
 
 -- THE FIRST PLACE
 
 abbrev pub signal_place : Rule → Family → ℕ → ℕ → ℕ → Option Signal → Option Place
 signal_place rule family reached q b None = None
-signal_place rule family reached q b (Some signal) = if signal_keeps rule family reached signal then None else Some (at.Signal q b)
+signal_place rule family reached q b (Some signal) = if signal_obeys rule family reached signal then None else Some (at.Signal q b)
 
 -- in batch b of a queue: its waits, its items, its signal
 abbrev pub batch_place : Rule → ℕ → List Shape → Family → ℕ → ℕ → ℕ → Batch → Option Place
 batch_place rule count shapes family reached q b batch =
-    option_or (option_map (λ k. at.Wait q b k) (position (λ wait. not (wait_keeps rule count family wait)) batch.waits))
-    (option_or (option_map (λ k. at.Item q b k) (position (λ item. not (item_keeps rule shapes family item)) batch.items))
+    option_or (option_map (λ k. at.Wait q b k) (position (λ wait. not (wait_obeys rule count family wait)) batch.waits))
+    (option_or (option_map (λ k. at.Item q b k) (position (λ item. not (item_obeys rule shapes family item)) batch.items))
     (signal_place rule family reached q b batch.signal))
 
 -- batch b, after the batches before it
@@ -92,6 +92,17 @@ shapes_of program = map (λ piece. piece.shape) program.pieces
 -- pieces, queues and readbacks, in this order
 abbrev pub broken_at : Rule → Program → List Shape → Option Place
 broken_at rule program shapes =
-    option_or (option_map (λ i. at.Piece i) (position (λ piece. not (piece_keeps rule program.memories piece)) program.pieces))
+    option_or (option_map (λ i. at.Piece i) (position (λ piece. not (piece_obeys rule program.memories piece)) program.pieces))
     (option_or (first_in (queue_place rule (length program.queues) shapes) 0 program.queues)
-    (option_map (λ k. at.Readback k) (position (λ piece. not (readback_keeps rule shapes piece)) program.readbacks)))
+    (option_map (λ k. at.Readback k) (position (λ piece. not (readback_obeys rule shapes piece)) program.readbacks)))
+
+-- NAMES OF BEFORE
+
+abbrev pub wait_keeps : Rule → ℕ → Family → WaitFor → Bool
+wait_keeps = wait_obeys
+
+abbrev pub item_keeps : Rule → List Shape → Family → Item → Bool
+item_keeps = item_obeys
+
+abbrev pub signal_keeps : Rule → Family → ℕ → Signal → Bool
+signal_keeps = signal_obeys

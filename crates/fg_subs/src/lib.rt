@@ -2,6 +2,7 @@
 #![tactic(auto)]
 
 mod barriers;
+mod entry;
 mod fault;
 mod limits;
 mod nodes;
@@ -14,6 +15,7 @@ mod rule;
 mod shaped;
 mod walk;
 
+pub use entry::Entry;
 pub use fault::SubFault;
 pub use fg_base::{Limit, Path};
 pub use fg_bits::{Layout, Layouts, Masks};

@@ -1,6 +1,6 @@
 //! The limits of a program.
 
-ghost use Rattle.std.specs.Prelude.{◌≡◌, ◌+◌, ◌<◌, not, nat_le, IfSome, IfNone, length};
+ghost use Rattle.std.specs.Prelude.{◌≡◌, ◌+◌, ◌<◌, ◌≤◌, not, nat_le, IfSome, IfNone, length, take};
 ghost use Rattle.std.specs.List.{position};
 ghost use Rattle.fg_base.specs.Bounds.{sides_allowed, size_allowed};
 ghost use Rattle.fg_subs.specs.Counts.{batch_count, batches_count, queues_count};
@@ -164,6 +164,18 @@ fn after_queues(room: usize, queues: &[Queue]) -> Option<usize>
         }
     }
     Some(left)
+}
+
+/// How many nodes the first queues have, which are not more than a program may have.
+pub(crate) fn queue_nodes(queues: &[Queue], count: u32) -> u32
+    requires within { count ≤ length queues.now }
+    requires few { queues_count (take count queues.now) ≤ 20000 }
+    ensures { result ≡ queues_count (take count queues.now) }
+{
+    match after_queues(20_000, &queues[..count as usize]) {
+        Some(left) => (20_000 - left) as u32,
+        None => unreachable!(),
+    }
 }
 
 #[tactic(auto, using(crate::proofs::Counting::nodes_count))]

@@ -1,18 +1,21 @@
 //! Programs that break no rule.
 
-ghost use Rattle.std.specs.Prelude.{◌≡◌, ◌<◌, IfOk, IfErr, length, None, Some, slice_get};
+ghost use Rattle.std.specs.Prelude.{◌≡◌, ◌<◌, ◌≤◌, IfOk, IfErr, length, None, Some, slice_get};
+ghost use Rattle.std.specs.List.{All};
+ghost use Rattle.fg_subs.specs.Entries.{ByQueue, entries_of, first_node, seen};
 ghost use Rattle.fg_subs.specs.FirstFault.{broken, rule_broken, form_broken, use_broken, rules_broken, first_broken, first_fault, Ends};
-ghost use Rattle.fg_subs.specs.Kept.{IsNode, IsSmall, Keeps};
+ghost use Rattle.fg_subs.specs.Obeys.{EntryObeys, IsNode, IsSmall, Obeys};
 ghost use Rattle.fg_subs.specs.Nodes.{nodes_of};
 ghost use Rattle.fg_subs.specs.declared.rule.Rule.{Rule};
 
-use crate::limits::limit_broken;
+use crate::entry::entry_at;
+use crate::limits::{limit_broken, queue_nodes};
 use crate::nodes::nodes_of;
 use crate::path::told;
 use crate::place::{Broken, Place};
 use crate::rule::Rule;
 use crate::walk::broken_at;
-use crate::{NodeAt, Program, SubFault};
+use crate::{Entry, NodeAt, Program, SubFault};
 use fg_base::{List, NoMemory, Shape};
 use std::alloc::Global;
 use std::marker::Model;
@@ -148,7 +151,10 @@ impl Shaped {
         ensures program { result.now ≡ self.now }
         ensures shaped { first_fault self.now ≡ None }
         ensures small { IsSmall self.now }
-        ensures keeps { (rule : Rule) → Keeps rule self.now }
+        ensures keeps { (rule : Rule) → Obeys rule self.now }
+        ensures obeys { (rule : Rule) → Obeys rule self.now }
+        ensures numbered { ByQueue self.now }
+        ensures entries { (rule : Rule) → All (EntryObeys rule self.now) (entries_of self.now) }
     {
         &self.program
     }
@@ -163,9 +169,10 @@ impl Shaped {
     }
 
     /// The number of nodes.
-    #[tactic(auto, using(crate::proofs::Few::few_nodes))]
+    #[tactic(auto, using(crate::proofs::Few::few_nodes, crate::proofs::Entering::as_many))]
     pub fn node_count(&self) -> u32
-        ensures { result ≡ length (nodes_of self.now) }
+        ensures nodes { result ≡ length (nodes_of self.now) }
+        ensures count { result ≡ length (entries_of self.now) }
     {
         self.nodes.len() as u32
     }
@@ -177,5 +184,26 @@ impl Shaped {
         ensures stands { IsNode self.now result }
     {
         self.nodes[n as usize]
+    }
+
+    /// What the node with the number `n` stands for.
+    pub fn entry(&self, n: u32) -> Entry<'_>
+        requires { n < length (entries_of self.now) }
+        ensures entry { slice_get (entries_of self.now) n ≡ Some (seen result) }
+        ensures obeys { (rule : Rule) → EntryObeys rule self.now (seen result) }
+    {
+        match entry_at(&self.program, self.nodes[n as usize]) {
+            Some(entry) => entry,
+            None => unreachable!(),
+        }
+    }
+
+    /// The number of a queue's first node. After the last queue it is that of the first host read.
+    pub fn first_node(&self, queue: u32) -> u32
+        requires { queue ≤ length self.now.queues }
+        ensures first { result ≡ first_node self.now queue }
+        ensures numbered { ByQueue self.now }
+    {
+        queue_nodes(&self.program.queues, queue)
     }
 }

@@ -3,7 +3,7 @@
 ghost use Rattle.std.specs.Prelude.{◌≡◌, not};
 ghost use Rattle.std.specs.List.{position};
 ghost use Rattle.fg_base.specs.Walks.{first_in};
-ghost use Rattle.fg_subs.specs.Rules.{piece_keeps, wait_keeps, item_runs, item_keeps, signal_keeps, readback_keeps, signal_place, batch_place, next_place, queue_place, broken_at};
+ghost use Rattle.fg_subs.specs.Rules.{piece_obeys, wait_obeys, item_runs, item_obeys, signal_obeys, readback_obeys, signal_place, batch_place, next_place, queue_place, broken_at};
 ghost use Rattle.fg_subs.specs.Timelines.{value_of};
 
 use crate::barriers::{
@@ -16,8 +16,8 @@ use crate::rule::Rule;
 use crate::{Batch, Item, Memory, Piece, Program, Queue, Signal, WaitFor};
 use fg_base::{Family, Shape, op_runs};
 
-fn piece_keeps(rule: Rule, memories: &[Memory], piece: &Piece) -> bool
-    ensures { result ≡ piece_keeps rule memories.now piece.now }
+fn piece_obeys(rule: Rule, memories: &[Memory], piece: &Piece) -> bool
+    ensures { result ≡ piece_obeys rule memories.now piece.now }
 {
     match rule {
         Rule::Range => piece_in_range(memories, piece),
@@ -26,8 +26,8 @@ fn piece_keeps(rule: Rule, memories: &[Memory], piece: &Piece) -> bool
     }
 }
 
-fn wait_keeps(rule: Rule, count: usize, family: Family, wait: &WaitFor) -> bool
-    ensures { result ≡ wait_keeps rule count family wait.now }
+fn wait_obeys(rule: Rule, count: usize, family: Family, wait: &WaitFor) -> bool
+    ensures { result ≡ wait_obeys rule count family wait.now }
 {
     match rule {
         Rule::Known => (wait.queue as usize) < count,
@@ -47,8 +47,8 @@ fn item_runs(family: Family, item: &Item) -> bool
     }
 }
 
-fn item_keeps(rule: Rule, shapes: &[Shape], family: Family, item: &Item) -> bool
-    ensures { result ≡ item_keeps rule shapes.now family item.now }
+fn item_obeys(rule: Rule, shapes: &[Shape], family: Family, item: &Item) -> bool
+    ensures { result ≡ item_obeys rule shapes.now family item.now }
 {
     match rule {
         Rule::Range => item_in_range(shapes, family, item),
@@ -63,8 +63,8 @@ fn item_keeps(rule: Rule, shapes: &[Shape], family: Family, item: &Item) -> bool
 }
 
 // The signals before it reach a value.
-fn signal_keeps(rule: Rule, family: Family, reached: u64, signal: &Signal) -> bool
-    ensures { result ≡ signal_keeps rule family reached signal.now }
+fn signal_obeys(rule: Rule, family: Family, reached: u64, signal: &Signal) -> bool
+    ensures { result ≡ signal_obeys rule family reached signal.now }
 {
     match rule {
         Rule::Stages => has_stages(signal.stages),
@@ -74,8 +74,8 @@ fn signal_keeps(rule: Rule, family: Family, reached: u64, signal: &Signal) -> bo
     }
 }
 
-fn readback_keeps(rule: Rule, shapes: &[Shape], piece: u32) -> bool
-    ensures { result ≡ readback_keeps rule shapes.now piece }
+fn readback_obeys(rule: Rule, shapes: &[Shape], piece: u32) -> bool
+    ensures { result ≡ readback_obeys rule shapes.now piece }
 {
     match rule {
         Rule::Range => is_buffer(shapes, piece),
@@ -85,35 +85,35 @@ fn readback_keeps(rule: Rule, shapes: &[Shape], piece: u32) -> bool
 }
 
 fn broken_piece(rule: Rule, memories: &[Memory], pieces: &[Piece]) -> Option<usize>
-    ensures { result ≡ position (λ piece. not (piece_keeps rule memories.now piece)) pieces.now }
+    ensures { result ≡ position (λ piece. not (piece_obeys rule memories.now piece)) pieces.now }
 {
     pieces
         .iter()
-        .position(|piece| !piece_keeps(rule, memories, piece))
+        .position(|piece| !piece_obeys(rule, memories, piece))
 }
 
 fn broken_wait(rule: Rule, count: usize, family: Family, waits: &[WaitFor]) -> Option<usize>
-    ensures { result ≡ position (λ wait. not (wait_keeps rule count family wait)) waits.now }
+    ensures { result ≡ position (λ wait. not (wait_obeys rule count family wait)) waits.now }
 {
     waits
         .iter()
-        .position(|wait| !wait_keeps(rule, count, family, wait))
+        .position(|wait| !wait_obeys(rule, count, family, wait))
 }
 
 fn broken_item(rule: Rule, shapes: &[Shape], family: Family, items: &[Item]) -> Option<usize>
-    ensures { result ≡ position (λ item. not (item_keeps rule shapes.now family item)) items.now }
+    ensures { result ≡ position (λ item. not (item_obeys rule shapes.now family item)) items.now }
 {
     items
         .iter()
-        .position(|item| !item_keeps(rule, shapes, family, item))
+        .position(|item| !item_obeys(rule, shapes, family, item))
 }
 
 fn broken_readback(rule: Rule, shapes: &[Shape], readbacks: &[u32]) -> Option<usize>
-    ensures { result ≡ position (λ piece. not (readback_keeps rule shapes.now piece)) readbacks.now }
+    ensures { result ≡ position (λ piece. not (readback_obeys rule shapes.now piece)) readbacks.now }
 {
     readbacks
         .iter()
-        .position(|piece| !readback_keeps(rule, shapes, *piece))
+        .position(|piece| !readback_obeys(rule, shapes, *piece))
 }
 
 fn signal_place(
@@ -129,7 +129,7 @@ fn signal_place(
     match signal {
         None => None,
         Some(signal) => {
-            if signal_keeps(rule, family, reached, signal) {
+            if signal_obeys(rule, family, reached, signal) {
                 None
             } else {
                 Some(Place::Signal(q, b))
