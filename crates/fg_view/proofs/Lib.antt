@@ -1,8 +1,8 @@
 pub mod Commands
-pub mod Entries
+pub mod Endings
+pub mod EntryFits
 pub mod Fitting
 pub mod Growing
 pub mod Listing
-pub mod Placing
 pub mod Viewing
 mod Worked

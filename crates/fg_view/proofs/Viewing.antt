@@ -21,9 +21,9 @@ use Rattle.fg_subs.specs.declared.program.Program.{Program}
 use Rattle.fg_subs.specs.declared.rule.Rule.{Rule}
 use Rattle.fg_subs.specs.declared.rule.Rule.TheVariants as rules
 use Rattle.fg_base.proofs.Lists.{entry_of}
-use Rattle.fg_view.proofs.Entries.{after_change, after_owner}
+use Rattle.fg_view.proofs.Endings.{after_change, after_owner}
 use Rattle.fg_view.proofs.Fitting.{Does, FitsNode, no_node_fits}
-use Rattle.fg_view.proofs.Placing.{entry_fits, entry_family}
+use Rattle.fg_view.proofs.EntryFits.{entry_fits, entry_family}
 use Rattle.fg_view.specs.AccessKinds.{sets_owner}
 use Rattle.fg_view.specs.ShapedView.{IsByQueue, IsByBarrier, AccessAt, ShapedView}
 use Rattle.fg_view.specs.Effects.{no_effect, entry_effect}
