@@ -9,7 +9,7 @@ use std::test::Fail;
 
 // A ramp on a compute queue is handed over to a graphics queue, which maps it and copies the map into a buffer for the host.
 const RAMP_AND_MAP: &str =
-    "plain:320 plain:64 image:4:4:r32:0:0 image:4:4:r32:0:256 buffer:64:1:0 read:2 ; graphics wait:1:1 acquire:0:compute>graphics:COMPUTE_SHADER,>COMPUTE_SHADER,SHADER_SAMPLED_READ:GENERAL>SHADER_READ_ONLY turn:1:UNDEFINED>GENERAL:COMPUTE_SHADER,>COMPUTE_SHADER,SHADER_STORAGE_WRITE map:0:1 turn:1:GENERAL>TRANSFER_SRC:COMPUTE_SHADER,SHADER_STORAGE_WRITE>COPY,TRANSFER_READ out:1:2 bar:2:COPY,TRANSFER_WRITE>HOST,HOST_READ signal:1 ; compute turn:0:UNDEFINED>GENERAL:COMPUTE_SHADER,>COMPUTE_SHADER,SHADER_STORAGE_WRITE ramp:0 release:0:compute>graphics:COMPUTE_SHADER,SHADER_STORAGE_WRITE>COMPUTE_SHADER,:GENERAL>SHADER_READ_ONLY signal:1";
+    "plain:320 plain:64 image:4:4:r32:0:0 image:4:4:r32:0:256 buffer:64:1:0 read:2 ; graphics wait:1:1 acquire:0:compute>graphics:COMPUTE_SHADER,>COMPUTE_SHADER,SHADER_SAMPLED_READ:GENERAL>SHADER_READ_ONLY_OPTIMAL turn:1:UNDEFINED>GENERAL:COMPUTE_SHADER,>COMPUTE_SHADER,SHADER_STORAGE_WRITE map:0:1 turn:1:GENERAL>TRANSFER_SRC_OPTIMAL:COMPUTE_SHADER,SHADER_STORAGE_WRITE>COPY,TRANSFER_READ out:1:2 bar:2:COPY,TRANSFER_WRITE>HOST,HOST_READ signal:1 ; compute turn:0:UNDEFINED>GENERAL:COMPUTE_SHADER,>COMPUTE_SHADER,SHADER_STORAGE_WRITE ramp:0 release:0:compute>graphics:COMPUTE_SHADER,SHADER_STORAGE_WRITE>COMPUTE_SHADER,:GENERAL>SHADER_READ_ONLY_OPTIMAL signal:1";
 
 // Nodes, pieces, and the layouts that they want, in the least order: the queue of the map waits for that of the ramp, whose
 // nodes are 8 to 11.
