@@ -10,7 +10,8 @@ Looked at are README.md, HACKING.md, docs/ and the README.md of each crate, outs
 - In docs/PROMISES.md each function has to be a function of the row's crates, and each clause one of them.
 - A sentence of README.md that says "proved" has to name a clause of docs/PROMISES.md.
 - The table of docs/ARCHITECTURE.md has to have each crate of crates.txt, with what it stands on.
-- Files of the reading list in docs/MODEL.md have to be there; --count writes how many lines each has, without imports.
+- docs/MODEL.md has to name each file of definitions but those in a folder Code; files of its reading lists have to be there, and
+  --count writes how many lines each has, without imports.
 """
 
 import argparse
@@ -179,6 +180,16 @@ def look_at_architecture():
             problem(path, 1, f"crates/{crate} has no README.md")
 
 
+def look_at_model():
+    path = TOP / "docs/MODEL.md"
+    text = path.read_text(encoding="utf-8")
+    for source in SOURCES:
+        if source.parent.name == "specs" and source.suffix == ".antt" and source.stem not in ("Lib", "Code"):
+            named = re.search(rf"{crate_of(source)}/specs[^\n]*\b{source.name}", text) or re.search(rf"`{source.name}`", text)
+            if not named:
+                problem(path, 1, f"{source.relative_to(TOP)} is not named")
+
+
 READING = re.compile(r"^\| `(\w+/specs/[\w/]+\.antt)` \| (\d+) \|")
 
 
@@ -214,6 +225,7 @@ def main():
         look_at(path)
     look_at_readme(look_at_promises())
     look_at_architecture()
+    look_at_model()
     for line in problems:
         print(line, file=sys.stderr)
     print(f"names: {len(PAGES)} pages, {len(problems)} names that are not there")
