@@ -5,7 +5,8 @@
 
 Looked at are README.md, HACKING.md, docs/ and the README.md of each crate, outside of fenced blocks.
 
-- A file that is named has to be there; a definition file named alone, in a crate that its line names, or in the page's own.
+- A file that is named has to be there; a file of a crate that is named alone, in a crate that its line names, or else the line
+  before it in the same section, or in the page's own.
 - A name in backticks has to be a word of the sources.
 - In docs/PROMISES.md each function has to be a function of the row's crates, and each clause one of theirs; in its text a
   clause, or a field of one, has to be there.
@@ -89,8 +90,12 @@ def is_file(name, crates, page):
 
 def look_at(path):
     own = {crate_of(path)} - {None}
+    last = set()
     for number, line in lines_of(path):
-        crates = own | {word for word in re.findall(r"\w+", line) if word in CRATES}
+        last = set() if line.startswith("#") else last
+        named = {word for word in re.findall(r"\w+", line) if word in CRATES}
+        last = named or last
+        crates = own | (named or last)
         for name in FILE.findall(line):
             name = name.rstrip(".")
             if not is_file(name, crates, path):
