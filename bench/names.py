@@ -5,12 +5,15 @@
 
 Looked at are README.md, HACKING.md, docs/ and the README.md of each crate, outside of fenced blocks.
 
-- A file that is named has to be there; a definition file named alone, in a crate that its line names, or in the page's own.
+- A file that is named has to be there; a file of a crate that is named alone, in a crate that its line names, or else the line
+  before it in the same section, or in the page's own.
 - A name in backticks has to be a word of the sources.
-- In docs/PROMISES.md each function has to be a function of the row's crates, and each clause one of them.
+- In docs/PROMISES.md each function has to be a function of the row's crates, and each clause one of theirs; in its text a
+  clause, or a field of one, has to be there.
 - A sentence of README.md that says "proved" has to name a clause of docs/PROMISES.md.
 - The table of docs/ARCHITECTURE.md has to have each crate of crates.txt, with what it stands on.
-- Files of the reading list in docs/MODEL.md have to be there; --count writes how many lines each has, without imports.
+- docs/MODEL.md has to name each file of definitions but those in a folder Code; files of its reading lists have to be there, and
+  --count writes how many lines each has, without imports.
 """
 
 import argparse
@@ -53,8 +56,10 @@ def crate_of(path):
     return parts[1] if parts[0] == "crates" else None
 
 
-FUNCTIONS, CLAUSES = {}, {}
+FUNCTIONS, CLAUSES, FIELDS = {}, {}, set()
 for path, text in TEXTS.items():
+    if path.suffix == ".antt" and "specs" in path.parts:
+        FIELDS |= set(re.findall(r"^\s*pub (\w+) :", text, re.M))
     if path.suffix == ".rt":
         FUNCTIONS.setdefault(crate_of(path), set()).update(re.findall(r"\bfn (\w+)", text))
         CLAUSES.setdefault(crate_of(path), set()).update(re.findall(r"\bensures (\w+)", text) + re.findall(r"\bghost (\w+)", text))
@@ -85,8 +90,12 @@ def is_file(name, crates, page):
 
 def look_at(path):
     own = {crate_of(path)} - {None}
+    last = set()
     for number, line in lines_of(path):
-        crates = own | {word for word in re.findall(r"\w+", line) if word in CRATES}
+        last = set() if line.startswith("#") else last
+        named = {word for word in re.findall(r"\w+", line) if word in CRATES}
+        last = named or last
+        crates = own | (named or last)
         for name in FILE.findall(line):
             name = name.rstrip(".")
             if not is_file(name, crates, path):
@@ -148,7 +157,7 @@ def look_at_promises():
         for group in re.findall(r"\(clauses? ([^)]*)\)", line):
             clauses |= set(re.findall(r"`(\w+)`", group))
     for clause in clauses:
-        if not any(clause in known for known in CLAUSES.values()):
+        if clause not in FIELDS and not any(clause in known for known in CLAUSES.values()):
             problem(path, 1, f"no clause {clause}")
     return clauses
 
@@ -177,6 +186,16 @@ def look_at_architecture():
     for crate in CRATES:
         if not (TOP / "crates" / crate / "README.md").exists():
             problem(path, 1, f"crates/{crate} has no README.md")
+
+
+def look_at_model():
+    path = TOP / "docs/MODEL.md"
+    text = path.read_text(encoding="utf-8")
+    for source in SOURCES:
+        if source.parent.name == "specs" and source.suffix == ".antt" and source.stem not in ("Lib", "Code"):
+            named = re.search(rf"{crate_of(source)}/specs[^\n]*\b{source.name}", text) or re.search(rf"`{source.name}`", text)
+            if not named:
+                problem(path, 1, f"{source.relative_to(TOP)} is not named")
 
 
 READING = re.compile(r"^\| `(\w+/specs/[\w/]+\.antt)` \| (\d+) \|")
@@ -214,6 +233,7 @@ def main():
         look_at(path)
     look_at_readme(look_at_promises())
     look_at_architecture()
+    look_at_model()
     for line in problems:
         print(line, file=sys.stderr)
     print(f"names: {len(PAGES)} pages, {len(problems)} names that are not there")

@@ -78,6 +78,7 @@ GROUPS = [
     ("rose", "submissions", {"fg_subs", "fg_hb", "fg_view", "fg_ties", "fg_stated", "fg_checker", "fg_reach"}),
     ("green", "files", {"fg_forms", "fg_opforms", "fg_shapeforms", "fg_framefile", "fg_subfile"}),
     ("amber", "the program", {"fg_words", "fg_lines", "fg_report", "fg_top", "framec"}),
+    ("none", "tests", {"fg_sketch"}),
 ]
 
 

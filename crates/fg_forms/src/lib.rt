@@ -26,7 +26,7 @@ pub use reader::Reader;
 pub use text::{NameForm, NameWord, TextForm, Word};
 pub use typed::Typed;
 pub use writer::Writer;
-pub use written::{Members, with_member, with_text};
+pub use written::{Members, with_form, with_member, with_text};
 
 #[cfg(test)]
 mod tests;

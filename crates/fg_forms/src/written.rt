@@ -4,6 +4,7 @@ ghost use Rattle.std.specs.Prelude.{◌≡◌, IfOk};
 ghost use Rattle.serde_json.specs.Data.{put, string};
 ghost use Rattle.serde_json.specs.View.{view, members_view};
 
+use crate::Writer;
 use serde_json::{Map, Value};
 use std::alloc::{AllocError, Global};
 
@@ -21,6 +22,19 @@ pub fn with_member(
 {
     members.insert(String::from_str(alloc, name)?, value)?;
     Ok(members)
+}
+
+/// The members with one more, which stands in the form `F`.
+pub fn with_form<F: Writer>(
+    alloc: Global,
+    members: Members,
+    name: &str,
+    value: &F::In,
+) -> Result<Members, AllocError>
+    ensures { IfOk result (λ more. members_view more.entries ≡ put name.now (F.writes value.now) (members_view members.entries)) }
+{
+    let value = F::write(alloc, value)?;
+    with_member(alloc, members, name, value)
 }
 
 /// The members with a text more.

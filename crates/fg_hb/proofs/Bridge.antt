@@ -6,11 +6,11 @@ use Rattle.std.specs.Option.{is_none}
 use Rattle.fg_bits.specs.Sets.{meets}
 use Rattle.fg_hb.specs.Edges.{is_wait, is_host, is_signal, is_sync, is_at, holds_back, next_signal, meeting, node_at, goes_to, signalled, edge}
 use Rattle.fg_hb.specs.Orders.{Among, Distinct, before_in, Earlier, is_queued, InTurn, Front, Order, IsLeast, IsStuck}
-use Rattle.fg_hb.specs.Queues.{Lined, queues_of}
+use Rattle.fg_hb.specs.Code.Queues.{Lined, queues_of}
 use Rattle.fg_hb.specs.declared.kind.Kind.{Kind}
 use Rattle.fg_hb.specs.declared.kind.Kind.TheVariants.{Command, Barrier, Wait, Signal, Host}
 use Rattle.fg_hb.specs.declared.node.Node.{Node}
-use Rattle.fg_hb.proofs.Going.{clash}
+use Rattle.fg_base.proofs.Booleans.{clash}
 use Rattle.fg_hb.proofs.Hosts.{Wider, drain-whole, none-all}
 use Rattle.fg_hb.proofs.Queues.{needs_of}
 use Rattle.fg_hb.proofs.Steps.{Needs, add, nothing, Available, Walk, Greedy, placed_by, Whole, WholeWalk, NoWalk, placed-in, placed-split, walk-earlier, walk-once, walk-met, walk-small}
@@ -85,10 +85,10 @@ met_wait nodes (Wait queue value) x e = refl
 met_wait nodes (Signal value) x e = absurd cc
 met_wait nodes Host x e = absurd cc
 
-abbrev pub all_needs : List Node → ℕ → Needs
-all_needs nodes count = record {
+abbrev pub all_needs : List Node → List ℕ → ℕ → Needs
+all_needs nodes starts count = record {
   count = length nodes;
-  needs = λ x n. edge nodes x n || (is_queued nodes n && (needs_of (queues_of nodes) count).needs x n);
+  needs = λ x n. edge nodes x n || (is_queued nodes n && (needs_of (queues_of nodes starts) count).needs x n);
   never = λ n. is_wait (node_at nodes n).kind && is_none (meeting nodes (node_at nodes n).kind);
 }
 
@@ -136,12 +136,12 @@ meets_edge nodes x y e =
     or_right (nat_lt x y && holds_back (node_at nodes x) (node_at nodes y)) (signalled nodes x y || is_at (meeting nodes (node_at nodes y).kind) x)
     (or_right (signalled nodes x y) (is_at (meeting nodes (node_at nodes y).kind) x) (at_it (meeting nodes (node_at nodes y).kind) x e))
 
-module _ (nodes : List Node) (queues count : ℕ) (L : Lined nodes queues count) where
+module _ (nodes : List Node) (starts : List ℕ) (queues count : ℕ) (L : Lined nodes starts queues count) where
   abbrev N : Needs
-  N = needs_of (queues_of nodes) count
+  N = needs_of (queues_of nodes starts) count
 
   abbrev M : Needs
-  M = all_needs nodes count
+  M = all_needs nodes starts count
 
   abbrev met : ℕ → Option ℕ
   met n = meeting nodes (node_at nodes n).kind
@@ -221,7 +221,7 @@ module _ (nodes : List Node) (queues count : ℕ) (L : Lined nodes queues count)
   edge_needs x n lt e = go (edge_cases nodes x n e)
     where
       go : EdgeCase nodes x n → N.needs x n ≡ true
-      go (inl a) = line x n a.0 (eqb-true (node_at nodes x).queue (node_at nodes n).queue (and_parts ((node_at nodes x).queue == (node_at nodes n).queue) ((is_sync (node_at nodes x).kind || is_sync (node_at nodes n).kind) && meets (node_at nodes x).outs.0 (node_at nodes n).ins.0) a.1).0)
+      go (inl a) = line x n a.0 (eqb-true (node_at nodes x).queue (node_at nodes n).queue (and_parts ((node_at nodes x).queue == (node_at nodes n).queue) ((is_sync (node_at nodes x).kind || is_sync (node_at nodes n).kind) && meets (node_at nodes x).dst_stages.0 (node_at nodes n).src_stages.0) a.1).0)
       go (inr (inl a)) = let t = L.next x n a.1 in line x n t.0 t.1
       go (inr (inr (inl a))) = tied x n a
       go (inr (inr (inr a))) = absurd (not_host n lt a.0)
@@ -231,8 +231,8 @@ module _ (nodes : List Node) (queues count : ℕ) (L : Lined nodes queues count)
     where
       go : EdgeCase nodes x n → x < count
       go (inl a) =
-          let p = and_parts ((node_at nodes x).queue == (node_at nodes n).queue) ((is_sync (node_at nodes x).kind || is_sync (node_at nodes n).kind) && meets (node_at nodes x).outs.0 (node_at nodes n).ins.0) a.1 in
-          let s = (and_parts (is_sync (node_at nodes x).kind || is_sync (node_at nodes n).kind) (meets (node_at nodes x).outs.0 (node_at nodes n).ins.0) p.1).0 in
+          let p = and_parts ((node_at nodes x).queue == (node_at nodes n).queue) ((is_sync (node_at nodes x).kind || is_sync (node_at nodes n).kind) && meets (node_at nodes x).dst_stages.0 (node_at nodes n).src_stages.0) a.1 in
+          let s = (and_parts (is_sync (node_at nodes x).kind || is_sync (node_at nodes n).kind) (meets (node_at nodes x).dst_stages.0 (node_at nodes n).src_stages.0) p.1).0 in
           ⊎_elim (λ h. L.within x h) (λ h. let l = L.within n h in omega (arith, a.0, l)) (or_cases (is_sync (node_at nodes x).kind) (is_sync (node_at nodes n).kind) s)
       go (inr (inl a)) = L.within x (signal_sync (node_at nodes x).kind a.0)
       go (inr (inr (inl a))) = L.numbered.meets n x a

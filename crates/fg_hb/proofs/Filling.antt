@@ -7,14 +7,15 @@ use Rattle.std.proofs.lemmas.Nat.{and_comm, and_assoc}
 use Rattle.std.specs.List.{position}
 use Rattle.std.specs.Option.{option_map}
 use Rattle.fg_bits.specs.Sets as sets
-use Rattle.fg_hb.specs.Before.{place, joined, Tabled, AllEdges, Filling, Added, Covered, takes_over, Passes, LineDone, NodeDone}
+use Rattle.fg_hb.specs.Before.{place, joined}
+use Rattle.fg_hb.specs.Code.Filling.{Tabled, AllEdges, Filling, Added, Covered, takes_over, Passes, QueueDone, NodeDone}
 use Rattle.fg_hb.specs.Edges.{is_wait, is_host, is_signal, is_sync, is_at, signals, holds_back, next_signal, meeting, node_at, goes_to, signalled, edge}
-use Rattle.fg_hb.specs.Nodes.{nowhere}
+use Rattle.fg_hb.specs.Nodes.{no_node}
 use Rattle.fg_hb.specs.declared.kind.Kind.{Kind}
 use Rattle.fg_hb.specs.declared.kind.Kind.TheVariants.{Command}
 use Rattle.fg_hb.specs.declared.node.Node.{Node}
 use Rattle.fg_hb.proofs.Bridge.{EdgeCase, edge_cases, met_wait}
-use Rattle.fg_hb.proofs.Going.{clash}
+use Rattle.fg_base.proofs.Booleans.{clash}
 use Rattle.fg_hb.proofs.Lines.{met_sync}
 use Rattle.fg_reach.specs.Pairs.{Pairs, has}
 use Rattle.fg_reach.specs.Paths.{Path, one, then_on}
@@ -49,22 +50,22 @@ passes nodes x y lt h t w less fits k = (held_edge nodes x y lt h, held_edge nod
         let a = node_at nodes x in
         let b = node_at nodes y in
         let c = node_at nodes w in
-        let p = and_parts (a.queue == b.queue) ((is_sync a.kind || is_sync b.kind) && sets.meets a.outs.0 b.ins.0) h in
-        let q = and_parts (a.queue == c.queue) ((is_sync a.kind || is_sync c.kind) && sets.meets a.outs.0 c.ins.0) k in
-        let r = and_parts (is_sync a.kind || is_sync c.kind) (sets.meets a.outs.0 c.ins.0) q.1 in
-        let s = and_parts (is_sync b.kind) (sets.has b.outs.0 a.outs.0) t in
-        and_from (b.queue == c.queue) ((is_sync b.kind || is_sync c.kind) && sets.meets b.outs.0 c.ins.0)
+        let p = and_parts (a.queue == b.queue) ((is_sync a.kind || is_sync b.kind) && sets.meets a.dst_stages.0 b.src_stages.0) h in
+        let q = and_parts (a.queue == c.queue) ((is_sync a.kind || is_sync c.kind) && sets.meets a.dst_stages.0 c.src_stages.0) k in
+        let r = and_parts (is_sync a.kind || is_sync c.kind) (sets.meets a.dst_stages.0 c.src_stages.0) q.1 in
+        let s = and_parts (is_sync b.kind) (sets.has b.dst_stages.0 a.dst_stages.0) t in
+        and_from (b.queue == c.queue) ((is_sync b.kind || is_sync c.kind) && sets.meets b.dst_stages.0 c.src_stages.0)
         (eq-eqb b.queue c.queue (sym (eqb-true a.queue b.queue p.0) ∙ eqb-true a.queue c.queue q.0))
-        (and_from (is_sync b.kind || is_sync c.kind) (sets.meets b.outs.0 c.ins.0) (or_left (is_sync b.kind) (is_sync c.kind) s.0) (meets_more b.outs.0 a.outs.0 c.ins.0 s.1 r.1))
+        (and_from (is_sync b.kind || is_sync c.kind) (sets.meets b.dst_stages.0 c.src_stages.0) (or_left (is_sync b.kind) (is_sync c.kind) s.0) (meets_more b.dst_stages.0 a.dst_stages.0 c.src_stages.0 s.1 r.1))
 
 -- what is of a kind stands in the list
 within_list : (nodes : List Node) (test : Kind → Bool) → test Command ≡ false → (n : ℕ) → test (node_at nodes n).kind ≡ true → n < length nodes
-within_list nodes test none n h = ⊎_elim (λ lt. lt) (λ ge. absurd (clash (sym none ∙ ap (λ z. test z.kind) (sym (get_or_past nodes n (nowhere 0) ge)) ∙ h))) (cases_lt n (length nodes))
+within_list nodes test none n h = ⊎_elim (λ lt. lt) (λ ge. absurd (clash (sym none ∙ ap (λ z. test z.kind) (sym (get_or_past nodes n no_node ge)) ∙ h))) (cases_lt n (length nodes))
 
 next_within : (nodes : List Node) (x n : ℕ) (o : Option ℕ) → position (signals (node_at nodes x).queue) (drop (x + 1) nodes) ≡ o → option_map (λ k. x + 1 + k) o ≡ Some n → n < length nodes
 next_within nodes x n None e f = absurd cc
 next_within nodes x n (Some k) e f =
-    let p = position-Some (signals (node_at nodes x).queue) (drop (x + 1) nodes) k (nowhere 0) e in
+    let p = position-Some (signals (node_at nodes x).queue) (drop (x + 1) nodes) k no_node e in
     let same : x + 1 + k ≡ n = some_same f in
     let len = length-drop (x + 1) nodes in
     omega (arith, p.0, same, len)
@@ -77,9 +78,9 @@ edge_within nodes x y h = go (edge_cases nodes x y h)
   where
     held : x < y → holds_back (node_at nodes x) (node_at nodes y) ≡ true → y < length nodes
     held lt k = ⊎_elim (λ l. l) (λ ge.
-        let p = and_parts ((node_at nodes x).queue == (node_at nodes y).queue) ((is_sync (node_at nodes x).kind || is_sync (node_at nodes y).kind) && sets.meets (node_at nodes x).outs.0 (node_at nodes y).ins.0) k in
-        let q = and_parts (is_sync (node_at nodes x).kind || is_sync (node_at nodes y).kind) (sets.meets (node_at nodes x).outs.0 (node_at nodes y).ins.0) p.1 in
-        absurd (clash (sym (ap (λ z. not (z == 0)) (ap (λ z. bit_and (node_at nodes x).outs.0 z.ins.0) (get_or_past nodes y (nowhere 0) ge) ∙ and_zero (node_at nodes x).outs.0)) ∙ q.1))) (cases_lt y (length nodes))
+        let p = and_parts ((node_at nodes x).queue == (node_at nodes y).queue) ((is_sync (node_at nodes x).kind || is_sync (node_at nodes y).kind) && sets.meets (node_at nodes x).dst_stages.0 (node_at nodes y).src_stages.0) k in
+        let q = and_parts (is_sync (node_at nodes x).kind || is_sync (node_at nodes y).kind) (sets.meets (node_at nodes x).dst_stages.0 (node_at nodes y).src_stages.0) p.1 in
+        absurd (clash (sym (ap (λ z. not (z == 0)) (ap (λ z. bit_and (node_at nodes x).dst_stages.0 z.src_stages.0) (get_or_past nodes y no_node ge) ∙ and_zero (node_at nodes x).dst_stages.0)) ∙ q.1))) (cases_lt y (length nodes))
 
     go : EdgeCase nodes x y → (x < length nodes) × (y < length nodes)
     go (inl a) = let l = held a.0 a.1 in (omega (arith, a.0, l), l)
@@ -117,13 +118,13 @@ covered_on nodes places old new x y S (inl h) = inl (S.kept (place places x) (pl
 covered_on nodes places old new x y S (inr h) = inr h
 
 -- one node of the line more
-pub line_more : (nodes : List Node) (places : List ℕ) (old new : Pairs) (x n : ℕ) → Added old new → LineDone nodes places old x n → (holds_back (node_at nodes x) (node_at nodes n) ≡ true → joined new places x n ≡ true) → LineDone nodes places new x (n + 1)
+pub line_more : (nodes : List Node) (places : List ℕ) (old new : Pairs) (x n : ℕ) → Added old new → QueueDone nodes places old x n → (holds_back (node_at nodes x) (node_at nodes n) ≡ true → joined new places x n ≡ true) → QueueDone nodes places new x (n + 1)
 line_more nodes places old new x n S D there y lt less h = ⊎_elim
     (λ l. covered_on nodes places old new x y S (D y lt l h))
     (λ g. let e : n ≡ y = omega (arith, g, less) in inl (subst (λ z. joined new places x z ≡ true) e (there (subst (λ z. holds_back (node_at nodes x) (node_at nodes z) ≡ true) (sym e) h))))
     (cases_lt y n)
 
-pub line_rest : (nodes : List Node) (places : List ℕ) (old new : Pairs) (x n : ℕ) → Added old new → LineDone nodes places old x n → (holds_back (node_at nodes x) (node_at nodes n) ≡ true → joined new places x n ≡ true) → Passes nodes x n → LineDone nodes places new x (length nodes)
+pub line_rest : (nodes : List Node) (places : List ℕ) (old new : Pairs) (x n : ℕ) → Added old new → QueueDone nodes places old x n → (holds_back (node_at nodes x) (node_at nodes n) ≡ true → joined new places x n ≡ true) → Passes nodes x n → QueueDone nodes places new x (length nodes)
 line_rest nodes places old new x n S D there P y lt less h = ⊎_elim
     (λ l. line_more nodes places old new x n S D there y lt l h)
     (λ g. let t = P y (omega (arith, g)) less h in inr (n, t.0, t.1))
@@ -137,7 +138,7 @@ node_on nodes places old new n S D = record {
 }
 
 -- the edges of a node in three steps
-pub node_done : (nodes : List Node) (places : List ℕ) (first second third : Pairs) (n : ℕ) → Added first second → Added second third → LineDone nodes places first n (length nodes) → ((y : ℕ) → y < length nodes → signalled nodes n y ≡ true → joined second places n y ≡ true) → ((x : ℕ) → meeting nodes (node_at nodes n).kind ≡ Some x → joined third places x n ≡ true) → NodeDone nodes places third n
+pub node_done : (nodes : List Node) (places : List ℕ) (first second third : Pairs) (n : ℕ) → Added first second → Added second third → QueueDone nodes places first n (length nodes) → ((y : ℕ) → y < length nodes → signalled nodes n y ≡ true → joined second places n y ≡ true) → ((x : ℕ) → meeting nodes (node_at nodes n).kind ≡ Some x → joined third places x n ≡ true) → NodeDone nodes places third n
 node_done nodes places first second third n S T line signal met = record {
   line = λ y lt less h. covered_on nodes places first third n y (added_on first second third S T) (line y lt less h);
   signal = λ y lt h. T.kept (place places n) (place places y) (signal y lt h);

@@ -1,13 +1,11 @@
 -- The greedy order, one node more.
 use Rattle.std.proofs.Common.{◌≡◌, ◌⊎◌, inl, inr, ℕ, zero, suc, ◌+◌, ◌-◌, ◌<◌, ◌≤◌, Bool, true, false, ◌||◌, ◌&&◌, ◌==◌, nat_lt, not, Option, Some, None, is_none, List, [], ◌∷◌, ◌++◌, length, get_or, slice_set, length-set, get_or-set_same, get_or-set_other, refl, sym, ap, ◌∙◌, subst, ⊎_elim, eq-eqb, eqb-true, arith}
 use Rattle.std.proofs.lemmas.Bool.{cases_lt, cases_eq, cases_Bool, and_parts, and_from, or_cases, or_left, or_right, or_parts, ltb-true, ltb-false, lt-ltb, le-ltb, ne_eqb}
+use Rattle.fg_base.proofs.Booleans.{clash}
 use Rattle.fg_hb.specs.Edges.{is_at}
 use Rattle.fg_hb.proofs.Steps.{Needs, add, nothing, Available, Greedy, placed_by, LeastWalk, NoWalk, greedy-whole, greedy-stuck}
-use Rattle.fg_hb.specs.Queues.{Queues, Numbered, taken, is_open, goes_on, left_of}
+use Rattle.fg_hb.specs.Code.Queues.{Queues, Numbered, taken, is_open, goes_on, left_of}
 use Rattle.fg_hb.proofs.Queues.{needs_of}
-
-pub clash : false ≡ true → ⊥
-clash q = cc
 
 -- each queue's next node, and the nodes that have been taken
 pub record Going (Q : Queues) (queues count : ℕ) (next list : List ℕ) : Type 0 where
@@ -58,14 +56,14 @@ module _ (Q : Queues) (queues count : ℕ) (M : Numbered Q queues count) (next l
       opened = go (Q.waits y) refl
         where
           go : (t : Bool) → Q.waits y ≡ t → is_open Q next y ≡ true
-          go false e = or_left (not (Q.waits y)) (taken Q next (Q.met y)) (ap (λ t. not t) e)
+          go false e = or_left (not (Q.waits y)) (taken Q.queue next (Q.met y)) (ap (λ t. not t) e)
           go true e = found (Q.met y) refl
             where
               found : (o : Option ℕ) → Q.met y ≡ o → is_open Q next y ≡ true
               found None m = absurd (clash (sym a.met ∙ and_from (Q.waits y) (is_none (Q.met y)) e (ap (λ o. is_none o) m)))
               found (Some x) m =
                   let there = a.after x (or_right ((Q.queue x == Q.queue y) && nat_lt x y) (is_at (Q.met y) x) (ap (λ o. is_at o x) m ∙ eq-eqb x x refl)) in
-                  or_right (not (Q.waits y)) (taken Q next (Q.met y)) (ap (λ o. taken Q next o) m ∙ sym (G.placed x (M.meets y x m)) ∙ there)
+                  or_right (not (Q.waits y)) (taken Q.queue next (Q.met y)) (ap (λ o. taken Q.queue next o) m ∙ sym (G.placed x (M.meets y x m)) ∙ there)
 
   pub dry : ((q : ℕ) → q < queues → goes_on Q next q ≡ false) → (y : ℕ) → Available (needs_of Q count) (placed_by nothing list) y → ⊥
   dry none y a = clash (sym (none (Q.queue y) (M.within y a.small).0) ∙ (goes y a).1)
@@ -85,8 +83,8 @@ module _ (Q : Queues) (queues count : ℕ) (M : Numbered Q queues count) (next l
         let n : ℕ = get_or next q 0 in
         G.placed x (M.meets n x m) ∙ ⊎_elim
         (λ h. absurd (none_some (sym (M.idle n (not_true (Q.waits n) h)) ∙ m)))
-        (λ h. sym (ap (λ o. taken Q next o) m) ∙ h)
-        (or_cases (not (Q.waits n)) (taken Q next (Q.met n)) inside.1)
+        (λ h. sym (ap (λ o. taken Q.queue next o) m) ∙ h)
+        (or_cases (not (Q.waits n)) (taken Q.queue next (Q.met n)) inside.1)
       where
         none_some : None ≡ Some x → ⊥
         none_some e = cc
@@ -102,7 +100,7 @@ module _ (Q : Queues) (queues count : ℕ) (M : Numbered Q queues count) (next l
       met = ⊎_elim
           (λ h. ap (λ t. t && is_none (Q.met (get_or next q 0))) (not_true (Q.waits (get_or next q 0)) h))
           (λ h. some (Q.met (get_or next q 0)) refl h)
-          (or_cases (not (Q.waits (get_or next q 0))) (taken Q next (Q.met (get_or next q 0))) inside.1);
+          (or_cases (not (Q.waits (get_or next q 0))) (taken Q.queue next (Q.met (get_or next q 0))) inside.1);
       after = after;
     }
       where
@@ -114,8 +112,8 @@ module _ (Q : Queues) (queues count : ℕ) (M : Numbered Q queues count) (next l
         and_false false = refl
         and_false true = refl
 
-        some : (o : Option ℕ) → Q.met (get_or next q 0) ≡ o → taken Q next (Q.met (get_or next q 0)) ≡ true → (Q.waits (get_or next q 0) && is_none (Q.met (get_or next q 0))) ≡ false
-        some None m h = absurd (clash (sym (ap (λ o. taken Q next o) m) ∙ h))
+        some : (o : Option ℕ) → Q.met (get_or next q 0) ≡ o → taken Q.queue next (Q.met (get_or next q 0)) ≡ true → (Q.waits (get_or next q 0) && is_none (Q.met (get_or next q 0))) ≡ false
+        some None m h = absurd (clash (sym (ap (λ o. taken Q.queue next o) m) ∙ h))
         some (Some x) m h = ap (λ o. Q.waits (get_or next q 0) && is_none o) m ∙ and_false (Q.waits (get_or next q 0))
 
         after : (x : ℕ) → (((Q.queue x == Q.queue (get_or next q 0)) && nat_lt x (get_or next q 0)) || is_at (Q.met (get_or next q 0)) x) ≡ true → placed_by nothing list x ≡ true

@@ -4,7 +4,7 @@ use Rattle.std.proofs.lemmas.Bool.{cases_lt, cases_eq, or_left, lt-ltb, le-ltb, 
 use Rattle.std.specs.Prelude.{if◌then◌else◌}
 use Rattle.std.specs.List.{range_with_len}
 use Rattle.fg_hb.proofs.Steps.{Needs, add, nothing, Available, Walk, Greedy, placed_by, Whole, WholeWalk, LeastWalk, NoWalk, greedy-whole}
-use Rattle.fg_hb.proofs.Going.{clash}
+use Rattle.fg_base.proofs.Booleans.{clash}
 
 -- the needs of all nodes, where the first are the queue nodes and the others need queue nodes alone
 pub record Wider (N M : Needs) : Type 0 where

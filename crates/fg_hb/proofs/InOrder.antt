@@ -1,5 +1,5 @@
 -- Happens-before and the orders of the nodes.
-use Rattle.std.proofs.Common.{◌≡◌, ◌⊎◌, inl, inr, ℕ, List, [], ◌∷◌, sym, ap, subst, ⊎_elim, eq-eqb, ne_eqb, cond}
+use Rattle.std.proofs.Common.{◌≡◌, ◌⊎◌, inl, inr, ℕ, ◌<◌, List, [], ◌∷◌, length, sym, ap, subst, ⊎_elim, eq-eqb, ne_eqb, cond}
 use Rattle.std.proofs.lemmas.Bool.{cases_eq}
 use Rattle.fg_hb.specs.Edges.{edge}
 use Rattle.fg_hb.specs.Orders.{Among, before_in, Earlier, Order}
@@ -42,3 +42,10 @@ goes_forward nodes order O x y (then_on {b = m} p q) = earlier_then order x m y 
 
 pub comes_never_back : (nodes : List Node) (order : List ℕ) → Order nodes order → (x : ℕ) → Path (edge nodes) x x → ⊥
 comes_never_back nodes order O x p = not_itself order x (goes_forward nodes order O x x p)
+
+pub goes_not_back : (nodes : List Node) (order : List ℕ) → Order nodes order → (x y : ℕ) → Path (edge nodes) x y → Earlier order y x → ⊥
+goes_not_back nodes order O x y p = not_both order x y (goes_forward nodes order O x y p)
+
+pub path_within : (nodes : List Node) (x y : ℕ) → Path (edge nodes) x y → (x < length nodes) × (y < length nodes)
+path_within nodes x y (one e) = edge_within nodes x y e
+path_within nodes x y (then_on {b = m} p q) = ((path_within nodes x m p).0, (path_within nodes m y q).1)

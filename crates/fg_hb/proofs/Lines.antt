@@ -3,22 +3,23 @@ use Rattle.std.proofs.Common.{◌≡◌, ℕ, ◌+◌, ◌<◌, ◌≤◌, Bool,
 use Rattle.std.proofs.lemmas.Bool.{cases_lt, cases_Bool, and_parts, lt-ltb, le-ltb, ltb-true, leb-true, le-leb}
 use Rattle.std.proofs.lemmas.List.{get_or-drop, get_or_past}
 use Rattle.std.proofs.lemmas.List.Quantifiers.{position-Some}
-use Rattle.std.proofs.lemmas.List.Sums.{position_or_len_is, fails_before_first, passes_at_first, prefix_len-le-length}
 use Rattle.std.specs.List.{position}
 use Rattle.std.specs.Option.{option_map}
 use Rattle.fg_hb.specs.Edges.{is_wait, is_host, is_signal, is_sync, has_value, signals, reaches, meeting, node_at}
-use Rattle.fg_hb.specs.Nodes.{nowhere}
+use Rattle.fg_hb.specs.Nodes.{no_node}
 use Rattle.fg_hb.specs.Orders.{is_queued}
-use Rattle.fg_hb.specs.Queues.{Numbered, Lined, start_of, queues_of}
+use Rattle.fg_hb.specs.Code.Queues.{Numbered, Lined, queues_of}
 use Rattle.fg_hb.specs.declared.kind.Kind.{Kind}
 use Rattle.fg_hb.specs.declared.kind.Kind.TheVariants.{Command, Barrier, Wait, Signal, Host}
 use Rattle.fg_hb.specs.declared.node.Node.{Node}
-use Rattle.fg_hb.proofs.Going.{clash}
+use Rattle.fg_base.proofs.Booleans.{clash}
 
--- the numbers of queues rise, and host reads have a number past all queues
-pub record Lines (nodes : List Node) (queues : ℕ) : Type 0 where
-  pub sorted : (m n : ℕ) → m ≤ n → n < length nodes → (node_at nodes m).queue ≤ (node_at nodes n).queue
-  pub host : (n : ℕ) → n < length nodes → is_host (node_at nodes n).kind ≡ nat_le queues (node_at nodes n).queue
+-- where the nodes of each queue stand; host reads stand after them all
+pub record Lines (nodes : List Node) (starts : List ℕ) (queues : ℕ) : Type 0 where
+  pub queued : (n : ℕ) → n < length nodes → is_host (node_at nodes n).kind ≡ false → ((node_at nodes n).queue < queues) × (get_or starts (node_at nodes n).queue 0 ≤ n) × (n < get_or starts ((node_at nodes n).queue + 1) 0)
+  pub hosts : (n : ℕ) → n < length nodes → is_host (node_at nodes n).kind ≡ true → get_or starts queues 0 ≤ n
+  pub rising : (q r : ℕ) → q ≤ r → r ≤ queues → get_or starts q 0 ≤ get_or starts r 0
+  pub fewer : get_or starts queues 0 ≤ length nodes
 
 sync_no_host : (kind : Kind) → is_sync kind ≡ true → is_host kind ≡ false
 sync_no_host Host h = absurd (clash h)
@@ -36,7 +37,7 @@ valued_sync Host value h = absurd (clash h)
 
 pub met_sync : (nodes : List Node) (kind : Kind) (x : ℕ) → meeting nodes kind ≡ Some x → (x < length nodes) × (is_sync (node_at nodes x).kind ≡ true)
 met_sync nodes (Wait queue value) x e =
-    let p = position-Some (reaches queue value) nodes x (nowhere 0) e in
+    let p = position-Some (reaches queue value) nodes x no_node e in
     (p.0, valued_sync (node_at nodes x).kind value (and_parts ((node_at nodes x).queue == queue) (has_value value (node_at nodes x).kind) p.1).1)
 met_sync nodes Command x e = absurd cc
 met_sync nodes Barrier x e = absurd cc
@@ -53,98 +54,84 @@ idle_met nodes Host h = refl
 next_place : (nodes : List Node) (x n : ℕ) (o : Option ℕ) → position (signals (node_at nodes x).queue) (drop (x + 1) nodes) ≡ o → option_map (λ k. x + 1 + k) o ≡ Some n → (x < n) × ((node_at nodes x).queue ≡ (node_at nodes n).queue)
 next_place nodes x n None e f = absurd cc
 next_place nodes x n (Some k) e f =
-    let p = position-Some (signals (node_at nodes x).queue) (drop (x + 1) nodes) k (nowhere 0) e in
+    let p = position-Some (signals (node_at nodes x).queue) (drop (x + 1) nodes) k no_node e in
     let same : x + 1 + k ≡ n = some_same f in
-    let there : get_or (drop (x + 1) nodes) k (nowhere 0) ≡ node_at nodes n = get_or-drop (x + 1) nodes k (nowhere 0) ∙ ap (λ z. node_at nodes z) same in
+    let there : get_or (drop (x + 1) nodes) k no_node ≡ node_at nodes n = get_or-drop (x + 1) nodes k no_node ∙ ap (λ z. node_at nodes z) same in
     let q = and_parts ((node_at nodes n).queue == (node_at nodes x).queue) (is_signal (node_at nodes n).kind) (subst (λ z. signals (node_at nodes x).queue z ≡ true) there p.1) in
     (omega (arith, same), sym (eqb-true (node_at nodes n).queue (node_at nodes x).queue q.0))
   where
     some_same : {a b : ℕ} → Some a ≡ Some b → a ≡ b
     some_same e = cc
 
-pub start_fits : (nodes : List Node) (q : ℕ) → start_of nodes q ≤ length nodes
-start_fits nodes q = prefix_len-le-length (λ node. not (nat_le q node.queue)) nodes
+and_false : (b : Bool) → (b && false) ≡ false
+and_false false = refl
+and_false true = refl
 
-pub first_here : (nodes : List Node) (q n : ℕ) → n < length nodes → ((k : ℕ) → k < n → nat_le q (node_at nodes k).queue ≡ false) → nat_le q (node_at nodes n).queue ≡ true → n ≡ start_of nodes q
-first_here nodes q n lt before here = sym (position_or_len_is (λ node. nat_le q node.queue) nodes n (nowhere 0) (omega (arith, lt)) before (λ h. here))
-
-pub none_here : (nodes : List Node) (q n : ℕ) → n ≡ length nodes → ((k : ℕ) → k < n → nat_le q (node_at nodes k).queue ≡ false) → n ≡ start_of nodes q
-none_here nodes q n is before = sym (position_or_len_is (λ node. nat_le q node.queue) nodes n (nowhere 0) (omega (arith, is)) before (λ h. absurd (omega (arith, is, h))))
-
-module _ (nodes : List Node) (queues : ℕ) (L : Lines nodes queues) where
-  -- before the start of a queue stand the nodes of the lower ones
-  below : (q n : ℕ) → n < start_of nodes q → (node_at nodes n).queue < q
-  below q n lt = not_le (fails_before_first (λ node. nat_le q node.queue) nodes n (nowhere 0) lt)
-    where
-      not_le : nat_le q (node_at nodes n).queue ≡ false → (node_at nodes n).queue < q
-      not_le e = ⊎_elim (λ l. l) (λ g. absurd (clash (sym e ∙ le-leb q (node_at nodes n).queue g))) (cases_lt (node_at nodes n).queue q)
-
-  above : (q n : ℕ) → start_of nodes q ≤ n → n < length nodes → q ≤ (node_at nodes n).queue
-  above q n ge lt =
-      let p = passes_at_first (λ node. nat_le q node.queue) nodes (nowhere 0) (omega (arith, ge, lt)) in
-      let l = leb-true q (node_at nodes (start_of nodes q)).queue p in
-      let s = L.sorted (start_of nodes q) n ge lt in
-      omega (arith, l, s)
-
+module _ (nodes : List Node) (starts : List ℕ) (queues : ℕ) (L : Lines nodes starts queues) where
   abbrev count : ℕ
-  count = start_of nodes queues
+  count = get_or starts queues 0
+
+  -- a node of a queue stands before the first host read
+  low : (n : ℕ) → n < length nodes → is_host (node_at nodes n).kind ≡ false → n < count
+  low n lt e =
+      let p = L.queued n lt e in
+      let r = L.rising ((node_at nodes n).queue + 1) queues (omega (arith, p.0)) (omega arith) in
+      omega (arith, p.2, r)
+
+  in_list : (n : ℕ) → n < count → n < length nodes
+  in_list n lt = omega (arith, lt, L.fewer)
+
+  not_host : (n : ℕ) → n < count → is_host (node_at nodes n).kind ≡ false
+  not_host n lt = ⊎_elim (λ h. let g = L.hosts n (in_list n lt) h in absurd (omega (arith, g, lt))) (λ h. h) (cases_Bool (is_host (node_at nodes n).kind))
 
   queued : (n : ℕ) → is_queued nodes n ≡ nat_lt n count
   queued n = ⊎_elim
-      (λ (lt : n < count).
-      let in_list : n < length nodes = omega (arith, lt, start_fits nodes queues) in
-      let b = below queues n lt in
-      both (lt-ltb n (length nodes) in_list) (L.host n in_list ∙ le-leb_false b) ∙ sym (lt-ltb n count lt))
+      (λ (lt : n < count). yes (lt-ltb n (length nodes) (in_list n lt)) (not_host n lt) ∙ sym (lt-ltb n count lt))
       (λ (ge : count ≤ n). ⊎_elim
-      (λ (in_list : n < length nodes). second (L.host n in_list ∙ le-leb queues (node_at nodes n).queue (above queues n ge in_list)) ∙ sym (le-ltb n count ge))
+      (λ (lt : n < length nodes). ⊎_elim (λ h. no h) (λ h. let l = low n lt h in absurd (omega (arith, l, ge))) (cases_Bool (is_host (node_at nodes n).kind)) ∙ sym (le-ltb n count ge))
       (λ (out : length nodes ≤ n). ap (λ t. t && not (is_host (node_at nodes n).kind)) (le-ltb n (length nodes) out) ∙ sym (le-ltb n count ge))
       (cases_lt n (length nodes)))
       (cases_lt n count)
     where
-      both : nat_lt n (length nodes) ≡ true → is_host (node_at nodes n).kind ≡ false → is_queued nodes n ≡ true
-      both e f = ap (λ t. t && not (is_host (node_at nodes n).kind)) e ∙ ap (λ t. not t) f
+      yes : nat_lt n (length nodes) ≡ true → is_host (node_at nodes n).kind ≡ false → is_queued nodes n ≡ true
+      yes e f = ap (λ t. t && not (is_host (node_at nodes n).kind)) e ∙ ap (λ t. not t) f
 
-      second : is_host (node_at nodes n).kind ≡ true → is_queued nodes n ≡ false
-      second f = ap (λ t. nat_lt n (length nodes) && not t) f ∙ and_false (nat_lt n (length nodes))
-        where
-          and_false : (b : Bool) → (b && false) ≡ false
-          and_false false = refl
-          and_false true = refl
-
-      le-leb_false : (node_at nodes n).queue < queues → nat_le queues (node_at nodes n).queue ≡ false
-      le-leb_false lt = ⊎_elim (λ h. let l = leb-true queues (node_at nodes n).queue h in absurd (omega (arith, l, lt))) (λ h. h) (cases_Bool (nat_le queues (node_at nodes n).queue))
+      no : is_host (node_at nodes n).kind ≡ true → is_queued nodes n ≡ false
+      no f = ap (λ t. nat_lt n (length nodes) && not t) f ∙ and_false (nat_lt n (length nodes))
 
   within_list : (n : ℕ) → is_sync (node_at nodes n).kind ≡ true → n < length nodes
-  within_list n h = ⊎_elim (λ lt. lt) (λ ge. absurd (clash (sym (ap (λ z. is_sync z.kind) (get_or_past nodes n (nowhere 0) ge)) ∙ h))) (cases_lt n (length nodes))
+  within_list n h = ⊎_elim (λ lt. lt) (λ ge. absurd (clash (sym (ap (λ z. is_sync z.kind) (get_or_past nodes n no_node ge)) ∙ h))) (cases_lt n (length nodes))
 
   within : (n : ℕ) → is_sync (node_at nodes n).kind ≡ true → n < count
-  within n h =
-      let lt = within_list n h in
-      ltb-true n count (sym (queued n) ∙ ap (λ t. t && not (is_host (node_at nodes n).kind)) (lt-ltb n (length nodes) lt) ∙ ap (λ t. not t) (sync_no_host (node_at nodes n).kind h))
+  within n h = low n (within_list n h) (sync_no_host (node_at nodes n).kind h)
 
-  numbered : Numbered (queues_of nodes) queues count
+  only : (n q : ℕ) → q < queues → get_or starts q 0 ≤ n → n < get_or starts (q + 1) 0 → (node_at nodes n).queue ≡ q
+  only n q lt from until =
+      let end = L.rising (q + 1) queues (omega (arith, lt)) (omega arith) in
+      let here : n < count = omega (arith, end, until) in
+      let p = L.queued n (in_list n here) (not_host n here) in
+      let r : ℕ = (node_at nodes n).queue in
+      ⊎_elim
+      (λ (l : r < q). let e = L.rising (r + 1) q (omega (arith, l)) (omega (arith, lt)) in absurd (omega (arith, e, from, p.2)))
+      (λ (g : q ≤ r). ⊎_elim
+      (λ (l : q < r). let e = L.rising (q + 1) r (omega (arith, l)) (omega (arith, p.0)) in absurd (omega (arith, e, until, p.1)))
+      (λ (h : r ≤ q). omega (arith, g, h))
+      (cases_lt q r))
+      (cases_lt r q)
+
+  numbered : Numbered (queues_of nodes starts) queues count
   numbered = record {
     last = refl;
-    rising = λ q r le lt. ⊎_elim (λ g. absurd (let a = above r (start_of nodes r) (omega arith) (omega (arith, g, start_fits nodes q)) in let b = below q (start_of nodes r) g in omega (arith, a, b, le))) (λ l. l) (cases_lt (start_of nodes r) (start_of nodes q));
-    within = λ n lt.
-        let fits : n < length nodes = omega (arith, lt, start_fits nodes queues) in
-        let k = (node_at nodes n).queue in (
-          below queues n lt,
-          ⊎_elim (λ l. let b = below k n l in absurd (omega (arith, b))) (λ g. g) (cases_lt n (start_of nodes k)),
-          ⊎_elim (λ l. l) (λ g. let a = above (k + 1) n g fits in absurd (omega (arith, a))) (cases_lt n (start_of nodes (k + 1))),
-        );
-    only = λ n q lt low high.
-        let fits : n < length nodes = omega (arith, high, start_fits nodes (q + 1)) in
-        let a = above q n low fits in
-        let b = below (q + 1) n high in
-        omega (arith, a, b);
+    rising = L.rising;
+    within = λ n lt. L.queued n (in_list n lt) (not_host n lt);
+    only = only;
     meets = λ n x e. within x (met_sync nodes (node_at nodes n).kind x e).1;
     idle = λ n h. idle_met nodes (node_at nodes n).kind h;
   }
 
-  pub lined : Lined nodes queues (start_of nodes queues)
+  pub lined : Lined nodes starts queues (get_or starts queues 0)
   lined = record {
-    fewer = start_fits nodes queues;
+    fewer = L.fewer;
     queued = queued;
     numbered = numbered;
     within = within;

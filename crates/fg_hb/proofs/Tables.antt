@@ -5,7 +5,7 @@ use Rattle.std.proofs.Math.Seq.{take-suc}
 use Rattle.std.proofs.lemmas.List.{map-append, length-map}
 use Rattle.std.proofs.lemmas.Option.{slice_get_within, get_or_from_slice_get}
 use Rattle.fg_hb.specs.Edges.{node_at}
-use Rattle.fg_hb.specs.Kept.{link_of, links_until}
+use Rattle.fg_hb.specs.Code.Tables.{link_of, links_until}
 use Rattle.fg_hb.specs.declared.node.Node.{Node}
 
 pub one_link : (nodes : List Node) (n : ℕ) (links more : List (Option ℕ)) (link : Option ℕ) → links ≡ links_until nodes n → link ≡ link_of nodes n (node_at nodes n).kind → more ≡ links ++ link ∷ [] → more ≡ links_until nodes (n + 1)

@@ -4,7 +4,6 @@ use Rattle.fg_bits.specs.Stages.{copy, compute_shader, host}
 use Rattle.fg_hb.specs.Edges.{edge, next_signal, meeting}
 use Rattle.fg_hb.specs.Nodes.{node, host_node}
 use Rattle.fg_hb.specs.Orders.{NotAbove, before_in}
-use Rattle.fg_hb.specs.Queues.{start_of}
 use Rattle.fg_hb.specs.declared.kind.Kind.TheVariants.{Command, Barrier, Wait, Signal}
 use Rattle.fg_hb.specs.declared.node.Node.{Node}
 use Rattle.std.proofs.Common.{inl, inr, arith}
@@ -73,9 +72,6 @@ never_met = refl
 
 next_of_first : next_signal row 4 ≡ Some 5
 next_of_first = refl
-
-second_queue : start_of row 1 ≡ 6
-second_queue = refl
 
 before_six : before_in (0 ∷ 6 ∷ 2 ∷ []) 2 ≡ 0 ∷ 6 ∷ []
 before_six = refl

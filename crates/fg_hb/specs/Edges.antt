@@ -3,7 +3,7 @@ use Rattle.std.specs.Prelude.{ℕ, ◌+◌, ◌==◌, ◌&&◌, ◌||◌, nat_lt
 use Rattle.std.specs.List.{position}
 use Rattle.std.specs.Option.{option_map}
 use Rattle.fg_bits.specs.Sets.{meets}
-use Rattle.fg_hb.specs.Nodes.{nowhere}
+use Rattle.fg_hb.specs.Nodes.{no_node}
 use Rattle.fg_hb.specs.declared.kind.Kind.{Kind}
 use Rattle.fg_hb.specs.declared.kind.Kind.TheVariants.{Command, Barrier, Wait, Signal, Host}
 use Rattle.fg_hb.specs.declared.node.Node.{Node}
@@ -41,7 +41,7 @@ abbrev pub reaches : ℕ → ℕ → Node → Bool
 reaches queue value node = (node.queue == queue) && has_value value node.kind
 
 abbrev pub node_at : List Node → ℕ → Node
-node_at nodes n = get_or nodes n (nowhere 0)
+node_at nodes n = get_or nodes n no_node
 
 -- the next signal of the queue of node n
 abbrev pub next_signal : List Node → ℕ → Option ℕ
@@ -58,7 +58,7 @@ is_at (Some m) n = m == n
 
 -- the first holds the second back, where it stands before it on its queue
 abbrev pub holds_back : Node → Node → Bool
-holds_back a b = (a.queue == b.queue) && ((is_sync a.kind || is_sync b.kind) && meets a.outs.0 b.ins.0)
+holds_back a b = (a.queue == b.queue) && ((is_sync a.kind || is_sync b.kind) && meets a.dst_stages.0 b.src_stages.0)
 
 -- x is a signal, and y the next one of its queue, or x the last one and y a host read
 abbrev pub goes_to : List Node → ℕ → Option ℕ → Bool

@@ -1,5 +1,5 @@
 -- Laws of happens-before: a path of direct edges.
-use Rattle.std.specs.Prelude.{ℕ, List}
+use Rattle.std.specs.Prelude.{ℕ, ◌<◌, List, length}
 use Rattle.fg_hb.specs.Edges.{edge}
 use Rattle.fg_hb.specs.Orders.{Earlier, Order}
 use Rattle.fg_hb.specs.declared.node.Node.{Node}
@@ -15,3 +15,11 @@ IsTransitive nodes = (x y z : ℕ) → Path (edge nodes) x y → Path (edge node
 -- no node happens before itself, where an order exists
 abbrev pub IsIrreflexive : List Node → Type 0
 IsIrreflexive nodes = (order : List ℕ) → Order nodes order → (x : ℕ) → Path (edge nodes) x x → ⊥
+
+-- a path joins nodes that are there
+abbrev pub IsWithin : List Node → Type 0
+IsWithin nodes = (x y : ℕ) → Path (edge nodes) x y → (x < length nodes) × (y < length nodes)
+
+-- what happens before a node does not stand after it in an order
+abbrev pub IsAsymmetric : List Node → Type 0
+IsAsymmetric nodes = (order : List ℕ) → Order nodes order → (x y : ℕ) → Path (edge nodes) x y → Earlier order y x → ⊥

@@ -1,8 +1,7 @@
 pub mod Answers
 pub mod Before
+pub mod Code
 pub mod Edges
-pub mod Kept
 pub mod Laws
 pub mod Nodes
 pub mod Orders
-pub mod Queues

@@ -1,8 +1,10 @@
 //! What happens before what.
 
 ghost use Rattle.std.specs.Prelude.{◌≡◌, ◌<◌, ◌≤◌, ◌↔◌, ℕ, length, true, get_or, None, Some, IfOk};
-ghost use Rattle.fg_hb.specs.Before.{Filling, Added, Tabled, Passes, LineDone, NodeDone, joined, happens, place};
+ghost use Rattle.fg_hb.specs.Before.{joined, happens, place};
+ghost use Rattle.fg_hb.specs.Code.Filling.{Filling, Added, Tabled, Passes, QueueDone, NodeDone};
 ghost use Rattle.fg_hb.specs.Edges.{edge, node_at, holds_back, signalled, meeting, is_signal, is_host, next_signal};
+ghost use Rattle.fg_hb.specs.Laws.{IsWithin};
 ghost use Rattle.fg_hb.specs.Nodes.{program_nodes};
 ghost use Rattle.fg_hb.specs.Orders.{Order, Distinct};
 ghost use Rattle.fg_reach.specs.Pairs.{has};
@@ -25,7 +27,7 @@ pub struct Before {
 
 impl Model for Before {
     ghost use Rattle.fg_hb.specs.Before.{Reached};
-    ghost use Rattle.fg_hb.specs.Kept.{reached_by, IsPlaced};
+    ghost use Rattle.fg_hb.specs.Code.Tables.{reached_by, IsPlaced};
 
     ghost Value = { Reached };
 
@@ -60,7 +62,7 @@ fn add_line(rows: &mut Rows, edges: &Edges, places: &[u32], x: usize)
     requires x { x < length edges.now }
     ensures filling { Filling edges.now places.now rows.new }
     ensures added { Added rows.old rows.new }
-    ensures done { LineDone edges.now places.now rows.new x (length edges.now) }
+    ensures done { QueueDone edges.now places.now rows.new x (length edges.now) }
 {
     for y in x + 1..edges.count() {
         if add_held(rows, edges, places, x, y) {
@@ -192,6 +194,7 @@ pub fn before_of(
     requires order { Order (program_nodes program.now) order.now }
     ensures count { IfOk result (λ before. length before.places ≡ length (program_nodes program.now)) }
     ensures happens { IfOk result (λ before. (x y : ℕ) → x < length (program_nodes program.now) → y < length (program_nodes program.now) → (happens before x y ≡ true) ↔ Path (edge (program_nodes program.now)) x y) }
+    ensures within { IfOk result (λ before. IsWithin (program_nodes program.now)) }
 {
     let places = places_of(alloc, order, edges.count())?;
     let rows = rows_of(alloc, edges, order, &places)?;

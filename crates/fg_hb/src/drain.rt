@@ -1,10 +1,12 @@
 //! The order in which nodes are taken.
 
-ghost use Rattle.std.specs.Prelude.{◌≡◌, ◌<◌, ◌≤◌, ◌+◌, ◌-◌, ◌++◌, ℕ, length, true, false, get_or, IfOk, MatchOption, IfSome};
+ghost use Rattle.std.specs.Prelude.{◌≡◌, ◌<◌, ◌≤◌, ◌+◌, ◌-◌, ◌++◌, ℕ, length, true, false, get_or, Some, IfOk, MatchOption, IfSome};
 ghost use Rattle.std.specs.List.{range_with_len};
 ghost use Rattle.fg_hb.specs.Answers.{Answers};
 ghost use Rattle.fg_hb.specs.Nodes.{program_nodes};
-ghost use Rattle.fg_hb.specs.Queues.{Numbered, Ready, queues_of, start_of, is_open, goes_on};
+ghost use Rattle.fg_hb.specs.Code.Queues.{Ready, queues_of, node_open, goes_on};
+ghost use Rattle.fg_hb.specs.Edges.{node_at, meeting};
+ghost use Rattle.fg_subs.specs.Entries.{first_node};
 
 use crate::Edges;
 use fg_base::{List, NoMemory};
@@ -23,11 +25,10 @@ pub enum Drain {
 }
 
 // Whether the node waits for nothing, or for a signal that is taken.
-fn is_open(edges: &Edges, queues: usize, next: &[usize], n: usize) -> bool
-    requires numbered { Numbered (queues_of edges.now) queues (start_of edges.now queues) }
-    requires next { length next.now ≡ queues }
+fn is_open(edges: &Edges, next: &[usize], n: usize) -> bool
     requires n { n < length edges.now }
-    ensures { result ≡ is_open (queues_of edges.now) next.now n }
+    requires met { (m x : ℕ) → meeting edges.now (node_at edges.now m).kind ≡ Some x → (x < length edges.now) × ((node_at edges.now x).queue < length next.now) }
+    ensures { result ≡ node_open edges.now next.now n }
 {
     if !edges.node(n).kind.is_wait() {
         return true;
@@ -43,18 +44,18 @@ fn goes_on(edges: &Edges, starts: &[usize], queues: usize, next: &[usize], q: us
     requires ready { Ready edges.now starts.now queues }
     requires next { length next.now ≡ queues }
     requires q { q < queues }
-    ensures { result ≡ goes_on (queues_of edges.now) next.now q }
+    ensures { result ≡ goes_on (queues_of edges.now starts.now) next.now q }
 {
     let n = next[q];
-    n < starts[q + 1] && is_open(edges, queues, next, n)
+    n < starts[q + 1] && is_open(edges, next, n)
 }
 
 // The lowest queue that can go on.
 fn pick(edges: &Edges, starts: &[usize], queues: usize, next: &[usize]) -> Option<usize>
     requires ready { Ready edges.now starts.now queues }
     requires next { length next.now ≡ queues }
-    ensures first { MatchOption result ((q : ℕ) → q < queues → goes_on (queues_of edges.now) next.now q ≡ false) (λ q. (r : ℕ) → r < q → goes_on (queues_of edges.now) next.now r ≡ false) }
-    ensures some { IfSome result (λ q. (q < queues) × (goes_on (queues_of edges.now) next.now q ≡ true)) }
+    ensures first { MatchOption result ((q : ℕ) → q < queues → goes_on (queues_of edges.now starts.now) next.now q ≡ false) (λ q. (r : ℕ) → r < q → goes_on (queues_of edges.now starts.now) next.now r ≡ false) }
+    ensures some { IfSome result (λ q. (q < queues) × (goes_on (queues_of edges.now starts.now) next.now q ≡ true)) }
 {
     for q in 0..queues {
         if goes_on(edges, starts, queues, next, q) {
@@ -123,26 +124,16 @@ fn drained(alloc: Global, edges: &Edges, starts: &[usize], queues: usize) -> Res
     }
 }
 
-// The first node that is of no queue below `queue`.
-fn start_of(edges: &Edges, queue: usize) -> usize
-    ensures { result ≡ start_of edges.now queue }
-{
-    for n in 0..edges.count() {
-        if queue <= edges.node(n).queue as usize {
-            return n;
-        }
-    }
-    edges.count()
-}
-
-fn starts_of(alloc: Global, edges: &Edges, queues: usize) -> Result<Vec<usize>, NoMemory>
+// The number at which each queue begins, and that of the first host read.
+fn starts_of(alloc: Global, program: &Shaped, queues: usize) -> Result<Vec<usize>, NoMemory>
     requires few { queues ≤ 4 }
+    requires queues { queues ≡ length program.now.queues }
     ensures length { IfOk result (λ starts. length starts.items ≡ queues + 1) }
-    ensures begins { IfOk result (λ starts. (q : ℕ) → q ≤ queues → get_or starts.items q 0 ≡ start_of edges.now q) }
+    ensures begins { IfOk result (λ starts. (q : ℕ) → q ≤ queues → get_or starts.items q 0 ≡ first_node program.now q) }
 {
     let mut starts = Vec::new(alloc);
     for q in 0..queues + 1 {
-        starts.push(start_of(edges, q))?;
+        starts.push(program.first_node(q as u32) as usize)?;
     }
     Ok(starts)
 }
@@ -153,6 +144,6 @@ pub fn drain_of(alloc: Global, program: &Shaped, edges: &Edges) -> Result<Drain,
     ensures { IfOk result (λ drain. Answers (program_nodes program.now) drain) }
 {
     let queues = program.program().queues.len();
-    let starts = starts_of(alloc, edges, queues)?;
+    let starts = starts_of(alloc, program, queues)?;
     drained(alloc, edges, &starts, queues)
 }

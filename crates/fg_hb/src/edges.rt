@@ -2,7 +2,7 @@
 
 ghost use Rattle.std.specs.Prelude.{◌≡◌, ◌<◌, ◌≤◌, length, true, IfOk};
 ghost use Rattle.fg_hb.specs.Edges.{edge, node_at, is_at, is_signal, next_signal, meeting, signalled};
-ghost use Rattle.fg_hb.specs.Kept.{link_of};
+ghost use Rattle.fg_hb.specs.Code.Tables.{link_of};
 ghost use Rattle.fg_hb.specs.Nodes.{program_nodes};
 
 use crate::node::program_nodes;
@@ -24,14 +24,14 @@ pub struct Edges {
 
 impl Model for Edges {
     ghost use Rattle.std.specs.Prelude.{List};
-    ghost use Rattle.fg_hb.specs.Kept.{IsKept};
+    ghost use Rattle.fg_hb.specs.Code.Tables.{HasLinks};
     ghost use Rattle.fg_hb.specs.declared.node.Node.{Node};
 
     ghost Value = { List Node };
 
     ghost view = { λ e. e.nodes };
 
-    ghost invariant = { IsKept };
+    ghost invariant = { HasLinks };
 }
 
 /// The direct edges of a program.

@@ -1,16 +1,18 @@
 //! A node as edges see it.
 
 ghost use Rattle.std.specs.Prelude.{◌≡◌, ◌≤◌, IfOk, length};
-ghost use Rattle.fg_hb.specs.Before.{takes_over};
+ghost use Rattle.fg_hb.specs.Code.Filling.{takes_over};
 ghost use Rattle.fg_hb.specs.Edges.{signals, reaches, holds_back};
-ghost use Rattle.fg_hb.specs.Nodes.{command_stage, node, wait_node, barrier_node, item_node, signal_node, host_node, nowhere, batch_node, queued_node, node_in, program_nodes};
+ghost use Rattle.fg_bits.specs.Roles.{op_stage};
+ghost use Rattle.fg_hb.specs.Nodes.{node, wait_node, barrier_node, item_node, signal_node, host_node, entry_node, program_nodes};
+ghost use Rattle.fg_subs.specs.Entries.{seen};
 ghost use Rattle.fg_hb.specs.declared.kind.Kind.TheVariants as kinds;
 
 use crate::Kind;
 use bitflags::Flags;
 use fg_base::{List, NoMemory, Op};
-use fg_bits::{Masks, Stages};
-use fg_subs::{Batch, Item, NodeAt, Program, Shaped, Signal, WaitFor};
+use fg_bits::{Masks, Stages, op_stage};
+use fg_subs::{Entry, Item, Shaped, Signal, WaitFor};
 use std::alloc::Global;
 
 /// A node as edges see it. Its stages are expanded.
@@ -19,10 +21,10 @@ pub struct Node {
     pub kind: Kind,
     /// The number of its queue; of a host read the number of queues.
     pub queue: u32,
-    /// The stages in which it waits for earlier nodes of its queue.
-    pub ins: Stages,
-    /// The stages in which later nodes of its queue wait for it.
-    pub outs: Stages,
+    /// The stages of earlier nodes of its queue that it waits for.
+    pub src_stages: Stages,
+    /// The stages of later nodes of its queue that wait for it.
+    pub dst_stages: Stages,
 }
 
 impl Node {
@@ -46,27 +48,14 @@ impl Node {
     {
         self.queue == other.queue
             && (self.kind.is_sync() || other.kind.is_sync())
-            && self.outs.intersects(other.ins)
+            && self.dst_stages.intersects(other.src_stages)
     }
 
     /// Whether it is a barrier, wait or signal that holds back all that the other does.
     pub(crate) fn takes_over(&self, other: &Node) -> bool
         ensures { result ≡ takes_over self.now other.now }
     {
-        self.kind.is_sync() && self.outs.contains(other.outs)
-    }
-}
-
-// Fills and clears, copies, draws, and all else is a kernel.
-fn command_stage(op: &Op<u32>) -> Stages
-    ensures { result.0 ≡ command_stage op.now }
-{
-    match op {
-        Op::FillBuffer { .. } | Op::ClearImage { .. } => Stages::CLEAR,
-        Op::CopyBuffer { .. } | Op::CopyImage { .. } => Stages::COPY,
-        Op::BufferToImage { .. } | Op::ImageToBuffer { .. } => Stages::COPY,
-        Op::Draw { .. } => Stages::COLOR_ATTACHMENT_OUTPUT,
-        _ => Stages::COMPUTE_SHADER,
+        self.kind.is_sync() && self.dst_stages.contains(other.dst_stages)
     }
 }
 
@@ -79,8 +68,8 @@ fn wait_node(queue: u32, wait: &WaitFor) -> Node
             value: wait.value,
         },
         queue,
-        ins: Stages::empty(),
-        outs: wait.stages.expand(),
+        src_stages: Stages::empty(),
+        dst_stages: wait.stages.expand(),
     }
 }
 
@@ -90,20 +79,20 @@ fn barrier_node(queue: u32, masks: Masks) -> Node
     Node {
         kind: Kind::Barrier,
         queue,
-        ins: masks.src_stages.expand(),
-        outs: masks.dst_stages.expand(),
+        src_stages: masks.src_stages.expand(),
+        dst_stages: masks.dst_stages.expand(),
     }
 }
 
 fn command_node(queue: u32, op: &Op<u32>) -> Node
-    ensures { result ≡ node kinds.Command queue (command_stage op.now) (command_stage op.now) }
+    ensures { result ≡ node kinds.Command queue (op_stage op.now) (op_stage op.now) }
 {
-    let stage = command_stage(op);
+    let stage = op_stage(op);
     Node {
         kind: Kind::Command,
         queue,
-        ins: stage,
-        outs: stage,
+        src_stages: stage,
+        dst_stages: stage,
     }
 }
 
@@ -126,20 +115,8 @@ fn signal_node(queue: u32, signal: &Signal) -> Node
             value: signal.value,
         },
         queue,
-        ins: signal.stages.expand().union(Stages::HOST),
-        outs: Stages::empty(),
-    }
-}
-
-// A node without edges.
-fn nowhere(queue: u32) -> Node
-    ensures { result ≡ nowhere queue }
-{
-    Node {
-        kind: Kind::Command,
-        queue,
-        ins: Stages::empty(),
-        outs: Stages::empty(),
+        src_stages: signal.stages.expand().union(Stages::HOST),
+        dst_stages: Stages::empty(),
     }
 }
 
@@ -149,52 +126,19 @@ fn host_node(queues: u32) -> Node
     Node {
         kind: Kind::Host,
         queue: queues,
-        ins: Stages::empty(),
-        outs: Stages::empty(),
+        src_stages: Stages::empty(),
+        dst_stages: Stages::empty(),
     }
 }
 
-fn batch_node(place: NodeAt, batch: &Batch) -> Node
-    ensures { result ≡ batch_node place batch.now }
+fn entry_node(queues: u32, entry: Entry) -> Node
+    ensures { result ≡ entry_node queues (seen entry.entry) }
 {
-    match place {
-        NodeAt::Wait { queue, at, .. } => match batch.waits.get(at as usize) {
-            Some(wait) => wait_node(queue, wait),
-            None => nowhere(queue),
-        },
-        NodeAt::Item { queue, at, .. } => match batch.items.get(at as usize) {
-            Some(item) => item_node(queue, item),
-            None => nowhere(queue),
-        },
-        NodeAt::Signal { queue, .. } => match &batch.signal {
-            Some(signal) => signal_node(queue, signal),
-            None => nowhere(queue),
-        },
-        NodeAt::Host { .. } => nowhere(0),
-    }
-}
-
-fn queued_node(program: &Program, place: NodeAt, queue: u32, batch: u32) -> Node
-    ensures { result ≡ queued_node program.now place queue batch }
-{
-    match program.queues.get(queue as usize) {
-        Some(found) => match found.batches.get(batch as usize) {
-            Some(batch) => batch_node(place, batch),
-            None => nowhere(queue),
-        },
-        None => nowhere(queue),
-    }
-}
-
-fn node_in(program: &Program, place: NodeAt) -> Node
-    requires queues { length program.now.queues ≤ 4 }
-    ensures { result ≡ node_in program.now place }
-{
-    match place {
-        NodeAt::Wait { queue, batch, .. } => queued_node(program, place, queue, batch),
-        NodeAt::Item { queue, batch, .. } => queued_node(program, place, queue, batch),
-        NodeAt::Signal { queue, batch } => queued_node(program, place, queue, batch),
-        NodeAt::Host { .. } => host_node(program.queues.len() as u32),
+    match entry {
+        Entry::Wait { queue, wait } => wait_node(queue, wait),
+        Entry::Item { queue, item } => item_node(queue, item),
+        Entry::Signal { queue, signal } => signal_node(queue, signal),
+        Entry::Host { .. } => host_node(queues),
     }
 }
 
@@ -204,10 +148,10 @@ pub(crate) fn program_nodes(alloc: Global, shaped: &Shaped) -> Result<List<Node>
     ensures nodes { IfOk result (λ nodes. nodes ≡ program_nodes shaped.now) }
     ensures few { IfOk result (λ nodes. length nodes ≤ 20000) }
 {
-    let program = shaped.program();
+    let queues = shaped.program().queues.len() as u32;
     let mut nodes = List::new(alloc);
     for n in 0..shaped.node_count() {
-        nodes.push(node_in(program, shaped.node(n)))?;
+        nodes.push(entry_node(queues, shaped.entry(n)))?;
     }
     Ok(nodes)
 }

@@ -3,7 +3,7 @@
 ghost use Rattle.std.specs.Prelude.{◌≡◌, ◌<◌, ◌≤◌, ◌+◌, length, IfOk};
 ghost use Rattle.std.specs.List.{position};
 ghost use Rattle.fg_hb.specs.Edges.{node_at, next_signal, signals, reaches};
-ghost use Rattle.fg_hb.specs.Kept.{link_of, links_until};
+ghost use Rattle.fg_hb.specs.Code.Tables.{link_of, links_until};
 
 use crate::{Kind, Node};
 use fg_base::{List, NoMemory};

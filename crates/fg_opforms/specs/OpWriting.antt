@@ -50,19 +50,12 @@ module _ {R : Type 0} (writes : R → Data) where
       (codes "width", number_data width) ∷
       [])
 
-  abbrev pub buffer_to_image_members : R → R → ℕ → Members
-  buffer_to_image_members src dst offset = members_in (
+  -- a copy between a buffer from an offset on and a whole image
+  abbrev pub offset_members : List ℕ → R → R → ℕ → Members
+  offset_members word src dst offset = members_in (
       (codes "dst", writes dst) ∷
       (codes "offset", number_data offset) ∷
-      (codes "op", string (codes "buffer_to_image")) ∷
-      (codes "src", writes src) ∷
-      [])
-
-  abbrev pub image_to_buffer_members : R → R → ℕ → Members
-  image_to_buffer_members src dst offset = members_in (
-      (codes "dst", writes dst) ∷
-      (codes "offset", number_data offset) ∷
-      (codes "op", string (codes "image_to_buffer")) ∷
+      (codes "op", string word) ∷
       (codes "src", writes src) ∷
       [])
 
@@ -102,31 +95,11 @@ module _ {R : Type 0} (writes : R → Data) where
       (codes "op", string (codes "select")) ∷
       [])
 
-  abbrev pub convert_members : R → R → Members
-  convert_members src dst = members_in (
+  -- a kernel from the whole of one operand to the whole of another
+  abbrev pub whole_members : List ℕ → R → R → Members
+  whole_members word src dst = members_in (
       (codes "dst", writes dst) ∷
-      (codes "op", string (codes "convert")) ∷
-      (codes "src", writes src) ∷
-      [])
-
-  abbrev pub box3_members : R → R → Members
-  box3_members src dst = members_in (
-      (codes "dst", writes dst) ∷
-      (codes "op", string (codes "box3")) ∷
-      (codes "src", writes src) ∷
-      [])
-
-  abbrev pub halve_members : R → R → Members
-  halve_members src dst = members_in (
-      (codes "dst", writes dst) ∷
-      (codes "op", string (codes "halve")) ∷
-      (codes "src", writes src) ∷
-      [])
-
-  abbrev pub histogram_members : R → R → Members
-  histogram_members src dst = members_in (
-      (codes "dst", writes dst) ∷
-      (codes "op", string (codes "histogram")) ∷
+      (codes "op", string word) ∷
       (codes "src", writes src) ∷
       [])
 
@@ -148,16 +121,16 @@ module _ {R : Type 0} (writes : R → Data) where
   op_members (op.ClearImage dst value) = clear_image_members dst value
   op_members (op.CopyBuffer src dst src_offset dst_offset size) = copy_buffer_members src dst src_offset dst_offset size
   op_members (op.CopyImage src dst src_x src_y dst_x dst_y width height) = copy_image_members src dst src_x src_y dst_x dst_y width height
-  op_members (op.BufferToImage src dst offset) = buffer_to_image_members src dst offset
-  op_members (op.ImageToBuffer src dst offset) = image_to_buffer_members src dst offset
+  op_members (op.BufferToImage src dst offset) = offset_members (codes "buffer_to_image") src dst offset
+  op_members (op.ImageToBuffer src dst offset) = offset_members (codes "image_to_buffer") src dst offset
   op_members (op.Ramp dst base dx dy) = ramp_members dst base dx dy
   op_members (op.Map src dst fun value) = map_members src dst fun value
   op_members (op.Combine a b dst fun) = combine_members a b dst fun
   op_members (op.Select mask a b dst) = select_members mask a b dst
-  op_members (op.Convert src dst) = convert_members src dst
-  op_members (op.Box3 src dst) = box3_members src dst
-  op_members (op.Halve src dst) = halve_members src dst
-  op_members (op.Histogram src dst) = histogram_members src dst
+  op_members (op.Convert src dst) = whole_members (codes "convert") src dst
+  op_members (op.Box3 src dst) = whole_members (codes "box3") src dst
+  op_members (op.Halve src dst) = whole_members (codes "halve") src dst
+  op_members (op.Histogram src dst) = whole_members (codes "histogram") src dst
   op_members (op.Draw dst clear rects) = draw_members dst clear rects
 
   abbrev pub op_data : Op R → Data

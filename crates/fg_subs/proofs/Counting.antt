@@ -2,10 +2,11 @@
 use Rattle.std.proofs.Common.{◌≡◌, ℕ, suc, ◌+◌, ◌<◌, ◌≤◌, List, [], ◌∷◌, ◌++◌, length, map, get_or, drop, take, Option, Some, None, option_to_list, refl, sym, ap, ap₂, ◌∙◌, add-one, drop-cons, arith}
 use Rattle.std.specs.List.{flat_map}
 use Rattle.std.proofs.lemmas.List.{length-append, length-map}
-use Rattle.fg_subs.specs.Counts.{signal_count, batch_count, batches_count, queues_count}
+use Rattle.fg_subs.specs.Code.Counts.{signal_count, batch_count, batches_count, queues_count}
+use Rattle.fg_base.specs.Maxima.{max_nodes}
+use Rattle.fg_subs.specs.Code.Nodes.{nodes_of}
 use Rattle.fg_subs.specs.Entries.{OfWait, OfItem, OfSignal, OfHost, batch_entries, queue_entries, entries_of, first_node}
 use Rattle.fg_subs.specs.FirstFault.{first_broken}
-use Rattle.fg_subs.specs.Nodes.{nodes_of}
 use Rattle.fg_subs.specs.Places.{all_in}
 use Rattle.fg_subs.specs.declared.program.Batch.{Batch}
 use Rattle.fg_subs.specs.declared.program.Program.{Program}
@@ -47,20 +48,19 @@ in_queues : (q : ℕ) (queues : List Queue) → length (all_in queue_entries q q
 in_queues q [] = refl
 in_queues q (queue ∷ queues) = length-append (queue_entries q queue) (all_in queue_entries (suc q) queues) ∙ ap₂ (λ m n. m + n) (in_batches q queue.batches) (in_queues (suc q) queues)
 
-entries_count : (program : Program) → length (entries_of program) ≡ queues_count program.queues + length program.readbacks
+pub entries_count : (program : Program) → length (entries_of program) ≡ queues_count program.queues + length program.readbacks
 entries_count program = length-append (all_in queue_entries 0 program.queues) (map OfHost program.readbacks) ∙ ap₂ (λ m n. m + n) (in_queues 0 program.queues) (length-map program.readbacks OfHost)
 
-pub nodes_count : (program : Program) → length (nodes_of program) ≡ queues_count program.queues + length program.readbacks
-nodes_count program = as_many program ∙ entries_count program
+pub few_nodes : (program : Program) → first_broken program ≡ None → length (nodes_of program) ≤ max_nodes
+few_nodes program none = let few = (is_small program none).entries in let same = as_many program in omega (arith, few, same)
 
 pub first_is : (program : Program) (q : ℕ) → queues_count (take q program.queues) ≡ first_node program q
 first_is program q = sym (in_queues 0 (take q program.queues))
 
-pub first_few : (program : Program) (q : ℕ) → first_broken program ≡ None → q ≤ length program.queues → queues_count (take q program.queues) ≤ 20000
+pub first_few : (program : Program) (q : ℕ) → first_broken program ≡ None → q ≤ length program.queues → queues_count (take q program.queues) ≤ max_nodes
 first_few program q none le =
-    let few = (is_small program none).nodes in
-    let same = as_many program in
+    let few = (is_small program none).entries in
     let all = (by_queue program).count in
     let low = (by_queue program).rising q (length program.queues) le in
     let is = first_is program q in
-    omega (arith, few, same, all, low, is)
+    omega (arith, few, all, low, is)

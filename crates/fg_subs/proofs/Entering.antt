@@ -5,11 +5,12 @@ use Rattle.std.specs.Option.{option_and_then, option_map}
 use Rattle.std.proofs.Math.Seq.{take-length}
 use Rattle.std.proofs.lemmas.List.{length-append, length-map, map-append}
 use Rattle.std.proofs.lemmas.List.Elements.{All-nil, All-cons, All-append, All-map}
-use Rattle.std.proofs.lemmas.Option.{slice_get-map, slice_get_read, slice_get_within, get_or_from_slice_get}
+use Rattle.std.proofs.lemmas.Option.{slice_get-map, slice_get_read, slice_get_within}
 use Rattle.std.proofs.lemmas.Simd.{map-map}
+use Rattle.fg_base.proofs.Lists.{entry_of}
 use Rattle.fg_subs.specs.Code.Found.{batch_entry, queued_entry, entry_at}
 use Rattle.fg_subs.specs.Entries.{Entry, OfWait, OfItem, OfSignal, OfHost, batch_entries, queue_entries, entries_of, queue_of, first_node, ByQueue}
-use Rattle.fg_subs.specs.Nodes.{signal_nodes, batch_nodes, queue_nodes, nodes_of}
+use Rattle.fg_subs.specs.Code.Nodes.{signal_nodes, batch_nodes, queue_nodes, nodes_of}
 use Rattle.fg_subs.specs.Places.{all_in}
 use Rattle.fg_subs.specs.declared.nodes.NodeAt.{NodeAt}
 use Rattle.fg_subs.specs.declared.nodes.NodeAt.TheVariants as node
@@ -145,9 +146,6 @@ module _ (P : Entry → Type 0) where
   pub program_each : (program : Program) → ((q : ℕ) (queue : Queue) → slice_get program.queues q ≡ Some queue → All P (queue_entries q queue)) → All (λ piece. P (OfHost piece)) program.readbacks → All P (entries_of program)
   program_each program h k = All-append P (all_in queue_entries 0 program.queues) (map OfHost program.readbacks) (each_from P queue_entries program.queues h) (All-map P OfHost program.readbacks k)
 
-pub one_of : {X : Type 0} (P : X → Type 0) (xs : List X) (n : ℕ) (x : X) → All P xs → slice_get xs n ≡ Some x → P x
-one_of P xs n x all is = subst P (get_or_from_slice_get xs n x x is) (all n x (slice_get_within xs n x is))
-
 -- QUEUES
 
 in_part : {X : Type 0} (xs ys : List X) (n : ℕ) (x : X) → slice_get (xs ++ ys) n ≡ Some x → (slice_get xs n ≡ Some x) ⊎ ((m : ℕ) × (length xs + m ≡ n) × (slice_get ys m ≡ Some x))
@@ -215,7 +213,7 @@ module _ (program : Program) where
   in_queues n entry h =
       let t = located queue_entries 0 program.queues n entry h in
       let same : 0 + t.0 ≡ t.0 = omega arith in
-      let own : queue_of entry ≡ Some (0 + t.0) = one_of (OnQueue (0 + t.0)) (queue_entries (0 + t.0) t.1) t.3 entry (on_queue (0 + t.0) t.1) t.4 in
+      let own : queue_of entry ≡ Some (0 + t.0) = entry_of (OnQueue (0 + t.0)) (queue_entries (0 + t.0) t.1) t.3 entry (on_queue (0 + t.0) t.1) t.4 in
       (t.0, own ∙ ap (λ z. Some z) same, slice_get_within program.queues t.0 t.1 t.2, t.5, rw add-one t.6)
 
   reads_none : All (λ entry. queue_of entry ≡ None) (map OfHost program.readbacks)
@@ -232,7 +230,7 @@ module _ (program : Program) where
   by_queue = record {
     queued = λ n q entry is own. ⊎_elim
         (λ h. let t = in_queues n entry h in subst (AtQueue n) (same_queue t.0 q (sym t.1 ∙ own)) (t.2, t.3, t.4))
-        (λ h. absurd (clash (queue_of entry) q (one_of (λ entry. queue_of entry ≡ None) (map OfHost program.readbacks) h.0 entry reads_none h.2) own))
+        (λ h. absurd (clash (queue_of entry) q (entry_of (λ entry. queue_of entry ≡ None) (map OfHost program.readbacks) h.0 entry reads_none h.2) own))
         (in_part queued (map OfHost program.readbacks) n entry is);
     hosts = λ n entry is none. ⊎_elim
         (λ h. let t = in_queues n entry h in absurd (clash (queue_of entry) t.0 none t.1))

@@ -1,29 +1,31 @@
 -- A program that breaks no rule is small.
-use Rattle.std.proofs.Common.{◌≡◌, ◌≤◌, ◌+◌, ◌-◌, ℕ, suc, Bool, true, false, nat_le, nat_lt, not, List, [], ◌∷◌, Option, Some, None, Ok, Err, length, if◌then◌else◌, refl, subst, arith}
+use Rattle.std.proofs.Common.{◌≡◌, ◌≤◌, ◌+◌, ◌-◌, ℕ, suc, Bool, true, false, nat_le, nat_lt, not, List, [], ◌∷◌, Option, Some, None, Ok, Err, length, if◌then◌else◌, refl, arith}
 use Rattle.std.specs.List.{position}
 use Rattle.std.specs.Option.{option_or, option_map}
 use Rattle.std.proofs.lemmas.Bool.{leb-true, ltb-false, and_parts}
 use Rattle.fg_base.specs.Bounds.{is_between, sides_allowed, size_allowed}
 use Rattle.fg_base.specs.declared.limit.Limit.TheVariants as limits
+use Rattle.fg_base.specs.Maxima.{max_memory_bytes, max_nodes}
+use Rattle.fg_base.specs.Rooms.{go_on, spend_in, not_lasting, take_size, first_over}
+use Rattle.fg_base.specs.declared.broken.Broken.{Broken}
 use Rattle.fg_base.proofs.Absence.{or_first, or_second, map_none, has_it, all_pass}
-use Rattle.fg_subs.proofs.Entering.{as_many}
 use Rattle.fg_subs.specs.FirstFault.{first_broken, rules_broken}
 use Rattle.fg_subs.specs.Obeys.{IsSmall}
-use Rattle.fg_subs.specs.Limits.{over, memory_bytes, all_bytes, spend_memory, rects_over, bytes_over, count_broken, size_broken, limit_broken}
-use Rattle.fg_subs.specs.Nodes.{nodes_of}
-use Rattle.fg_subs.specs.Places.{go_on, spend_in, not_lasting}
+use Rattle.fg_subs.specs.Limits.{over, memory_bytes, all_bytes, rects_over, count_broken, size_broken, limit_broken}
+use Rattle.fg_subs.specs.Entries.{entries_of}
 use Rattle.fg_subs.specs.Rules.{shapes_of}
-use Rattle.fg_subs.specs.declared.place.Broken.{Broken}
+use Rattle.fg_subs.specs.declared.place.Place.{Place}
 use Rattle.fg_subs.specs.declared.place.Place.TheVariants as at
 use Rattle.fg_subs.specs.declared.program.Memory.{Memory}
 use Rattle.fg_subs.specs.declared.program.Program.{Program}
+use Rattle.fg_subs.specs.declared.rule.Rule.{Rule}
 
 -- what lasts is at most the room
-lasts : (memories : List Memory) (room i : ℕ) → not_lasting (spend_in spend_memory room i memories) ≡ None → all_bytes memories ≤ room
+lasts : (memories : List Memory) (room i : ℕ) → not_lasting (spend_in (take_size memory_bytes) room i memories) ≡ None → all_bytes memories ≤ room
 lasts [] room i none = omega arith
 lasts (m ∷ ms) room i none = by_test (nat_lt room (memory_bytes m)) refl none (λ left. lasts ms (room - memory_bytes m) (suc i) left)
   where
-    by_test : (b : Bool) → nat_lt room (memory_bytes m) ≡ b → not_lasting (go_on (λ left. spend_in spend_memory left (suc i) ms) (if b then Err (at.Memory i) else Ok (room - memory_bytes m))) ≡ None → (not_lasting (spend_in spend_memory (room - memory_bytes m) (suc i) ms) ≡ None → all_bytes ms ≤ room - memory_bytes m) → memory_bytes m + all_bytes ms ≤ room
+    by_test : (b : Bool) → nat_lt room (memory_bytes m) ≡ b → not_lasting (go_on (λ left. spend_in (take_size memory_bytes) left (suc i) ms) (if b then Err i else Ok (room - memory_bytes m))) ≡ None → (not_lasting (spend_in (take_size memory_bytes) (room - memory_bytes m) (suc i) ms) ≡ None → all_bytes ms ≤ room - memory_bytes m) → memory_bytes m + all_bytes ms ≤ room
     by_test true e none more = absurd cc
     by_test false e none more =
         let fits : memory_bytes m ≤ room = ltb-false room (memory_bytes m) e in
@@ -32,32 +34,32 @@ lasts (m ∷ ms) room i none = by_test (nat_lt room (memory_bytes m)) refl none 
 
 -- the limits one after another
 module _ (program : Program) (none : first_broken program ≡ None) where
-  abbrev queues : Option Broken
+  abbrev queues : Option (Broken Rule Place)
   queues = if is_between 1 4 (length program.queues) then None else Some (over limits.Queues at.Queues)
 
-  abbrev memories : Option Broken
+  abbrev memories : Option (Broken Rule Place)
   memories = if nat_le (length program.memories) 512 then None else Some (over limits.Memories at.Memories)
 
-  abbrev pieces : Option Broken
+  abbrev pieces : Option (Broken Rule Place)
   pieces = if nat_le (length program.pieces) 512 then None else Some (over limits.Pieces at.Pieces)
 
-  abbrev nodes : Option Broken
-  nodes = if nat_le (length (nodes_of program)) 20000 then None else Some (over limits.Nodes at.Whole)
+  abbrev nodes : Option (Broken Rule Place)
+  nodes = if nat_le (length (entries_of program)) max_nodes then None else Some (over limits.Nodes at.Whole)
 
-  abbrev rects : Option Broken
+  abbrev rects : Option (Broken Rule Place)
   rects = option_map (over limits.Rects) (rects_over program.queues)
 
-  abbrev readbacks : Option Broken
+  abbrev readbacks : Option (Broken Rule Place)
   readbacks = if nat_le (length program.readbacks) 32 then None else Some (over limits.Readbacks at.Readbacks)
 
-  abbrev sides : Option Broken
+  abbrev sides : Option (Broken Rule Place)
   sides = option_map (λ i. over limits.Side (at.Piece i)) (position (λ piece. not (sides_allowed piece.shape)) program.pieces)
 
-  abbrev sizes : Option Broken
+  abbrev sizes : Option (Broken Rule Place)
   sizes = option_map (λ i. over limits.Size (at.Piece i)) (position (λ piece. not (size_allowed piece.shape)) program.pieces)
 
-  abbrev bytes : Option Broken
-  bytes = option_map (over limits.Total) (bytes_over program.memories)
+  abbrev bytes : Option (Broken Rule Place)
+  bytes = option_map (λ i. over limits.Total (at.Memory i)) (first_over memory_bytes max_memory_bytes program.memories)
 
   no_limit : limit_broken program ≡ None
   no_limit = or_first (limit_broken program) (rules_broken program (shapes_of program)) none
@@ -86,8 +88,8 @@ module _ (program : Program) (none : first_broken program ≡ None) where
   between : (nat_le 1 (length program.queues) ≡ true) × (nat_le (length program.queues) 4 ≡ true)
   between = and_parts (nat_le 1 (length program.queues)) (nat_le (length program.queues) 4) (has_it (is_between 1 4 (length program.queues)) (over limits.Queues at.Queues) (or_first queues (option_or memories (option_or pieces (option_or nodes (option_or rects readbacks)))) counts))
 
-  few : length (nodes_of program) ≤ 20000
-  few = leb-true (length (nodes_of program)) 20000 (has_it (nat_le (length (nodes_of program)) 20000) (over limits.Nodes at.Whole) (or_first nodes (option_or rects readbacks) after_pieces))
+  few : length (entries_of program) ≤ max_nodes
+  few = leb-true (length (entries_of program)) max_nodes (has_it (nat_le (length (entries_of program)) max_nodes) (over limits.Nodes at.Whole) (or_first nodes (option_or rects readbacks) after_pieces))
 
   pub is_small : IsSmall program
   is_small = record {
@@ -95,13 +97,9 @@ module _ (program : Program) (none : first_broken program ≡ None) where
     queues = leb-true (length program.queues) 4 between.1;
     memories = leb-true (length program.memories) 512 (has_it (nat_le (length program.memories) 512) (over limits.Memories at.Memories) (or_first memories (option_or pieces (option_or nodes (option_or rects readbacks))) after_queues));
     pieces = leb-true (length program.pieces) 512 (has_it (nat_le (length program.pieces) 512) (over limits.Pieces at.Pieces) (or_first pieces (option_or nodes (option_or rects readbacks)) after_memories));
-    nodes = few;
-    entries = subst (λ n. n ≤ 20000) (as_many program) few;
+    entries = few;
     readbacks = leb-true (length program.readbacks) 32 (has_it (nat_le (length program.readbacks) 32) (over limits.Readbacks at.Readbacks) (or_second rects readbacks after_nodes));
     sides = all_pass (λ piece. sides_allowed piece.shape) program.pieces (map_none (λ i. over limits.Side (at.Piece i)) (position (λ piece. not (sides_allowed piece.shape)) program.pieces) (or_first sides (option_or sizes bytes) small));
     sizes = all_pass (λ piece. size_allowed piece.shape) program.pieces (map_none (λ i. over limits.Size (at.Piece i)) (position (λ piece. not (size_allowed piece.shape)) program.pieces) (or_first sizes bytes after_sides));
-    bytes = lasts program.memories 805306368 0 (map_none (over limits.Total) (bytes_over program.memories) (or_second sizes bytes after_sides));
+    bytes = lasts program.memories max_memory_bytes 0 (map_none (λ i. over limits.Total (at.Memory i)) (first_over memory_bytes max_memory_bytes program.memories) (or_second sizes bytes after_sides));
   }
-
-pub few_nodes : (program : Program) → first_broken program ≡ None → length (nodes_of program) ≤ 20000
-few_nodes program none = (is_small program none).nodes

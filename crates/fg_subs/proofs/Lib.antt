@@ -3,7 +3,6 @@ pub mod Entering
 pub mod Few
 pub mod Growing
 pub mod Keeping
+pub mod Obeying
 pub mod Peaks
-pub mod Spending
-pub mod Standing
 pub mod Within

@@ -2,12 +2,11 @@
 use Rattle.std.specs.Prelude.{ℕ, ◌==◌, ◌&&◌, not, Bool, true, Option, Some, None}
 use Rattle.std.specs.Option.{option_map_or}
 use Rattle.fg_base.specs.declared.shape.Family.{Family}
-use Rattle.fg_bits.specs.Families.{on_family}
+use Rattle.fg_bits.specs.Families.{family_number, on_family}
 use Rattle.fg_bits.specs.Sets.{meets}
 use Rattle.fg_bits.specs.Stages.{host}
 use Rattle.fg_bits.specs.Support.{supports}
 use Rattle.fg_bits.specs.declared.masks.Masks.{Masks}
-use Rattle.fg_subs.specs.Ranges.{family_number}
 use Rattle.fg_subs.specs.declared.program.Item.{Item}
 use Rattle.fg_subs.specs.declared.program.Item.TheVariants.{Command, Global, BufferBarrier, ImageBarrier, Release, Acquire}
 

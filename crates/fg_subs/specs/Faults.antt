@@ -1,12 +1,26 @@
 -- The faults of submission files, by their numbers.
-use Rattle.std.specs.Prelude.{List, [], Some, None}
+use Rattle.std.specs.Prelude.{ℕ, List, [], Some, None}
 use Rattle.fg_base.specs.declared.limit.Limit.{Limit}
 use Rattle.fg_base.specs.declared.path.Leg.{Leg}
 use Rattle.fg_subs.specs.declared.fault.SubFault.{SubFault}
+use Rattle.fg_subs.specs.declared.rule.Rule.{Rule}
+use Rattle.fg_subs.specs.declared.rule.Rule.TheVariants as rules
+
+-- the number that a fault line prints
+abbrev pub number_of : Rule → ℕ
+number_of rules.Limits = 1
+number_of rules.Range = 2
+number_of rules.Known = 3
+number_of rules.Stages = 4
+number_of rules.Ignored = 5
+number_of rules.Supported = 6
+number_of rules.OnQueue = 7
+number_of rules.Runs = 8
+number_of rules.Timeline = 9
 
 -- G1, at what goes over the limit
 abbrev pub over_limit : Limit → List Leg → SubFault
-over_limit limit place = record { number = 1; limit = Some limit; place = place }
+over_limit limit place = record { number = number_of rules.Limits; limit = Some limit; place = place }
 
 -- G10, at the root of the file
 abbrev pub not_json : SubFault

@@ -1,12 +1,13 @@
 -- The first rule that a program breaks.
-use Rattle.std.specs.Prelude.{◌≡◌, ℕ, List, Option, Some, None}
+use Rattle.std.specs.Prelude.{◌≡◌, List, Option, Some, None}
 use Rattle.std.specs.Option.{option_or, option_map}
+use Rattle.fg_base.specs.Broken.{of_rule}
+use Rattle.fg_base.specs.declared.broken.Broken.{Broken}
 use Rattle.fg_base.specs.declared.shape.Shape.{Shape}
 use Rattle.fg_subs.specs.Limits.{limit_broken}
 use Rattle.fg_subs.specs.Paths.{told}
 use Rattle.fg_subs.specs.Rules.{broken_at, shapes_of}
 use Rattle.fg_subs.specs.declared.fault.SubFault.{SubFault}
-use Rattle.fg_subs.specs.declared.place.Broken.{Broken}
 use Rattle.fg_subs.specs.declared.place.Place.{Place}
 use Rattle.fg_subs.specs.declared.program.Program.{Program}
 use Rattle.fg_subs.specs.declared.rule.Rule.{Rule}
@@ -14,31 +15,17 @@ use Rattle.fg_subs.specs.declared.rule.Rule.TheVariants as rules
 use Rattle.fg_subs.specs.declared.shaped.ShapeEnd.{ShapeEnd}
 use Rattle.fg_subs.specs.declared.shaped.ShapeEnd.TheVariants.{Refused, NoMemory}
 
--- the number that a fault line prints
-abbrev pub number_of : Rule → ℕ
-number_of rules.Range = 2
-number_of rules.Known = 3
-number_of rules.Stages = 4
-number_of rules.Ignored = 5
-number_of rules.Supported = 6
-number_of rules.OnQueue = 7
-number_of rules.Runs = 8
-number_of rules.Timeline = 9
+abbrev pub rule_broken : Rule → Program → List Shape → Option (Broken Rule Place)
+rule_broken rule program shapes = option_map (of_rule rule) (broken_at rule program shapes)
 
-abbrev pub broken : Rule → Place → Broken
-broken rule place = record { number = number_of rule; limit = None; place = place }
-
-abbrev pub rule_broken : Rule → Program → List Shape → Option Broken
-rule_broken rule program shapes = option_map (broken rule) (broken_at rule program shapes)
-
-abbrev pub form_broken : Program → List Shape → Option Broken
+abbrev pub form_broken : Program → List Shape → Option (Broken Rule Place)
 form_broken program shapes =
     option_or (rule_broken rules.Range program shapes)
     (option_or (rule_broken rules.Known program shapes)
     (option_or (rule_broken rules.Stages program shapes)
     (rule_broken rules.Ignored program shapes)))
 
-abbrev pub use_broken : Program → List Shape → Option Broken
+abbrev pub use_broken : Program → List Shape → Option (Broken Rule Place)
 use_broken program shapes =
     option_or (rule_broken rules.Supported program shapes)
     (option_or (rule_broken rules.OnQueue program shapes)
@@ -46,10 +33,10 @@ use_broken program shapes =
     (rule_broken rules.Timeline program shapes)))
 
 -- one rule after another, each over the whole program
-abbrev pub rules_broken : Program → List Shape → Option Broken
+abbrev pub rules_broken : Program → List Shape → Option (Broken Rule Place)
 rules_broken program shapes = option_or (form_broken program shapes) (use_broken program shapes)
 
-abbrev pub first_broken : Program → Option Broken
+abbrev pub first_broken : Program → Option (Broken Rule Place)
 first_broken program = option_or (limit_broken program) (rules_broken program (shapes_of program))
 
 abbrev pub first_fault : Program → Option SubFault

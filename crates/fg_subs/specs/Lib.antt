@@ -1,12 +1,10 @@
 pub mod Barriers
 pub mod Code
-pub mod Counts
 pub mod Entries
 pub mod Faults
 pub mod FirstFault
 pub mod Kept
 pub mod Limits
-pub mod Nodes
 pub mod Numbers
 pub mod Obeys
 pub mod Paths

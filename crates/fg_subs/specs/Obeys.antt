@@ -2,19 +2,14 @@
 use Rattle.std.specs.Prelude.{◌≡◌, ◌≤◌, ℕ, length, slice_get, take, true, Some, IfSome}
 use Rattle.std.specs.List.{All}
 use Rattle.fg_base.specs.Bounds.{sides_allowed, size_allowed}
+use Rattle.fg_base.specs.Maxima.{max_queues, max_memories, max_pieces, max_nodes, max_readbacks, max_memory_bytes}
 use Rattle.fg_subs.specs.Entries.{Entry, OfWait, OfItem, OfSignal, OfHost, entries_of}
 use Rattle.fg_subs.specs.Limits.{all_bytes}
-use Rattle.fg_subs.specs.Nodes.{nodes_of}
 use Rattle.fg_subs.specs.Rules.{piece_obeys, wait_obeys, item_obeys, signal_obeys, readback_obeys, shapes_of}
 use Rattle.fg_subs.specs.Timelines.{highest}
-use Rattle.fg_subs.specs.declared.nodes.NodeAt.{NodeAt}
-use Rattle.fg_subs.specs.declared.nodes.NodeAt.TheVariants as node
 use Rattle.fg_subs.specs.declared.program.Batch.{Batch}
-use Rattle.fg_subs.specs.declared.program.Item.{Item}
 use Rattle.fg_subs.specs.declared.program.Program.{Program}
 use Rattle.fg_subs.specs.declared.program.Queue.{Queue}
-use Rattle.fg_subs.specs.declared.program.Signal.{Signal}
-use Rattle.fg_subs.specs.declared.program.WaitFor.{WaitFor}
 use Rattle.fg_subs.specs.declared.rule.Rule.{Rule}
 
 -- batch b of a queue obeys a rule
@@ -44,19 +39,11 @@ EntryObeys rule program (OfHost piece) = readback_obeys rule (shapes_of program)
 -- the limits, but for that on rectangles
 pub record IsSmall (program : Program) : Type 0 where
   pub some_queue : 1 ≤ length program.queues
-  pub queues : length program.queues ≤ 4
-  pub memories : length program.memories ≤ 512
-  pub pieces : length program.pieces ≤ 512
-  pub nodes : length (nodes_of program) ≤ 20000
-  pub entries : length (entries_of program) ≤ 20000
-  pub readbacks : length program.readbacks ≤ 32
+  pub queues : length program.queues ≤ max_queues
+  pub memories : length program.memories ≤ max_memories
+  pub pieces : length program.pieces ≤ max_pieces
+  pub entries : length (entries_of program) ≤ max_nodes
+  pub readbacks : length program.readbacks ≤ max_readbacks
   pub sides : All (λ piece. sides_allowed piece.shape ≡ true) program.pieces
   pub sizes : All (λ piece. size_allowed piece.shape ≡ true) program.pieces
-  pub bytes : all_bytes program.memories ≤ 805306368
-
--- what a node stands for is there
-abbrev pub IsNode : Program → NodeAt → Type 0
-IsNode program (node.Wait q b k) = (queue : Queue) × (batch : Batch) × (wait : WaitFor) × BatchAt program q b queue batch × (slice_get batch.waits k ≡ Some wait)
-IsNode program (node.Item q b k) = (queue : Queue) × (batch : Batch) × (item : Item) × BatchAt program q b queue batch × (slice_get batch.items k ≡ Some item)
-IsNode program (node.Signal q b) = (queue : Queue) × (batch : Batch) × (signal : Signal) × BatchAt program q b queue batch × (batch.signal ≡ Some signal)
-IsNode program (node.Host k) = (piece : ℕ) × (slice_get program.readbacks k ≡ Some piece)
+  pub bytes : all_bytes program.memories ≤ max_memory_bytes

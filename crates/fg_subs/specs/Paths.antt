@@ -1,12 +1,14 @@
 -- The path of a place.
 use Rattle.std.specs.Prelude.{ℕ, List, [], ◌∷◌, ◌++◌, codes}
 use Rattle.fg_base.specs.Paths.{entry}
+use Rattle.fg_base.specs.declared.broken.Broken.{Broken}
 use Rattle.fg_base.specs.declared.path.Leg.{Leg}
 use Rattle.fg_base.specs.declared.path.Leg.TheVariants.{Member}
+use Rattle.fg_subs.specs.Faults.{number_of}
 use Rattle.fg_subs.specs.declared.fault.SubFault.{SubFault}
-use Rattle.fg_subs.specs.declared.place.Broken.{Broken}
 use Rattle.fg_subs.specs.declared.place.Place.{Place}
 use Rattle.fg_subs.specs.declared.place.Place.TheVariants as at
+use Rattle.fg_subs.specs.declared.rule.Rule.{Rule}
 
 abbrev pub in_batch : ℕ → ℕ → List Leg
 in_batch q b = entry (codes "queues") q ++ entry (codes "batches") b
@@ -25,5 +27,5 @@ path_of (at.Signal q b) = in_batch q b ++ Member (codes "signal") ∷ []
 path_of (at.Readback k) = entry (codes "readbacks") k
 
 -- as it is told: with the path of its place
-abbrev pub told : Broken → SubFault
-told b = record { number = b.number; limit = b.limit; place = path_of b.place }
+abbrev pub told : Broken Rule Place → SubFault
+told b = record { number = number_of b.rule; limit = b.limit; place = path_of b.place }

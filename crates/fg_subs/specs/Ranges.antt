@@ -8,8 +8,8 @@ use Rattle.fg_base.specs.Operands.{operands_of, mapped}
 use Rattle.fg_base.specs.Shapes.{bytes_of, is_buffer, is_image, shape_at}
 use Rattle.fg_base.specs.declared.op.Op.{Op}
 use Rattle.fg_base.specs.declared.shape.Family.{Family}
-use Rattle.fg_base.specs.declared.shape.Family.TheVariants.{Graphics, Compute, Transfer}
 use Rattle.fg_base.specs.declared.shape.Shape.{Shape}
+pub use Rattle.fg_bits.specs.Families.{family_number}
 use Rattle.fg_bits.specs.Layouts.{is_undefined}
 use Rattle.fg_bits.specs.declared.layout.Layouts.{Layouts}
 use Rattle.fg_subs.specs.Limits.{memory_bytes}
@@ -18,11 +18,6 @@ use Rattle.fg_subs.specs.declared.program.Item.TheVariants.{Command, Global, Buf
 use Rattle.fg_subs.specs.declared.program.Memory.{Memory}
 use Rattle.fg_subs.specs.declared.program.Piece.{Piece}
 use Rattle.fg_subs.specs.declared.program.Transfer as transfers
-
-abbrev pub family_number : Family → ℕ
-family_number Graphics = 0
-family_number Compute = 1
-family_number Transfer = 2
 
 -- at a multiple of 256, and inside the memory
 abbrev pub lies_in : Piece → Memory → Bool

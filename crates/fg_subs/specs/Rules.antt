@@ -45,6 +45,7 @@ item_runs family (Command op) = runs op family
 item_runs family item = true
 
 abbrev pub item_obeys : Rule → List Shape → Family → Item → Bool
+item_obeys rules.Limits shapes family item = true
 item_obeys rules.Range shapes family item = item_in_range shapes family item
 item_obeys rules.Known shapes family item = item_known shapes item
 item_obeys rules.Stages shapes family item = masks_are both_have_stages item

@@ -4,10 +4,9 @@ ghost use Rattle.std.specs.Prelude.{◌≡◌};
 ghost use Rattle.fg_subs.specs.Barriers.{masks_of, masks_are, has_stages, both_have_stages, nothing_ignored, both_supported, both_on_family, on_queue};
 
 use crate::Item;
-use crate::range::family_number;
 use bitflags::Flags;
 use fg_base::Family;
-use fg_bits::{Masks, Stages, on_family, supports};
+use fg_bits::{Masks, Stages, family_number, on_family, supports};
 
 // A barrier's masks. Release and acquire are barriers.
 fn masks_of(item: &Item) -> Option<Masks>

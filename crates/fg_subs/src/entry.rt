@@ -5,7 +5,8 @@ ghost use Rattle.std.specs.Option.{option_map};
 ghost use Rattle.fg_subs.specs.Code.Found.{batch_entry, queued_entry, entry_at};
 ghost use Rattle.fg_subs.specs.Entries.{seen};
 
-use crate::{Batch, Item, NodeAt, Program, Signal, WaitFor};
+use crate::nodes::NodeAt;
+use crate::{Batch, Item, Program, Signal, WaitFor};
 
 /// What a node stands for, with the number of its queue.
 #[derive(Clone, Copy)]

@@ -3,6 +3,7 @@
 ghost use Rattle.std.specs.Prelude.{◌≡◌};
 ghost use Rattle.fg_subs.specs.Faults.{over_limit, not_json, misshapen};
 
+use crate::rule::Rule;
 use fg_base::{Limit, List, Path};
 use std::alloc::Global;
 
@@ -21,7 +22,7 @@ impl SubFault {
         ensures { result ≡ over_limit limit place }
     {
         SubFault {
-            number: 1,
+            number: Rule::Limits.number(),
             limit: Some(limit),
             place,
         }

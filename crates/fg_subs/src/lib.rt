@@ -4,6 +4,7 @@
 mod barriers;
 mod entry;
 mod fault;
+mod laws;
 mod limits;
 mod nodes;
 mod numbers;
@@ -19,13 +20,9 @@ pub use entry::Entry;
 pub use fault::SubFault;
 pub use fg_base::{Limit, Path};
 pub use fg_bits::{Layout, Layouts, Masks};
-pub use nodes::NodeAt;
+pub use laws::rule_laws;
 pub use program::{Batch, Item, Memory, Piece, Program, Queue, Signal, Transfer, WaitFor};
 pub use shaped::{ShapeEnd, Shaped, shape};
 
-#[cfg(test)]
-mod limit_tests;
-#[cfg(test)]
-mod queue_tests;
 #[cfg(test)]
 mod tests;

@@ -3,24 +3,26 @@
 ghost use Rattle.std.specs.Prelude.{◌≡◌, ◌+◌, ◌<◌, ◌≤◌, not, nat_le, IfSome, IfNone, length, take};
 ghost use Rattle.std.specs.List.{position};
 ghost use Rattle.fg_base.specs.Bounds.{sides_allowed, size_allowed};
-ghost use Rattle.fg_subs.specs.Counts.{batch_count, batches_count, queues_count};
-ghost use Rattle.fg_subs.specs.Limits.{over, rects_of, spend_item, spend_batch, spend_queue, spend_memory, rects_over, bytes_over, count_broken, size_broken, limit_broken};
+ghost use Rattle.fg_subs.specs.Code.Counts.{batch_count, batches_count, queues_count};
+ghost use Rattle.fg_subs.specs.Limits.{over, memory_bytes, rects_of, spend_item, spend_batch, spend_queue, rects_over, count_broken, size_broken, limit_broken};
+ghost use Rattle.fg_base.specs.Maxima.{max_memory_bytes, max_nodes};
+ghost use Rattle.fg_base.specs.Rooms.{first_over};
 ghost use Rattle.fg_base.specs.Operands.{rect_count};
-ghost use Rattle.fg_subs.specs.Nodes.{nodes_of};
+ghost use Rattle.fg_subs.specs.Entries.{entries_of};
 
-use crate::place::{Broken, Place};
+use crate::place::Place;
 use crate::range::memory_bytes;
+use crate::rule::Rule;
 use crate::{Batch, Item, Memory, Piece, Program, Queue};
-use fg_base::Limit;
+use fg_base::{
+    Broken, Limit, MAX_MEMORIES, MAX_MEMORY_BYTES, MAX_NODES, MAX_PIECES, MAX_QUEUES,
+    MAX_READBACKS, MAX_RECTS, first_over, spend_in,
+};
 
-fn over(limit: Limit, place: Place) -> Broken
+fn over(limit: Limit, place: Place) -> Broken<Rule, Place>
     ensures { result ≡ over limit place }
 {
-    Broken {
-        number: 1,
-        limit: Some(limit),
-        place,
-    }
+    Broken::over_limit(Rule::Limits, limit, place)
 }
 
 fn wrong_sides(pieces: &[Piece]) -> Option<usize>
@@ -55,71 +57,39 @@ fn spend_item(q: usize, b: usize, room: usize, k: usize, item: &Item) -> Result<
     }
 }
 
-#[tactic(auto, using(crate::proofs::Spending::spend_on, crate::proofs::Spending::spent_at))]
 fn spend_batch(q: usize, room: usize, b: usize, batch: &Batch) -> Result<usize, Place>
     ensures { result ≡ spend_batch q room b batch.now }
 {
-    let mut left = room;
-    for (k, item) in batch.items.iter().enumerate() {
-        match spend_item(q, b, left, k, item) {
-            Ok(rest) => left = rest,
-            Err(place) => return Err(place),
-        }
-    }
-    Ok(left)
+    spend_in(&batch.items, room, |left, k, item| {
+        spend_item(q, b, left, k, item)
+    })
 }
 
-#[tactic(auto, using(crate::proofs::Spending::spend_on, crate::proofs::Spending::spent_at))]
 fn spend_queue(room: usize, q: usize, queue: &Queue) -> Result<usize, Place>
     ensures { result ≡ spend_queue room q queue.now }
 {
-    let mut left = room;
-    for (b, batch) in queue.batches.iter().enumerate() {
-        match spend_batch(q, left, b, batch) {
-            Ok(rest) => left = rest,
-            Err(place) => return Err(place),
-        }
-    }
-    Ok(left)
+    spend_in(&queue.batches, room, |left, b, batch| {
+        spend_batch(q, left, b, batch)
+    })
 }
 
-#[tactic(auto, using(crate::proofs::Spending::spend_on, crate::proofs::Spending::spent_at))]
 fn rects_over(queues: &[Queue]) -> Option<Place>
     ensures { result ≡ rects_over queues.now }
 {
-    let mut left = 4096;
-    for (q, queue) in queues.iter().enumerate() {
-        match spend_queue(left, q, queue) {
-            Ok(rest) => left = rest,
-            Err(place) => return Some(place),
-        }
-    }
-    None
-}
-
-fn spend_memory(room: u128, i: usize, memory: &Memory) -> Result<u128, Place>
-    ensures { result ≡ spend_memory room i memory.now }
-{
-    let bytes = memory_bytes(memory);
-    if room < bytes {
-        Err(Place::Memory(i))
-    } else {
-        Ok(room - bytes)
+    match spend_in(
+        queues,
+        MAX_RECTS,
+        |left, q, queue| spend_queue(left, q, queue),
+    ) {
+        Ok(_) => None,
+        Err(place) => Some(place),
     }
 }
 
-#[tactic(auto, using(crate::proofs::Spending::spend_on, crate::proofs::Spending::spent_at))]
-fn bytes_over(memories: &[Memory]) -> Option<Place>
-    ensures { result ≡ bytes_over memories.now }
+fn bytes_over(memories: &[Memory]) -> Option<usize>
+    ensures { result ≡ first_over memory_bytes max_memory_bytes memories.now }
 {
-    let mut left = 805_306_368;
-    for (i, memory) in memories.iter().enumerate() {
-        match spend_memory(left, i, memory) {
-            Ok(rest) => left = rest,
-            Err(place) => return Some(place),
-        }
-    }
-    None
+    first_over(memories, MAX_MEMORY_BYTES, |memory| memory_bytes(memory))
 }
 
 // What the nodes of a batch leave of a room, where it lasts.
@@ -169,36 +139,36 @@ fn after_queues(room: usize, queues: &[Queue]) -> Option<usize>
 /// How many nodes the first queues have, which are not more than a program may have.
 pub(crate) fn queue_nodes(queues: &[Queue], count: u32) -> u32
     requires within { count ≤ length queues.now }
-    requires few { queues_count (take count queues.now) ≤ 20000 }
+    requires few { queues_count (take count queues.now) ≤ max_nodes }
     ensures { result ≡ queues_count (take count queues.now) }
 {
-    match after_queues(20_000, &queues[..count as usize]) {
-        Some(left) => (20_000 - left) as u32,
+    match after_queues(MAX_NODES, &queues[..count as usize]) {
+        Some(left) => (MAX_NODES - left) as u32,
         None => unreachable!(),
     }
 }
 
-#[tactic(auto, using(crate::proofs::Counting::nodes_count))]
+#[tactic(auto, using(crate::proofs::Counting::entries_count))]
 fn nodes_fit(program: &Program) -> bool
-    ensures { result ≡ nat_le (length (nodes_of program.now)) 20000 }
+    ensures { result ≡ nat_le (length (entries_of program.now)) max_nodes }
 {
-    match after_queues(20_000, &program.queues) {
+    match after_queues(MAX_NODES, &program.queues) {
         Some(left) => program.readbacks.len() <= left,
         None => false,
     }
 }
 
 // The limits on what stands in the lists.
-fn count_broken(program: &Program) -> Option<Broken>
+fn count_broken(program: &Program) -> Option<Broken<Rule, Place>>
     ensures { result ≡ count_broken program.now }
 {
-    if program.queues.len() < 1 || program.queues.len() > 4 {
+    if program.queues.len() < 1 || program.queues.len() > MAX_QUEUES {
         return Some(over(Limit::Queues, Place::Queues));
     }
-    if program.memories.len() > 512 {
+    if program.memories.len() > MAX_MEMORIES {
         return Some(over(Limit::Memories, Place::Memories));
     }
-    if program.pieces.len() > 512 {
+    if program.pieces.len() > MAX_PIECES {
         return Some(over(Limit::Pieces, Place::Pieces));
     }
     if !nodes_fit(program) {
@@ -207,14 +177,14 @@ fn count_broken(program: &Program) -> Option<Broken>
     if let Some(place) = rects_over(&program.queues) {
         return Some(over(Limit::Rects, place));
     }
-    if program.readbacks.len() > 32 {
+    if program.readbacks.len() > MAX_READBACKS {
         return Some(over(Limit::Readbacks, Place::Readbacks));
     }
     None
 }
 
 // The limits on each piece and on the bytes of all memories.
-fn size_broken(program: &Program) -> Option<Broken>
+fn size_broken(program: &Program) -> Option<Broken<Rule, Place>>
     ensures { result ≡ size_broken program.now }
 {
     if let Some(i) = wrong_sides(&program.pieces) {
@@ -224,13 +194,13 @@ fn size_broken(program: &Program) -> Option<Broken>
         return Some(over(Limit::Size, Place::Piece(i)));
     }
     match bytes_over(&program.memories) {
-        Some(place) => Some(over(Limit::Total, place)),
+        Some(i) => Some(over(Limit::Total, Place::Memory(i))),
         None => None,
     }
 }
 
 /// The first limit that is broken.
-pub(crate) fn limit_broken(program: &Program) -> Option<Broken>
+pub(crate) fn limit_broken(program: &Program) -> Option<Broken<Rule, Place>>
     ensures { result ≡ limit_broken program.now }
 {
     if let Some(broken) = count_broken(program) {

@@ -2,7 +2,7 @@
 
 ghost use Rattle.std.specs.Prelude.{◌≡◌, ◌++◌, map, IfOk, OnOk};
 ghost use Rattle.std.specs.List.{range_with_len};
-ghost use Rattle.fg_subs.specs.Nodes.{signal_nodes, batch_nodes, queue_nodes, nodes_of};
+ghost use Rattle.fg_subs.specs.Code.Nodes.{signal_nodes, batch_nodes, queue_nodes, nodes_of};
 ghost use Rattle.fg_subs.specs.Places.{all_in};
 ghost use Rattle.fg_subs.specs.declared.nodes.NodeAt.TheVariants as node;
 
@@ -10,9 +10,9 @@ use crate::{Batch, Program, Queue, Signal};
 use fg_base::{List, NoMemory};
 use std::alloc::Global;
 
-/// A wait, an item, a signal, or the host's read of a piece, by where it stands in the program.
-#[derive(Clone, Copy, Debug, PartialEq, Eq)]
-pub enum NodeAt {
+/// A node by where it stands in the program.
+#[derive(Clone, Copy, Debug)]
+pub(crate) enum NodeAt {
     Wait { queue: u32, batch: u32, at: u32 },
     Item { queue: u32, batch: u32, at: u32 },
     Signal { queue: u32, batch: u32 },

@@ -4,8 +4,9 @@ ghost use Rattle.std.specs.Prelude.{◌≡◌, IfOk};
 ghost use Rattle.fg_subs.specs.Paths.{in_batch, path_of, told};
 
 use crate::SubFault;
-use crate::place::{Broken, Place};
-use fg_base::{List, NoMemory, Path};
+use crate::place::Place;
+use crate::rule::Rule;
+use fg_base::{Broken, List, NoMemory, Path};
 use std::alloc::Global;
 
 // A batch of a queue.
@@ -36,11 +37,11 @@ fn path_of(alloc: Global, place: Place) -> Result<Path, NoMemory>
 }
 
 /// The fault as it is told.
-pub(crate) fn told(alloc: Global, broken: Broken) -> Result<SubFault, NoMemory>
+pub(crate) fn told(alloc: Global, broken: Broken<Rule, Place>) -> Result<SubFault, NoMemory>
     ensures { IfOk result (λ fault. fault ≡ told broken) }
 {
     Ok(SubFault {
-        number: broken.number,
+        number: broken.rule.number(),
         limit: broken.limit,
         place: path_of(alloc, broken.place)?,
     })

@@ -1,7 +1,5 @@
 //! Where a program breaks a rule, by positions.
 
-use fg_base::Limit;
-
 /// A place in a program.
 #[derive(Clone, Copy, Debug, PartialEq, Eq)]
 pub enum Place {
@@ -19,12 +17,4 @@ pub enum Place {
     /// The signal of a batch of a queue.
     Signal(usize, usize),
     Readback(usize),
-}
-
-/// The first broken rule, with its place by positions.
-#[derive(Clone, Copy, Debug, PartialEq, Eq)]
-pub struct Broken {
-    pub number: u8,
-    pub limit: Option<Limit>,
-    pub place: Place,
 }

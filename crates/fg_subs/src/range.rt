@@ -5,22 +5,11 @@ ghost use Rattle.std.specs.List.{All};
 ghost use Rattle.fg_base.specs.Operands.{operands_of};
 ghost use Rattle.fg_base.specs.Shapes.{is_buffer, is_image};
 ghost use Rattle.fg_subs.specs.Limits.{memory_bytes};
-ghost use Rattle.fg_subs.specs.Ranges.{family_number, lies_in, piece_in_range, is_so, has_operands, op_in_range, layouts_defined, layouts_stand, transfer_in_range, item_in_range};
+ghost use Rattle.fg_subs.specs.Ranges.{lies_in, piece_in_range, is_so, has_operands, op_in_range, layouts_defined, layouts_stand, transfer_in_range, item_in_range};
 
 use crate::{Item, Memory, Piece, Transfer};
 use fg_base::{Family, Op, Shape, op_fits, op_in_place, op_within};
-use fg_bits::Layouts;
-
-/// Graphics is 0, compute 1 and transfer 2.
-pub(crate) fn family_number(family: Family) -> u32
-    ensures { result ≡ family_number family }
-{
-    match family {
-        Family::Graphics => 0,
-        Family::Compute => 1,
-        Family::Transfer => 2,
-    }
-}
+use fg_bits::{Layouts, family_number};
 
 pub(crate) fn memory_bytes(memory: &Memory) -> u128
     ensures { result ≡ memory_bytes memory.now }

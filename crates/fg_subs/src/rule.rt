@@ -1,11 +1,13 @@
 //! The rules of programs.
 
 ghost use Rattle.std.specs.Prelude.{◌≡◌};
-ghost use Rattle.fg_subs.specs.FirstFault.{number_of};
+ghost use Rattle.fg_subs.specs.Faults.{number_of};
 
 /// A rule on each part of a program.
 #[derive(Clone, Copy, Debug, PartialEq, Eq)]
 pub enum Rule {
+    /// No limit is gone over.
+    Limits,
     /// Pieces are in their memories, and what is submitted fits the pieces.
     Range,
     /// Each number names something.
@@ -30,6 +32,7 @@ impl Rule {
         ensures { result ≡ number_of self }
     {
         match self {
+            Rule::Limits => 1,
             Rule::Range => 2,
             Rule::Known => 3,
             Rule::Stages => 4,

@@ -3,20 +3,20 @@
 ghost use Rattle.std.specs.Prelude.{◌≡◌, ◌<◌, ◌≤◌, IfOk, IfErr, length, None, Some, slice_get};
 ghost use Rattle.std.specs.List.{All};
 ghost use Rattle.fg_subs.specs.Entries.{ByQueue, entries_of, first_node, seen};
-ghost use Rattle.fg_subs.specs.FirstFault.{broken, rule_broken, form_broken, use_broken, rules_broken, first_broken, first_fault, Ends};
-ghost use Rattle.fg_subs.specs.Obeys.{EntryObeys, IsNode, IsSmall, Obeys};
-ghost use Rattle.fg_subs.specs.Nodes.{nodes_of};
+ghost use Rattle.fg_subs.specs.FirstFault.{rule_broken, form_broken, use_broken, rules_broken, first_broken, first_fault, Ends};
+ghost use Rattle.fg_subs.specs.Obeys.{EntryObeys, IsSmall, Obeys};
+ghost use Rattle.fg_subs.specs.Code.Nodes.{nodes_of};
 ghost use Rattle.fg_subs.specs.declared.rule.Rule.{Rule};
 
 use crate::entry::entry_at;
 use crate::limits::{limit_broken, queue_nodes};
-use crate::nodes::nodes_of;
+use crate::nodes::{NodeAt, nodes_of};
 use crate::path::told;
-use crate::place::{Broken, Place};
+use crate::place::Place;
 use crate::rule::Rule;
 use crate::walk::broken_at;
-use crate::{Entry, NodeAt, Program, SubFault};
-use fg_base::{List, NoMemory, Shape};
+use crate::{Entry, Program, SubFault};
+use fg_base::{Broken, List, NoMemory, Shape};
 use std::alloc::Global;
 use std::marker::Model;
 
@@ -31,7 +31,7 @@ pub struct Shaped {
 impl Model for Shaped {
     ghost use Rattle.std.specs.Prelude.{◌≡◌, None};
     ghost use Rattle.fg_subs.specs.FirstFault.{first_broken};
-    ghost use Rattle.fg_subs.specs.Nodes.{nodes_of};
+    ghost use Rattle.fg_subs.specs.Code.Nodes.{nodes_of};
     ghost use Rattle.fg_subs.specs.declared.program.Program.{Program};
 
     ghost Value = { Program };
@@ -48,27 +48,14 @@ pub enum ShapeEnd {
     NoMemory(Program),
 }
 
-fn broken(rule: Rule, place: Place) -> Broken
-    ensures { result ≡ broken rule place }
-{
-    Broken {
-        number: rule.number(),
-        limit: None,
-        place,
-    }
-}
-
-fn rule_broken(rule: Rule, program: &Program, shapes: &[Shape]) -> Option<Broken>
+fn rule_broken(rule: Rule, program: &Program, shapes: &[Shape]) -> Option<Broken<Rule, Place>>
     ensures { result ≡ rule_broken rule program.now shapes.now }
 {
-    match broken_at(rule, program, shapes) {
-        Some(place) => Some(broken(rule, place)),
-        None => None,
-    }
+    Broken::at(rule, broken_at(rule, program, shapes))
 }
 
 // The rules that numbers 2 to 5 stand for.
-fn form_broken(program: &Program, shapes: &[Shape]) -> Option<Broken>
+fn form_broken(program: &Program, shapes: &[Shape]) -> Option<Broken<Rule, Place>>
     ensures { result ≡ form_broken program.now shapes.now }
 {
     if let Some(broken) = rule_broken(Rule::Range, program, shapes) {
@@ -84,7 +71,7 @@ fn form_broken(program: &Program, shapes: &[Shape]) -> Option<Broken>
 }
 
 // The rules that numbers 6 to 9 stand for.
-fn use_broken(program: &Program, shapes: &[Shape]) -> Option<Broken>
+fn use_broken(program: &Program, shapes: &[Shape]) -> Option<Broken<Rule, Place>>
     ensures { result ≡ use_broken program.now shapes.now }
 {
     if let Some(broken) = rule_broken(Rule::Supported, program, shapes) {
@@ -99,7 +86,7 @@ fn use_broken(program: &Program, shapes: &[Shape]) -> Option<Broken>
     rule_broken(Rule::Timeline, program, shapes)
 }
 
-fn rules_broken(program: &Program, shapes: &[Shape]) -> Option<Broken>
+fn rules_broken(program: &Program, shapes: &[Shape]) -> Option<Broken<Rule, Place>>
     ensures { result ≡ rules_broken program.now shapes.now }
 {
     if let Some(broken) = form_broken(program, shapes) {
@@ -109,7 +96,7 @@ fn rules_broken(program: &Program, shapes: &[Shape]) -> Option<Broken>
 }
 
 // The limits come first, so that the shapes are few.
-fn first_broken(alloc: Global, program: &Program) -> Result<Option<Broken>, NoMemory>
+fn first_broken(alloc: Global, program: &Program) -> Result<Option<Broken<Rule, Place>>, NoMemory>
     ensures { IfOk result (λ found. found ≡ first_broken program.now) }
 {
     if let Some(broken) = limit_broken(program) {
@@ -151,7 +138,6 @@ impl Shaped {
         ensures program { result.now ≡ self.now }
         ensures shaped { first_fault self.now ≡ None }
         ensures small { IsSmall self.now }
-        ensures keeps { (rule : Rule) → Obeys rule self.now }
         ensures obeys { (rule : Rule) → Obeys rule self.now }
         ensures numbered { ByQueue self.now }
         ensures entries { (rule : Rule) → All (EntryObeys rule self.now) (entries_of self.now) }
@@ -169,21 +155,11 @@ impl Shaped {
     }
 
     /// The number of nodes.
-    #[tactic(auto, using(crate::proofs::Few::few_nodes, crate::proofs::Entering::as_many))]
+    #[tactic(auto, using(crate::proofs::Counting::few_nodes, crate::proofs::Entering::as_many))]
     pub fn node_count(&self) -> u32
-        ensures nodes { result ≡ length (nodes_of self.now) }
-        ensures count { result ≡ length (entries_of self.now) }
+        ensures { result ≡ length (entries_of self.now) }
     {
         self.nodes.len() as u32
-    }
-
-    /// The node with the number `n`.
-    pub fn node(&self, n: u32) -> NodeAt
-        requires { n < length (nodes_of self.now) }
-        ensures node { slice_get (nodes_of self.now) n ≡ Some result }
-        ensures stands { IsNode self.now result }
-    {
-        self.nodes[n as usize]
     }
 
     /// What the node with the number `n` stands for.

@@ -14,7 +14,7 @@ use crate::place::Place;
 use crate::range::{is_buffer, item_in_range, piece_in_range};
 use crate::rule::Rule;
 use crate::{Batch, Item, Memory, Piece, Program, Queue, Signal, WaitFor};
-use fg_base::{Family, Shape, op_runs};
+use fg_base::{Family, Shape, first_in, op_runs};
 
 fn piece_obeys(rule: Rule, memories: &[Memory], piece: &Piece) -> bool
     ensures { result ≡ piece_obeys rule memories.now piece.now }
@@ -58,7 +58,7 @@ fn item_obeys(rule: Rule, shapes: &[Shape], family: Family, item: &Item) -> bool
         Rule::Supported => item_supported(item),
         Rule::OnQueue => item_on_queue(family, item),
         Rule::Runs => item_runs(family, item),
-        Rule::Timeline => true,
+        Rule::Limits | Rule::Timeline => true,
     }
 }
 
@@ -193,16 +193,10 @@ fn queue_place(test: Test, q: usize, queue: &Queue) -> Option<Place>
     in_batches(test, queue.family, q, &queue.batches)
 }
 
-#[tactic(auto, using(fg_base::proofs::Walks::first_on))]
 fn in_queues(test: Test, queues: &[Queue]) -> Option<Place>
     ensures { result ≡ first_in (queue_place test.entry.rule test.entry.count test.entry.shapes.now) 0 queues.now }
 {
-    for (q, queue) in queues.iter().enumerate() {
-        if let Some(place) = queue_place(test, q, queue) {
-            return Some(place);
-        }
-    }
-    None
+    first_in(queues, |q, queue| queue_place(test, q, queue))
 }
 
 /// The first place where a program whose pieces have these shapes breaks the rule.

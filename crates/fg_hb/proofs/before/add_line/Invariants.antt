@@ -1,9 +1,9 @@
-use Rattle.fg_hb.specs.Before.{Filling, Added, LineDone}
+use Rattle.fg_hb.specs.Code.Filling.{Filling, Added, QueueDone}
 use Rattle.fg_hb.proofs.before.add_line.Given as goal
 
 abbrev pub invariant-loop-y : goal.invariant-loop-y
 invariant-loop-y l = record {
   filling : Filling l.edges l.places l.rows;
   added : Added l.initial.rows l.rows;
-  done : LineDone l.edges l.places l.rows l.x l.y;
+  done : QueueDone l.edges l.places l.rows l.x l.y;
 }

@@ -1,3 +1,4 @@
+use Rattle.fg_hb.proofs.InOrder.{path_within}
 use Rattle.fg_hb.proofs.Places.{order_few, order_in, order_tabled, order_placed}
 use Rattle.fg_hb.specs.Nodes.{program_nodes}
 use Rattle.fg_hb.proofs.before.before_of.Goals as goal
@@ -18,3 +19,6 @@ pub invariant_of-result : goal.invariant_of-result
 invariant_of-result c = record {
   below = order_placed (program_nodes c.args.program.now) c.args.edges.now c.args.order.now c.count.result c.requires.edges c.requires.order c.count.ensures.count c.in_ok-places.places.items c.in_ok-rows.rows.count c.in_ok-places.ensures.length c.in_ok-places.ensures.places c.in_ok-rows.ensures.count;
 }
+
+pub returns-clause-within : goal.returns-clause-within
+returns-clause-within c = path_within (program_nodes c.args.program.now)

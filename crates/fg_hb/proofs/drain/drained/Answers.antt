@@ -1,5 +1,5 @@
-use Rattle.std.proofs.Common.{rules, arith}
-use Rattle.fg_hb.specs.Queues.{start_of, queues_of}
+use Rattle.std.proofs.Common.{◌≡◌, ◌<◌, ℕ, false, rules, arith, get_or, subst}
+use Rattle.fg_hb.specs.Code.Queues.{queues_of, goes_on}
 use Rattle.fg_hb.proofs.Drained.{next_fits, stuck_fits, hosts_from, all_least, all_stuck}
 use Rattle.fg_hb.proofs.Going.{going-step, left-step}
 use Rattle.fg_hb.proofs.drain.drained.Goals as goal
@@ -15,10 +15,10 @@ overflow_add-index_mut c =
     omega (arith, f)
 
 pub nodes-smaller : goal.nodes-smaller
-nodes-smaller c = left-step (queues_of c.args.edges.now) c.args.queues (start_of c.args.edges.now c.args.queues) c.nodes.next.items c.nodes.order c.nodes.invariant c.in-Some.q (search rules) c.index_mut.result.now c.index_mut.ensures.value
+nodes-smaller c = left-step (queues_of c.args.edges.now c.args.starts.now) c.args.queues (get_or c.args.starts.now c.args.queues 0) c.nodes.next.items c.nodes.order c.nodes.invariant c.in-Some.q (search rules) c.index_mut.result.now c.index_mut.ensures.value
 
 pub nodes-preserved : goal.nodes-preserved
-nodes-preserved c = going-step (queues_of c.args.edges.now) c.args.queues (start_of c.args.edges.now c.args.queues) c.requires.ready.lined.numbered c.nodes.next.items c.nodes.order c.nodes.invariant c.in-Some.q (search rules) (search rules) c.index.result.now c.index_mut.result.now c.push.new.self (search rules) c.index_mut.ensures.value c.in_ok-push.ensures.ok
+nodes-preserved c = going-step (queues_of c.args.edges.now c.args.starts.now) c.args.queues (get_or c.args.starts.now c.args.queues 0) c.requires.ready.lined.numbered c.nodes.next.items c.nodes.order c.nodes.invariant c.in-Some.q (search rules) (subst (λ next. (r : ℕ) → r < c.in-Some.q → goes_on (queues_of c.args.edges.now c.args.starts.now) next r ≡ false) c.deref.ensures.value c.in-Some.ensures.first) c.index.result.now c.index_mut.result.now c.push.new.self (search rules) c.index_mut.ensures.value c.in_ok-push.ensures.ok
 
 pub push_hosts-requires-clause-from : goal.push_hosts-requires-clause-from
 push_hosts-requires-clause-from c = hosts_from c.args.edges.now c.args.starts.now c.args.queues c.requires.ready c.count.result c.count.ensures.count

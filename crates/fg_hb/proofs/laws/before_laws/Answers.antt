@@ -1,4 +1,4 @@
-use Rattle.fg_hb.proofs.InOrder.{goes_forward, comes_never_back}
+use Rattle.fg_hb.proofs.InOrder.{goes_not_back, path_within, goes_forward, comes_never_back}
 use Rattle.fg_hb.proofs.laws.before_laws.Goals as goal
 use Rattle.fg_reach.specs.Paths.{then_on}
 
@@ -10,3 +10,9 @@ returns-clause-transitive c = λ nodes x y z p q. then_on p q
 
 pub returns-clause-irreflexive : goal.returns-clause-irreflexive
 returns-clause-irreflexive c = λ nodes order O x p. comes_never_back nodes order O x p
+
+pub returns-clause-asymmetric : goal.returns-clause-asymmetric
+returns-clause-asymmetric c = goes_not_back
+
+pub returns-clause-within : goal.returns-clause-within
+returns-clause-within c = path_within

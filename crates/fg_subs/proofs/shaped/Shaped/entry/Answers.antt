@@ -1,7 +1,8 @@
 use Rattle.std.proofs.Common.{◌≡◌, None, subst, sym, ap, ◌∙◌}
 use Rattle.std.specs.Option.{option_map}
-use Rattle.fg_subs.proofs.Entering.{has_place, read, not_missing, one_of}
-use Rattle.fg_subs.proofs.Keeping.{keeps, entries_obey}
+use Rattle.fg_base.proofs.Lists.{entry_of}
+use Rattle.fg_subs.proofs.Entering.{has_place, read, not_missing}
+use Rattle.fg_subs.proofs.Obeying.{obeys, entries_obey}
 use Rattle.fg_subs.specs.Entries.{entries_of, seen}
 use Rattle.fg_subs.specs.FirstFault.{first_broken}
 use Rattle.fg_subs.specs.Obeys.{EntryObeys}
@@ -20,4 +21,4 @@ pub returns-clause-obeys : goal.returns-clause-obeys
 returns-clause-obeys c = λ rule.
     let program = c.args.self.now in
     let here = read program c.self.inside.program c.self.inside.nodes c.args.n c.self.view_is c.self.invariant.1 c.requires c.index.result.now c.index.ensures ∙ sym c.entry_at.ensures ∙ ap (option_map seen) c.in-Some.is in
-    one_of (EntryObeys rule program) (entries_of program) c.args.n (seen c.in-Some.entry) (entries_obey program rule (keeps program (subst (λ program. first_broken program ≡ None) c.self.view_is c.self.invariant.0) rule)) here
+    entry_of (EntryObeys rule program) (entries_of program) c.args.n (seen c.in-Some.entry) (entries_obey program rule (obeys program (subst (λ program. first_broken program ≡ None) c.self.view_is c.self.invariant.0) rule)) here

@@ -1,4 +1,4 @@
--- What tables of nodes keep.
+-- The tables of edges and of what happens before what.
 use Rattle.std.specs.Prelude.{◌≡◌, ◌<◌, ◌≤◌, ℕ, List, length, map, Option, None}
 use Rattle.std.specs.List.{range_with_len}
 use Rattle.fg_hb.specs.Before.{Reached, place}
@@ -18,12 +18,12 @@ link_of nodes n kind = None
 abbrev pub links_until : List Node → ℕ → List (Option ℕ)
 links_until nodes count = map (λ n. link_of nodes n (node_at nodes n).kind) (range_with_len 0 count)
 
-pub record IsKept (edges : Inside) : Type 0 where
+pub record HasLinks (edges : Inside) : Type 0 where
   pub few : length edges.nodes ≤ 20000
   pub links : edges.links ≡ links_until edges.nodes (length edges.nodes)
 
 abbrev pub reached_by : before.Inside → Reached
 reached_by rows = record { pairs = rows.rows; places = rows.places.items }
 
-pub record IsPlaced (kept : before.Inside) : Type 0 where
-  pub below : (n : ℕ) → n < length kept.places.items → place kept.places.items n < kept.rows.count
+pub record IsPlaced (rows : before.Inside) : Type 0 where
+  pub below : (n : ℕ) → n < length rows.places.items → place rows.places.items n < rows.rows.count
