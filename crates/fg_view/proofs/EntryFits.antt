@@ -1,5 +1,5 @@
 -- What each part of a program that breaks no rule does as a node.
-use Rattle.std.proofs.Common.{◌≡◌, ◌<◌, ℕ, false, length, map, slice_get, Some, sym, ap, ◌∙◌, subst, refl}
+use Rattle.std.proofs.Common.{◌≡◌, ℕ, false, length, map, slice_get, Some, sym, ap, ◌∙◌, subst, refl}
 use Rattle.std.specs.Option.{option_map}
 use Rattle.std.proofs.lemmas.Bool.{ltb-true}
 use Rattle.std.proofs.lemmas.Option.{slice_get-map}

@@ -4,7 +4,6 @@ use Rattle.std.specs.Int.Bits.{bit_and, and_zero_l}
 use Rattle.std.specs.List.{All}
 use Rattle.std.proofs.lemmas.Bool.{cases_lt, and_parts, false_from_ne_true, leb-true}
 use Rattle.std.proofs.lemmas.List.{get_or-map, get_or_past, length-map}
-use Rattle.std.proofs.lemmas.Option.{slice_get-get_or}
 use Rattle.fg_base.specs.Maxima.{max_nodes}
 use Rattle.fg_base.specs.Shapes.{bytes_of}
 use Rattle.fg_base.specs.declared.shape.Family.{Family}

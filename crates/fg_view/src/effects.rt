@@ -121,7 +121,7 @@ fn host_effect(alloc: Global, piece: u32) -> Result<Effect, NoMemory>
 
 // What the node does that is this part of the program.
 fn entry_effect(alloc: Global, shapes: &[Shape], entry: Entry<'_>) -> Result<Effect, NoMemory>
-    requires { IsKnown shapes.now (seen entry.entry) }
+    requires { IsKnown shapes.now (seen entry) }
     ensures { IfOk result (λ effect. effect ≡ entry_effect shapes.now (seen entry.entry)) }
 {
     match entry {

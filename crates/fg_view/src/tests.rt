@@ -1,50 +1,65 @@
 use super::*;
-use fg_base::List;
-use fg_bits::Layout;
+use fg_base::{Family, List, NoMemory, Op, Shape};
+use fg_bits::{Sharing, Stages};
 use fg_hb::{Drain, drain_of};
-use fg_sketch::{SketchError, sketched_program};
-use fg_subs::shape;
+use fg_subs::{Batch, Item, Memory, Piece, Program, Queue, Signal, shape};
 use std::alloc::Global;
 use std::test::Fail;
 
-// A ramp on a compute queue is handed over to a graphics queue, which maps it and copies the map into a buffer for the host.
-const RAMP_AND_MAP: &str =
-    "plain:320 plain:64 image:4:4:r32:0:0 image:4:4:r32:0:256 buffer:64:1:0 read:2 ; graphics wait:1:1 acquire:0:compute>graphics:COMPUTE_SHADER,>COMPUTE_SHADER,SHADER_SAMPLED_READ:GENERAL>SHADER_READ_ONLY_OPTIMAL turn:1:UNDEFINED>GENERAL:COMPUTE_SHADER,>COMPUTE_SHADER,SHADER_STORAGE_WRITE map:0:1 turn:1:GENERAL>TRANSFER_SRC_OPTIMAL:COMPUTE_SHADER,SHADER_STORAGE_WRITE>COPY,TRANSFER_READ out:1:2 bar:2:COPY,TRANSFER_WRITE>HOST,HOST_READ signal:1 ; compute turn:0:UNDEFINED>GENERAL:COMPUTE_SHADER,>COMPUTE_SHADER,SHADER_STORAGE_WRITE ramp:0 release:0:compute>graphics:COMPUTE_SHADER,SHADER_STORAGE_WRITE>COMPUTE_SHADER,:GENERAL>SHADER_READ_ONLY_OPTIMAL signal:1";
+const BUFFER: Piece = Piece {
+    shape: Shape::Buffer { size: 16 },
+    memory: 0,
+    offset: 0,
+    sharing: Sharing::Exclusive,
+};
 
-// Nodes, pieces, and the layouts that they want, in the least order: the queue of the map waits for that of the ramp, whose
-// nodes are 8 to 11.
-const ACCESSES: [(u32, u32, Option<Layout>); 12] = [
-    (8, 0, None),
-    (9, 0, Some(Layout::General)),
-    (10, 0, None),
-    (1, 0, Some(Layout::General)),
-    (1, 0, None),
-    (2, 1, None),
-    (3, 0, Some(Layout::ShaderReadOnly)),
-    (3, 1, Some(Layout::General)),
-    (4, 1, Some(Layout::General)),
-    (5, 1, Some(Layout::TransferSrc)),
-    (5, 2, None),
-    (12, 2, None),
-];
+// One queue with one batch: a fill of the buffer and a signal. The host reads the buffer.
+fn program(alloc: Global) -> Result<Program, NoMemory> {
+    let mut memories = List::new(alloc);
+    memories.push(Memory::Plain { size: 16 })?;
+    let mut items = List::new(alloc);
+    items.push(Item::Command(Op::FillBuffer {
+        dst: 0,
+        offset: 0,
+        size: 16,
+        word: 1,
+    }))?;
+    let mut batches = List::new(alloc);
+    batches.push(Batch {
+        waits: List::new(alloc),
+        items,
+        signal: Some(Signal {
+            value: 1,
+            stages: Stages::ALL_COMMANDS,
+        }),
+    })?;
+    let mut queues = List::new(alloc);
+    queues.push(Queue {
+        family: Family::Graphics,
+        batches,
+    })?;
+    Ok(Program {
+        memories,
+        pieces: List::from_slice(alloc, &[BUFFER])?,
+        queues,
+        readbacks: List::from_slice(alloc, &[0])?,
+    })
+}
 
-fn accesses(alloc: Global) -> Result<List<NodeAccess>, SketchError> {
-    let shaped = shape(alloc, sketched_program(alloc, RAMP_AND_MAP)?).map_err(
-        |_| SketchError::Word,
-    )?;
+fn accesses(alloc: Global) -> Result<List<NodeAccess>, NoMemory> {
+    let shaped = shape(alloc, program(alloc)?).map_err(|_| NoMemory)?;
     let view = view_of(alloc, &shaped)?;
     match drain_of(alloc, &shaped, view.edges())? {
-        Drain::Whole(order) => Ok(node_accesses_of(alloc, &view, &order)?),
-        Drain::Stuck { .. } => Err(SketchError::Word),
+        Drain::Whole(order) => node_accesses_of(alloc, &view, &order),
+        Drain::Stuck { .. } => Err(NoMemory),
     }
 }
 
 #[test]
-fn ramp_and_map(rt: HostRuntime) -> Result<(), Fail> {
+fn fill_and_read(rt: HostRuntime) -> Result<(), Fail> {
     let accesses = accesses(rt.alloc())?;
-    assert_eq!(&rt; accesses.len(), ACCESSES.len());
-    for (NodeAccess { node, access }, row) in accesses.as_slice().iter().zip(ACCESSES) {
-        assert_eq!(&rt; (*node, access.piece, access.kind.wanted()), row);
-    }
+    assert_eq!(&rt; accesses.len(), 2);
+    assert_eq!(&rt; (accesses[0].node, accesses[1].node), (0, 2));
+    assert!(&rt; accesses[0].access.kind.stores() && accesses[1].access.kind.loads());
     Ok(())
 }
