@@ -2,7 +2,7 @@ use Rattle.std.proofs.Common.{if◌then◌else◌, Some, None, refl, sym, ap, �
 use Rattle.std.specs.List.{list_any}
 use Rattle.fg_base.proofs.Walks.{first_on}
 use Rattle.fg_frame.proofs.Clashing.{names_on, keys_on}
-use Rattle.fg_frame.proofs.repeats.first_clash.Goals as goal
+use Rattle.fg_frame.proofs.repeats.clash_of_layers.Goals as goal
 use Rattle.fg_frame.specs.Clashes.{clash, clashes_at, first_clash}
 
 pub loop-i-preserved : goal.loop-i-preserved

@@ -2,7 +2,7 @@ use Rattle.std.proofs.Common.{◌≡◌, ℕ, List, drop, take}
 use Rattle.std.specs.List.{list_any}
 use Rattle.std.specs.Str.{bytes_eq}
 use Rattle.fg_base.specs.Walks.{first_in}
-use Rattle.fg_frame.proofs.repeats.first_clash.Given as goal
+use Rattle.fg_frame.proofs.repeats.clash_of_layers.Given as goal
 use Rattle.fg_frame.specs.Clashes.{clashes_at, first_clash}
 
 abbrev pub invariant-loop-i : goal.invariant-loop-i
