@@ -190,11 +190,16 @@ def look_at_architecture():
 
 def look_at_model():
     path = TOP / "docs/MODEL.md"
-    text = path.read_text(encoding="utf-8")
+    named, last = set(), set()
+    for _, line in lines_of(path):
+        last = set() if line.startswith("#") else last
+        for word in re.findall(r"[\w.]+", line):
+            if word in CRATES:
+                last = {word}
+            named |= {(crate, word) for crate in last if word.endswith(".antt")}
     for source in SOURCES:
         if source.parent.name == "specs" and source.suffix == ".antt" and source.stem not in ("Lib", "Code"):
-            named = re.search(rf"{crate_of(source)}/specs[^\n]*\b{source.name}", text) or re.search(rf"`{source.name}`", text)
-            if not named:
+            if (crate_of(source), source.name) not in named:
                 problem(path, 1, f"{source.relative_to(TOP)} is not named")
 
 

@@ -1,13 +1,17 @@
 -- Entries that clash, by a table of their names and one of the entries.
-use Rattle.std.proofs.Common.{◌≡◌, ℕ, ◌+◌, ◌<◌, ◌||◌, ◌&&◌, ◌==◌, ◌++◌, nat_eq, List, [], ◌∷◌, length, get_or, take, if◌then◌else◌, Bool, true, false, Option, None, Some, refl, sym, ap, ap₂, subst, ◌∙◌, add-one}
+use Rattle.std.proofs.Common.{◌≡◌, ℕ, suc, map, is_some, ◌+◌, ◌<◌, ◌||◌, ◌&&◌, ◌==◌, ◌++◌, nat_eq, List, [], ◌∷◌, length, get_or, take, if◌then◌else◌, Bool, true, false, Option, None, Some, refl, sym, ap, ap₂, subst, ◌∙◌, add-one}
 use Rattle.std.specs.List.{list_any}
-use Rattle.std.specs.Option.{option_eq}
+use Rattle.std.specs.Option.{option_eq, option_or}
 use Rattle.std.specs.Str.{bytes_eq}
 use Rattle.std.proofs.Math.Seq.{take-suc}
+use Rattle.std.proofs.lemmas.List.{take-map}
 use Rattle.std.proofs.lemmas.List.Folds.{list_any-append, list_any_more}
 use Rattle.std.proofs.lemmas.Slice.Eq.{bytes_eq-Decides}
 use Rattle.indexmap.specs.IndexSet.{insert_key}
-use Rattle.fg_frame.specs.Clashes.{clash, layers_clash}
+use Rattle.fg_base.proofs.Booleans.{or_false}
+use Rattle.fg_base.specs.Walks.{first_in}
+use Rattle.fg_frame.specs.Clashes.{clash, layers_clash, clashes_at, first_clash}
+use Rattle.fg_frame.specs.Repeats.{repeats_at, first_repeat}
 use Rattle.fg_frame.specs.declared.frame.Spot.{Spot}
 
 -- how entries are equal as keys
@@ -19,10 +23,6 @@ is_named name s = bytes_eq name s.name
 
 -- BOOLEANS
 
-or_false : (a : Bool) → (a || false) ≡ a
-or_false true = refl
-or_false false = refl
-
 and_true : (a : Bool) → (a && true) ≡ a
 and_true true = refl
 and_true false = refl
@@ -32,9 +32,6 @@ swap_or true b c d = refl
 swap_or false true true d = refl
 swap_or false true false d = refl
 swap_or false false c d = refl
-
-or_true : (a : Bool) → true ≡ (true || a)
-or_true a = refl
 
 -- TESTS OVER LISTS
 
@@ -119,3 +116,28 @@ keys_on spots i spot keys keys' lt is grows so_far free =
     let absent : list_any (same_spot spot) keys ≡ false = any_less (clash spot) (same_spot spot) (λ x. less_same (bytes_eq spot.name x.name) spot.layer x.layer) keys free in
     let last : keys' ≡ keys ++ spot ∷ [] = grows ∙ ap (λ b. if b then keys else keys ++ spot ∷ []) absent in
     rw add-one (last ∙ ap₂ (λ a b. a ++ b ∷ []) so_far is ∙ sym (take-suc spots i spot lt))
+
+-- WHOLE RESOURCES
+
+named_clash : (x : Spot) (xs : List Spot) → x.layer ≡ None → list_any (bytes_eq x.name) (map (λ s. s.name) xs) ≡ list_any (clash x) xs
+named_clash x [] whole = refl
+named_clash x (y ∷ ys) whole = ap₂ (λ a b. a || b) (sym (ap (λ o. bytes_eq x.name y.name && layers_clash o y.layer) whole ∙ and_true (bytes_eq x.name y.name))) (named_clash x ys whole)
+
+neither : (a b : Bool) → (a || b) ≡ false → (a ≡ false) × (b ≡ false)
+neither true b e = absurd cc
+neither false b e = (refl, e)
+
+is_whole : (layer : Option ℕ) → is_some layer ≡ false → layer ≡ None
+is_whole None e = refl
+is_whole (Some l) e = absurd cc
+
+repeats_clash : (spots : List Spot) (i : ℕ) (xs : List Spot) → list_any (λ s. is_some s.layer) xs ≡ false → first_in (repeats_at (map (λ s. s.name) spots)) i (map (λ s. s.name) xs) ≡ first_in (clashes_at spots) i xs
+repeats_clash spots i [] whole = refl
+repeats_clash spots i (x ∷ xs) whole =
+    let parts = neither (is_some x.layer) (list_any (λ s. is_some s.layer) xs) whole in
+    let here : list_any (bytes_eq x.name) (take i (map (λ s. s.name) spots)) ≡ list_any (clash x) (take i spots) = ap (list_any (bytes_eq x.name)) (take-map (λ s. s.name) i spots) ∙ named_clash x (take i spots) (is_whole x.layer parts.0) in
+    ap₂ (λ a b. option_or a b) (ap (λ b. if b then Some i else None) here) (repeats_clash spots (suc i) xs parts.1)
+
+-- entries without layers clash where their names repeat
+pub whole_clash : (spots : List Spot) (names : List (List ℕ)) (r : Option ℕ) → list_any (λ s. is_some s.layer) spots ≡ false → names ≡ map (λ s. s.name) spots → r ≡ first_repeat names → r ≡ first_clash spots
+whole_clash spots names r whole same is = is ∙ ap first_repeat same ∙ repeats_clash spots 0 spots whole

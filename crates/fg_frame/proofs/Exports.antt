@@ -15,7 +15,7 @@ use Rattle.fg_frame.specs.FirstFault.{first_broken}
 use Rattle.fg_frame.specs.Limits.{exported}
 use Rattle.fg_frame.specs.Numbered.{numbered}
 use Rattle.fg_frame.specs.Places.{first_over}
-use Rattle.fg_frame.specs.Units.{stretches, numbering, stretch_of, units_in, units_of}
+use Rattle.fg_frame.specs.Units.{stretches, numbering, stretch_of, layer_unit, units_in, no_units, span_in, units_of}
 use Rattle.fg_frame.specs.declared.frame.Frame.{Frame}
 use Rattle.fg_frame.specs.declared.frame.Resource.{Resource}
 use Rattle.fg_frame.specs.declared.frame.Spot.{Spot}
@@ -97,14 +97,17 @@ few_each frame spot = by_layer spot.layer
     by_layer : (layer : Option ℕ) → length (units_of (numbering frame) (record { name = spot.name; layer = layer })) ≤ exported frame (record { name = spot.name; layer = layer })
     by_layer (Some layer) = by_found (stretch_of (numbering frame) spot.name)
       where
-        by_found : (found : Option Stretch) → length (option_map_or (units_in (Some layer)) found []) ≤ 1
+        by_found : (found : Option Stretch) → length (units_in (option_map_or (span_in (Some layer)) found no_units)) ≤ 1
         by_found None = omega arith
-        by_found (Some s) = omega arith
+        by_found (Some s) = let size = length-range_with_len (layer_unit s layer) (layer_unit s layer + 1 - layer_unit s layer) in omega (arith, size)
     by_layer None = as_layers (stretch_of (numbering frame) spot.name) (same_layers spot.name 0 frame.resources)
       where
-        as_layers : (found : Option Stretch) → option_map_or (λ s. s.layers) found 0 ≤ exported frame (record { name = spot.name; layer = None }) → length (option_map_or (units_in None) found []) ≤ exported frame (record { name = spot.name; layer = None })
+        as_layers : (found : Option Stretch) → option_map_or (λ s. s.layers) found 0 ≤ exported frame (record { name = spot.name; layer = None }) → length (units_in (option_map_or (span_in None) found no_units)) ≤ exported frame (record { name = spot.name; layer = None })
         as_layers None few = few
-        as_layers (Some s) few = rw (length-range_with_len s.first s.layers) few
+        as_layers (Some s) few =
+            let size = length-range_with_len s.first (s.first + s.layers - s.first) in
+            let all : s.layers ≤ exported frame (record { name = spot.name; layer = None }) = few in
+            omega (arith, size)
 
 pub few_exports : (frame : Frame) → first_broken frame ≡ None → length (numbered frame).exports ≤ 32
 few_exports frame none = within_room (exported frame) (units_of (numbering frame)) (few_each frame) frame.exports 32 0 (exports_none frame (limits_none frame (names_good frame none)))

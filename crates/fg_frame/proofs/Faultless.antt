@@ -7,7 +7,7 @@ use Rattle.std.proofs.lemmas.List.{length-append, length-map, get_or-map, get_or
 use Rattle.std.proofs.Math.Seq.{get_or-append_seam}
 use Rattle.std.proofs.lemmas.List.Elements.{All-map, All-replicate}
 use Rattle.std.proofs.lemmas.List.Folds.{list_any_at}
-use Rattle.fg_base.specs.Bounds.{size_allowed}
+use Rattle.fg_base.specs.Bounds.{sides_allowed, size_allowed}
 use Rattle.fg_base.specs.Fits.{fits}
 use Rattle.fg_base.specs.InPlace.{in_place}
 use Rattle.fg_base.specs.Operands.{sources_of, destination_of, operands_of, mapped}
@@ -18,14 +18,19 @@ use Rattle.fg_base.specs.declared.op.Op.{Op}
 use Rattle.fg_base.specs.declared.shape.Family.{Family}
 use Rattle.fg_base.specs.declared.shape.Family.TheVariants.{Graphics}
 use Rattle.fg_base.specs.declared.shape.Shape.{Shape}
-use Rattle.fg_frame.proofs.Known.{no_some, flat_all, exports_within}
+use Rattle.fg_frame.proofs.Exports.{few_exports}
+use Rattle.fg_frame.proofs.Totals.{few_ops, few_rects, few_bytes}
+use Rattle.fg_frame.proofs.Known.{exports_within}
+use Rattle.fg_base.proofs.Booleans.{clash}
+use Rattle.fg_base.proofs.Lists.{each_of}
 use Rattle.fg_base.proofs.Absence.{all_pass, first_none, or_first, or_second, map_none, has_it, not_none, not_false, position-none}
-use Rattle.fg_frame.proofs.Small.{names_good, then_uses, few_queues, few_units, limits_none, unknown_none, some_layers, length_units, passes_few, sizes_allowed, passes_within, families_are}
-use Rattle.fg_frame.specs.FirstFault.{broken, shapes_of, imports_of, misfit_broken, first_broken}
-use Rattle.fg_frame.specs.Good.{is_import, renews, has_contents, IsGoodOp, IsGoodPass, IsGood}
+use Rattle.fg_frame.proofs.Small.{names_good, then_uses, few_queues, few_units, limits_none, unknown_none, some_layers, length_units, passes_few, layers_good, sides_good, sizes_allowed, passes_within, families_are}
+use Rattle.fg_frame.specs.FirstFault.{broken, shapes_of, imports_of, misfit_broken, first_broken, first_fault}
+use Rattle.fg_frame.specs.Good.{is_import, renews, has_contents, IsGoodOp, IsGoodPass, IsDeclared, IsGood}
 use Rattle.fg_frame.specs.Members.{member_at}
 use Rattle.fg_frame.specs.Numbered.{numbered, numbered_pass, write_each, writes_of, stored_of, uses_of, all_uses, export_units}
-use Rattle.fg_frame.specs.Units.{Numbering, numbering, units_of, units, Unit, units_from, unit_from}
+use Rattle.fg_frame.specs.Paths.{told}
+use Rattle.fg_frame.specs.Units.{Numbering, numbering, units_in, span_of, units_of, units, Unit, units_from, unit_from}
 use Rattle.fg_frame.specs.Uses.{family_of, writes_it, reads_it, undeclared_at, undeclared_operand, starts_whole, is_partial, not_whole_at, makes, is_there, is_marked, is_missing, unwritten_at, unwritten, import_fits, misfit_import, misfit_at, use_at, first_use}
 use Rattle.fg_frame.specs.declared.frame.Frame.{Frame}
 use Rattle.fg_frame.specs.declared.frame.Pass.{Pass}
@@ -47,7 +52,7 @@ any_false : {X : Type 0} (test : X → Bool) (xs : List X) → list_any test xs 
 any_false {X} test xs none = λ k d lt. by_case k d lt (test (get_or xs k d)) refl
   where
     by_case : (k : ℕ) (d : X) → k < length xs → (b : Bool) → test (get_or xs k d) ≡ b → test (get_or xs k d) ≡ false
-    by_case k d lt true e = absurd (no_some (sym none ∙ list_any_at test xs k d lt e))
+    by_case k d lt true e = absurd (clash (sym none ∙ list_any_at test xs k d lt e))
     by_case k d lt false e = e
 
 -- a test that finds nothing among the images of a list
@@ -63,28 +68,28 @@ rule_mapped rule f xs none k d lt = subst (λ y. rule k y ≡ None) (get_or-map 
 
 and_false : {X : Type 0} (b : Bool) (test : X → Bool) (xs : List X) → (b && list_any test xs) ≡ false → b ≡ true → All (λ x. test x ≡ false) xs
 and_false true test xs none e = any_false test xs none
-and_false false test xs none e = absurd (no_some e)
+and_false false test xs none e = absurd (clash e)
 
 not_true : (b : Bool) → b ≡ false → not b ≡ true
-not_true true e = absurd (no_some (sym e))
+not_true true e = absurd (clash (sym e))
 not_true false e = refl
 
 -- ENTRIES AND THEIR UNITS
 
 writes_all : (n : Numbering) (P : Bool → ℕ → Type 0) (writes : List (Write Spot)) → All (λ w. All (λ u. P w.fresh u) (units_of n w.what)) writes → All (λ w. P w.fresh w.what) (flat_map (writes_of n) writes)
-writes_all n P writes all = flat_all (λ w. P w.fresh w.what) (writes_of n) writes (λ k d lt. All-map (λ w. P w.fresh w.what) (write_each (get_or writes k d).fresh) (units_of n (get_or writes k d).what) (all k d lt))
+writes_all n P writes all = each_of (λ w. P w.fresh w.what) (writes_of n) writes (λ k d lt. All-map (λ w. P w.fresh w.what) (write_each (get_or writes k d).fresh) (units_of n (get_or writes k d).what) (all k d lt))
 
-entries_there : (there : ℕ → Bool) (n : Numbering) (spots : List Spot) → position (is_missing there) (map (units_of n) spots) ≡ None → All (λ u. there u ≡ true) (flat_map (units_of n) spots)
-entries_there there n spots none = flat_all (λ u. there u ≡ true) (units_of n) spots (λ k d lt. λ j e less. not_false (there (get_or (units_of n (get_or spots k d)) j e)) (any_false (λ u. not (there u)) (units_of n (get_or spots k d)) (none_mapped (is_missing there) (units_of n) spots none k d lt) j e less))
+entries_there : (there : ℕ → Bool) (n : Numbering) (spots : List Spot) → position (is_missing there) (map (span_of n) spots) ≡ None → All (λ u. there u ≡ true) (flat_map (units_of n) spots)
+entries_there there n spots none = each_of (λ u. there u ≡ true) (units_of n) spots (λ k d lt. λ j e less. not_false (there (get_or (units_of n (get_or spots k d)) j e)) (any_false (λ u. not (there u)) (units_of n (get_or spots k d)) (none_mapped (is_missing there) (span_of n) spots none k d lt) j e less))
 
 changes_there : (there : ℕ → Bool) (n : Numbering) (writes : List (Write Spot)) → position (λ w. not w.fresh && is_missing there w.units) (map (stored_of n) writes) ≡ None → All (λ w. w.fresh ≡ false → there w.what ≡ true) (flat_map (writes_of n) writes)
 changes_there there n writes none = writes_all n (λ fresh u. fresh ≡ false → there u ≡ true) writes (λ k d lt. λ j e less. λ stale. not_false (there (get_or (units_of n (get_or writes k d).what) j e)) (and_false (not (get_or writes k d).fresh) (λ u. not (there u)) (units_of n (get_or writes k d).what) (none_mapped (λ w. not w.fresh && is_missing there w.units) (stored_of n) writes none k d lt) (not_true (get_or writes k d).fresh stale) j e less))
 
 new_whole : (shapes : List Shape) (ops : List (Op ℕ)) (p : ℕ) (n : Numbering) (writes : List (Write Spot)) → first_in (not_whole_at shapes ops p) 0 (map (stored_of n) writes) ≡ None → All (λ w. w.fresh ≡ true → starts_whole shapes ops w.what ≡ true) (flat_map (writes_of n) writes)
-new_whole shapes ops p n writes none = writes_all n (λ fresh u. fresh ≡ true → starts_whole shapes ops u ≡ true) writes (λ k d lt. λ j e less. λ new. not_false (starts_whole shapes ops (get_or (units_of n (get_or writes k d).what) j e)) (and_false (get_or writes k d).fresh (λ u. not (starts_whole shapes ops u)) (units_of n (get_or writes k d).what) (not_none ((get_or writes k d).fresh && is_partial shapes ops (units_of n (get_or writes k d).what)) (at.Write p k) (rule_mapped (not_whole_at shapes ops p) (stored_of n) writes none k d lt)) new j e less))
+new_whole shapes ops p n writes none = writes_all n (λ fresh u. fresh ≡ true → starts_whole shapes ops u ≡ true) writes (λ k d lt. λ j e less. λ new. not_false (starts_whole shapes ops (get_or (units_of n (get_or writes k d).what) j e)) (and_false (get_or writes k d).fresh (λ u. not (starts_whole shapes ops u)) (units_of n (get_or writes k d).what) (not_none ((get_or writes k d).fresh && is_partial shapes ops (span_of n (get_or writes k d).what)) (at.Write p k) (rule_mapped (not_whole_at shapes ops p) (stored_of n) writes none k d lt)) new j e less))
 
-new_unread : (pass : NumberedPass) (n : Numbering) (writes : List (Write Spot)) → position (λ w. w.fresh && list_any (reads_it pass) w.units) (map (stored_of n) writes) ≡ None → All (λ w. w.fresh ≡ true → reads_it pass w.what ≡ false) (flat_map (writes_of n) writes)
-new_unread pass n writes none = writes_all n (λ fresh u. fresh ≡ true → reads_it pass u ≡ false) writes (λ k d lt. λ j e less. λ new. and_false (get_or writes k d).fresh (reads_it pass) (units_of n (get_or writes k d).what) (none_mapped (λ w. w.fresh && list_any (reads_it pass) w.units) (stored_of n) writes none k d lt) new j e less)
+new_unread : (pass : NumberedPass) (n : Numbering) (writes : List (Write Spot)) → position (λ w. w.fresh && list_any (reads_it pass) (units_in w.units)) (map (stored_of n) writes) ≡ None → All (λ w. w.fresh ≡ true → reads_it pass w.what ≡ false) (flat_map (writes_of n) writes)
+new_unread pass n writes none = writes_all n (λ fresh u. fresh ≡ true → reads_it pass u ≡ false) writes (λ k d lt. λ j e less. λ new. and_false (get_or writes k d).fresh (reads_it pass) (units_of n (get_or writes k d).what) (none_mapped (λ w. w.fresh && list_any (reads_it pass) (units_in w.units)) (stored_of n) writes none k d lt) new j e less)
 
 -- CONTENTS
 
@@ -110,19 +115,19 @@ there_before frame p unit =
 -- OPERATIONS
 
 family_there : (queues : List QueueDecl) (q : ℕ) (family : Family) → slice_get (map (λ d. d.family) queues) q ≡ Some family → option_map_or (λ d. d.family) (slice_get queues q) Graphics ≡ family
-family_there [] q family is = absurd (no_some (ap is_some is))
+family_there [] q family is = absurd (clash (ap is_some is))
 family_there (d ∷ queues) zero family is = ap (λ o. option_map_or (λ f. f) o Graphics) is
 family_there (d ∷ queues) (suc q) family is = family_there queues q family is
 
 read_or_written : (a b c : Bool) → (a || (b && c)) ≡ true → (a || c) ≡ true
 read_or_written true b c e = refl
 read_or_written false true c e = e
-read_or_written false false c e = absurd (no_some e)
+read_or_written false false c e = absurd (clash e)
 
 written : (a b c : Bool) → (a || (b && c)) ≡ true → b ≡ false → a ≡ true
 written true b c e last = refl
-written false true c e last = absurd (no_some (sym last))
-written false false c e last = absurd (no_some e)
+written false true c e last = absurd (clash (sym last))
+written false false c e last = absurd (clash e)
 
 one_more : {X : Type 0} (xs : List X) (y : X) → length (xs ++ y ∷ []) ≡ length xs + 1
 one_more xs y = length-append xs (y ∷ [])
@@ -239,7 +244,7 @@ module _ (frame : Frame) (none : first_broken frame ≡ None) where
     there = is_there (imports_of frame) (take p uses)
 
     abbrev reads_found : Option Place
-    reads_found = option_map (λ k. at.Read p k) (position (is_missing there) (map (units_of n) pass.reads))
+    reads_found = option_map (λ k. at.Read p k) (position (is_missing there) (map (span_of n) pass.reads))
 
     abbrev changes_found : Option Place
     changes_found = option_map (λ j. at.Write p j) (position (λ w. not w.fresh && is_missing there w.units) (map (stored_of n) pass.writes))
@@ -261,10 +266,10 @@ module _ (frame : Frame) (none : first_broken frame ≡ None) where
 
     good_pass : IsGoodPass (numbered frame) (take p (numbered frame).passes) here
     good_pass = record {
-      reads_there = λ k e less. sym (there_before frame p (get_or here.reads k e)) ∙ entries_there there n pass.reads (map_none (λ k. at.Read p k) (position (is_missing there) (map (units_of n) pass.reads)) (or_first reads_found changes_found entries_none)) k e less;
+      reads_there = λ k e less. sym (there_before frame p (get_or here.reads k e)) ∙ entries_there there n pass.reads (map_none (λ k. at.Read p k) (position (is_missing there) (map (span_of n) pass.reads)) (or_first reads_found changes_found entries_none)) k e less;
       changes_there = λ k e less. λ stale. sym (there_before frame p (get_or here.writes k e).what) ∙ changes_there there n pass.writes (map_none (λ j. at.Write p j) (position (λ w. not w.fresh && is_missing there w.units) (map (stored_of n) pass.writes)) (or_second reads_found changes_found entries_none)) k e less stale;
       new_whole = new_whole shapes here.ops p n pass.writes (at_pass rules.Whole 9 (or_first rule_whole from_written whole_none) p d lt);
-      new_unread = new_unread here n pass.writes (map_none (λ j. at.Write p j) (position (λ w. w.fresh && list_any (reads_it here) w.units) (map (stored_of n) pass.writes)) (at_pass rules.ReadNew 13 (or_second rule_in_place rule_read_new in_place_none) p d lt));
+      new_unread = new_unread here n pass.writes (map_none (λ j. at.Write p j) (position (λ w. w.fresh && list_any (reads_it here) (units_in w.units)) (map (stored_of n) pass.writes)) (at_pass rules.ReadNew 13 (or_second rule_in_place rule_read_new in_place_none) p d lt));
       ops_good = good_op;
     }
 
@@ -276,8 +281,11 @@ module _ (frame : Frame) (none : first_broken frame ≡ None) where
       by_list [] e less = absurd (subst (λ ps. p < length ps → ⊥) (sym e) (λ no. omega arith) less)
       by_list (first ∷ passes) e less = subst (λ x. IsGoodPass (numbered frame) (take p (numbered frame).passes) x) (sym (get_or-map (numbered_pass frame n) frame.passes p first d less)) (good_pass p first less)
 
+  imports_good : All (λ r. import_fits r.shape r.import ≡ true) frame.resources
+  imports_good = all_pass (λ r. import_fits r.shape r.import) frame.resources (map_none (λ i. at.Import i) (position (λ r. not (import_fits r.shape r.import)) frame.resources) (or_first (misfit_import frame.resources) (first_use rules.Fits frame shapes uses) misfit_none))
+
   units_all : (P : Unit → Type 0) → All (λ r. P (unit_from r)) frame.resources → All P (units frame)
-  units_all P all = flat_all P units_from frame.resources (λ k d lt. All-replicate P (get_or frame.resources k d).layers (unit_from (get_or frame.resources k d)) (all k d lt))
+  units_all P all = each_of P units_from frame.resources (λ k d lt. All-replicate P (get_or frame.resources k d).layers (unit_from (get_or frame.resources k d)) (all k d lt))
 
   good_exports : All (λ unit. has_contents (units frame) (numbered frame).passes unit ≡ true) (numbered frame).exports
   good_exports = λ k e less. sym (there_same frame (get_or (numbered frame).exports k e) frame.passes) ∙ entries_there (is_there (imports_of frame) uses) n frame.exports (map_none (λ i. at.Export i) (position (is_missing (is_there (imports_of frame) uses)) (export_units frame)) (or_second (first_in (unwritten_at (imports_of frame) uses) 0 uses) (option_map (λ i. at.Export i) (position (is_missing (is_there (imports_of frame) uses)) (export_units frame))) unwritten_none)) k e less
@@ -287,10 +295,29 @@ module _ (frame : Frame) (none : first_broken frame ≡ None) where
     few_queues = subst (λ m. m ≤ 4) (sym (families_are frame)) (few_queues frame (names_good frame none));
     few_passes = subst (λ m. m ≤ 256) (sym (length-map frame.passes (numbered_pass frame n))) (passes_few frame (limits_none frame (names_good frame none)));
     few_units = subst (λ m. m ≤ 256) (sym (length_units frame.resources)) (few_units frame (limits_none frame (names_good frame none)));
+    few_exports = few_exports frame none;
+    few_ops = few_ops frame none;
+    few_rects = few_rects frame none;
+    few_bytes = few_bytes frame none;
+    sides = units_all (λ u. sides_allowed u.shape ≡ true) (sides_good frame (limits_none frame (names_good frame none)));
     sized = units_all (λ u. size_allowed u.shape ≡ true) (sizes_allowed frame (limits_none frame (names_good frame none)));
-    imports_fit = units_all (λ u. import_fits u.shape u.imported ≡ true) (all_pass (λ r. import_fits r.shape r.import) frame.resources (map_none (λ i. at.Import i) (position (λ r. not (import_fits r.shape r.import)) frame.resources) (or_first (misfit_import frame.resources) (first_use rules.Fits frame shapes uses) misfit_none)));
+    imports_fit = units_all (λ u. import_fits u.shape u.imported ≡ true) imports_good;
     within = passes_within frame (names_good frame none);
     passes_good = good_passes;
     exports_within = subst (λ m. All (λ unit. unit < m) (numbered frame).exports) (sym (length_units frame.resources)) (exports_within frame (some_layers frame (limits_none frame (names_good frame none))) (unknown_none frame (names_good frame none)));
     exports_there = good_exports;
   }
+
+  pub declared : IsDeclared frame
+  declared =
+      let limits = limits_none frame (names_good frame none) in
+      record {
+        layers = layers_good frame limits;
+        sides = sides_good frame limits;
+        sizes = sizes_allowed frame limits;
+        imports = imports_good;
+        known = unknown_none frame (names_good frame none);
+      }
+
+pub declared_by_law : (frame : Frame) → first_fault frame ≡ None → IsDeclared frame
+declared_by_law frame none = declared frame (map_none told (first_broken frame) none)

@@ -1,12 +1,14 @@
 -- Names that a frame has get numbers of queues and units.
-use Rattle.std.proofs.Common.{subst, zero, suc, if◌then◌else◌, is_some, map, nat_lt, ◌≡◌, ℕ, ◌+◌, ◌<◌, ◌≤◌, ◌&&◌, ◌⊎◌, inl, inr, List, [], ◌∷◌, length, get_or, slice_get, not, Bool, true, false, Option, None, Some, refl, sym, ap, ◌∙◌, cond, arith}
+use Rattle.std.proofs.Common.{subst, zero, suc, if◌then◌else◌, is_some, map, nat_lt, ◌≡◌, ℕ, ◌+◌, ◌-◌, ◌<◌, ◌≤◌, ◌&&◌, ◌⊎◌, inl, inr, List, [], ◌∷◌, length, get_or, slice_get, not, Bool, true, false, Option, None, Some, refl, sym, ap, ◌∙◌, cond, arith}
 use Rattle.std.specs.List.{position, position_or_len, All, flat_map, range_with_len}
 use Rattle.std.specs.Option.{option_or, option_map, option_map_or, option_and_then, unwrap_or}
 use Rattle.std.specs.Str.{bytes_eq}
-use Rattle.std.proofs.lemmas.Bool.{ltb-true, lt-ltb}
+use Rattle.std.proofs.lemmas.Bool.{and_parts, ltb-true, lt-ltb}
 use Rattle.std.proofs.lemmas.List.Elements.{All-map, All-append}
 use Rattle.std.proofs.lemmas.List.FromFn.{length-range_with_len, get_or-range_with_len}
 use Rattle.std.proofs.lemmas.Option.{get_or_from_slice_get, slice_get_cases}
+use Rattle.fg_base.proofs.Booleans.{clash}
+use Rattle.fg_base.proofs.Lists.{entry_of, each_of}
 use Rattle.fg_base.proofs.Absence.{or_first, or_second, map_none, first_none, has_it, all_pass}
 use Rattle.fg_base.specs.Operands.{operands_of, mapped}
 use Rattle.fg_base.specs.Walks.{first_in}
@@ -14,13 +16,14 @@ use Rattle.fg_base.specs.declared.op.Op.{Op}
 use Rattle.fg_base.specs.declared.op.Op.TheVariants.{FillBuffer, ClearImage, CopyBuffer, CopyImage, BufferToImage, ImageToBuffer, Ramp, Map, Combine, Select, Convert, Box3, Halve, Histogram, Draw}
 use Rattle.fg_frame.specs.Members.{member_at}
 use Rattle.fg_frame.specs.Numbered.{IsWithin, queue_number, writes_of, write_each, numbered_pass, uses_of, all_uses}
-use Rattle.fg_frame.specs.Units.{Numbering, numbering, stretches, layers_of, stretch_of, layer_unit, units_in, unit_in, units_of, unit_of}
+use Rattle.fg_frame.specs.Units.{Numbering, numbering, stretches, layers_of, stretch_of, layer_unit, units_in, no_units, span_in, unit_in, units_of, unit_of}
 use Rattle.fg_frame.specs.Unknowns.{queue_at, has_queue, has_layer, picks_one, is_known, is_known_unit, unknown_at, unknown_operand, unknown_in, unknown}
 use Rattle.fg_frame.specs.declared.frame.Frame.{Frame}
 use Rattle.fg_frame.specs.declared.frame.Pass.{Pass}
 use Rattle.fg_frame.specs.declared.frame.Resource.{Resource}
 use Rattle.fg_frame.specs.declared.frame.Spot.{Spot}
 use Rattle.fg_frame.specs.declared.frame.Write.{Write}
+use Rattle.fg_frame.specs.declared.numbered.Span.{Span}
 use Rattle.fg_frame.specs.declared.numbered.Stretch.{Stretch}
 use Rattle.fg_frame.specs.declared.place.Place.{Place}
 use Rattle.fg_frame.specs.declared.place.Place.TheVariants as at
@@ -28,11 +31,8 @@ use Rattle.fg_frame.specs.declared.place.Place.TheVariants as at
 some_is : (a b : ℕ) → Some a ≡ Some b → a ≡ b
 some_is a b e = ap (λ o. unwrap_or o 0) e
 
-pub no_some : false ≡ true → ⊥
-no_some e = cc
-
 none_is : (i : ℕ) → ◌≡◌ {A = Option ℕ} None (Some i) → ⊥
-none_is i e = no_some (ap is_some e)
+none_is i e = clash (ap is_some e)
 
 -- QUEUES
 
@@ -41,7 +41,7 @@ some_within at count i true lt e = let same : at ≡ i = some_is at i e in let k
 some_within at count i false lt e = absurd (none_is i e)
 
 number_within : {X : Type 0} (test : X → Bool) (xs : List X) (o : Option ℕ) → position test xs ≡ o → is_some o ≡ true → unwrap_or o 0 < length xs
-number_within test xs None e known = absurd (no_some known)
+number_within test xs None e known = absurd (clash known)
 number_within test xs (Some i) e known = some_within (position_or_len test xs) (length xs) i (nat_lt (position_or_len test xs) (length xs)) refl e
 
 queue_within : (frame : Frame) (name : List ℕ) → has_queue frame name ≡ true → queue_number frame name < length frame.queues
@@ -63,56 +63,39 @@ stretch_holds (r ∷ rs) n count some few (suc i) d lt =
     let k : n + (r.layers + layers_of rs) ≤ count = few in
     stretch_holds rs (n + r.layers) count (λ j e less. some (suc j) e (omega arith)) (omega arith) i d (omega arith)
 
--- what is found in a list is one of its entries
-got : {X : Type 0} (P : X → Type 0) (xs : List X) (i : ℕ) (s : X) → All P xs → slice_get xs i ≡ Some s → P s
-got {X} P xs i s all e = by_case (slice_get_cases xs i).1
-  where
-    by_case : (((x : X) × (i < length xs) × (slice_get xs i ≡ Some x) × (get_or xs i x ≡ x)) ⊎ ((length xs ≤ i) × (slice_get xs i ≡ None))) → P s
-    by_case (inl (x, lt, is, same)) = subst P (get_or_from_slice_get xs i s s e) (all i s lt)
-    by_case (inr (le, none)) = absurd (no_some (sym (sym (ap is_some e) ∙ ap is_some none)))
-
 found : {X : Type 0} (P : X → Type 0) (xs : List X) (o : Option ℕ) (s : X) → All P xs → option_and_then (slice_get xs) o ≡ Some s → P s
-found P xs None s all e = absurd (no_some (ap is_some e))
-found P xs (Some i) s all e = got P xs i s all e
+found P xs None s all e = absurd (clash (ap is_some e))
+found P xs (Some i) s all e = entry_of P xs i s all e
 
 layer_within : (count layer : ℕ) (s : Stretch) → Holds count s → (b : Bool) → nat_lt layer s.layers ≡ b → b ≡ true → cond b (s.first + layer) 0 < count
 layer_within count layer s holds true lt known = let k : layer < s.layers = ltb-true layer s.layers lt in let ends = holds.0 in omega arith
-layer_within count layer s holds false lt known = absurd (no_some known)
+layer_within count layer s holds false lt known = absurd (clash known)
 
-and_second : (a b : Bool) → (a && b) ≡ true → b ≡ true
-and_second true b e = e
-and_second false b e = absurd (no_some e)
-
-one : (n : ℕ) (count : ℕ) → n < count → All (λ unit. unit < count) (n ∷ [])
-one n count lt = λ i d k. by_place i d k
-  where
-    by_place : (i d : ℕ) → i < 1 → get_or (n ∷ []) i d < count
-    by_place zero d k = lt
-    by_place (suc i) d k = absurd (omega arith)
-
-stretch_within : (count : ℕ) (layer : Option ℕ) (s : Stretch) → Holds count s → has_layer layer s ≡ true → All (λ unit. unit < count) (units_in layer s)
-stretch_within count None s holds known = λ i d lt.
-    let small : i < s.layers = subst (λ m. i < m) (length-range_with_len s.first s.layers) lt in
-    let e : get_or (range_with_len s.first s.layers) i d ≡ s.first + i = get_or-range_with_len s.first s.layers i d small in
-    let ends = holds.0 in
+span_within : (count : ℕ) (span : Span) → span.end ≤ count → All (λ unit. unit < count) (units_in span)
+span_within count span le = λ i d lt.
+    let size = span.end - span.first in
+    let small : i < span.end - span.first = subst (λ m. i < m) (length-range_with_len span.first size) lt in
+    let e : get_or (range_with_len span.first size) i d ≡ span.first + i = get_or-range_with_len span.first size i d small in
     subst (λ m. m < count) (sym e) (omega arith)
-stretch_within count (Some layer) s holds known = one (layer_unit s layer) count (layer_within count layer s holds (nat_lt layer s.layers) refl (and_second s.is_image (nat_lt layer s.layers) known))
 
-none_within : (count : ℕ) → All (λ unit. unit < count) []
-none_within count = λ i d lt. absurd (omega arith)
+end_within : (count : ℕ) (layer : Option ℕ) (s : Stretch) → Holds count s → has_layer layer s ≡ true → (span_in layer s).end ≤ count
+end_within count None s holds known = holds.0
+end_within count (Some layer) s holds known =
+    let lt : layer_unit s layer < count = layer_within count layer s holds (nat_lt layer s.layers) refl (and_parts s.is_image (nat_lt layer s.layers) known).1 in
+    omega (arith, lt)
 
-units_within_by : (count : ℕ) (layer : Option ℕ) (o : Option Stretch) → ((s : Stretch) → o ≡ Some s → Holds count s) → option_map_or (has_layer layer) o false ≡ true → All (λ unit. unit < count) (option_map_or (units_in layer) o [])
-units_within_by count layer None holds known = absurd (no_some known)
-units_within_by count layer (Some s) holds known = stretch_within count layer s (holds s refl) known
+units_within_by : (count : ℕ) (layer : Option ℕ) (o : Option Stretch) → ((s : Stretch) → o ≡ Some s → Holds count s) → option_map_or (has_layer layer) o false ≡ true → All (λ unit. unit < count) (units_in (option_map_or (span_in layer) o no_units))
+units_within_by count layer None holds known = absurd (clash known)
+units_within_by count layer (Some s) holds known = span_within count (span_in layer s) (end_within count layer s (holds s refl) known)
 
 -- the units of a known entry
 units_within : (n : Numbering) (count : ℕ) (spot : Spot) → All (Holds count) n.stretches → is_known n spot ≡ true → All (λ unit. unit < count) (units_of n spot)
 units_within n count spot holds known = units_within_by count spot.layer (stretch_of n spot.name) (λ s e. found (Holds count) n.stretches (position (bytes_eq spot.name) n.names) s holds e) known
 
 unit_within_by : (count : ℕ) (layer : Option ℕ) (o : Option Stretch) → ((s : Stretch) → o ≡ Some s → Holds count s) → option_map_or (picks_one layer) o false ≡ true → option_map_or (unit_in layer) o 0 < count
-unit_within_by count layer None holds known = absurd (no_some known)
+unit_within_by count layer None holds known = absurd (clash known)
 unit_within_by count None (Some s) holds known = layer_within count 0 s (holds s refl) (nat_lt 0 s.layers) refl (lt-ltb 0 s.layers (holds s refl).1)
-unit_within_by count (Some layer) (Some s) holds known = layer_within count layer s (holds s refl) (nat_lt layer s.layers) refl (and_second s.is_image (nat_lt layer s.layers) known)
+unit_within_by count (Some layer) (Some s) holds known = layer_within count layer s (holds s refl) (nat_lt layer s.layers) refl (and_parts s.is_image (nat_lt layer s.layers) known).1
 
 -- the unit of a known operand
 unit_within : (n : Numbering) (count : ℕ) (spot : Spot) → All (Holds count) n.stretches → is_known_unit n spot ≡ true → unit_of n spot < count
@@ -120,15 +103,11 @@ unit_within n count spot holds known = unit_within_by count spot.layer (stretch_
 
 -- PASSES
 
-pub flat_all : {X Y : Type 0} (P : Y → Type 0) (f : X → List Y) (xs : List X) → All (λ x. All P (f x)) xs → All P (flat_map f xs)
-flat_all P f [] all = λ i d lt. absurd (omega arith)
-flat_all P f (x ∷ xs) all = All-append P (f x) (flat_map f xs) (all zero x (omega arith)) (flat_all P f xs (λ k d lt. all (suc k) d (omega arith)))
-
 entries_within : (n : Numbering) (count : ℕ) (spots : List Spot) → All (Holds count) n.stretches → position (λ spot. not (is_known n spot)) spots ≡ None → All (λ unit. unit < count) (flat_map (units_of n) spots)
-entries_within n count spots holds none = flat_all (λ unit. unit < count) (units_of n) spots (λ k d lt. units_within n count (get_or spots k d) holds (all_pass (is_known n) spots none k d lt))
+entries_within n count spots holds none = each_of (λ unit. unit < count) (units_of n) spots (λ k d lt. units_within n count (get_or spots k d) holds (all_pass (is_known n) spots none k d lt))
 
 writes_within : (n : Numbering) (count : ℕ) (writes : List (Write Spot)) → All (Holds count) n.stretches → position (λ w. not (is_known n w.what)) writes ≡ None → All (λ w. w.what < count) (flat_map (writes_of n) writes)
-writes_within n count writes holds none = flat_all (λ w. w.what < count) (writes_of n) writes (λ k d lt. All-map (λ w. w.what < count) (write_each (get_or writes k d).fresh) (units_of n (get_or writes k d).what) (units_within n count (get_or writes k d).what holds (all_pass (λ w. is_known n w.what) writes none k d lt)))
+writes_within n count writes holds none = each_of (λ w. w.what < count) (writes_of n) writes (λ k d lt. All-map (λ w. w.what < count) (write_each (get_or writes k d).fresh) (units_of n (get_or writes k d).what) (units_within n count (get_or writes k d).what holds (all_pass (λ w. is_known n w.what) writes none k d lt)))
 
 operands_numbered : {R S : Type 0} (f : R → S) (op : Op R) → map f (operands_of op) ≡ operands_of (mapped f op)
 operands_numbered f (FillBuffer dst offset size word) = refl

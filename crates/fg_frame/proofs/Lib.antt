@@ -8,5 +8,7 @@ pub mod Owned
 mod Rows
 pub mod Sizes
 pub mod Small
+pub mod Spans
 pub mod Spread
 pub mod Stretches
+pub mod Totals

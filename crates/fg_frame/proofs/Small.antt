@@ -23,7 +23,7 @@ use Rattle.fg_frame.specs.Parts.{parts_of}
 use Rattle.fg_frame.specs.Paths.{told}
 use Rattle.fg_frame.specs.Places.{first_over}
 use Rattle.fg_frame.specs.Repeats.{first_repeat, repeats_in, repeated}
-use Rattle.fg_frame.specs.Units.{Numbering, numbering, units_of, layers_of, units, units_from, unit_from, owners, spots_of, layer_spot, unit_spots}
+use Rattle.fg_frame.specs.Units.{Numbering, numbering, span_of, layers_of, units, units_from, unit_from, owners, spots_of, layer_spot, unit_spots}
 use Rattle.fg_frame.specs.Unknowns.{unknown}
 use Rattle.fg_frame.specs.declared.frame.Frame.{Frame}
 use Rattle.fg_frame.specs.declared.frame.Pass.{Pass}
@@ -32,6 +32,7 @@ use Rattle.fg_frame.specs.declared.frame.Resource.{Resource}
 use Rattle.fg_frame.specs.declared.frame.Spot.{Spot}
 use Rattle.fg_frame.specs.declared.good.Parts.{Parts}
 use Rattle.fg_frame.specs.declared.numbered.NumberedPass.{NumberedPass}
+use Rattle.fg_frame.specs.declared.numbered.Span.{Span}
 use Rattle.fg_frame.specs.declared.numbered.Uses.{Uses}
 use Rattle.fg_frame.specs.declared.place.Broken.{Broken}
 use Rattle.fg_frame.specs.declared.place.Place.TheVariants as at
@@ -102,6 +103,12 @@ module _ (frame : Frame) (none : limit_broken frame ≡ None) where
   pub exports_none : first_over (exported frame) 32 0 frame.exports ≡ None
   exports_none = map_none (λ i. over limits.Exports at.Exports) (first_over (exported frame) 32 0 frame.exports) (or_second rects exports (or_second ops (option_or rects exports) (or_second passes others (or_second resources rest after_queues))))
 
+  pub ops_none : first_over op_count 256 0 frame.passes ≡ None
+  ops_none = map_none (λ p. over limits.Ops (at.Ops p)) (first_over op_count 256 0 frame.passes) (or_first ops (option_or rects exports) (or_second passes others (or_second resources rest after_queues)))
+
+  pub rects_none : rects_over 4096 0 frame.passes ≡ None
+  rects_none = map_none (over limits.Rects) (rects_over 4096 0 frame.passes) (or_first rects exports (or_second ops (option_or rects exports) (or_second passes others (or_second resources rest after_queues))))
+
   abbrev sides : Option Broken
   sides = option_map (λ i. over limits.Side (at.Resource i)) (position (λ r. not (sides_allowed r.shape)) frame.resources)
 
@@ -110,6 +117,15 @@ module _ (frame : Frame) (none : limit_broken frame ≡ None) where
 
   abbrev total : Option Broken
   total = option_map (λ i. over limits.Total (at.Resource i)) (first_over all_bytes 268435456 0 frame.resources)
+
+  pub layers_good : All (λ r. layers_allowed r ≡ true) frame.resources
+  layers_good = all_pass layers_allowed frame.resources (map_none (λ i. over limits.Layers (at.Resource i)) (position (λ r. not (layers_allowed r)) frame.resources) layers_none)
+
+  pub sides_good : All (λ r. sides_allowed r.shape ≡ true) frame.resources
+  sides_good = all_pass (λ r. sides_allowed r.shape) frame.resources (map_none (λ i. over limits.Side (at.Resource i)) (position (λ r. not (sides_allowed r.shape)) frame.resources) (or_first sides (option_or sizes total) (or_second (count_broken frame) (size_broken frame.resources) none)))
+
+  pub total_none : first_over all_bytes 268435456 0 frame.resources ≡ None
+  total_none = map_none (λ i. over limits.Total (at.Resource i)) (first_over all_bytes 268435456 0 frame.resources) (or_second sizes total (or_second sides (option_or sizes total) (or_second (count_broken frame) (size_broken frame.resources) none)))
 
   pub sizes_allowed : All (λ r. size_allowed r.shape ≡ true) frame.resources
   sizes_allowed = all_pass (λ r. size_allowed r.shape) frame.resources (map_none (λ i. over limits.Size (at.Resource i)) (position (λ r. not (size_allowed r.shape)) frame.resources) (or_first sizes total (or_second sides (option_or sizes total) (or_second (count_broken frame) (size_broken frame.resources) none))))
@@ -125,7 +141,7 @@ module _ (frame : Frame) (none : limit_broken frame ≡ None) where
       right false b e = absurd cc
 
   pub some_layers : All (λ r. 0 < r.layers) frame.resources
-  some_layers = λ k d lt. allowed (get_or frame.resources k d) (is_buffer (get_or frame.resources k d).shape) (all_pass layers_allowed frame.resources (map_none (λ i. over limits.Layers (at.Resource i)) (position (λ r. not (layers_allowed r)) frame.resources) layers_none) k d lt)
+  some_layers = λ k d lt. allowed (get_or frame.resources k d) (is_buffer (get_or frame.resources k d).shape) (layers_good k d lt)
     where
       left : (a b : Bool) → (a && b) ≡ true → a ≡ true
       left true b e = refl
@@ -270,13 +286,16 @@ as_many_as frame shapes imported same-shapes same-imported = ap length same-impo
 pub uses_by : (frame : Frame) (n : Numbering) (uses : List Uses) → n ≡ numbering frame → uses ≡ map (uses_of frame n) frame.passes → uses ≡ all_uses frame
 uses_by frame n uses same is = is ∙ ap (λ m. map (uses_of frame m) frame.passes) same
 
-pub uses_are : (frame : Frame) (n : Numbering) (shapes : List Shape) (imported : List Bool) (uses : List Uses) (exports : List (List ℕ)) (r : Option Broken) → name_broken frame ≡ None → n ≡ numbering frame → shapes ≡ shapes_of frame → imported ≡ imports_of frame → uses ≡ all_uses frame → exports ≡ map (units_of n) frame.exports → r ≡ use_broken frame shapes imported uses exports → r ≡ first_broken frame
-uses_are frame n shapes imported uses exports r none same-n same-shapes same-imported same-uses same-exports is =
+pub spans_by : (frame : Frame) (n : Numbering) (spans : List Span) → n ≡ numbering frame → spans ≡ map (span_of n) frame.exports → spans ≡ export_units frame
+spans_by frame n spans same is = is ∙ ap (λ m. map (span_of m) frame.exports) same
+
+pub uses_are : (frame : Frame) (shapes : List Shape) (imported : List Bool) (uses : List Uses) (exports : List Span) (r : Option Broken) → name_broken frame ≡ None → shapes ≡ shapes_of frame → imported ≡ imports_of frame → uses ≡ all_uses frame → exports ≡ export_units frame → r ≡ use_broken frame shapes imported uses exports → r ≡ first_broken frame
+uses_are frame shapes imported uses exports r none same-shapes same-imported same-uses same-exports is =
     is
     ∙ ap (λ x. use_broken frame x imported uses exports) same-shapes
     ∙ ap (λ x. use_broken frame (shapes_of frame) x uses exports) same-imported
     ∙ ap (λ x. use_broken frame (shapes_of frame) (imports_of frame) x exports) same-uses
-    ∙ ap (λ x. use_broken frame (shapes_of frame) (imports_of frame) (all_uses frame) x) (same-exports ∙ ap (λ m. map (units_of m) frame.exports) same-n)
+    ∙ ap (λ x. use_broken frame (shapes_of frame) (imports_of frame) (all_uses frame) x) same-exports
     ∙ sym (then_uses frame none)
 
 pub parts_are : (frame : Frame) (shapes : List Shape) (sharings : List Sharing) (owned : List ℕ) (spots : List Spot) (passes : List NumberedPass) (exports : List ℕ) → shapes ≡ shapes_of frame → sharings ≡ sharings_of frame → owned ≡ owners 0 frame.resources → spots ≡ unit_spots frame → passes ≡ (numbered frame).passes → exports ≡ (numbered frame).exports → ◌≡◌ {A = Parts} (record { shapes = shapes; sharings = sharings; owners = owned; spots = spots; passes = passes; exports = exports }) (parts_of frame)

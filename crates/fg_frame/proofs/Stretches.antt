@@ -1,20 +1,11 @@
 -- Where the units of resources stand.
-use Rattle.std.proofs.Common.{◌≡◌, ℕ, zero, suc, ◌+◌, ◌<◌, ◌≤◌, ◌++◌, List, [], ◌∷◌, length, get_or, drop, sym, ap, subst, ◌∙◌, add-one, drop-cons, append_assoc, arith}
-use Rattle.std.specs.List.{All, range_with_len}
+use Rattle.std.proofs.Common.{◌≡◌, ℕ, suc, ◌+◌, ◌<◌, ◌≤◌, ◌++◌, List, [], ◌∷◌, length, get_or, drop, sym, ap, subst, ◌∙◌, add-one, drop-cons, append_assoc, arith}
+use Rattle.std.specs.List.{All}
 use Rattle.std.proofs.lemmas.List.Elements.{All-push}
 use Rattle.fg_base.specs.Shapes.{is_image}
 use Rattle.fg_frame.specs.Units.{stretches, layers_of}
 use Rattle.fg_frame.specs.declared.frame.Resource.{Resource}
 use Rattle.fg_frame.specs.declared.numbered.Stretch.{Stretch}
-
-range_more : (a n : ℕ) → range_with_len a (suc n) ≡ range_with_len a n ++ (a + n) ∷ []
-range_more a zero = let e : a ≡ a + 0 = omega arith in ap (λ x. x ∷ []) e
-range_more a (suc n) =
-    let e : a + 1 + n ≡ a + suc n = omega arith in
-    ap (λ xs. a ∷ xs) (range_more (a + 1) n ∙ ap (λ x. range_with_len (a + 1) n ++ x ∷ []) e)
-
-pub range_on : (a k : ℕ) (list list' : List ℕ) → list ≡ range_with_len a k → list' ≡ list ++ (a + k) ∷ [] → list' ≡ range_with_len a (k + 1)
-range_on a k list list' so_far grows = rw add-one (grows ∙ ap (λ xs. xs ++ (a + k) ∷ []) so_far ∙ sym (range_more a k))
 
 -- one resource further
 pub stretches_on : (rs : List Resource) (i n : ℕ) (r : Resource) (list list' total : List Stretch) → i < length rs → r ≡ get_or rs i r → list' ≡ list ++ record { first = n; layers = r.layers; is_image = is_image r.shape } ∷ [] → list ++ stretches n (drop i rs) ≡ total → list' ++ stretches (n + r.layers) (drop (i + 1) rs) ≡ total

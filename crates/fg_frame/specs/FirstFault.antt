@@ -15,6 +15,7 @@ use Rattle.fg_frame.specs.declared.fault.FrameFault.{FrameFault}
 use Rattle.fg_frame.specs.declared.frame.Frame.{Frame}
 use Rattle.fg_frame.specs.declared.good.FrameEnd.{FrameEnd}
 use Rattle.fg_frame.specs.declared.good.FrameEnd.TheVariants.{Refused, NoMemory}
+use Rattle.fg_frame.specs.declared.numbered.Span.{Span}
 use Rattle.fg_frame.specs.declared.numbered.Uses.{Uses}
 use Rattle.fg_frame.specs.declared.place.Broken.{Broken}
 use Rattle.fg_frame.specs.declared.place.Place.{Place}
@@ -45,7 +46,7 @@ abbrev pub misfit_broken : Frame → List Shape → List Uses → Option Place
 misfit_broken frame shapes passes = option_or (misfit_import frame.resources) (first_use rules.Fits frame shapes passes)
 
 -- the rules on uses, over a frame's units, passes and exports
-abbrev pub use_broken : Frame → List Shape → List Bool → List Uses → List (List ℕ) → Option Broken
+abbrev pub use_broken : Frame → List Shape → List Bool → List Uses → List Span → Option Broken
 use_broken frame shapes imported passes exports =
     option_or (option_map (broken 7) (first_use rules.Runs frame shapes passes))
     (option_or (option_map (broken 8) (first_use rules.Declared frame shapes passes))

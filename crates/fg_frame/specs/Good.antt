@@ -1,19 +1,22 @@
 -- What holds of the numbered frame of a frame that breaks no rule.
-use Rattle.std.specs.Prelude.{◌≡◌, ◌<◌, ◌≤◌, ◌==◌, ◌&&◌, ◌||◌, ℕ, List, Bool, true, false, Some, map, take, length, is_some, slice_get, slice_index_or}
-use Rattle.std.specs.List.{All, list_any}
+use Rattle.std.specs.Prelude.{◌≡◌, ◌<◌, ◌≤◌, ◌==◌, ◌&&◌, ◌||◌, ℕ, List, Bool, true, false, Some, None, map, take, length, is_some, slice_get, slice_index_or}
+use Rattle.std.specs.List.{All, list_any, sum_by}
 use Rattle.std.specs.Option.{option_map_or}
-use Rattle.fg_base.specs.Bounds.{size_allowed}
+use Rattle.fg_base.specs.Bounds.{sides_allowed, size_allowed}
 use Rattle.fg_base.specs.Fits.{fits}
 use Rattle.fg_base.specs.InPlace.{in_place}
-use Rattle.fg_base.specs.Operands.{sources_of, destination_of, mapped}
+use Rattle.fg_base.specs.Operands.{sources_of, destination_of, mapped, rect_count}
 use Rattle.fg_base.specs.Runs.{runs}
-use Rattle.fg_base.specs.Shapes.{shape_at}
+use Rattle.fg_base.specs.Shapes.{shape_at, bytes_of}
 use Rattle.fg_base.specs.declared.op.Op.{Op}
 use Rattle.fg_base.specs.declared.shape.Family.{Family}
 use Rattle.fg_base.specs.declared.shape.Shape.{Shape}
+use Rattle.fg_frame.specs.Limits.{layers_allowed}
 use Rattle.fg_frame.specs.Numbered.{NumberedFrame, IsWithin}
 use Rattle.fg_frame.specs.Units.{Unit}
+use Rattle.fg_frame.specs.Unknowns.{unknown}
 use Rattle.fg_frame.specs.Uses.{reads_it, writes_it, starts_whole, import_fits}
+use Rattle.fg_frame.specs.declared.frame.Frame.{Frame}
 use Rattle.fg_frame.specs.declared.numbered.NumberedPass.{NumberedPass}
 
 abbrev pub shapes_in : NumberedFrame → List Shape
@@ -47,10 +50,23 @@ pub record IsGoodPass (frame : NumberedFrame) (before : List NumberedPass) (pass
   pub new_unread : All (λ w. w.fresh ≡ true → reads_it pass w.what ≡ false) pass.writes
   pub ops_good : All (IsGoodOp frame pass) pass.ops
 
+-- what the limits on resources, the rules on names and the rule on imports give a frame that breaks no rule
+pub record IsDeclared (frame : Frame) : Type 0 where
+  pub layers : All (λ r. layers_allowed r ≡ true) frame.resources
+  pub sides : All (λ r. sides_allowed r.shape ≡ true) frame.resources
+  pub sizes : All (λ r. size_allowed r.shape ≡ true) frame.resources
+  pub imports : All (λ r. import_fits r.shape r.import ≡ true) frame.resources
+  pub known : unknown frame ≡ None
+
 pub record IsGood (frame : NumberedFrame) : Type 0 where
   pub few_queues : length frame.queues ≤ 4
   pub few_passes : length frame.passes ≤ 256
   pub few_units : length frame.units ≤ 256
+  pub few_exports : length frame.exports ≤ 32
+  pub few_ops : sum_by (λ pass. length pass.ops) frame.passes ≤ 256
+  pub few_rects : sum_by (λ pass. sum_by rect_count pass.ops) frame.passes ≤ 4096
+  pub few_bytes : sum_by (λ u. bytes_of u.shape) frame.units ≤ 268435456
+  pub sides : All (λ u. sides_allowed u.shape ≡ true) frame.units
   pub sized : All (λ u. size_allowed u.shape ≡ true) frame.units
   pub imports_fit : All (λ u. import_fits u.shape u.imported ≡ true) frame.units
   pub within : All (IsWithin (length frame.queues) (length frame.units)) frame.passes

@@ -4,6 +4,7 @@ use Rattle.std.specs.List.{position, find}
 use Rattle.std.specs.Option.{option_or, option_map, option_map_or}
 use Rattle.std.specs.Str.{bytes_eq}
 use Rattle.fg_base.specs.Bounds.{is_between, sides_allowed, size_allowed}
+use Rattle.fg_base.specs.Maxima.{max_queues, max_rects, max_layers, max_units, max_passes, max_ops, max_exports, max_resource_bytes}
 use Rattle.fg_base.specs.Operands.{rect_count}
 use Rattle.fg_base.specs.Shapes.{bytes_of, is_buffer}
 use Rattle.fg_base.specs.declared.limit.Limit.{Limit}
@@ -20,9 +21,9 @@ use Rattle.fg_frame.specs.declared.place.Place.TheVariants as at
 abbrev pub over : Limit → Place → Broken
 over limit place = record { number = 4; limit = Some limit; place = place }
 
--- a buffer has one layer, an image 1 to 8
+-- a buffer has one layer, an image 1 to 8 of them
 abbrev pub layers_allowed : Resource → Bool
-layers_allowed r = if is_buffer r.shape then r.layers == 1 else is_between 1 8 r.layers
+layers_allowed r = if is_buffer r.shape then r.layers == 1 else is_between 1 max_layers r.layers
 
 abbrev pub all_bytes : Resource → ℕ
 all_bytes r = r.layers * bytes_of r.shape
@@ -43,19 +44,19 @@ exported frame spot = if is_some spot.layer then 1 else option_map_or (λ r. r.l
 abbrev pub count_broken : Frame → Option Broken
 count_broken frame =
     option_or (option_map (λ i. over limits.Layers (at.Resource i)) (position (λ r. not (layers_allowed r)) frame.resources))
-    (option_or (if is_between 1 4 (length frame.queues) then None else Some (over limits.Queues at.Queues))
-    (option_or (option_map (λ i. over limits.Resources at.Resources) (first_over (λ r. r.layers) 256 0 frame.resources))
-    (option_or (if nat_le (length frame.passes) 256 then None else Some (over limits.Passes at.Passes))
-    (option_or (option_map (λ p. over limits.Ops (at.Ops p)) (first_over op_count 256 0 frame.passes))
-    (option_or (option_map (over limits.Rects) (rects_over 4096 0 frame.passes))
-    (option_map (λ i. over limits.Exports at.Exports) (first_over (exported frame) 32 0 frame.exports)))))))
+    (option_or (if is_between 1 max_queues (length frame.queues) then None else Some (over limits.Queues at.Queues))
+    (option_or (option_map (λ i. over limits.Resources at.Resources) (first_over (λ r. r.layers) max_units 0 frame.resources))
+    (option_or (if nat_le (length frame.passes) max_passes then None else Some (over limits.Passes at.Passes))
+    (option_or (option_map (λ p. over limits.Ops (at.Ops p)) (first_over op_count max_ops 0 frame.passes))
+    (option_or (option_map (over limits.Rects) (rects_over max_rects 0 frame.passes))
+    (option_map (λ i. over limits.Exports at.Exports) (first_over (exported frame) max_exports 0 frame.exports)))))))
 
 -- the limits on each resource, and on all bytes together
 abbrev pub size_broken : List Resource → Option Broken
 size_broken resources =
     option_or (option_map (λ i. over limits.Side (at.Resource i)) (position (λ r. not (sides_allowed r.shape)) resources))
     (option_or (option_map (λ i. over limits.Size (at.Resource i)) (position (λ r. not (size_allowed r.shape)) resources))
-    (option_map (λ i. over limits.Total (at.Resource i)) (first_over all_bytes 268435456 0 resources)))
+    (option_map (λ i. over limits.Total (at.Resource i)) (first_over all_bytes max_resource_bytes 0 resources)))
 
 abbrev pub limit_broken : Frame → Option Broken
 limit_broken frame = option_or (count_broken frame) (size_broken frame.resources)

@@ -3,13 +3,14 @@ use Rattle.std.specs.Prelude.{ℕ, Bool, List, map, ◌<◌, unwrap_or}
 use Rattle.std.specs.List.{All, flat_map}
 use Rattle.fg_base.specs.Operands.{operands_of, mapped}
 use Rattle.fg_base.specs.declared.shape.Family.{Family}
-use Rattle.fg_frame.specs.Units.{Numbering, numbering, units_of, unit_of, Unit, units}
+use Rattle.fg_frame.specs.Units.{Numbering, numbering, units_in, span_of, units_of, unit_of, Unit, units}
 use Rattle.fg_frame.specs.Unknowns.{queue_at}
 use Rattle.fg_frame.specs.declared.frame.Frame.{Frame}
 use Rattle.fg_frame.specs.declared.frame.Pass.{Pass}
 use Rattle.fg_frame.specs.declared.frame.Spot.{Spot}
 use Rattle.fg_frame.specs.declared.frame.Write.{Write}
 use Rattle.fg_frame.specs.declared.numbered.NumberedPass.{NumberedPass}
+use Rattle.fg_frame.specs.declared.numbered.Span.{Span}
 use Rattle.fg_frame.specs.declared.numbered.Stored.{Stored}
 use Rattle.fg_frame.specs.declared.numbered.Uses.{Uses}
 
@@ -19,9 +20,15 @@ queue_number frame name = unwrap_or (queue_at frame name) 0
 abbrev pub write_each : Bool → ℕ → Write ℕ
 write_each fresh unit = record { what = unit; fresh = fresh }
 
+abbrev pub stored_of : Numbering → Write Spot → Stored
+stored_of n write = record { units = span_of n write.what; fresh = write.fresh }
+
 -- one write for each unit
+abbrev pub unit_writes : Stored → List (Write ℕ)
+unit_writes stored = map (write_each stored.fresh) (units_in stored.units)
+
 abbrev pub writes_of : Numbering → Write Spot → List (Write ℕ)
-writes_of n write = map (write_each write.fresh) (units_of n write.what)
+writes_of n write = unit_writes (stored_of n write)
 
 abbrev pub numbered_pass : Frame → Numbering → Pass → NumberedPass
 numbered_pass frame n pass = record {
@@ -56,13 +63,10 @@ pub record IsWithin (queues : ℕ) (units : ℕ) (pass : NumberedPass) : Type 0 
 
 -- ENTRIES BESIDE THEIR UNITS
 
-abbrev pub stored_of : Numbering → Write Spot → Stored
-stored_of n write = record { units = units_of n write.what; fresh = write.fresh }
-
 abbrev pub uses_of : Frame → Numbering → Pass → Uses
 uses_of frame n pass = record {
   pass = numbered_pass frame n pass;
-  reads = map (units_of n) pass.reads;
+  reads = map (span_of n) pass.reads;
   writes = map (stored_of n) pass.writes;
 }
 
@@ -70,5 +74,5 @@ uses_of frame n pass = record {
 abbrev pub all_uses : Frame → List Uses
 all_uses frame = map (uses_of frame (numbering frame)) frame.passes
 
-abbrev pub export_units : Frame → List (List ℕ)
-export_units frame = map (units_of (numbering frame)) frame.exports
+abbrev pub export_units : Frame → List Span
+export_units frame = map (span_of (numbering frame)) frame.exports

@@ -1,5 +1,5 @@
 -- Units: buffers and single layers of images, numbered by resource in the order of declaration, and then by layer.
-use Rattle.std.specs.Prelude.{ℕ, suc, List, [], ◌∷◌, ◌++◌, ◌+◌, ◌==◌, nat_lt, map, replicate, Option, Some, None, slice_get, unwrap_or, option_and_then, if◌then◌else◌}
+use Rattle.std.specs.Prelude.{ℕ, suc, List, [], ◌∷◌, ◌++◌, ◌+◌, ◌-◌, ◌==◌, nat_lt, map, replicate, Option, Some, None, slice_get, unwrap_or, option_and_then, if◌then◌else◌}
 use Rattle.std.specs.List.{position, range_with_len, flat_map}
 use Rattle.std.specs.Option.{option_map_or}
 use Rattle.std.specs.Str.{bytes_eq}
@@ -9,6 +9,7 @@ use Rattle.fg_bits.specs.declared.sharing.Sharing.{Sharing}
 use Rattle.fg_frame.specs.declared.frame.Frame.{Frame}
 use Rattle.fg_frame.specs.declared.frame.Resource.{Resource}
 use Rattle.fg_frame.specs.declared.frame.Spot.{Spot}
+use Rattle.fg_frame.specs.declared.numbered.Span.{Span}
 use Rattle.fg_frame.specs.declared.numbered.Stretch.{Stretch}
 
 -- WHERE THE UNITS OF EACH RESOURCE STAND
@@ -38,16 +39,26 @@ stretch_of n name = option_and_then (slice_get n.stretches) (position (bytes_eq 
 abbrev pub layer_unit : Stretch → ℕ → ℕ
 layer_unit s layer = if nat_lt layer s.layers then s.first + layer else 0
 
-abbrev pub units_in : Option ℕ → Stretch → List ℕ
-units_in None s = range_with_len s.first s.layers
-units_in (Some layer) s = layer_unit s layer ∷ []
+-- the units of an entry: from the first on, up to the end
+abbrev pub units_in : Span → List ℕ
+units_in span = range_with_len span.first (span.end - span.first)
+
+abbrev pub no_units : Span
+no_units = record { first = 0; end = 0 }
+
+abbrev pub span_in : Option ℕ → Stretch → Span
+span_in None s = record { first = s.first; end = s.first + s.layers }
+span_in (Some layer) s = record { first = layer_unit s layer; end = layer_unit s layer + 1 }
 
 abbrev pub unit_in : Option ℕ → Stretch → ℕ
 unit_in layer s = layer_unit s (unwrap_or layer 0)
 
 -- the units that an entry of reads, writes or exports stands for; none where nothing has its name
+abbrev pub span_of : Numbering → Spot → Span
+span_of n spot = option_map_or (span_in spot.layer) (stretch_of n spot.name) no_units
+
 abbrev pub units_of : Numbering → Spot → List ℕ
-units_of n spot = option_map_or (units_in spot.layer) (stretch_of n spot.name) []
+units_of n spot = units_in (span_of n spot)
 
 -- the unit that an operand stands for, 0 where nothing has its name
 abbrev pub unit_of : Numbering → Spot → ℕ

@@ -14,9 +14,11 @@ use Rattle.fg_base.specs.declared.shape.Family.{Family}
 use Rattle.fg_base.specs.declared.shape.Family.TheVariants.{Graphics}
 use Rattle.fg_base.specs.declared.shape.Shape.{Shape}
 use Rattle.fg_frame.specs.Members.{member_at}
+use Rattle.fg_frame.specs.Units.{units_in}
 use Rattle.fg_frame.specs.declared.frame.Frame.{Frame}
 use Rattle.fg_frame.specs.declared.frame.Resource.{Resource}
 use Rattle.fg_frame.specs.declared.numbered.NumberedPass.{NumberedPass}
+use Rattle.fg_frame.specs.declared.numbered.Span.{Span}
 use Rattle.fg_frame.specs.declared.numbered.Stored.{Stored}
 use Rattle.fg_frame.specs.declared.numbered.Uses.{Uses}
 use Rattle.fg_frame.specs.declared.place.Operand.TheVariants.{Dst}
@@ -60,8 +62,8 @@ stores_whole shapes unit op = destination_of op == unit && is_whole (mapped (sha
 abbrev pub starts_whole : List Shape → List (Op ℕ) → ℕ → Bool
 starts_whole shapes ops unit = option_map_or (stores_whole shapes unit) (find (touches unit) ops) false
 
-abbrev pub is_partial : List Shape → List (Op ℕ) → List ℕ → Bool
-is_partial shapes ops stored = list_any (λ unit. not (starts_whole shapes ops unit)) stored
+abbrev pub is_partial : List Shape → List (Op ℕ) → Span → Bool
+is_partial shapes ops stored = list_any (λ unit. not (starts_whole shapes ops unit)) (units_in stored)
 
 abbrev pub not_whole_at : List Shape → List (Op ℕ) → ℕ → ℕ → Stored → Option Place
 not_whole_at shapes ops p j write = if write.fresh && is_partial shapes ops write.units then Some (at.Write p j) else None
@@ -82,8 +84,8 @@ is_marked marks unit = slice_index_or marks unit false
 abbrev pub is_there : List Bool → List Uses → ℕ → Bool
 is_there imported passes unit = is_marked imported unit || list_any (makes unit) passes
 
-abbrev pub is_missing : (ℕ → Bool) → List ℕ → Bool
-is_missing there wanted = list_any (λ unit. not (there unit)) wanted
+abbrev pub is_missing : (ℕ → Bool) → Span → Bool
+is_missing there wanted = list_any (λ unit. not (there unit)) (units_in wanted)
 
 abbrev pub unwritten_in : (ℕ → Bool) → ℕ → Uses → Option Place
 unwritten_in there p uses =
@@ -94,7 +96,7 @@ unwritten_in there p uses =
 abbrev pub unwritten_at : List Bool → List Uses → ℕ → Uses → Option Place
 unwritten_at imported passes p uses = unwritten_in (is_there imported (take p passes)) p uses
 
-abbrev pub unwritten : List Bool → List Uses → List (List ℕ) → Option Place
+abbrev pub unwritten : List Bool → List Uses → List Span → Option Place
 unwritten imported passes exports =
     option_or (first_in (unwritten_at imported passes) 0 passes)
     (option_map (λ i. at.Export i) (position (is_missing (is_there imported passes)) exports))
@@ -123,7 +125,7 @@ in_place_in p pass = option_map (λ k. at.Operand p k Dst) (position in_place pa
 -- NEW CONTENTS ARE NOT READ
 
 abbrev pub read_new_in : ℕ → Uses → Option Place
-read_new_in p uses = option_map (λ j. at.Write p j) (position (λ w. w.fresh && list_any (reads_it uses.pass) w.units) uses.writes)
+read_new_in p uses = option_map (λ j. at.Write p j) (position (λ w. w.fresh && list_any (reads_it uses.pass) (units_in w.units)) uses.writes)
 
 -- EACH RULE OVER ALL PASSES
 

@@ -5,13 +5,13 @@ ghost use Rattle.std.specs.List.{All};
 ghost use Rattle.fg_frame.specs.FirstFault.{broken, shapes_of, name_broken, misfit_broken, use_broken, first_broken, first_fault, Ends, AllWithin};
 ghost use Rattle.fg_base.specs.Operands.{operands_of};
 ghost use Rattle.fg_frame.specs.Good.{IsGood};
-ghost use Rattle.fg_frame.specs.Numbered.{numbered, all_uses};
+ghost use Rattle.fg_frame.specs.Numbered.{numbered, all_uses, export_units};
 ghost use Rattle.fg_frame.specs.Parts.{parts_of};
 ghost use Rattle.fg_frame.specs.Units.{numbering, units, owners, unit_spots};
 
 use crate::limits::limit_broken;
-use crate::numbered::{NumberedPass, Uses};
-use crate::numbers::{all_uses, entries, flat_reads};
+use crate::numbered::{NumberedPass, Span, Uses};
+use crate::numbers::{all_units, all_uses, spans};
 use crate::path::told;
 use crate::place::{Broken, Place};
 use crate::repeats::repeated;
@@ -111,7 +111,7 @@ fn use_broken(
     shapes: &[Shape],
     imported: List<bool>,
     passes: &[Uses],
-    exports: &[List<u32>],
+    exports: &[Span],
 ) -> Option<Broken>
     requires imported { length imported ≡ length shapes.now }
     requires within { AllWithin (length frame.now.queues) (length shapes.now) passes.now }
@@ -157,33 +157,32 @@ fn passes_of(alloc: Global, uses: List<Uses>) -> Result<List<NumberedPass>, NoMe
 fn judged(
     alloc: Global,
     frame: &Frame,
-    table: &Table,
     shapes: &[Shape],
     uses: &[Uses],
+    exports: &[Span],
 ) -> Result<Option<Broken>, NoMemory>
     requires named { name_broken frame.now ≡ None }
-    requires table { table.now ≡ numbering frame.now }
     requires shapes { shapes.now ≡ shapes_of frame.now }
     requires uses { uses.now ≡ all_uses frame.now }
+    requires exports { exports.now ≡ export_units frame.now }
     ensures { IfOk result (λ found. found ≡ first_broken frame.now) }
 {
     let imported = imports(alloc, frame)?;
-    let exports = entries(alloc, table, &frame.exports)?;
-    Ok(use_broken(frame, shapes, imported, uses, &exports))
+    Ok(use_broken(frame, shapes, imported, uses, exports))
 }
 
 #[tactic(auto, using(crate::proofs::Small::few_resources))]
 fn collected(
     alloc: Global,
     frame: &Frame,
-    table: &Table,
     shapes: List<Shape>,
     uses: List<Uses>,
+    exports: &[Span],
 ) -> Result<Parts, NoMemory>
     requires named { name_broken frame.now ≡ None }
-    requires table { table.now ≡ numbering frame.now }
     requires shapes { shapes ≡ shapes_of frame.now }
     requires uses { uses ≡ all_uses frame.now }
+    requires exports { exports.now ≡ export_units frame.now }
     ensures { IfOk result (λ parts. parts ≡ parts_of frame.now) }
 {
     Ok(Parts {
@@ -192,12 +191,12 @@ fn collected(
         owners: owners(alloc, &frame.resources)?,
         spots: spots(alloc, &frame.resources)?,
         passes: passes_of(alloc, uses)?,
-        exports: flat_reads(alloc, table, &frame.exports)?,
+        exports: all_units(alloc, exports)?,
     })
 }
 
 // A frame's parts, or the first rule that it breaks.
-#[tactic(auto, using(crate::proofs::Small::few_queues, crate::proofs::Small::uses_by))]
+#[tactic(auto, using(crate::proofs::Small::few_queues, crate::proofs::Small::uses_by, crate::proofs::Small::spans_by))]
 fn parts_of(alloc: Global, frame: &Frame, table: &Table) -> Result<Result<Parts, Broken>, NoMemory>
     requires named { name_broken frame.now ≡ None }
     requires table { table.now ≡ numbering frame.now }
@@ -207,9 +206,10 @@ fn parts_of(alloc: Global, frame: &Frame, table: &Table) -> Result<Result<Parts,
 {
     let shapes = shapes(alloc, frame)?;
     let uses = all_uses(alloc, frame, table)?;
-    match judged(alloc, frame, table, &shapes, &uses)? {
+    let exports = spans(alloc, table, &frame.exports)?;
+    match judged(alloc, frame, &shapes, &uses, &exports)? {
         Some(broken) => Ok(Err(broken)),
-        None => Ok(Ok(collected(alloc, frame, table, shapes, uses)?)),
+        None => Ok(Ok(collected(alloc, frame, shapes, uses, &exports)?)),
     }
 }
 
@@ -257,7 +257,8 @@ impl GoodFrame {
     }
 
     pub fn pass_count(&self) -> u32
-        ensures { result ≡ length (numbered self.now).passes }
+        ensures count { result ≡ length (numbered self.now).passes }
+        ensures good { IsGood (numbered self.now) }
     {
         self.parts.passes.len() as u32
     }
@@ -301,6 +302,7 @@ impl GoodFrame {
     pub fn ops(&self, pass: u32) -> &[Op<u32>]
         requires { pass < length (numbered self.now).passes }
         ensures ops { IfSome (slice_get (numbered self.now).passes pass) (λ p. result.now ≡ p.ops) }
+        ensures good { IsGood (numbered self.now) }
         ensures within { All (λ op. All (λ unit. unit < length (numbered self.now).units) (operands_of op)) result.now }
     {
         &self.parts.passes[pass as usize].ops
@@ -317,6 +319,7 @@ impl GoodFrame {
     /// The units that are read back after the frame, in the order of the exports.
     pub fn exports(&self) -> &[u32]
         ensures exports { result.now ≡ (numbered self.now).exports }
+        ensures good { IsGood (numbered self.now) }
         ensures few { length result.now ≤ 32 }
         ensures within { All (λ unit. unit < length (numbered self.now).units) result.now }
     {
@@ -359,6 +362,7 @@ impl GoodFrame {
     pub fn unit_count(&self) -> u32
         ensures count { result ≡ length (numbered self.now).units }
         ensures few { result ≤ 256 }
+        ensures good { IsGood (numbered self.now) }
     {
         self.parts.shapes.len() as u32
     }

@@ -4,6 +4,7 @@
 mod fault;
 mod frame;
 mod good;
+mod laws;
 mod limits;
 mod members;
 mod numbered;
@@ -26,4 +27,5 @@ pub use fg_base::{Limit, Path};
 pub use fg_bits::Sharing;
 pub use frame::{Frame, Pass, QueueDecl, Resource, Spot, Write};
 pub use good::{FrameEnd, GoodFrame, well_formed};
+pub use laws::frame_laws;
 pub use numbered::NumberedPass;

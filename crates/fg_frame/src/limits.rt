@@ -5,12 +5,16 @@ ghost use Rattle.std.specs.List.{position, find};
 ghost use Rattle.std.specs.Str.{bytes_eq};
 ghost use Rattle.fg_base.specs.Bounds.{sides_allowed, size_allowed};
 ghost use Rattle.fg_frame.specs.Limits.{over, layers_allowed, all_bytes, op_count, rects_over, exported, count_broken, size_broken, limit_broken};
+ghost use Rattle.fg_base.specs.Maxima.{max_units, max_ops, max_rects, max_exports, max_resource_bytes};
 ghost use Rattle.fg_base.specs.Operands.{rect_count};
 ghost use Rattle.fg_frame.specs.Places.{first_over, room_after};
 
 use crate::place::{Broken, Place};
 use crate::{Frame, Pass, Resource, Spot};
-use fg_base::{Limit, Op};
+use fg_base::{
+    Limit, MAX_EXPORTS, MAX_LAYERS, MAX_OPS, MAX_PASSES, MAX_QUEUES, MAX_RECTS, MAX_RESOURCE_BYTES,
+    MAX_UNITS, Op,
+};
 
 fn over(limit: Limit, place: Place) -> Broken
     ensures { result ≡ over limit place }
@@ -28,7 +32,7 @@ fn layers_allowed(resource: &Resource) -> bool
     if resource.shape.is_buffer() {
         resource.layers == 1
     } else {
-        1 <= resource.layers && resource.layers <= 8
+        1 <= resource.layers && resource.layers <= MAX_LAYERS
     }
 }
 
@@ -57,9 +61,9 @@ fn wrong_size(resources: &[Resource]) -> Option<usize>
 }
 
 fn units_over(resources: &[Resource]) -> Option<usize>
-    ensures { result ≡ first_over (λ r. r.layers) 256 0 resources.now }
+    ensures { result ≡ first_over (λ r. r.layers) max_units 0 resources.now }
 {
-    let mut room = 256;
+    let mut room = MAX_UNITS;
     for (i, resource) in resources.iter().enumerate() {
         if resource.layers > room {
             return Some(i);
@@ -70,9 +74,9 @@ fn units_over(resources: &[Resource]) -> Option<usize>
 }
 
 fn ops_over(passes: &[Pass]) -> Option<usize>
-    ensures { result ≡ first_over op_count 256 0 passes.now }
+    ensures { result ≡ first_over op_count max_ops 0 passes.now }
 {
-    let mut room = 256;
+    let mut room = MAX_OPS;
     for (p, pass) in passes.iter().enumerate() {
         if pass.ops.len() > room {
             return Some(p);
@@ -99,9 +103,9 @@ fn rects_in(most: usize, ops: &[Op<Spot>]) -> Result<usize, usize>
 }
 
 fn rects_over(passes: &[Pass]) -> Option<Place>
-    ensures { result ≡ rects_over 4096 0 passes.now }
+    ensures { result ≡ rects_over max_rects 0 passes.now }
 {
-    let mut room = 4096;
+    let mut room = MAX_RECTS;
     for (p, pass) in passes.iter().enumerate() {
         match rects_in(room, &pass.ops) {
             Ok(left) => room = left,
@@ -133,9 +137,9 @@ fn exported(frame: &Frame, spot: &Spot) -> u32
 }
 
 fn exports_over(frame: &Frame) -> Option<usize>
-    ensures { result ≡ first_over (exported frame.now) 32 0 frame.now.exports }
+    ensures { result ≡ first_over (exported frame.now) max_exports 0 frame.now.exports }
 {
-    let mut room = 32;
+    let mut room = MAX_EXPORTS;
     for (i, spot) in frame.exports.iter().enumerate() {
         let count = exported(frame, spot);
         if count > room {
@@ -154,9 +158,9 @@ fn all_bytes(resource: &Resource) -> u128
 }
 
 fn bytes_over(resources: &[Resource]) -> Option<usize>
-    ensures { result ≡ first_over all_bytes 268435456 0 resources.now }
+    ensures { result ≡ first_over all_bytes max_resource_bytes 0 resources.now }
 {
-    let mut room = 268_435_456;
+    let mut room = MAX_RESOURCE_BYTES;
     for (i, resource) in resources.iter().enumerate() {
         let bytes = all_bytes(resource);
         if bytes > room {
@@ -174,13 +178,13 @@ fn count_broken(frame: &Frame) -> Option<Broken>
     if let Some(i) = wrong_layers(&frame.resources) {
         return Some(over(Limit::Layers, Place::Resource(i)));
     }
-    if frame.queues.len() < 1 || frame.queues.len() > 4 {
+    if frame.queues.len() < 1 || frame.queues.len() > MAX_QUEUES {
         return Some(over(Limit::Queues, Place::Queues));
     }
     if units_over(&frame.resources).is_some() {
         return Some(over(Limit::Resources, Place::Resources));
     }
-    if frame.passes.len() > 256 {
+    if frame.passes.len() > MAX_PASSES {
         return Some(over(Limit::Passes, Place::Passes));
     }
     if let Some(p) = ops_over(&frame.passes) {

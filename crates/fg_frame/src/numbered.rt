@@ -13,18 +13,25 @@ pub struct NumberedPass {
     pub side_effect: bool,
 }
 
+/// The units that an entry of reads, writes or exports stands for: those from the first on, up to the end.
+#[derive(Clone, Copy, Debug)]
+pub struct Span {
+    pub first: u32,
+    pub end: u32,
+}
+
 /// The units of a declared write.
-#[derive(Debug, Drop)]
+#[derive(Clone, Copy, Debug)]
 pub struct Stored {
-    pub units: List<u32>,
+    pub units: Span,
     pub fresh: bool,
 }
 
-/// A numbered pass beside its entries, each with the units that it names.
+/// A numbered pass beside its entries, each with its units.
 #[derive(Debug, Drop)]
 pub struct Uses {
     pub pass: NumberedPass,
-    pub reads: List<List<u32>>,
+    pub reads: List<Span>,
     pub writes: List<Stored>,
 }
 

@@ -1,12 +1,12 @@
 //! A frame's names as numbers.
 
-ghost use Rattle.std.specs.Prelude.{◌≡◌, ◌≤◌, IfOk, length, map};
+ghost use Rattle.std.specs.Prelude.{◌≡◌, ◌≤◌, ◌++◌, IfOk, OnOk, length, map};
 ghost use Rattle.std.specs.List.{flat_map};
 ghost use Rattle.fg_base.specs.Operands.{mapped};
-ghost use Rattle.fg_frame.specs.Numbered.{queue_number, writes_of, write_each, numbered_pass, stored_of, uses_of};
-ghost use Rattle.fg_frame.specs.Units.{units_of, unit_of};
+ghost use Rattle.fg_frame.specs.Numbered.{queue_number, unit_writes, numbered_pass, stored_of, uses_of};
+ghost use Rattle.fg_frame.specs.Units.{span_of, units_in, unit_of};
 
-use crate::numbered::{NumberedPass, Stored, Uses};
+use crate::numbered::{NumberedPass, Span, Stored, Uses};
 use crate::table::Table;
 use crate::unknowns::queue_at;
 use crate::{Frame, Pass, Spot, Write};
@@ -23,35 +23,15 @@ fn queue_number(frame: &Frame, name: Name) -> u32
     }
 }
 
-// The units of each entry.
-pub(crate) fn entries(
-    alloc: Global,
-    table: &Table,
-    spots: &[Spot],
-) -> Result<List<List<u32>>, NoMemory>
-    ensures { IfOk result (λ entries. entries ≡ map (units_of table.now) spots.now) }
+/// The span of each entry.
+pub(crate) fn spans(alloc: Global, table: &Table, spots: &[Spot]) -> Result<List<Span>, NoMemory>
+    ensures { IfOk result (λ spans. spans ≡ map (span_of table.now) spots.now) }
 {
-    let mut entries = List::new(alloc);
+    let mut spans = List::new(alloc);
     for spot in spots {
-        entries.push(table.units_of(alloc, *spot)?)?;
+        spans.push(table.span_of(*spot))?;
     }
-    Ok(entries)
-}
-
-#[tactic(auto, using(crate::proofs::Flat::flat_on))]
-pub(crate) fn flat_reads(
-    alloc: Global,
-    table: &Table,
-    spots: &[Spot],
-) -> Result<List<u32>, NoMemory>
-    ensures { IfOk result (λ units. units ≡ flat_map (units_of table.now) spots.now) }
-{
-    let mut units = List::new(alloc);
-    for spot in spots {
-        let more = table.units_of(alloc, *spot)?;
-        units.extend_from_slice(&more)?;
-    }
-    Ok(units)
+    Ok(spans)
 }
 
 fn stored(alloc: Global, table: &Table, writes: &[Write<Spot>]) -> Result<List<Stored>, NoMemory>
@@ -59,47 +39,59 @@ fn stored(alloc: Global, table: &Table, writes: &[Write<Spot>]) -> Result<List<S
 {
     let mut entries = List::new(alloc);
     for write in writes {
-        let units = table.units_of(alloc, write.what)?;
         entries.push(Stored {
-            units,
+            units: table.span_of(write.what),
             fresh: write.fresh,
         })?;
     }
     Ok(entries)
 }
 
-// One write for each of these units.
-fn write_each(alloc: Global, fresh: bool, units: &[u32]) -> Result<List<Write<u32>>, NoMemory>
-    ensures { IfOk result (λ writes. writes ≡ map (write_each fresh) units.now) }
+#[tactic(auto, using(crate::proofs::Spans::unit_on, crate::proofs::Spans::units_end))]
+fn add_units(units: &mut List<u32>, span: Span) -> Result<(), NoMemory>
+    ensures { OnOk result (units.new ≡ units.old ++ units_in span) }
+{
+    for unit in span.first..span.end {
+        units.push(unit)?;
+    }
+    Ok(())
+}
+
+/// All units of these entries.
+#[tactic(auto, using(crate::proofs::Spans::span_on))]
+pub(crate) fn all_units(alloc: Global, spans: &[Span]) -> Result<List<u32>, NoMemory>
+    ensures { IfOk result (λ units. units ≡ flat_map units_in spans.now) }
+{
+    let mut units = List::new(alloc);
+    for span in spans {
+        add_units(&mut units, *span)?;
+    }
+    Ok(units)
+}
+
+// One write for each unit of an entry.
+#[tactic(auto, using(crate::proofs::Spans::write_on, crate::proofs::Spans::writes_end))]
+fn add_writes(writes: &mut List<Write<u32>>, stored: Stored) -> Result<(), NoMemory>
+    ensures { OnOk result (writes.new ≡ writes.old ++ unit_writes stored) }
+{
+    for unit in stored.units.first..stored.units.end {
+        writes.push(Write {
+            what: unit,
+            fresh: stored.fresh,
+        })?;
+    }
+    Ok(())
+}
+
+#[tactic(auto, using(crate::proofs::Spans::span_on))]
+fn all_writes(alloc: Global, entries: &[Stored]) -> Result<List<Write<u32>>, NoMemory>
+    ensures { IfOk result (λ writes. writes ≡ flat_map unit_writes entries.now) }
 {
     let mut writes = List::new(alloc);
-    for unit in units {
-        writes.push(Write { what: *unit, fresh })?;
+    for stored in entries {
+        add_writes(&mut writes, *stored)?;
     }
     Ok(writes)
-}
-
-fn writes_of(alloc: Global, table: &Table, write: Write<Spot>) -> Result<List<Write<u32>>, NoMemory>
-    ensures { IfOk result (λ writes. writes ≡ writes_of table.now write) }
-{
-    let units = table.units_of(alloc, write.what)?;
-    write_each(alloc, write.fresh, &units)
-}
-
-#[tactic(auto, using(crate::proofs::Flat::flat_on))]
-fn flat_writes(
-    alloc: Global,
-    table: &Table,
-    writes: &[Write<Spot>],
-) -> Result<List<Write<u32>>, NoMemory>
-    ensures { IfOk result (λ all. all ≡ flat_map (writes_of table.now) writes.now) }
-{
-    let mut all = List::new(alloc);
-    for write in writes {
-        let more = writes_of(alloc, table, *write)?;
-        all.extend_from_slice(&more)?;
-    }
-    Ok(all)
 }
 
 fn numbered_ops(alloc: Global, table: &Table, ops: &[Op<Spot>]) -> Result<List<Op<u32>>, NoMemory>
@@ -112,19 +104,24 @@ fn numbered_ops(alloc: Global, table: &Table, ops: &[Op<Spot>]) -> Result<List<O
     Ok(numbers)
 }
 
+#[tactic(auto, using(crate::proofs::Spans::reads_are, crate::proofs::Spans::writes_are))]
 fn numbered_pass(
     alloc: Global,
     frame: &Frame,
     table: &Table,
     pass: &Pass,
+    reads: &[Span],
+    writes: &[Stored],
 ) -> Result<NumberedPass, NoMemory>
-    requires { length frame.now.queues ≤ 4 }
+    requires few { length frame.now.queues ≤ 4 }
+    requires reads { reads.now ≡ map (span_of table.now) pass.now.reads }
+    requires writes { writes.now ≡ map (stored_of table.now) pass.now.writes }
     ensures { IfOk result (λ numbered. numbered ≡ numbered_pass frame.now table.now pass.now) }
 {
     Ok(NumberedPass {
         queue: queue_number(frame, pass.queue),
-        reads: flat_reads(alloc, table, &pass.reads)?,
-        writes: flat_writes(alloc, table, &pass.writes)?,
+        reads: all_units(alloc, reads)?,
+        writes: all_writes(alloc, writes)?,
         ops: numbered_ops(alloc, table, &pass.ops)?,
         side_effect: pass.side_effect,
     })
@@ -134,10 +131,12 @@ fn uses_of(alloc: Global, frame: &Frame, table: &Table, pass: &Pass) -> Result<U
     requires { length frame.now.queues ≤ 4 }
     ensures { IfOk result (λ uses. uses ≡ uses_of frame.now table.now pass.now) }
 {
+    let reads = spans(alloc, table, &pass.reads)?;
+    let writes = stored(alloc, table, &pass.writes)?;
     Ok(Uses {
-        pass: numbered_pass(alloc, frame, table, pass)?,
-        reads: entries(alloc, table, &pass.reads)?,
-        writes: stored(alloc, table, &pass.writes)?,
+        pass: numbered_pass(alloc, frame, table, pass, &reads, &writes)?,
+        reads,
+        writes,
     })
 }
 
@@ -156,113 +155,5 @@ pub(crate) fn all_uses(alloc: Global, frame: &Frame, table: &Table) -> Result<Li
 fn numbered_op(alloc: Global, table: &Table, op: &Op<Spot>) -> Result<Op<u32>, NoMemory>
     ensures { IfOk result (λ numbered. numbered ≡ mapped (unit_of table.now) op.now) }
 {
-    Ok(match op {
-        Op::FillBuffer {
-            dst,
-            offset,
-            size,
-            word,
-        } => Op::FillBuffer {
-            dst: table.unit_of(*dst),
-            offset: *offset,
-            size: *size,
-            word: *word,
-        },
-        Op::ClearImage { dst, value } => Op::ClearImage {
-            dst: table.unit_of(*dst),
-            value: *value,
-        },
-        Op::CopyBuffer {
-            src,
-            dst,
-            src_offset,
-            dst_offset,
-            size,
-        } => Op::CopyBuffer {
-            src: table.unit_of(*src),
-            dst: table.unit_of(*dst),
-            src_offset: *src_offset,
-            dst_offset: *dst_offset,
-            size: *size,
-        },
-        Op::CopyImage {
-            src,
-            dst,
-            src_x,
-            src_y,
-            dst_x,
-            dst_y,
-            width,
-            height,
-        } => Op::CopyImage {
-            src: table.unit_of(*src),
-            dst: table.unit_of(*dst),
-            src_x: *src_x,
-            src_y: *src_y,
-            dst_x: *dst_x,
-            dst_y: *dst_y,
-            width: *width,
-            height: *height,
-        },
-        Op::BufferToImage { src, dst, offset } => Op::BufferToImage {
-            src: table.unit_of(*src),
-            dst: table.unit_of(*dst),
-            offset: *offset,
-        },
-        Op::ImageToBuffer { src, dst, offset } => Op::ImageToBuffer {
-            src: table.unit_of(*src),
-            dst: table.unit_of(*dst),
-            offset: *offset,
-        },
-        Op::Ramp { dst, base, dx, dy } => Op::Ramp {
-            dst: table.unit_of(*dst),
-            base: *base,
-            dx: *dx,
-            dy: *dy,
-        },
-        Op::Map {
-            src,
-            dst,
-            fun,
-            value,
-        } => Op::Map {
-            src: table.unit_of(*src),
-            dst: table.unit_of(*dst),
-            fun: *fun,
-            value: *value,
-        },
-        Op::Combine { a, b, dst, fun } => Op::Combine {
-            a: table.unit_of(*a),
-            b: table.unit_of(*b),
-            dst: table.unit_of(*dst),
-            fun: *fun,
-        },
-        Op::Select { mask, a, b, dst } => Op::Select {
-            mask: table.unit_of(*mask),
-            a: table.unit_of(*a),
-            b: table.unit_of(*b),
-            dst: table.unit_of(*dst),
-        },
-        Op::Convert { src, dst } => Op::Convert {
-            src: table.unit_of(*src),
-            dst: table.unit_of(*dst),
-        },
-        Op::Box3 { src, dst } => Op::Box3 {
-            src: table.unit_of(*src),
-            dst: table.unit_of(*dst),
-        },
-        Op::Halve { src, dst } => Op::Halve {
-            src: table.unit_of(*src),
-            dst: table.unit_of(*dst),
-        },
-        Op::Histogram { src, dst } => Op::Histogram {
-            src: table.unit_of(*src),
-            dst: table.unit_of(*dst),
-        },
-        Op::Draw { dst, clear, rects } => Op::Draw {
-            dst: table.unit_of(*dst),
-            clear: *clear,
-            rects: rects.copy(alloc)?,
-        },
-    })
+    op.mapped(alloc, |spot: Spot| Ok(table.unit_of(spot)))
 }

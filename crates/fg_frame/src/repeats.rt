@@ -1,6 +1,6 @@
 //! Names that stand twice, and entries that name one unit twice.
 
-ghost use Rattle.std.specs.Prelude.{◌≡◌, ◌≤◌, ◌<◌, map, length, IfOk, IfErr, None, Some, true};
+ghost use Rattle.std.specs.Prelude.{◌≡◌, ◌≤◌, ◌<◌, map, length, is_some, IfOk, IfErr, None, Some, true};
 ghost use Rattle.std.specs.List.{list_any};
 ghost use Rattle.std.specs.Str.{bytes_eq};
 ghost use Rattle.fg_base.specs.Walks.{first_in};
@@ -80,7 +80,8 @@ fn clashes(named: bool, seen: &IndexSet<Spot>, spot: Spot) -> bool
     }
 }
 
-fn first_clash(alloc: Global, spots: &[Spot]) -> Result<Option<usize>, NoMemory>
+// The first entry that names a unit of one before it, where some name a layer.
+fn clash_of_layers(alloc: Global, spots: &[Spot]) -> Result<Option<usize>, NoMemory>
     ensures { IfOk result (λ place. place ≡ first_clash spots.now) }
 {
     let mut names = IndexSet::new(alloc);
@@ -93,6 +94,34 @@ fn first_clash(alloc: Global, spots: &[Spot]) -> Result<Option<usize>, NoMemory>
         seen.insert_full(*spot)?;
     }
     Ok(None)
+}
+
+fn has_layers(spots: &[Spot]) -> bool
+    ensures { result ≡ list_any (λ s. is_some s.layer) spots.now }
+{
+    spots.iter().any(|spot| spot.layer.is_some())
+}
+
+fn spot_names(alloc: Global, spots: &[Spot]) -> Result<List<Name>, NoMemory>
+    ensures { IfOk result (λ names. names ≡ map (λ s. s.name) spots.now) }
+{
+    let mut names = List::new(alloc);
+    for spot in spots {
+        names.push(spot.name)?;
+    }
+    Ok(names)
+}
+
+// Whole resources clash where their names repeat, which takes one table in place of two.
+#[tactic(auto, using(crate::proofs::Clashing::whole_clash))]
+fn first_clash(alloc: Global, spots: &[Spot]) -> Result<Option<usize>, NoMemory>
+    ensures { IfOk result (λ place. place ≡ first_clash spots.now) }
+{
+    if has_layers(spots) {
+        return clash_of_layers(alloc, spots);
+    }
+    let names = spot_names(alloc, spots)?;
+    first_repeat(alloc, &names)
 }
 
 fn written(alloc: Global, writes: &[Write<Spot>]) -> Result<List<Spot>, NoMemory>

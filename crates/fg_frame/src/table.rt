@@ -1,12 +1,12 @@
 //! From the names of resources to their units.
 
 ghost use Rattle.std.specs.Prelude.{◌≡◌, ◌≤◌, ◌<◌, ◌+◌, IfOk, IfSome, None, map, slice_get};
-ghost use Rattle.std.specs.List.{All, range_with_len};
+ghost use Rattle.std.specs.List.{All};
 ghost use Rattle.fg_frame.specs.Repeats.{first_repeat};
-ghost use Rattle.fg_frame.specs.Units.{Numbering, numbering, stretches, stretch_of, layers_of, layer_unit, units_in, units_of, unit_of};
+ghost use Rattle.fg_frame.specs.Units.{Numbering, numbering, stretches, stretch_of, layers_of, layer_unit, span_in, span_of, unit_of};
 ghost use Rattle.fg_frame.specs.Unknowns.{has_layer, picks_one, is_known, is_known_unit};
 
-use crate::numbered::Stretch;
+use crate::numbered::{Span, Stretch};
 use crate::repeats::{distinct, resource_names};
 use crate::{Frame, Resource, Spot};
 use fg_base::{List, Name, NoMemory};
@@ -99,12 +99,12 @@ impl Table {
     }
 
     /// The units that an entry stands for.
-    pub fn units_of(&self, alloc: Global, spot: Spot) -> Result<List<u32>, NoMemory>
-        ensures { IfOk result (λ units. units ≡ units_of self.now spot) }
+    pub fn span_of(&self, spot: Spot) -> Span
+        ensures { result ≡ span_of self.now spot }
     {
         match self.stretch_of(spot.name) {
-            Some(stretch) => units_in(alloc, spot.layer, stretch),
-            None => Ok(List::new(alloc)),
+            Some(stretch) => span_in(spot.layer, stretch),
+            None => Span { first: 0, end: 0 },
         }
     }
 
@@ -145,7 +145,8 @@ fn picks_one(layer: Option<u32>, stretch: Stretch) -> bool
 
 fn layer_unit(stretch: Stretch, layer: u32) -> u32
     requires { stretch.first + stretch.layers ≤ 256 }
-    ensures { result ≡ layer_unit stretch layer }
+    ensures unit { result ≡ layer_unit stretch layer }
+    ensures small { result < 256 }
 {
     if layer < stretch.layers {
         stretch.first + layer
@@ -154,29 +155,25 @@ fn layer_unit(stretch: Stretch, layer: u32) -> u32
     }
 }
 
-// So many numbers from the first on.
-#[tactic(auto, using(crate::proofs::Stretches::range_on))]
-fn numbers(alloc: Global, first: u32, count: u32) -> Result<List<u32>, NoMemory>
-    requires { first + count ≤ 256 }
-    ensures { IfOk result (λ list. list ≡ range_with_len first count) }
-{
-    let mut list = List::new(alloc);
-    for k in 0..count {
-        list.push(first + k)?;
-    }
-    Ok(list)
-}
-
-fn units_in(alloc: Global, layer: Option<u32>, stretch: Stretch) -> Result<List<u32>, NoMemory>
+fn span_in(layer: Option<u32>, stretch: Stretch) -> Span
     requires { stretch.first + stretch.layers ≤ 256 }
-    ensures { IfOk result (λ units. units ≡ units_in layer stretch) }
+    ensures { result ≡ span_in layer stretch }
 {
     match layer {
-        None => numbers(alloc, stretch.first, stretch.layers),
-        Some(layer) => {
-            let mut units = List::new(alloc);
-            units.push(layer_unit(stretch, layer))?;
-            Ok(units)
-        }
+        None => Span {
+            first: stretch.first,
+            end: stretch.first + stretch.layers,
+        },
+        Some(layer) => one_unit(layer_unit(stretch, layer)),
+    }
+}
+
+fn one_unit(unit: u32) -> Span
+    requires { unit < 256 }
+    ensures { result ≡ record { first = unit; end = unit + 1 } }
+{
+    Span {
+        first: unit,
+        end: unit + 1,
     }
 }

@@ -10,7 +10,7 @@ use crate::members::member_at;
 use crate::place::Place;
 use crate::table::Table;
 use crate::{Frame, Pass, Spot, Write};
-use fg_base::{Name, Op};
+use fg_base::{Name, Op, first_in};
 
 pub(crate) fn queue_at(frame: &Frame, name: Name) -> Option<usize>
     ensures at { result ≡ queue_at frame.now name }
@@ -65,16 +65,10 @@ fn unknown_write(table: &Table, writes: &[Write<Spot>]) -> Option<usize>
     writes.iter().position(|write| !table.is_known(write.what))
 }
 
-#[tactic(auto, using(fg_base::proofs::Walks::first_on))]
 fn unknown_op(table: &Table, p: usize, ops: &[Op<Spot>]) -> Option<Place>
     ensures { result ≡ first_in (unknown_operand table.now p) 0 ops.now }
 {
-    for (k, op) in ops.iter().enumerate() {
-        if let Some(place) = unknown_operand(table, p, k, op) {
-            return Some(place);
-        }
-    }
-    None
+    first_in(ops, |k, op| unknown_operand(table, p, k, op))
 }
 
 fn unknown_in(frame: &Frame, table: &Table, p: usize, pass: &Pass) -> Option<Place>
@@ -92,16 +86,10 @@ fn unknown_in(frame: &Frame, table: &Table, p: usize, pass: &Pass) -> Option<Pla
     unknown_op(table, p, &pass.ops)
 }
 
-#[tactic(auto, using(fg_base::proofs::Walks::first_on))]
 fn unknown_in_passes(frame: &Frame, table: &Table) -> Option<Place>
     ensures { result ≡ first_in (unknown_in frame.now table.now) 0 frame.now.passes }
 {
-    for (p, pass) in frame.passes.iter().enumerate() {
-        if let Some(place) = unknown_in(frame, table, p, pass) {
-            return Some(place);
-        }
-    }
-    None
+    first_in(&frame.passes, |p, pass| unknown_in(frame, table, p, pass))
 }
 
 /// The first name or layer that is not there.

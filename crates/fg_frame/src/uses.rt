@@ -7,13 +7,14 @@ ghost use Rattle.fg_base.specs.Operands.{operands_of};
 ghost use Rattle.fg_base.specs.Runs.{runs};
 ghost use Rattle.fg_base.specs.Walks.{first_in};
 ghost use Rattle.fg_frame.specs.Numbered.{IsWithin};
+ghost use Rattle.fg_frame.specs.Units.{units_in};
 ghost use Rattle.fg_frame.specs.Uses.{family_of, stranger_in, writes_it, reads_it, undeclared_at, undeclared_operand, stores_whole, starts_whole, is_partial, not_whole_at, import_fits, misfit_import, misfit_at, in_place_in, read_new_in, use_at, first_use};
 
 use crate::members::member_at;
-use crate::numbered::{NumberedPass, Stored, Uses};
+use crate::numbered::{NumberedPass, Span, Stored, Uses};
 use crate::place::{Operand, Place};
 use crate::{Frame, Resource};
-use fg_base::{Family, Op, Shape, op_fits, op_in_place, op_runs};
+use fg_base::{Family, Op, Shape, first_in, op_fits, op_in_place, op_runs};
 
 /// A rule on each pass.
 #[derive(Clone, Copy, Debug, PartialEq, Eq)]
@@ -92,16 +93,10 @@ fn undeclared_operand(pass: &NumberedPass, p: usize, k: usize, op: &Op<u32>) -> 
     None
 }
 
-#[tactic(auto, using(fg_base::proofs::Walks::first_on))]
 fn undeclared_op(pass: &NumberedPass, p: usize, ops: &[Op<u32>]) -> Option<Place>
     ensures { result ≡ first_in (undeclared_operand pass.now p) 0 ops.now }
 {
-    for (k, op) in ops.iter().enumerate() {
-        if let Some(place) = undeclared_operand(pass, p, k, op) {
-            return Some(place);
-        }
-    }
-    None
+    first_in(ops, |k, op| undeclared_operand(pass, p, k, op))
 }
 
 fn stores_whole(op: &Op<u32>, shapes: &[Shape], unit: u32) -> bool
@@ -124,16 +119,11 @@ fn starts_whole(ops: &[Op<u32>], shapes: &[Shape], unit: u32) -> bool
     false
 }
 
-fn is_partial(ops: &[Op<u32>], shapes: &[Shape], stored: &[u32]) -> bool
+fn is_partial(ops: &[Op<u32>], shapes: &[Shape], stored: Span) -> bool
     requires { All (λ op. All (λ r. r < length shapes.now) (operands_of op)) ops.now }
-    ensures { result ≡ is_partial shapes.now ops.now stored.now }
+    ensures { result ≡ is_partial shapes.now ops.now stored }
 {
-    for unit in stored {
-        if !starts_whole(ops, shapes, *unit) {
-            return true;
-        }
-    }
-    false
+    (stored.first..stored.end).any(|unit| !starts_whole(ops, shapes, unit))
 }
 
 fn not_whole_at(
@@ -146,24 +136,18 @@ fn not_whole_at(
     requires { All (λ op. All (λ r. r < length shapes.now) (operands_of op)) ops.now }
     ensures { result ≡ not_whole_at shapes.now ops.now p j write.now }
 {
-    if write.fresh && is_partial(ops, shapes, &write.units) {
+    if write.fresh && is_partial(ops, shapes, write.units) {
         Some(Place::Write(p, j))
     } else {
         None
     }
 }
 
-#[tactic(auto, using(fg_base::proofs::Walks::first_on))]
 fn not_whole(ops: &[Op<u32>], shapes: &[Shape], p: usize, writes: &[Stored]) -> Option<Place>
     requires { All (λ op. All (λ r. r < length shapes.now) (operands_of op)) ops.now }
     ensures { result ≡ first_in (not_whole_at shapes.now ops.now p) 0 writes.now }
 {
-    for (j, write) in writes.iter().enumerate() {
-        if let Some(place) = not_whole_at(ops, shapes, p, j, write) {
-            return Some(place);
-        }
-    }
-    None
+    first_in(writes, |j, write| not_whole_at(ops, shapes, p, j, write))
 }
 
 fn import_fits(resource: &Resource) -> bool
@@ -204,17 +188,11 @@ fn misfit_at(shapes: &[Shape], p: usize, k: usize, op: &Op<u32>) -> Option<Place
     }
 }
 
-#[tactic(auto, using(fg_base::proofs::Walks::first_on))]
 fn misfit_op(shapes: &[Shape], p: usize, ops: &[Op<u32>]) -> Option<Place>
     requires { All (λ op. All (λ r. r < length shapes.now) (operands_of op)) ops.now }
     ensures { result ≡ first_in (misfit_at shapes.now p) 0 ops.now }
 {
-    for (k, op) in ops.iter().enumerate() {
-        if let Some(place) = misfit_at(shapes, p, k, op) {
-            return Some(place);
-        }
-    }
-    None
+    first_in(ops, |k, op| misfit_at(shapes, p, k, op))
 }
 
 fn in_place(ops: &[Op<u32>]) -> Option<usize>
@@ -232,18 +210,18 @@ fn in_place_in(p: usize, pass: &NumberedPass) -> Option<Place>
     }
 }
 
-fn reads_any(pass: &NumberedPass, units: &[u32]) -> bool
-    ensures { result ≡ list_any (reads_it pass.now) units.now }
+fn reads_any(pass: &NumberedPass, units: Span) -> bool
+    ensures { result ≡ list_any (reads_it pass.now) (units_in units) }
 {
-    units.iter().any(|unit| reads_it(pass, *unit))
+    (units.first..units.end).any(|unit| reads_it(pass, unit))
 }
 
 fn read_new(uses: &Uses) -> Option<usize>
-    ensures { result ≡ position (λ w. w.fresh && list_any (reads_it uses.now.pass) w.units) uses.now.writes }
+    ensures { result ≡ position (λ w. w.fresh && list_any (reads_it uses.now.pass) (units_in w.units)) uses.now.writes }
 {
     uses.writes
         .iter()
-        .position(|write| write.fresh && reads_any(&uses.pass, &write.units))
+        .position(|write| write.fresh && reads_any(&uses.pass, write.units))
 }
 
 fn read_new_in(p: usize, uses: &Uses) -> Option<Place>
@@ -270,7 +248,6 @@ fn use_at(rule: Rule, frame: &Frame, shapes: &[Shape], p: usize, uses: &Uses) ->
 }
 
 /// The first place in the passes where the rule is broken.
-#[tactic(auto, using(fg_base::proofs::Walks::first_on))]
 pub(crate) fn first_use(
     rule: Rule,
     frame: &Frame,
@@ -280,10 +257,5 @@ pub(crate) fn first_use(
     requires { All (λ uses. IsWithin (length frame.now.queues) (length shapes.now) uses.pass) passes.now }
     ensures { result ≡ first_use rule frame.now shapes.now passes.now }
 {
-    for (p, uses) in passes.iter().enumerate() {
-        if let Some(place) = use_at(rule, frame, shapes, p, uses) {
-            return Some(place);
-        }
-    }
-    None
+    first_in(passes, |p, uses| use_at(rule, frame, shapes, p, uses))
 }

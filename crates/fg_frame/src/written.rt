@@ -7,7 +7,7 @@ ghost use Rattle.fg_frame.specs.Numbered.{IsWithin};
 ghost use Rattle.fg_frame.specs.Uses.{makes, is_there, is_marked, is_missing, unwritten_in, unwritten_at, unwritten};
 
 use crate::Write;
-use crate::numbered::{Stored, Uses};
+use crate::numbered::{Span, Stored, Uses};
 use crate::place::Place;
 use fg_base::List;
 
@@ -20,16 +20,16 @@ fn is_marked(marks: &[bool], unit: u32) -> bool
     }
 }
 
-fn is_missing(marks: &[bool], wanted: &[u32]) -> bool
-    ensures { result ≡ is_missing (is_marked marks.now) wanted.now }
+fn is_missing(marks: &[bool], wanted: Span) -> bool
+    ensures { result ≡ is_missing (is_marked marks.now) wanted }
 {
-    wanted.iter().any(|unit| !is_marked(marks, *unit))
+    (wanted.first..wanted.end).any(|unit| !is_marked(marks, unit))
 }
 
-fn missing_entry(marks: &[bool], entries: &[List<u32>]) -> Option<usize>
+fn missing_entry(marks: &[bool], entries: &[Span]) -> Option<usize>
     ensures { result ≡ position (is_missing (is_marked marks.now)) entries.now }
 {
-    entries.iter().position(|units| is_missing(marks, units))
+    entries.iter().position(|units| is_missing(marks, *units))
 }
 
 fn missing_change(marks: &[bool], writes: &[Stored]) -> Option<usize>
@@ -37,7 +37,7 @@ fn missing_change(marks: &[bool], writes: &[Stored]) -> Option<usize>
 {
     writes
         .iter()
-        .position(|write| !write.fresh && is_missing(marks, &write.units))
+        .position(|write| !write.fresh && is_missing(marks, write.units))
 }
 
 fn unwritten_in(marks: &[bool], p: usize, uses: &Uses) -> Option<Place>
@@ -104,7 +104,7 @@ pub(crate) fn unwritten(
     imported: List<bool>,
     queues: usize,
     passes: &[Uses],
-    exports: &[List<u32>],
+    exports: &[Span],
 ) -> Option<Place>
     requires { All (λ uses. IsWithin queues (length imported) uses.pass) passes.now }
     ensures { result ≡ unwritten imported passes.now exports.now }

@@ -8,7 +8,6 @@ ghost use Rattle.fg_meaning.specs.Held.{IsAt, all_settled};
 ghost use Rattle.fg_meaning.specs.Meaning.{meaning};
 
 use crate::bytes::Bytes;
-use crate::rules::rules;
 use fg_base::NoMemory;
 use fg_frame::GoodFrame;
 use std::alloc::Global;
@@ -41,7 +40,6 @@ impl Exports {
 fn after_passes(alloc: Global, frame: &GoodFrame) -> Result<Bytes, NoMemory>
     ensures { IfOk result (λ held. IsAt (numbered frame.now) [] held) }
 {
-    rules(frame);
     let mut held = Bytes::none(alloc, frame.unit_count())?;
     for pass in 0..frame.pass_count() {
         held.run_pass(alloc, frame, pass)?;
@@ -73,8 +71,8 @@ pub fn exports_of(alloc: Global, frame: &GoodFrame) -> Result<Exports, NoMemory>
     // What is exported has contents.
     ensures exported { All (λ unit. is_some (meaning (numbered frame.now) unit) ≡ true) (numbered frame.now).exports }
 {
-    rules(frame);
+    let exports = frame.exports();
     let mut held = after_passes(alloc, frame)?;
-    settle_all(&mut held, alloc, frame, frame.exports())?;
+    settle_all(&mut held, alloc, frame, exports)?;
     Ok(Exports { held })
 }

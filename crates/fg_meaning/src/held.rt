@@ -11,7 +11,6 @@ ghost use Rattle.fg_meaning.specs.Sizes.{IsRunnable};
 
 use crate::bytes::{Bytes, first_bytes, shape_of};
 use crate::ops::ops_of;
-use crate::rules::rules;
 use crate::stored::{destination, is_whole};
 use crate::wanted::is_wanted;
 use fg_base::{NoMemory, Op};
@@ -111,7 +110,6 @@ impl Bytes {
         requires at { IsAt (numbered frame.now) (ops_from (numbered frame.now).passes pass k) self.old }
         ensures { OnOk result (IsAt (numbered frame.now) (ops_from (numbered frame.now).passes pass (k + 1)) self.new) }
     {
-        rules(frame);
         let ops = ops_of(frame, pass);
         let op = &ops[k];
         self.make_room(alloc, frame, op)?;

@@ -6,7 +6,6 @@ mod exports;
 mod held;
 mod ops;
 mod pictures;
-mod rules;
 mod spare;
 mod stored;
 #[cfg(test)]

@@ -2,12 +2,12 @@
 
 ghost use Rattle.std.specs.Prelude.{◌≡◌, ◌<◌, None, length, map, true, is_some, option_copied, IfOk, slice_index_or};
 ghost use Rattle.std.specs.List.{All, range_with_len};
+ghost use Rattle.fg_frame.specs.Good.{IsGood};
 ghost use Rattle.fg_frame.specs.Numbered.{numbered};
 ghost use Rattle.fg_meaning.specs.Meaning.{all_bytes, meaning};
 
 use crate::bytes::Bytes;
 use crate::ops::ops_of;
-use crate::rules::rules;
 use crate::stored::stored;
 use fg_base::{List, NoMemory};
 use fg_frame::GoodFrame;
@@ -48,10 +48,11 @@ impl Pictures {
 fn all_bytes(alloc: Global, frame: &GoodFrame) -> Result<Bytes, NoMemory>
     ensures bytes { IfOk result (λ bytes. bytes ≡ all_bytes (numbered frame.now)) }
     ensures count { IfOk result (λ bytes. length bytes ≡ length (numbered frame.now).units) }
+    ensures good { IsGood (numbered frame.now) }
 {
-    rules(frame);
+    let passes = frame.pass_count();
     let mut bytes = Bytes::new(alloc, frame)?;
-    for pass in 0..frame.pass_count() {
+    for pass in 0..passes {
         bytes.run(alloc, frame.shapes(), ops_of(frame, pass));
     }
     Ok(bytes)
@@ -63,7 +64,6 @@ pub fn meaning(alloc: Global, frame: &GoodFrame) -> Result<Pictures, NoMemory>
     // What is exported has contents.
     ensures exported { All (λ unit. is_some (meaning (numbered frame.now) unit) ≡ true) (numbered frame.now).exports }
 {
-    rules(frame);
     Ok(Pictures {
         bytes: all_bytes(alloc, frame)?,
         stored: stored(alloc, frame)?,

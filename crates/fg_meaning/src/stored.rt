@@ -8,7 +8,6 @@ ghost use Rattle.fg_base.specs.Wholes.{is_whole};
 ghost use Rattle.fg_frame.specs.Numbered.{numbered};
 ghost use Rattle.fg_meaning.specs.Stored.{marked_by, AreMarked};
 
-use crate::rules::rules;
 use fg_base::{List, NoMemory, Op, Shape};
 use fg_frame::GoodFrame;
 use std::alloc::Global;
@@ -51,7 +50,6 @@ fn mark(marks: &mut List<bool>, ops: &[Op<u32>])
 pub(crate) fn stored(alloc: Global, frame: &GoodFrame) -> Result<List<bool>, NoMemory>
     ensures { IfOk result (λ marks. AreMarked (numbered frame.now) marks) }
 {
-    rules(frame);
     let mut marks = imports(alloc, frame)?;
     for pass in 0..frame.pass_count() {
         mark(&mut marks, frame.ops(pass));

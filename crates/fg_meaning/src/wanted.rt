@@ -7,7 +7,6 @@ ghost use Rattle.fg_frame.specs.Numbered.{numbered};
 ghost use Rattle.fg_meaning.specs.Held.{all_ops, is_wanted, ops_at, ops_from};
 
 use crate::ops::ops_of;
-use crate::rules::rules;
 use fg_base::Op;
 use fg_frame::GoodFrame;
 
@@ -43,7 +42,6 @@ pub(crate) fn is_wanted(frame: &GoodFrame, pass: u32, next: usize, unit: u32) ->
     requires next { next ≤ length (ops_at (numbered frame.now).passes pass) }
     ensures { result ≡ is_wanted (numbered frame.now).exports (ops_from (numbered frame.now).passes pass next) unit }
 {
-    rules(frame);
     if is_touched(&ops_of(frame, pass)[next..], unit) {
         return true;
     }

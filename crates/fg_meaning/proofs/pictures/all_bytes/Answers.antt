@@ -11,13 +11,13 @@ loop-pass-init c =
     let n = numbered c.args.frame.now in
     record {
       bytes = ap (λ b. after_passes (shapes_in n) b n.passes) c.in_ok-bytes.ensures;
-      sized = subst (AreSized (shapes_in n)) (sym c.in_ok-bytes.ensures) (are_sized n c.rules.ensures);
+      sized = subst (AreSized (shapes_in n)) (sym c.in_ok-bytes.ensures) (are_sized n c.pass_count-passes.ensures.good);
     }
 
 pub loop-pass-preserved : goal.loop-pass-preserved
 loop-pass-preserved c =
     let n = numbered c.args.frame.now in
     record {
-      bytes = bytes_on (shapes_in n) n.passes c.loop-pass.pass c.loop-pass.bytes c.run.new.self (all_bytes n) c.ops_of.result.now (subst (λ m. c.loop-pass.pass < m) c.pass_count-pass-end.ensures c.loop-pass-test.true) c.ops_of.ensures.ops c.loop-pass.invariant.bytes (c.run.ensures.bytes ∙ ap (λ s. after_ops s c.loop-pass.bytes c.ops_of.result.now) c.shapes.ensures);
+      bytes = bytes_on (shapes_in n) n.passes c.loop-pass.pass c.loop-pass.bytes c.run.new.self (all_bytes n) c.ops_of.result.now (subst (λ m. c.loop-pass.pass < m) c.pass_count-passes.ensures.count c.loop-pass-test.true) c.ops_of.ensures.ops c.loop-pass.invariant.bytes (c.run.ensures.bytes ∙ ap (λ s. after_ops s c.loop-pass.bytes c.ops_of.result.now) c.shapes.ensures);
       sized = subst (λ s. AreSized s c.run.new.self) c.shapes.ensures c.run.ensures.sized;
     }

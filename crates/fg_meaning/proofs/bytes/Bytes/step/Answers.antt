@@ -44,8 +44,8 @@ run_op-requires c =
     let ready = c.settle_operands.new.self in
     let runnable : IsRunnable (shapes_in n) op = subst (IsRunnable (shapes_in n)) (sym c.index-ops-k.is) (c.ops_of-ops.ensures.runnable c.args.k op less) in
     record {
-      count = ready_count n c.rules.ensures op rest c.make_room.new.self at within ready c.in_ok-settle_operands.ensures ∙ ap length (sym c.shapes.ensures);
-      sized = subst (λ s. All (λ unit. length (bytes_at ready unit) ≡ bytes_of (shape_at s unit)) (operands_of op)) (sym c.shapes.ensures) (ready_sized n c.rules.ensures op rest c.make_room.new.self at within ready c.in_ok-settle_operands.ensures);
+      count = ready_count n c.ops_of-ops.ensures.good op rest c.make_room.new.self at within ready c.in_ok-settle_operands.ensures ∙ ap length (sym c.shapes.ensures);
+      sized = subst (λ s. All (λ unit. length (bytes_at ready unit) ≡ bytes_of (shape_at s unit)) (operands_of op)) (sym c.shapes.ensures) (ready_sized n c.ops_of-ops.ensures.good op rest c.make_room.new.self at within ready c.in_ok-settle_operands.ensures);
       operands = subst (λ s. All (λ unit. unit < length s) (operands_of op)) (sym c.shapes.ensures) runnable.operands;
       fits = subst (λ s. fits (mapped (shape_at s) op) ≡ true) (sym c.shapes.ensures) runnable.fitting;
       apart = runnable.not_in_place;
@@ -67,7 +67,7 @@ release_operands-requires c =
     record {
       pass = c.requires.pass;
       next = next;
-      operands = run_within n c.rules.ensures op rest c.make_room.new.self at within ready c.in_ok-settle_operands.ensures run runs long;
+      operands = run_within n c.ops_of-ops.ensures.good op rest c.make_room.new.self at within ready c.in_ok-settle_operands.ensures run runs long;
     }
 
 pub returns : goal.returns
@@ -82,4 +82,4 @@ returns c =
     let run = c.run_op.new.self in
     let runs : run ≡ after_op (shapes_in n) ready op = c.run_op.ensures.bytes ∙ ap (λ s. after_op s ready op) c.shapes.ensures in
     let long : length (bytes_at run (destination_of op)) ≡ bytes_of (shape_at (shapes_in n) (destination_of op)) = subst (λ s. length (bytes_at run (destination_of op)) ≡ bytes_of (shape_at s (destination_of op))) c.shapes.ensures c.run_op.ensures.sized in
-    stepped n c.rules.ensures op rest c.make_room.new.self at within ready c.in_ok-settle_operands.ensures run runs long c.release_operands.new.self c.release_operands.ensures
+    stepped n c.ops_of-ops.ensures.good op rest c.make_room.new.self at within ready c.in_ok-settle_operands.ensures run runs long c.release_operands.new.self c.release_operands.ensures

@@ -1,6 +1,0 @@
-use Rattle.std.proofs.Common.{◌≡◌, take, map}
-use Rattle.fg_frame.specs.Units.{units_of}
-use Rattle.fg_frame.proofs.numbers.entries.Given as goal
-
-abbrev pub invariant-loop-spot : goal.invariant-loop-spot
-invariant-loop-spot l = l.entries ≡ map (units_of l.table) (take l.spot-index l.spots)
