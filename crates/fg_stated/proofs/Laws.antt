@@ -2,9 +2,9 @@
 use Rattle.std.proofs.Common.{ℕ, List, Option, Some, None, sym, ◌∙◌, subst, ap}
 use Rattle.fg_view.specs.Views.{View, family_at}
 use Rattle.fg_view.specs.declared.node_access.NodeAccess.{NodeAccess}
-use Rattle.fg_stated.specs.Fed.{Fed, FedAt, Feeds, IsOther, IsUnfed}
+use Rattle.fg_stated.specs.Fed.{FedAt, Feeds, IsOther, IsUnfed}
 use Rattle.fg_stated.specs.PieceStates.{found_layout, found_owner, last_change}
-use Rattle.fg_stated.specs.Stated.{IsMisstated, Stated, StatedAt}
+use Rattle.fg_stated.specs.Stated.{IsMisstated, StatedAt}
 use Rattle.fg_stated.specs.declared.misstatement.Misstatement.{Misstatement}
 use Rattle.fg_stated.specs.declared.misstatement.Misstatement.TheVariants.{BadLayout, BadOwner, Unmatched}
 use Rattle.fg_stated.specs.declared.unfed.Unfed.{Unfed}

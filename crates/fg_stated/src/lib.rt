@@ -16,6 +16,3 @@ pub use fed::first_unfed;
 pub use misstatement::Misstatement;
 pub use stated::first_misstated;
 pub use unfed::Unfed;
-
-#[cfg(test)]
-mod tests;
