@@ -1,5 +1,4 @@
 pub mod Bits
-pub mod Closing
-pub mod Kept
+pub mod Code
 pub mod Pairs
 pub mod Paths
