@@ -1,5 +1,5 @@
 pub mod Least
-pub mod Nodes
 pub mod Ranges
-mod Sample
+pub mod Sample
+mod Unsound
 pub mod Verdicts

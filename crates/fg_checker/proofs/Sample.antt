@@ -2,7 +2,7 @@
 use Rattle.std.proofs.Common.{◌≡◌, ℕ, zero, suc, ◌<◌, Bool, true, false, List, [], ◌∷◌, Some, None, refl, ap, subst, inl, inr, arith}
 use Rattle.std.specs.Prelude.{◌||◌, not, nat_lt, Option}
 use Rattle.std.specs.List.{range_with_len, list_all}
-use Rattle.std.proofs.lemmas.Bool.{ltb-true}
+use Rattle.std.proofs.lemmas.Bool.{false≢true, ltb-true}
 use Rattle.std.proofs.lemmas.Option.{slice_get_within}
 use Rattle.fg_base.specs.declared.op.Op.TheVariants.{FillBuffer}
 use Rattle.fg_base.specs.declared.shape.Family.TheVariants.{Graphics}
@@ -17,6 +17,7 @@ use Rattle.fg_base.specs.Texels.{band, low_bytes}
 use Rattle.fg_hb.specs.Edges.{edge, is_wait, node_at}
 use Rattle.fg_hb.specs.Orders.{Among, Order, IsLeast}
 use Rattle.fg_hb.proofs.Filling.{edge_within}
+use Rattle.fg_hb.proofs.InOrder.{comes_never_back}
 use Rattle.fg_reach.specs.Paths.{one, then_on}
 use Rattle.fg_stated.specs.Fed.{Fed, FedAt}
 use Rattle.fg_stated.specs.Stated.{Stated, StatedAt}
@@ -31,7 +32,7 @@ use Rattle.fg_view.specs.declared.access.AccessKind.TheVariants.{Load, Store}
 use Rattle.fg_view.specs.declared.node_access.NodeAccess.{NodeAccess}
 use Rattle.fg_view.proofs.Viewing.{shaped}
 use Rattle.fg_subs.proofs.Few.{is_small}
-use Rattle.fg_subs.proofs.Keeping.{keeps}
+use Rattle.fg_subs.proofs.Obeying.{obeys, entries_obey}
 use Rattle.fg_subs.specs.FirstFault.{first_broken}
 use Rattle.fg_subs.specs.declared.program.Item.TheVariants.{Command, BufferBarrier}
 use Rattle.fg_subs.specs.declared.program.Memory.TheVariants.{Plain}
@@ -60,10 +61,10 @@ sample = record {
   readbacks = 0 ∷ [];
 }
 
-abbrev order : List ℕ
+abbrev pub order : List ℕ
 order = range_with_len 0 4
 
-no_fault : first_broken sample ≡ None
+pub no_fault : first_broken sample ≡ None
 no_fault = refl
 
 stores_sevens : output sample order 0 ≡ Some (7 ∷ 0 ∷ 0 ∷ 0 ∷ [])
@@ -74,14 +75,11 @@ reads_sevens : inputs sample order 3 ≡ (7 ∷ 0 ∷ 0 ∷ 0 ∷ []) ∷ []
 unfolding band low_bytes
 reads_sevens = refl
 
-host_sevens : host_bytes sample order 0 ≡ Some (7 ∷ 0 ∷ 0 ∷ 0 ∷ [])
+pub host_sevens : host_bytes sample order 0 ≡ Some (7 ∷ 0 ∷ 0 ∷ 0 ∷ [])
 unfolding band low_bytes
 host_sevens = refl
 
 -- IT IS SOUND
-
-no_some : false ≡ true → ⊥
-no_some e = cc
 
 none_some : {X : Type 0} {x : X} → None ≡ Some x → ⊥
 none_some e = cc
@@ -89,8 +87,8 @@ none_some e = cc
 abbrev V : View
 V = view_of sample
 
-shapely_sample : ShapedView V
-shapely_sample = shaped sample (keeps sample no_fault) (is_small sample no_fault)
+shaped_sample : ShapedView V
+shaped_sample = shaped sample (is_small sample no_fault) (λ rule. entries_obey sample rule (obeys sample no_fault rule))
 
 below : (n : ℕ) → Among n order → n < 4
 below n h = (among_range 0 4 n h).1
@@ -114,21 +112,21 @@ no_wait : list_all (λ n. not (is_wait (node_at V.nodes n).kind)) order ≡ true
 no_wait = refl
 
 waits_not : (n : ℕ) → Among n order → is_wait (node_at V.nodes n).kind ≡ true → ⊥
-waits_not n h e = no_some (subst (λ t. not t ≡ true) e (each_of (λ n. not (is_wait (node_at V.nodes n).kind)) order no_wait n h))
+waits_not n h e = false≢true (subst (λ t. not t ≡ true) e (each_of (λ n. not (is_wait (node_at V.nodes n).kind)) order no_wait n h))
 
-in_order : Order V.nodes order
+pub in_order : Order V.nodes order
 in_order = record {
   once = distinct_range 0 4;
   all = λ n lt. range_among 0 4 n (omega arith) lt;
   only = below;
-  sets_layout = record {
+  turns = record {
     queue = λ x n h queued lt same. earlier_range 0 4 x n (omega arith) lt (below n h);
     met = λ n h e. absurd (waits_not n h e);
   };
   forward = λ x n h e. earlier_range 0 4 x n (omega arith) (ahead x n e) (below n h);
 }
 
-is_least : IsLeast V.nodes order
+pub is_least : IsLeast V.nodes order
 is_least = record {
   order = in_order;
   least = λ other O. least_range 0 4 other O.once (λ y h. omega arith) (λ y a b. O.all y b);
@@ -141,8 +139,8 @@ store = node_access 0 (access 0 (Store (Of 0 128) None))
 abbrev load : NodeAccess
 load = node_access 3 (access 0 (Load Host None))
 
-two_acts : node_accesses_of V order ≡ store ∷ load ∷ []
-two_acts = refl
+two_accesses : node_accesses_of V order ≡ store ∷ load ∷ []
+two_accesses = refl
 
 abbrev inside : NodeAccess → Option NodeAccess → NodeAccess
 inside other None = other
@@ -169,17 +167,17 @@ all_tied i j a b first second lt below = of_two (λ n c. j ≡ n → i < j → j
 stated_sample : Stated V (node_accesses_of V order)
 stated_sample = of_two (StatedAt V (node_accesses_of V order))
     (record { layout = λ l e. absurd (none_some e); owner = λ needs. refl; match = tt })
-    (record { layout = λ l e. absurd (none_some e); owner = λ needs. absurd (no_some needs); match = tt })
+    (record { layout = λ l e. absurd (none_some e); owner = λ needs. absurd (false≢true needs); match = tt })
 
 fed_sample : Fed V (node_accesses_of V order)
-fed_sample = of_two (FedAt V (node_accesses_of V order)) (λ loaded. absurd (no_some loaded)) (λ loaded. (refl, refl))
+fed_sample = of_two (FedAt V (node_accesses_of V order)) (λ loaded. absurd (false≢true loaded)) (λ loaded. (refl, refl))
 
 pub sample_sound : IsSound sample
 sample_sound = (
   order,
   record {
     order_is = is_least;
-    tied = tied_all V order shapely_sample in_order all_tied;
+    tied = tied_all V order (comes_never_back V.nodes) shaped_sample in_order all_tied;
     stated = stated_sample;
     fed = fed_sample;
   },

@@ -1,83 +1,90 @@
 -- What is found in accesses in the least order is found of the program.
-use Rattle.std.proofs.Common.{◌≡◌, ℕ, List, subst}
-use Rattle.fg_checker.specs.Hazards.{FirstPair, HazardIn, IsHazard, FirstOfStated, FirstOfFed}
+use Rattle.std.specs.Prelude.{◌↔◌}
+use Rattle.std.proofs.Common.{◌≡◌, ℕ, ◌<◌, true, List, length, Some, None, sym, subst}
+use Rattle.fg_checker.specs.Code.Decided.{Clean, Decides, IsFound}
+use Rattle.fg_checker.specs.Code.Hazards.{of_flaw, of_untied, of_misstatement, of_unfed}
+use Rattle.fg_checker.specs.Hazards.{AllTied, HazardIn, IsHazard, FirstOfStated, FirstOfFed}
 use Rattle.fg_checker.specs.Sound.{Sound, IsSound}
-use Rattle.fg_checker.specs.Verdicts.{Clean, Unsound, hazard_of}
+use Rattle.fg_checker.specs.Verdicts.{Unsound}
+use Rattle.fg_checker.specs.declared.hazard.Hazard.{Hazard}
+use Rattle.fg_checker.specs.declared.hazard.Hazard.TheVariants.{Stuck, Unordered, NotAvailable, NotVisible, BadLayout, BadOwner, Unmatched, Undefined, Aliased}
 use Rattle.fg_checker.proofs.Least.{one_least}
+use Rattle.fg_hb.specs.Before.{Reached, happens}
+use Rattle.fg_hb.specs.Edges.{edge}
+use Rattle.fg_hb.specs.Laws.{IsWithin}
+use Rattle.fg_hb.specs.Nodes.{program_nodes}
 use Rattle.fg_hb.specs.Orders.{IsLeast}
-use Rattle.fg_stated.proofs.Laws.{misstated_breaks, unfed_breaks}
+use Rattle.fg_reach.specs.Paths.{Path}
+use Rattle.fg_stated.specs.Fed.{Fed, FirstUnfed}
+use Rattle.fg_stated.specs.Stated.{Stated, FirstMisstated}
+use Rattle.fg_stated.specs.declared.misstatement.Misstatement.{Misstatement}
+use Rattle.fg_stated.specs.declared.misstatement.Misstatement.TheVariants as misstatements
+use Rattle.fg_stated.specs.declared.unfed.Unfed.{Unfed}
+use Rattle.fg_stated.specs.declared.unfed.Unfed.TheVariants as unfeds
 use Rattle.fg_subs.specs.declared.program.Program.{Program}
-use Rattle.fg_ties.specs.First.{IsFirst}
+use Rattle.fg_ties.specs.First.{DecidesTied, IsFirst}
+use Rattle.fg_ties.specs.Rows.{Rows}
 use Rattle.fg_ties.specs.declared.tie.Flaw.{Flaw}
 use Rattle.fg_ties.specs.declared.tie.Flaw.TheVariants as flaws
 use Rattle.fg_ties.specs.declared.tie.Untied.{Untied}
-use Rattle.fg_ties.proofs.Whole.{tied_all, flaw_breaks}
-use Rattle.fg_view.specs.ShapedView.{ShapedView}
 use Rattle.fg_view.specs.Views.{View, view_of, node_accesses_of}
 use Rattle.fg_view.specs.declared.node_access.NodeAccess.{NodeAccess}
-use Rattle.fg_view.specs.declared.hazard.Hazard.{Hazard}
-use Rattle.fg_view.specs.declared.hazard.Hazard.TheVariants.{Stuck, Unordered, NotAvailable, NotVisible, BadLayout, BadOwner, Unmatched, Undefined, Aliased}
 
-pair_in : (V : View) (accesses : List NodeAccess) (flaw : Flaw) (n m : ℕ) → FirstPair V accesses flaw n m → HazardIn V accesses (hazard_of flaw n m)
-pair_in V accesses flaws.Unordered n m p = p
-pair_in V accesses flaws.NotAvailable n m p = p
-pair_in V accesses flaws.NotVisible n m p = p
+-- THE HAZARD OF WHAT IS FOUND
 
-pub pair_hazard : (V : View) (accesses : List NodeAccess) (untied : Untied) → IsFirst V accesses untied → HazardIn V accesses (hazard_of untied.flaw untied.first untied.second)
-pair_hazard V accesses untied (i, j, a, b, first, second, flaw) = pair_in V accesses untied.flaw untied.first untied.second (record { i = i; j = j; a = a; b = b; first = first; second = second; flaw_is = flaw })
+pub pair_hazard : (V : View) (accesses : List NodeAccess) (flaw : Flaw) (n m : ℕ) → IsFirst V accesses flaw n m → HazardIn V accesses (of_flaw flaw n m)
+pair_hazard V accesses flaws.Unordered n m p = p
+pair_hazard V accesses flaws.NotAvailable n m p = p
+pair_hazard V accesses flaws.NotVisible n m p = p
 
--- A HAZARD IS NO SOUND PROGRAM'S
+pub stated_hazard : (V : View) (accesses : List NodeAccess) (misstatement : Misstatement) → FirstOfStated V accesses misstatement → HazardIn V accesses (of_misstatement misstatement)
+stated_hazard V accesses (misstatements.BadLayout n p found wanted) h = h
+stated_hazard V accesses (misstatements.BadOwner n p found wanted) h = h
+stated_hazard V accesses (misstatements.Unmatched n) h = h
 
-module _ (P : Program) (sound : IsSound P) where
-  abbrev V : View
-  V = view_of P
+pub fed_hazard : (V : View) (accesses : List NodeAccess) (unfed : Unfed) → FirstOfFed V accesses unfed → HazardIn V accesses (of_unfed unfed)
+fed_hazard V accesses (unfeds.Undefined n p) h = h
+fed_hazard V accesses (unfeds.Aliased n p other) h = h
 
-  pair_breaks : (flaw : Flaw) (n m : ℕ) (order : List ℕ) → IsLeast V.nodes order → FirstPair V (node_accesses_of V order) flaw n m → ⊥
-  pair_breaks flaw n m order least p = flaw_breaks V order least.order p.i p.j p.a p.b flaw p.flaw_is sound.1.tied
+module _ (V : View) (accesses : List NodeAccess) where
+  pub untied_found : (untied : Untied) → IsFirst V accesses untied.flaw untied.first untied.second → DecidesTied V accesses (Some untied) → Decides V accesses (Some (of_untied untied))
+  untied_found untied first decides = λ order O is. record { hazard_is = pair_hazard V accesses untied.flaw untied.first untied.second first; refutes = λ clean. decides order O is clean.tied }
 
-  stated_breaks : (hazard : Hazard) (order : List ℕ) → IsLeast V.nodes order → FirstOfStated V (node_accesses_of V order) hazard → ⊥
-  stated_breaks hazard order least h = misstated_breaks V (node_accesses_of V order) hazard h.first (rw (one_least V.nodes order sound.0 least sound.1.order_is) sound.1.stated)
+  pub misstatement_found : (misstatement : Misstatement) → AllTied V accesses → FirstMisstated V accesses misstatement → (Stated V accesses → ⊥) → Decides V accesses (Some (of_misstatement misstatement))
+  misstatement_found misstatement tied first refutes = λ order O is. record { hazard_is = stated_hazard V accesses misstatement (record { tied = tied; first = first }); refutes = λ clean. refutes clean.stated }
 
-  fed_breaks : (hazard : Hazard) (order : List ℕ) → IsLeast V.nodes order → FirstOfFed V (node_accesses_of V order) hazard → ⊥
-  fed_breaks hazard order least h = unfed_breaks V (node_accesses_of V order) hazard h.first (rw (one_least V.nodes order sound.0 least sound.1.order_is) sound.1.fed)
+  pub unfed_found : (unfed : Unfed) → AllTied V accesses → Stated V accesses → FirstUnfed V accesses unfed → (Fed V accesses → ⊥) → Decides V accesses (Some (of_unfed unfed))
+  unfed_found unfed tied stated first refutes = λ order O is. record { hazard_is = fed_hazard V accesses unfed (record { tied = tied; stated = stated; first = first }); refutes = λ clean. refutes clean.fed }
 
-  hazard_breaks : (hazard : Hazard) → IsHazard V hazard → ⊥
-  hazard_breaks (Stuck q n) h = h.none sound.0 sound.1.order_is.order
-  hazard_breaks (Unordered n m) (order, least, h) = pair_breaks flaws.Unordered n m order least h
-  hazard_breaks (NotAvailable n m) (order, least, h) = pair_breaks flaws.NotAvailable n m order least h
-  hazard_breaks (NotVisible n m) (order, least, h) = pair_breaks flaws.NotVisible n m order least h
-  hazard_breaks (BadLayout n p found wanted) (order, least, h) = stated_breaks (BadLayout n p found wanted) order least h
-  hazard_breaks (BadOwner n p found wanted) (order, least, h) = stated_breaks (BadOwner n p found wanted) order least h
-  hazard_breaks (Unmatched n) (order, least, h) = stated_breaks (Unmatched n) order least h
-  hazard_breaks (Undefined n p) (order, least, h) = fed_breaks (Undefined n p) order least h
-  hazard_breaks (Aliased n p other) (order, least, h) = fed_breaks (Aliased n p other) order least h
+  pub none_found : DecidesTied V accesses None → Stated V accesses → Fed V accesses → Decides V accesses None
+  none_found decides stated fed = λ order O is. record { tied = decides order O is; stated = stated; fed = fed }
 
-pub unsound : (P : Program) (hazard : Hazard) → IsHazard (view_of P) hazard → Unsound P hazard
-unsound P hazard h = record { hazard_is = h; unsound = λ sound. hazard_breaks P sound hazard h }
+-- OF THE LEAST ORDER
 
-clean_sound : (V : View) (order : List ℕ) → ShapedView V → IsLeast V.nodes order → Clean V (node_accesses_of V order) → Sound V order
-clean_sound V order shaped least clean = record {
-  order_is = least;
-  tied = tied_all V order shaped least.order clean.tied;
-  stated = clean.stated;
-  fed = clean.fed;
-}
+pub rows_of : (P : Program) (V : View) (reached : Reached) → V ≡ view_of P → length reached.places ≡ length (program_nodes P) → ((x y : ℕ) → x < length (program_nodes P) → y < length (program_nodes P) → (happens reached x y ≡ true) ↔ Path (edge (program_nodes P)) x y) → IsWithin (program_nodes P) → Rows V reached
+rows_of P V reached same size paths within = subst (λ W. Rows W reached) (sym same) (record { size = size; paths = paths; within = within })
 
 in_least : (V : View) (hazard : Hazard) (order : List ℕ) → IsLeast V.nodes order → HazardIn V (node_accesses_of V order) hazard → IsHazard V hazard
 in_least V (Stuck q n) order least h = absurd h
-in_least V (Unordered n m) order least h = (order, least, h)
-in_least V (NotAvailable n m) order least h = (order, least, h)
-in_least V (NotVisible n m) order least h = (order, least, h)
-in_least V (BadLayout n p found wanted) order least h = (order, least, h)
-in_least V (BadOwner n p found wanted) order least h = (order, least, h)
-in_least V (Unmatched n) order least h = (order, least, h)
-in_least V (Undefined n p) order least h = (order, least, h)
-in_least V (Aliased n p other) order least h = (order, least, h)
+in_least V hazard order least h = (order, least, h)
 
--- what is found in the accesses of the least order
 module _ (P : Program) (V : View) (order : List ℕ) (accesses : List NodeAccess) (same : V ≡ view_of P) (least : IsLeast V.nodes order) (is : accesses ≡ node_accesses_of V order) where
-  pub hazard_found : (hazard : Hazard) → HazardIn V accesses hazard → Unsound P hazard
-  hazard_found hazard h = unsound P hazard (subst (λ W. IsHazard W hazard) same (in_least V hazard order least (subst (λ l. HazardIn V l hazard) is h)))
+  -- whatever order shows that the program is sound is this one
+  clean_of : (other : List ℕ) → Sound V other → Clean V accesses
+  clean_of other S =
+      let all : node_accesses_of V other ≡ accesses = rw (is, one_least V.nodes order other least S.order_is) in
+      record { tied = S.tied; stated = rw (← all) S.stated; fed = rw (← all) S.fed }
 
-  pub sound_found : ShapedView V → Clean V accesses → Sound (view_of P) order
-  sound_found shaped clean = subst (λ W. Sound W order) same (clean_sound V order shaped least (subst (λ l. Clean V l) is clean))
+  pub hazard_found : (hazard : Hazard) → IsFound V accesses hazard → Unsound P hazard
+  hazard_found hazard found = record {
+    hazard_is = subst (λ W. IsHazard W hazard) same (in_least V hazard order least (subst (λ l. HazardIn V l hazard) is found.hazard_is));
+    unsound = λ sound. found.refutes (clean_of sound.0 (subst (λ W. Sound W sound.0) (sym same) sound.1));
+  }
+
+  pub sound_found : Clean V accesses → Sound (view_of P) order
+  sound_found clean = subst (λ W. Sound W order) same (record {
+    order_is = least;
+    tied = clean.tied;
+    stated = subst (λ l. Stated V l) is clean.stated;
+    fed = subst (λ l. Fed V l) is clean.fed;
+  })

@@ -1,24 +1,21 @@
 -- What a program comes to where its commands run one after another and each piece has bytes of its own.
 use Rattle.std.specs.Prelude.{ℕ, List, [], ◌∷◌, ◌+◌, map, replicate, slice_get, Option, Some, None, option_and_then, if◌then◌else◌}
-use Rattle.std.specs.List.{slice_range, filter}
+use Rattle.std.specs.List.{slice_range}
 use Rattle.std.specs.Option.{option_map, option_map_or}
 use Rattle.fg_base.specs.Applied.{bytes_at, after_op}
 use Rattle.fg_base.specs.Operands.{destination_of}
 use Rattle.fg_base.specs.Shapes.{bytes_of, is_buffer}
 use Rattle.fg_base.specs.declared.op.Op.{Op}
 use Rattle.fg_hb.specs.Orders.{before_in}
-use Rattle.fg_subs.specs.Nodes.{nodes_of}
+use Rattle.fg_subs.specs.Entries.{Entry, OfWait, OfItem, OfSignal, OfHost, entries_of}
 use Rattle.fg_subs.specs.Rules.{shapes_of}
-use Rattle.fg_subs.specs.declared.nodes.NodeAt.{NodeAt}
-use Rattle.fg_subs.specs.declared.nodes.NodeAt.TheVariants as at
 use Rattle.fg_subs.specs.declared.program.Item.{Item}
 use Rattle.fg_subs.specs.declared.program.Item.TheVariants.{Command, Global, BufferBarrier, ImageBarrier, Release, Acquire}
 use Rattle.fg_subs.specs.declared.program.Memory.{Memory}
 use Rattle.fg_subs.specs.declared.program.Memory.TheVariants.{Plain, Import}
 use Rattle.fg_subs.specs.declared.program.Piece.{Piece}
 use Rattle.fg_subs.specs.declared.program.Program.{Program}
-use Rattle.fg_view.specs.AccessKinds.{loads}
-use Rattle.fg_view.specs.Views.{view_of, accesses_of}
+use Rattle.fg_view.specs.Views.{view_of, loads_of}
 
 -- COMMANDS
 
@@ -30,15 +27,15 @@ op_of (ImageBarrier piece layouts masks) = None
 op_of (Release t) = None
 op_of (Acquire t) = None
 
--- the operation that stands at a place, if one does
-abbrev pub op_in : Program → NodeAt → Option (Op ℕ)
-op_in program (at.Wait q b k) = None
-op_in program (at.Item q b k) = option_and_then (λ queue. option_and_then (λ batch. option_and_then op_of (slice_get batch.items k)) (slice_get queue.batches b)) (slice_get program.queues q)
-op_in program (at.Signal q b) = None
-op_in program (at.Host k) = None
+-- the operation of a node, if it is a command's
+abbrev pub op_in : Entry → Option (Op ℕ)
+op_in (OfWait q wait) = None
+op_in (OfItem q item) = op_of item
+op_in (OfSignal q signal) = None
+op_in (OfHost piece) = None
 
 abbrev pub op_at : Program → ℕ → Option (Op ℕ)
-op_at program n = option_and_then (op_in program) (slice_get (nodes_of program) n)
+op_at program n = option_and_then op_in (slice_get (entries_of program) n)
 
 -- BYTES OF ALL PIECES
 
@@ -68,16 +65,16 @@ apart program order = after_nodes program (map (first_bytes program.memories) pr
 -- WHAT NODES LOAD AND STORE
 
 -- what the pieces hold right before node n
-abbrev pub held : Program → List ℕ → ℕ → List (List ℕ)
-held program order n = apart program (before_in order n)
+abbrev pub bytes_before : Program → List ℕ → ℕ → List (List ℕ)
+bytes_before program order n = apart program (before_in order n)
 
 -- the bytes that node n loads, load by load
 abbrev pub inputs : Program → List ℕ → ℕ → List (List ℕ)
-inputs program order n = map (λ a. bytes_at (held program order n) a.piece) (filter (λ a. loads a.kind) (accesses_of (view_of program) n))
+inputs program order n = map (λ a. bytes_at (bytes_before program order n) a.piece) (loads_of (view_of program) n)
 
 -- the bytes that command n stores
 abbrev pub output : Program → List ℕ → ℕ → Option (List ℕ)
-output program order n = option_map (λ op. bytes_at (after_node program (held program order n) n) (destination_of op)) (op_at program n)
+output program order n = option_map (λ op. bytes_at (after_node program (bytes_before program order n) n) (destination_of op)) (op_at program n)
 
 -- the bytes of the piece of read-back k at the end
 abbrev pub host_bytes : Program → List ℕ → ℕ → Option (List ℕ)

@@ -19,13 +19,14 @@ pub struct Checked {
 }
 
 impl Model for Checked {
-    ghost use Rattle.fg_checker.specs.Checked.{Accepted, accepted_in, IsKept};
+    ghost use Rattle.fg_checker.specs.Checked.{Accepted};
+    ghost use Rattle.fg_checker.specs.Code.Inside.{accepted_in, IsAccepted};
 
     ghost Value = { Accepted };
 
     ghost view = { accepted_in };
 
-    ghost invariant = { IsKept };
+    ghost invariant = { IsAccepted };
 }
 
 impl Checked {

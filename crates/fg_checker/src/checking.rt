@@ -4,11 +4,10 @@ ghost use Rattle.std.specs.Prelude.{◌≡◌, ◌↔◌, true, IfOk, IfErr};
 ghost use Rattle.fg_checker.specs.Sound.{IsSound};
 ghost use Rattle.fg_checker.specs.Verdicts.{Ends};
 
-use crate::Checked;
 use crate::judge::{Verdict, judge};
+use crate::{Checked, Hazard};
 use fg_base::NoMemory;
 use fg_subs::Shaped;
-use fg_view::Hazard;
 use std::alloc::Global;
 use std::sync::Arc;
 

@@ -1,19 +1,19 @@
 //! Programs are judged.
 
-ghost use Rattle.std.specs.Prelude.{◌≡◌, IfOk, MatchOption};
-ghost use Rattle.fg_checker.specs.Hazards.{AllTied, HazardIn};
-ghost use Rattle.fg_checker.specs.Verdicts.{Clean, Judges, hazard_of};
+ghost use Rattle.std.specs.Prelude.{◌≡◌, IfOk};
+ghost use Rattle.fg_checker.specs.Code.Decided.{Decides, Judges};
 ghost use Rattle.fg_hb.specs.Orders.{IsLeast};
 ghost use Rattle.fg_ties.specs.Rows.{Rows};
 ghost use Rattle.fg_view.specs.ShapedView.{Listed, ShapedView};
 ghost use Rattle.fg_view.specs.Views.{view_of};
 
+use crate::Hazard;
 use fg_base::{List, NoMemory};
 use fg_hb::{Before, Drain, before_of, drain_of};
 use fg_stated::{first_misstated, first_unfed};
 use fg_subs::Shaped;
-use fg_ties::{Flaw, Untied, first_flaw};
-use fg_view::{NodeAccess, Hazard, View, node_accesses_of, view_of};
+use fg_ties::first_flaw;
+use fg_view::{NodeAccess, View, node_accesses_of, view_of};
 use std::alloc::Global;
 
 /// What a program is found to be.
@@ -24,38 +24,7 @@ pub enum Verdict {
     Unsound(Hazard),
 }
 
-fn hazard_of(untied: Untied) -> Hazard
-    ensures { result ≡ hazard_of untied.flaw untied.first untied.second }
-{
-    let Untied {
-        first,
-        second,
-        flaw,
-    } = untied;
-    match flaw {
-        Flaw::Unordered => Hazard::Unordered { first, second },
-        Flaw::NotAvailable => Hazard::NotAvailable { first, second },
-        Flaw::NotVisible => Hazard::NotVisible { first, second },
-    }
-}
-
-// The first hazard of pairs of accesses in an order.
-#[tactic(auto, using(crate::proofs::Verdicts::pair_hazard))]
-fn first_untied(
-    alloc: Global,
-    view: &View,
-    before: &Before,
-    accesses: &[NodeAccess],
-) -> Result<Option<Hazard>, NoMemory>
-    requires shaped { ShapedView view.now }
-    requires rows { Rows view.now before.now }
-    requires listed { Listed view.now accesses.now }
-    ensures { IfOk result (λ found. MatchOption found (AllTied view.now accesses.now) (HazardIn view.now accesses.now)) }
-{
-    Ok(first_flaw(alloc, view, before, accesses)?.map(hazard_of))
-}
-
-// The first hazard of accesses in an order.
+// The first hazard of accesses in an order: of two accesses, else of what is found, else of bytes.
 fn first_hazard(
     alloc: Global,
     view: &View,
@@ -65,15 +34,18 @@ fn first_hazard(
     requires shaped { ShapedView view.now }
     requires rows { Rows view.now before.now }
     requires listed { Listed view.now accesses.now }
-    ensures { IfOk result (λ found. MatchOption found (Clean view.now accesses.now) (HazardIn view.now accesses.now)) }
+    ensures { IfOk result (λ found. Decides view.now accesses.now found) }
 {
-    if let Some(hazard) = first_untied(alloc, view, before, accesses)? {
-        return Ok(Some(hazard));
+    if let Some(untied) = first_flaw(alloc, view, before, accesses)? {
+        return Ok(Some(Hazard::of_untied(untied)));
     }
-    if let Some(hazard) = first_misstated(alloc, view, accesses)? {
-        return Ok(Some(hazard));
+    if let Some(misstatement) = first_misstated(alloc, view, accesses)? {
+        return Ok(Some(Hazard::of_misstatement(misstatement)));
     }
-    first_unfed(alloc, view, accesses)
+    match first_unfed(alloc, view, accesses)? {
+        Some(unfed) => Ok(Some(Hazard::of_unfed(unfed))),
+        None => Ok(None),
+    }
 }
 
 fn judge_order(

@@ -3,11 +3,12 @@
 
 mod checked;
 mod checking;
+mod hazard;
 mod judge;
 
 pub use checked::Checked;
 pub use checking::{CheckEnd, check, sound};
-pub use fg_view::Hazard;
+pub use hazard::Hazard;
 
 #[cfg(test)]
 mod tests;

@@ -1,4 +1,5 @@
 pub mod Around
+pub mod Clashes
 pub mod Ordered
 pub mod Passes
 pub mod Through

@@ -1,11 +1,10 @@
 -- The accesses that an order lists, and pairs of them.
-use Rattle.std.proofs.Common.{◌≡◌, ◌⊎◌, inl, inr, ℕ, zero, suc, ◌<◌, ◌++◌, List, [], ◌∷◌, length, map, slice_get, Some, None, sym, ap, ◌∙◌, subst, ⊎_elim, arith}
+use Rattle.std.proofs.Common.{◌≡◌, ◌⊎◌, inl, inr, ℕ, zero, suc, ◌<◌, ◌++◌, List, [], ◌∷◌, length, map, slice_get, Some, None, refl, sym, ap, ◌∙◌, subst, ⊎_elim, cond, eq-eqb, ne_eqb, arith}
 use Rattle.std.specs.Option.{option_map, option_map_or}
 use Rattle.std.proofs.lemmas.Bool.{cases_lt}
 use Rattle.std.proofs.lemmas.List.{get_or_past}
 use Rattle.std.proofs.lemmas.Option.{slice_get-map}
 use Rattle.fg_hb.specs.Orders.{Among, Distinct, before_in, Earlier}
-use Rattle.fg_hb.proofs.InOrder.{on_from}
 use Rattle.fg_view.specs.ShapedView.{ShapedView, AccessAt, Has, NodeAccessAt}
 use Rattle.fg_view.specs.Effects.{no_effect}
 use Rattle.fg_view.specs.Views.{View, accesses_of, node_access, node_accesses_of}
@@ -54,8 +53,8 @@ of_node n [] i a h = none a h
 of_node n (x ∷ xs) zero a h = (sym (ap (λ o. option_map_or (λ t. t.node) o 0) h), ap (λ o. option_map (λ t. t.access) o) h)
 of_node n (x ∷ xs) (suc i) a h = of_node n xs i a h
 
-acts_of_node : (V : View) (n : ℕ) (a : NodeAccess) → In a (map (node_access n) (accesses_of V n)) → (a.node ≡ n) × Has V a.node a.access
-acts_of_node V n a (i, h) = let t = of_node n (accesses_of V n) i a h in (t.0, (i, subst (λ m. AccessAt V m i a.access) (sym t.0) t.1))
+accesses_of_node : (V : View) (n : ℕ) (a : NodeAccess) → In a (map (node_access n) (accesses_of V n)) → (a.node ≡ n) × Has V a.node a.access
+accesses_of_node V n a (i, h) = let t = of_node n (accesses_of V n) i a h in (t.0, (i, subst (λ m. AccessAt V m i a.access) (sym t.0) t.1))
 
 -- what has accesses is a node
 pub has_within : (V : View) (n : ℕ) (a : Access) → ShapedView V → Has V n a → n < length V.nodes
@@ -78,26 +77,34 @@ listed_in V (u ∷ order) n a (inr m) h = right_in (map (node_access u) (accesse
 pub listed_of : (V : View) (order : List ℕ) (i : ℕ) (a : NodeAccess) → NodeAccessAt (node_accesses_of V order) i a → Among a.node order × Has V a.node a.access
 listed_of V [] i a h = none a h
 listed_of V (u ∷ order) i a h = ⊎_elim
-    (λ t. let s = acts_of_node V u a t in (inl s.0, s.1))
+    (λ t. let s = accesses_of_node V u a t in (inl s.0, s.1))
     (λ t. let s = listed_of V order t.0 a t.1 in (inr s.0, s.1))
     (one_part (map (node_access u) (accesses_of V u)) (node_accesses_of V order) i a h)
 
 -- EARLIER NODES
 
--- the same node, or one before the other
-abbrev pub Turn : List ℕ → NodeAccess → NodeAccess → Type 0
-Turn order a b = (a.node ≡ b.node) ⊎ Earlier order a.node b.node
+none_before : (u n : ℕ) (order : List ℕ) → Earlier (u ∷ order) n u → ⊥
+none_before u n order h = subst (λ l. Among n l) (ap (λ t. cond t [] (u ∷ before_in order u)) (eq-eqb u u refl)) h
 
--- what comes after the first node is another one
-further : (V : View) (u : ℕ) (order : List ℕ) (a b : NodeAccess) → (Among u order → ⊥) → In b (node_accesses_of V order) → Among a.node (u ∷ before_in order b.node) → Earlier (u ∷ order) a.node b.node
-further V u order a b once (l, q) h = subst (λ l. Among a.node l) (sym (on_from u b.node order (λ e. once (subst (λ n. Among n order) (sym e) (listed_of V order l b q).0)))) h
+before_other : (u n m : ℕ) (order : List ℕ) → (u ≡ m → ⊥) → Earlier (u ∷ order) n m → (n ≡ u) ⊎ Earlier order n m
+before_other u n m order other h = subst (λ l. Among n l) (ap (λ t. cond t [] (u ∷ before_in order m)) (ne_eqb u m other)) h
 
-turn_of : (V : View) (u : ℕ) (order : List ℕ) (a b : NodeAccess) → (Among u order → ⊥) → (InTurn a b (node_accesses_of V order) → Turn order a b) → (In a (map (node_access u) (accesses_of V u)) × In b (map (node_access u) (accesses_of V u))) ⊎ ((In a (map (node_access u) (accesses_of V u)) × In b (node_accesses_of V order)) ⊎ InTurn a b (node_accesses_of V order)) → Turn (u ∷ order) a b
-turn_of V u order a b once rest (inl (p, q)) = inl ((acts_of_node V u a p).0 ∙ sym (acts_of_node V u b q).0)
-turn_of V u order a b once rest (inr (inl (p, q))) = inr (further V u order a b once q (inl (acts_of_node V u a p).0))
-turn_of V u order a b once rest (inr (inr t)) = ⊎_elim (λ e. inl e) (λ e. inr (further V u order a b once (t.1, t.4) (inr e))) (rest t)
+never_before : (V : View) (u : ℕ) (order : List ℕ) (a b : NodeAccess) → In a (map (node_access u) (accesses_of V u)) → Earlier (u ∷ order) b.node a.node → ⊥
+never_before V u order a b p h = none_before u b.node order (subst (λ n. Earlier (u ∷ order) b.node n) (accesses_of_node V u a p).0 h)
 
--- of two listed accesses the first one's node is the earlier one, if it is another
-pub in_turn : (V : View) (order : List ℕ) → Distinct order → (i j : ℕ) (a b : NodeAccess) → NodeAccessAt (node_accesses_of V order) i a → NodeAccessAt (node_accesses_of V order) j b → i < j → Turn order a b
-in_turn V [] D i j a b ha hb lt = none a ha
-in_turn V (u ∷ order) D i j a b ha hb lt = turn_of V u order a b D.0 (λ t. in_turn V order D.1 t.0 t.1 a b t.3 t.4 t.2) (two_parts (map (node_access u) (accesses_of V u)) (node_accesses_of V order) i j a b lt ha hb)
+later : (V : View) (u : ℕ) (order : List ℕ) (a b : NodeAccess) → (Among u order → ⊥) → InTurn a b (node_accesses_of V order) → (InTurn a b (node_accesses_of V order) → Earlier order b.node a.node → ⊥) → Earlier (u ∷ order) b.node a.node → ⊥
+later V u order a b once t rest h = ⊎_elim
+    (λ (e : b.node ≡ u). once (subst (λ n. Among n order) e (listed_of V order t.1 b t.4).0))
+    (λ e. rest t e)
+    (before_other u b.node a.node order (λ e. once (subst (λ n. Among n order) (sym e) (listed_of V order t.0 a t.3).0)) h)
+
+-- of two listed accesses the later one's node stands not before that of the other
+pub not_earlier : (V : View) (order : List ℕ) → Distinct order → (i j : ℕ) (a b : NodeAccess) → NodeAccessAt (node_accesses_of V order) i a → NodeAccessAt (node_accesses_of V order) j b → i < j → Earlier order b.node a.node → ⊥
+not_earlier V [] D i j a b ha hb lt h = none a ha
+not_earlier V (u ∷ order) D i j a b ha hb lt h = ⊎_elim
+    (λ t. never_before V u order a b t.0 h)
+    (λ s. ⊎_elim
+    (λ t. never_before V u order a b t.0 h)
+    (λ t. later V u order a b D.0 t (λ r e. not_earlier V order D.1 r.0 r.1 a b r.3 r.4 r.2 e) h)
+    s)
+    (two_parts (map (node_access u) (accesses_of V u)) (node_accesses_of V order) i j a b lt ha hb)

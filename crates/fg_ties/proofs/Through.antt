@@ -1,8 +1,7 @@
 -- What is tied with a change that clashes with both is tied.
 use Rattle.std.proofs.Common.{◌≡◌, ◌≢◌, ◌⊎◌, inl, inr, ℕ, ◌+◌, ◌<◌, ◌==◌, ◌&&◌, ◌||◌, true, false, length, refl, sym, ◌∙◌, subst, eq-eqb, arith}
-use Rattle.std.proofs.lemmas.Bool.{cases_eq, and_from, or_left, lt-ltb}
+use Rattle.std.proofs.lemmas.Bool.{cases_eq, and_from, false≢true, or_left, lt-ltb}
 use Rattle.fg_base.specs.Shapes.{bytes_of}
-use Rattle.fg_hb.proofs.Going.{clash}
 use Rattle.fg_reach.specs.Paths.{then_on}
 use Rattle.fg_view.specs.AccessKinds.{changes, transfers}
 use Rattle.fg_view.specs.ShapedView.{ShapedView}
@@ -14,18 +13,18 @@ use Rattle.fg_view.specs.declared.access.AccessKind.TheVariants.{Load, Store, Tr
 use Rattle.fg_view.specs.declared.node_access.NodeAccess.{NodeAccess}
 use Rattle.fg_ties.specs.Passing.{Before, Passed}
 use Rattle.fg_ties.specs.Tied.{Clashing, PairTied}
-use Rattle.fg_ties.proofs.Passes.{up_to_on, left_up_to, found_up_to}
+use Rattle.fg_ties.proofs.Passes.{up_to_on, available_after, visible_before}
 
 pub passed_through : (V : View) (n m k : ℕ) (a c b : Access) → Passed V n a m c → Passed V m c k b → Passed V n a k b
-passed_through V n m k a c b (x, y, l, u, f) (z, w, g, v, h) = (x, w, l, up_to_on V x m w (up_to_on V x y m u (found_up_to V m c y f)) (up_to_on V m z w (left_up_to V m c z g) v), h)
+passed_through V n m k a c b (x, y, l, u, f) (z, w, g, v, h) = (x, w, l, up_to_on V x m w (up_to_on V x y m u (visible_before V m c y f)) (up_to_on V m z w (available_after V m c z g) v), h)
 
 pub change_plain : (d : AccessKind) → changes d ≡ true → transfers d ≡ false
-change_plain (Load agent layout) h = absurd (clash h)
+change_plain (Load agent layout) h = absurd (false≢true h)
 change_plain (Store agent layout) h = refl
 change_plain (Transition layouts) h = refl
 change_plain (Discard layout) h = refl
-change_plain (Release handover) h = absurd (clash h)
-change_plain (Acquire handover) h = absurd (clash h)
+change_plain (Release handover) h = absurd (false≢true h)
+change_plain (Acquire handover) h = absurd (false≢true h)
 
 -- a piece that has bytes overlaps itself
 pub itself : (V : View) (p : ℕ) → ShapedView V → p < length V.pieces → overlap V p p ≡ true
@@ -56,6 +55,6 @@ module _ (V : View) (a c b : NodeAccess) (change : changes c.access.kind ≡ tru
     ordered C.apart (cases_eq a.node c.node) (cases_eq c.node b.node),
     λ ha hb.
         passed_through V a.node c.node b.node a.access c.access b.access
-        ((T (on_left (λ e. clash (sym (change_plain c.access.kind change) ∙ first e ha)))).1 ha (change_plain c.access.kind change))
-        ((U (on_right (λ e. clash (sym hb ∙ last e)))).1 change hb),
+        ((T (on_left (λ e. false≢true (sym (change_plain c.access.kind change) ∙ first e ha)))).1 ha (change_plain c.access.kind change))
+        ((U (on_right (λ e. false≢true (sym hb ∙ last e)))).1 change hb),
   )

@@ -1,8 +1,7 @@
 -- Behind a change all is tied that was tied with it.
 use Rattle.std.proofs.Common.{◌≡◌, ◌≢◌, ◌⊎◌, inl, inr, ℕ, ◌+◌, ◌-◌, ◌<◌, ◌≤◌, ◌==◌, ◌&&◌, ◌||◌, Bool, true, false, List, length, sym, ap, ◌∙◌, subst, ⊎_elim, eqb-true, arith}
-use Rattle.std.proofs.lemmas.Bool.{cases_Bool, cases_eq, cases_lt, and_parts, or_cases, or_left, or_right}
+use Rattle.std.proofs.lemmas.Bool.{cases_Bool, cases_eq, false≢true, cases_lt, and_parts, or_cases, or_left, or_right}
 use Rattle.std.proofs.lemmas.Option.{slice_get-get_or, get_or_from_slice_get}
-use Rattle.fg_hb.proofs.Going.{clash}
 use Rattle.fg_view.specs.AccessKinds.{changes, transfers}
 use Rattle.fg_view.specs.ShapedView.{ShapedView, Listed, NodeAccessAt}
 use Rattle.fg_view.specs.Views as views
@@ -10,10 +9,9 @@ use Rattle.fg_view.specs.Views.{View, overlap}
 use Rattle.fg_view.specs.declared.access.Access.{Access}
 use Rattle.fg_view.specs.declared.access.AccessKind.{AccessKind}
 use Rattle.fg_view.specs.declared.node_access.NodeAccess.{NodeAccess}
-use Rattle.fg_ties.specs.Chains.{IsIn, Latest, Links}
-use Rattle.fg_ties.specs.First.{IsFirst, IsFirstWith}
-use Rattle.fg_ties.specs.Places.{no_node_access, node_access_at, piece_of, deed_of, moves, Good, GoodBelow}
-use Rattle.fg_ties.specs.Rows.{Known}
+use Rattle.fg_ties.specs.Code.Chains.{IsIn, Latest, Links, BothLinks}
+use Rattle.fg_ties.specs.First.{IsFirst}
+use Rattle.fg_ties.specs.Code.Places.{no_node_access, node_access_at, piece_of, kind_of, clashes_with_loads, Known, HasFlaw, IsFirstWith, TiedAt, PlacesTiedBelow}
 use Rattle.fg_ties.specs.Tied.{PairTied, TiedBelow}
 use Rattle.fg_ties.specs.declared.chain.Chain.{Chain}
 use Rattle.fg_ties.specs.declared.tie.Untied.{Untied}
@@ -32,79 +30,79 @@ clash_cases V a b h = ⊎_elim
     (or_cases (overlap V a.piece b.piece && (changes a.kind || changes b.kind)) ((a.piece == b.piece) && (transfers a.kind || transfers b.kind)) h)
 
 -- pieces without common bytes give no clash
-pub apart : (V : View) (accesses : List NodeAccess) (i j q : ℕ) → ShapedView V → Listed V accesses → i < length accesses → piece_of accesses i ≡ q → overlap V q (piece_of accesses j) ≡ false → Good V accesses i j
+pub apart : (V : View) (accesses : List NodeAccess) (i j q : ℕ) → ShapedView V → Listed V accesses → i < length accesses → piece_of accesses i ≡ q → overlap V q (piece_of accesses j) ≡ false → TiedAt V accesses i j
 apart V accesses i j q S L h e far C = absurd (none (clash_cases V (node_access_at accesses i).access (node_access_at accesses j).access C.clash))
   where
     far_off : overlap V (piece_of accesses i) (piece_of accesses j) ≡ false
     far_off = ap (λ p. overlap V p (piece_of accesses j)) e ∙ far
 
-    none : ((overlap V (piece_of accesses i) (piece_of accesses j) ≡ true) × ((changes (deed_of accesses i) || changes (deed_of accesses j)) ≡ true)) ⊎ ((piece_of accesses i ≡ piece_of accesses j) × ((transfers (deed_of accesses i) || transfers (deed_of accesses j)) ≡ true)) → ⊥
-    none (inl (over, c)) = clash (sym far_off ∙ over)
-    none (inr (same, t)) = clash (sym far_off ∙ subst (λ p. overlap V (piece_of accesses i) p ≡ true) same (itself V (piece_of accesses i) S (known_at V accesses i S L h).piece))
+    none : ((overlap V (piece_of accesses i) (piece_of accesses j) ≡ true) × ((changes (kind_of accesses i) || changes (kind_of accesses j)) ≡ true)) ⊎ ((piece_of accesses i ≡ piece_of accesses j) × ((transfers (kind_of accesses i) || transfers (kind_of accesses j)) ≡ true)) → ⊥
+    none (inl (over, c)) = false≢true (sym far_off ∙ over)
+    none (inr (same, t)) = false≢true (sym far_off ∙ subst (λ p. overlap V (piece_of accesses i) p ≡ true) same (itself V (piece_of accesses i) S (known_at V accesses i S L h).piece))
 
 never_either : (f g : Bool) → f ≡ false → g ≡ false → (f || g) ≡ true → ⊥
-never_either f g p q h = ⊎_elim (λ e. clash (sym p ∙ e)) (λ e. clash (sym q ∙ e)) (or_cases f g h)
+never_either f g p q h = ⊎_elim (λ e. false≢true (sym p ∙ e)) (λ e. false≢true (sym q ∙ e)) (or_cases f g h)
 
-still : (d : AccessKind) → moves d ≡ false → (changes d ≡ false) × (transfers d ≡ false)
-still d h = (⊎_elim (λ e. absurd (clash (sym h ∙ or_left (changes d) (transfers d) e))) (λ e. e) (cases_Bool (changes d)), ⊎_elim (λ e. absurd (clash (sym h ∙ or_right (changes d) (transfers d) e))) (λ e. e) (cases_Bool (transfers d)))
+still : (d : AccessKind) → clashes_with_loads d ≡ false → (changes d ≡ false) × (transfers d ≡ false)
+still d h = (⊎_elim (λ e. absurd (false≢true (sym h ∙ or_left (changes d) (transfers d) e))) (λ e. e) (cases_Bool (changes d)), ⊎_elim (λ e. absurd (false≢true (sym h ∙ or_right (changes d) (transfers d) e))) (λ e. e) (cases_Bool (transfers d)))
 
 -- two loads do not clash
-pub both_load : (V : View) (accesses : List NodeAccess) (i j : ℕ) → moves (deed_of accesses i) ≡ false → moves (deed_of accesses j) ≡ false → Good V accesses i j
+pub both_load : (V : View) (accesses : List NodeAccess) (i j : ℕ) → clashes_with_loads (kind_of accesses i) ≡ false → clashes_with_loads (kind_of accesses j) ≡ false → TiedAt V accesses i j
 both_load V accesses i j p q C = absurd (none (clash_cases V (node_access_at accesses i).access (node_access_at accesses j).access C.clash))
   where
-    none : ((overlap V (piece_of accesses i) (piece_of accesses j) ≡ true) × ((changes (deed_of accesses i) || changes (deed_of accesses j)) ≡ true)) ⊎ ((piece_of accesses i ≡ piece_of accesses j) × ((transfers (deed_of accesses i) || transfers (deed_of accesses j)) ≡ true)) → ⊥
-    none (inl (over, c)) = never_either (changes (deed_of accesses i)) (changes (deed_of accesses j)) (still (deed_of accesses i) p).0 (still (deed_of accesses j) q).0 c
-    none (inr (same, t)) = never_either (transfers (deed_of accesses i)) (transfers (deed_of accesses j)) (still (deed_of accesses i) p).1 (still (deed_of accesses j) q).1 t
+    none : ((overlap V (piece_of accesses i) (piece_of accesses j) ≡ true) × ((changes (kind_of accesses i) || changes (kind_of accesses j)) ≡ true)) ⊎ ((piece_of accesses i ≡ piece_of accesses j) × ((transfers (kind_of accesses i) || transfers (kind_of accesses j)) ≡ true)) → ⊥
+    none (inl (over, c)) = never_either (changes (kind_of accesses i)) (changes (kind_of accesses j)) (still (kind_of accesses i) p).0 (still (kind_of accesses j) q).0 c
+    none (inr (same, t)) = never_either (transfers (kind_of accesses i)) (transfers (kind_of accesses j)) (still (kind_of accesses i) p).1 (still (kind_of accesses j) q).1 t
 
-module _ (V : View) (accesses : List NodeAccess) (S : ShapedView V) (L : Listed V accesses) (j q : ℕ) (within : j < length accesses) (G : GoodBelow V accesses j) (over : overlap V q (piece_of accesses j) ≡ true) (own : q < length V.pieces) where
+module _ (V : View) (accesses : List NodeAccess) (S : ShapedView V) (L : Listed V accesses) (j q : ℕ) (within : j < length accesses) (G : PlacesTiedBelow V accesses j) (over : overlap V q (piece_of accesses j) ≡ true) (own : q < length V.pieces) where
   -- a change of the piece that is tied with j stands for all earlier accesses of the piece
-  pub behind : (m : ℕ) → m < j → piece_of accesses m ≡ q → changes (deed_of accesses m) ≡ true → Good V accesses m j → (i : ℕ) → i < m → piece_of accesses i ≡ q → Good V accesses i j
+  pub behind : (m : ℕ) → m < j → piece_of accesses m ≡ q → changes (kind_of accesses m) ≡ true → TiedAt V accesses m j → (i : ℕ) → i < m → piece_of accesses i ≡ q → TiedAt V accesses i j
   behind m lm em change good i li ei =
       let lm_in : m < length accesses = omega (arith, lm, within) in
       let li_in : i < length accesses = omega (arith, li, lm_in) in
       through V (node_access_at accesses i) (node_access_at accesses m) (node_access_at accesses j) change (G i m li lm) good
       (clash_change V (node_access_at accesses i).access (node_access_at accesses m).access
       (subst (λ p. overlap V p (piece_of accesses m) ≡ true) (sym ei) (subst (λ p. overlap V q p ≡ true) (sym em) (itself V q S own)))
-      (or_right (changes (deed_of accesses i)) (changes (deed_of accesses m)) change))
+      (or_right (changes (kind_of accesses i)) (changes (kind_of accesses m)) change))
       (clash_change V (node_access_at accesses m).access (node_access_at accesses j).access
       (subst (λ p. overlap V p (piece_of accesses j) ≡ true) (sym em) over)
-      (or_left (changes (deed_of accesses m)) (changes (deed_of accesses j)) change))
+      (or_left (changes (kind_of accesses m)) (changes (kind_of accesses j)) change))
       (λ e h. L.last i m (node_access_at accesses i) (node_access_at accesses m) (here accesses i li_in) (here accesses m lm_in) li e h)
       (λ e. L.last m j (node_access_at accesses m) (node_access_at accesses j) (here accesses m lm_in) (here accesses j within) lm e change)
 
   -- one step back
-  pub back : (loads : Bool) (m : ℕ) → 0 < m → m ≤ j → ((i : ℕ) → m ≤ i → i < j → piece_of accesses i ≡ q → IsIn loads accesses i → Good V accesses i j) → Good V accesses (m - 1) j → (k : ℕ) → Latest loads accesses (m - 1) q k → (i : ℕ) → k ≤ i → i < j → piece_of accesses i ≡ q → IsIn loads accesses i → Good V accesses i j
+  pub back : (loads : Bool) (m : ℕ) → 0 < m → m ≤ j → ((i : ℕ) → m ≤ i → i < j → piece_of accesses i ≡ q → IsIn loads accesses i → TiedAt V accesses i j) → TiedAt V accesses (m - 1) j → (k : ℕ) → Latest loads accesses (m - 1) q k → (i : ℕ) → k ≤ i → i < j → piece_of accesses i ≡ q → IsIn loads accesses i → TiedAt V accesses i j
   back loads m pos lm seen good k K i lk li e n = go (cases_lt i m)
     where
-      go : (i < m) ⊎ (m ≤ i) → Good V accesses i j
+      go : (i < m) ⊎ (m ≤ i) → TiedAt V accesses i j
       go (inr h) = seen i h li e n
       go (inl h) = ⊎_elim
-          (λ (s : i ≡ m - 1). subst (λ z. Good V accesses z j) (sym s) good)
+          (λ (s : i ≡ m - 1). subst (λ z. TiedAt V accesses z j) (sym s) good)
           (λ (s : i ≢ m - 1). absurd (let f = K.last i (omega (arith, h, s)) e n in omega (arith, f, lk)))
           (cases_eq i (m - 1))
 
-  pub stop : (loads : Bool) (m : ℕ) → 0 < m → m ≤ j → piece_of accesses (m - 1) ≡ q → ((i : ℕ) → m ≤ i → i < j → piece_of accesses i ≡ q → IsIn loads accesses i → Good V accesses i j) → changes (deed_of accesses (m - 1)) ≡ true → Good V accesses (m - 1) j → (i : ℕ) → i < j → piece_of accesses i ≡ q → IsIn loads accesses i → Good V accesses i j
+  pub stop : (loads : Bool) (m : ℕ) → 0 < m → m ≤ j → piece_of accesses (m - 1) ≡ q → ((i : ℕ) → m ≤ i → i < j → piece_of accesses i ≡ q → IsIn loads accesses i → TiedAt V accesses i j) → changes (kind_of accesses (m - 1)) ≡ true → TiedAt V accesses (m - 1) j → (i : ℕ) → i < j → piece_of accesses i ≡ q → IsIn loads accesses i → TiedAt V accesses i j
   stop loads m pos lm its seen change good i li e n = go (cases_lt i m)
     where
-      go : (i < m) ⊎ (m ≤ i) → Good V accesses i j
+      go : (i < m) ⊎ (m ≤ i) → TiedAt V accesses i j
       go (inr h) = seen i h li e n
       go (inl h) = ⊎_elim
-          (λ (s : i ≡ m - 1). subst (λ z. Good V accesses z j) (sym s) good)
+          (λ (s : i ≡ m - 1). subst (λ z. TiedAt V accesses z j) (sym s) good)
           (λ (s : i ≢ m - 1). behind (m - 1) (omega (arith, pos, lm)) its change good i (omega (arith, h, s)) e)
           (cases_eq i (m - 1))
 
 pub latest_self : (loads : Bool) (accesses : List NodeAccess) (bound q m : ℕ) → Latest loads accesses bound q m → Latest loads accesses m q m
 latest_self loads accesses bound q m L = record { low = omega arith; last = λ i k e n. k; its = L.its }
 
-pub good_more : (V : View) (accesses : List NodeAccess) (j : ℕ) → GoodBelow V accesses j → ((i : ℕ) → i < j → Good V accesses i j) → GoodBelow V accesses (j + 1)
-good_more V accesses j G new i k lt h = ⊎_elim (λ (e : k ≡ j). subst (λ z. Good V accesses i z) (sym e) (new i (omega (arith, lt, e)))) (λ ne. G i k lt (omega (arith, h, ne))) (cases_eq k j)
+pub tied_more : (V : View) (accesses : List NodeAccess) (j : ℕ) → PlacesTiedBelow V accesses j → ((i : ℕ) → i < j → TiedAt V accesses i j) → PlacesTiedBelow V accesses (j + 1)
+tied_more V accesses j G new i k lt h = ⊎_elim (λ (e : k ≡ j). subst (λ z. TiedAt V accesses i z) (sym e) (new i (omega (arith, lt, e)))) (λ ne. G i k lt (omega (arith, h, ne))) (cases_eq k j)
 
-pub tied_below : (V : View) (accesses : List NodeAccess) (n : ℕ) → GoodBelow V accesses n → TiedBelow V accesses n
+pub tied_below : (V : View) (accesses : List NodeAccess) (n : ℕ) → PlacesTiedBelow V accesses n → TiedBelow V accesses n
 tied_below V accesses n G i j a b ha hb lt h =
     subst (λ c. PairTied V c b) (get_or_from_slice_get accesses i a no_node_access ha) (subst (λ c. PairTied V (node_access_at accesses i) c) (get_or_from_slice_get accesses j b no_node_access hb) (G i j lt h))
 
 -- one piece more
-pub pieces_more : (V : View) (accesses : List NodeAccess) (loads : Bool) (j q : ℕ) → ((i : ℕ) → i < j → piece_of accesses i < q → IsIn loads accesses i → Good V accesses i j) → ((i : ℕ) → i < j → piece_of accesses i ≡ q → IsIn loads accesses i → Good V accesses i j) → (i : ℕ) → i < j → piece_of accesses i < q + 1 → IsIn loads accesses i → Good V accesses i j
+pub pieces_more : (V : View) (accesses : List NodeAccess) (loads : Bool) (j q : ℕ) → ((i : ℕ) → i < j → piece_of accesses i < q → IsIn loads accesses i → TiedAt V accesses i j) → ((i : ℕ) → i < j → piece_of accesses i ≡ q → IsIn loads accesses i → TiedAt V accesses i j) → (i : ℕ) → i < j → piece_of accesses i < q + 1 → IsIn loads accesses i → TiedAt V accesses i j
 pieces_more V accesses loads j q old new i lt h n = ⊎_elim (λ e. new i lt e n) (λ ne. old i lt (omega (arith, h, ne)) n) (cases_eq (piece_of accesses i) q)
 
 -- as many pieces as the chain has, and of its kind
@@ -114,21 +112,21 @@ links_own accesses pieces j loads chain L = subst (λ n. Links accesses n j chai
 pub links_more : (accesses : List NodeAccess) (pieces j : ℕ) (loads : Bool) (old new : Chain) → Links accesses pieces j loads old → Links accesses (length old.last.items) (j + 1) old.loads new → Links accesses pieces (j + 1) loads new
 links_more accesses pieces j loads old new L M = subst (λ n. Links accesses n (j + 1) loads new) L.table (subst (λ k. Links accesses (length old.last.items) (j + 1) k new) L.kind M)
 
-pub is_first : (V : View) (accesses : List NodeAccess) (j : ℕ) (untied : Untied) → j < length accesses → GoodBelow V accesses j → IsFirstWith V accesses j untied → IsFirst V accesses untied
-is_first V accesses j untied h G (i, lt, first, second, broken, least) = (
-  i,
-  j,
-  node_access_at accesses i,
-  node_access_at accesses j,
-  first,
-  second,
-  record {
+pub is_first : (V : View) (accesses : List NodeAccess) (j : ℕ) (untied : Untied) → j < length accesses → PlacesTiedBelow V accesses j → IsFirstWith V accesses j untied → IsFirst V accesses untied.flaw untied.first untied.second
+is_first V accesses j untied h G (i, lt, first, second, flawed, least) = record {
+  i = i;
+  j = j;
+  a = node_access_at accesses i;
+  b = node_access_at accesses j;
+  first = first;
+  second = second;
+  flawed = record {
     first = here accesses i (omega (arith, lt, h));
     second = here accesses j h;
     rising = lt;
-    clashing = broken.0;
-    flawed = broken.1;
+    clashing = flawed.0;
+    flawed = flawed.1;
     below = tied_below V accesses j G;
     least = λ k c less at. subst (λ z. PairTied V z (node_access_at accesses j)) (get_or_from_slice_get accesses k c no_node_access at) (least k less);
-  },
-)
+  };
+}

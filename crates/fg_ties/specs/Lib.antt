@@ -1,8 +1,6 @@
-pub mod Around
-pub mod Chains
+pub mod Clashes
+pub mod Code
 pub mod First
 pub mod Passing
-pub mod Places
 pub mod Rows
-pub mod Stops
 pub mod Tied

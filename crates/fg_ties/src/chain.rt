@@ -2,11 +2,12 @@
 
 ghost use Rattle.std.specs.Prelude.{◌≡◌, ◌<◌, ◌+◌, List, length, get_or, IfOk, OnOk};
 ghost use Rattle.fg_view.specs.declared.node_access.NodeAccess.{NodeAccess};
-ghost use Rattle.fg_ties.specs.Chains.{Links};
-ghost use Rattle.fg_ties.specs.Places.{node_access_at, moves};
+ghost use Rattle.fg_ties.specs.Code.Chains.{Links, BothLinks};
+ghost use Rattle.fg_ties.specs.Code.Places.{node_access_at, clashes_with_loads};
 
+use crate::listing::Listing;
 use fg_base::NoMemory;
-use fg_view::{Access, NodeAccess, AccessKind};
+use fg_view::{Access, AccessKind, NodeAccess};
 use std::alloc::Global;
 
 /// For each piece the place of its latest access so far, and for each access that of the earlier one of its piece, each
@@ -20,15 +21,15 @@ pub(crate) struct Chain {
 }
 
 /// Whether it is more than a load, so that it may clash with one.
-pub(crate) fn moves(kind: AccessKind) -> bool
-    ensures { result ≡ moves kind }
+pub(crate) fn clashes_with_loads(kind: AccessKind) -> bool
+    ensures { result ≡ clashes_with_loads kind }
 {
     kind.changes() || kind.transfers()
 }
 
 impl Chain {
-    /// A chain of no accesses yet.
-    pub(crate) fn new(alloc: Global, loads: bool, pieces: usize) -> Result<Chain, NoMemory>
+    // A chain of no accesses yet.
+    fn new(alloc: Global, loads: bool, pieces: usize) -> Result<Chain, NoMemory>
         ensures { IfOk result (λ chain. (accesses : List NodeAccess) → Links accesses pieces 0 loads chain) }
     {
         Ok(Chain {
@@ -54,8 +55,8 @@ impl Chain {
         self.prev[i]
     }
 
-    /// Takes the access at the next place.
-    pub(crate) fn push(&mut self, accesses: &[NodeAccess], j: usize) -> Result<(), NoMemory>
+    // Takes the access at the next place.
+    fn push(&mut self, accesses: &[NodeAccess], j: usize) -> Result<(), NoMemory>
         requires j { j < length accesses.now }
         requires piece { (node_access_at accesses.now j).access.piece < length self.old.last.items }
         requires links { Links accesses.now (length self.old.last.items) j self.old.loads self.old }
@@ -64,9 +65,38 @@ impl Chain {
         let Access { piece, kind } = accesses[j].access;
         let earlier = self.last(piece);
         self.prev.push(earlier)?;
-        if self.loads || moves(kind) {
+        if self.loads || clashes_with_loads(kind) {
             self.last[piece as usize] = j + 1;
         }
         Ok(())
+    }
+}
+
+/// All accesses, and those without loads.
+#[derive(Drop)]
+pub(crate) struct Chains {
+    pub(crate) all: Chain,
+    pub(crate) no_loads: Chain,
+}
+
+impl Chains {
+    /// Chains of no accesses yet.
+    pub(crate) fn new(alloc: Global, pieces: usize) -> Result<Chains, NoMemory>
+        ensures { IfOk result (λ chains. (accesses : List NodeAccess) → BothLinks accesses pieces 0 chains) }
+    {
+        Ok(Chains {
+            all: Chain::new(alloc, true, pieces)?,
+            no_loads: Chain::new(alloc, false, pieces)?,
+        })
+    }
+
+    /// Takes the access at the next place.
+    pub(crate) fn push(&mut self, listing: &Listing, j: usize) -> Result<(), NoMemory>
+        requires j { j < length listing.now.accesses }
+        requires links { BothLinks listing.now.accesses (length listing.now.view.pieces) j self.old }
+        ensures { OnOk result (BothLinks listing.now.accesses (length listing.now.view.pieces) (j + 1) self.new) }
+    {
+        self.all.push(listing.accesses, j)?;
+        self.no_loads.push(listing.accesses, j)
     }
 }

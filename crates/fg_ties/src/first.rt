@@ -4,174 +4,146 @@ ghost use Rattle.std.specs.Prelude.{◌≡◌, ℕ, ◌<◌, length, true, false
 ghost use Rattle.fg_view.specs.AccessKinds.{changes};
 ghost use Rattle.fg_view.specs.ShapedView.{ShapedView, Listed};
 ghost use Rattle.fg_view.specs.Views.{overlap};
-ghost use Rattle.fg_ties.specs.Chains.{IsIn, Links};
-ghost use Rattle.fg_ties.specs.First.{IsFirst, IsFirstWith};
-ghost use Rattle.fg_ties.specs.Places.{node_access_at, piece_of, Good, GoodBelow};
+ghost use Rattle.fg_ties.specs.Code.Chains.{IsIn, Links, BothLinks};
+ghost use Rattle.fg_ties.specs.Code.Places.{node_access_at, piece_of, HasFlaw, IsFirstWith, PlacesTiedBelow, TiedAt};
+ghost use Rattle.fg_ties.specs.First.{DecidesTied, FindsFirst};
 ghost use Rattle.fg_ties.specs.Rows.{Rows};
-ghost use Rattle.fg_ties.specs.Stops.{Broken};
-ghost use Rattle.fg_ties.specs.Tied.{TiedBelow};
 
-use crate::chain::{Chain, moves};
-use crate::pair::pair;
+use crate::chain::{Chain, Chains, clashes_with_loads};
+use crate::listing::Listing;
 use crate::{Flaw, Untied};
 use fg_base::NoMemory;
-use fg_hb::Before;
+use fg_hb::{Before, before_laws};
 use fg_view::{NodeAccess, View};
 use std::alloc::Global;
 
-// Why the accesses at two places are not tied, if they are not.
-#[tactic(auto, using(crate::proofs::Walks::known_at))]
-fn flaw_at(view: &View, before: &Before, accesses: &[NodeAccess], i: usize, j: usize) -> Option<Flaw>
-    requires shaped { ShapedView view.now }
-    requires rows { Rows view.now before.now }
-    requires listed { Listed view.now accesses.now }
-    requires i { i < length accesses.now }
-    requires j { j < length accesses.now }
-    ensures { MatchOption result (Good view.now accesses.now i j) (λ flaw. Broken flaw view.now (node_access_at accesses.now i) (node_access_at accesses.now j)) }
-{
-    pair(view, before, accesses[i], accesses[j])
-}
-
-fn is_tied(view: &View, before: &Before, accesses: &[NodeAccess], i: usize, j: usize) -> bool
-    requires shaped { ShapedView view.now }
-    requires rows { Rows view.now before.now }
-    requires listed { Listed view.now accesses.now }
-    requires i { i < length accesses.now }
-    requires j { j < length accesses.now }
-    ensures { result ≡ true → Good view.now accesses.now i j }
-{
-    match flaw_at(view, before, accesses, i, j) {
-        None => true,
-        Some(_) => false,
+impl<'a> Listing<'a> {
+    // Why the accesses at two places are not tied, if they are not.
+    fn flaw_at(&self, i: usize, j: usize) -> Option<Flaw>
+        requires i { i < length self.now.accesses }
+        requires j { j < length self.now.accesses }
+        ensures { MatchOption result (TiedAt self.now.view self.now.accesses i j) (λ flaw. HasFlaw flaw self.now.view (node_access_at self.now.accesses i) (node_access_at self.now.accesses j)) }
+    {
+        self.flaw_between(self.access(i), self.access(j))
     }
-}
 
-// Whether all accesses of the piece in the chain are tied with the one at place `j`. Behind a change nothing is looked at:
-// what is tied with a change that is tied with `j` is tied with `j`.
-fn walk(view: &View, before: &Before, accesses: &[NodeAccess], chain: &Chain, j: usize, q: u32) -> bool
-    requires shaped { ShapedView view.now }
-    requires rows { Rows view.now before.now }
-    requires listed { Listed view.now accesses.now }
-    requires j { j < length accesses.now }
-    requires q { q < length view.now.pieces }
-    requires links { Links accesses.now (length view.now.pieces) j chain.now.loads chain.now }
-    requires good { GoodBelow view.now accesses.now j }
-    requires over { overlap view.now q (piece_of accesses.now j) ≡ true }
-    ensures { result ≡ true → (i : ℕ) → i < j → piece_of accesses.now i ≡ q → IsIn chain.now.loads accesses.now i → Good view.now accesses.now i j }
-{
-    let mut m = chain.last(q);
-    'back: while m > 0 {
-        let i = m - 1;
-        if !is_tied(view, before, accesses, i, j) {
-            return false;
-        }
-        if accesses[i].access.kind.changes() {
-            return true;
-        }
-        m = chain.before(i);
-    }
-    true
-}
-
-// The same, for a piece that may have no byte in common with that of the access at place `j`.
-fn is_clean_on(view: &View, before: &Before, accesses: &[NodeAccess], chain: &Chain, j: usize, q: u32) -> bool
-    requires shaped { ShapedView view.now }
-    requires rows { Rows view.now before.now }
-    requires listed { Listed view.now accesses.now }
-    requires j { j < length accesses.now }
-    requires q { q < length view.now.pieces }
-    requires links { Links accesses.now (length view.now.pieces) j chain.now.loads chain.now }
-    requires good { GoodBelow view.now accesses.now j }
-    ensures { result ≡ true → (i : ℕ) → i < j → piece_of accesses.now i ≡ q → IsIn chain.now.loads accesses.now i → Good view.now accesses.now i j }
-{
-    !view.overlap(q, accesses[j].access.piece) || walk(view, before, accesses, chain, j, q)
-}
-
-// Whether all accesses in the chain are tied with the one at place `j`.
-fn is_clean_in(view: &View, before: &Before, accesses: &[NodeAccess], chain: &Chain, j: usize) -> bool
-    requires shaped { ShapedView view.now }
-    requires rows { Rows view.now before.now }
-    requires listed { Listed view.now accesses.now }
-    requires j { j < length accesses.now }
-    requires links { Links accesses.now (length view.now.pieces) j chain.now.loads chain.now }
-    requires good { GoodBelow view.now accesses.now j }
-    ensures { result ≡ true → (i : ℕ) → i < j → IsIn chain.now.loads accesses.now i → Good view.now accesses.now i j }
-{
-    for q in 0..view.piece_count() as u32 {
-        if !is_clean_on(view, before, accesses, chain, j, q) {
-            return false;
+    fn is_tied(&self, i: usize, j: usize) -> bool
+        requires i { i < length self.now.accesses }
+        requires j { j < length self.now.accesses }
+        ensures { result ≡ true → TiedAt self.now.view self.now.accesses i j }
+    {
+        match self.flaw_at(i, j) {
+            None => true,
+            Some(_) => false,
         }
     }
-    true
-}
 
-// Whether all earlier accesses are tied with the one at place `j`.
-fn is_clean(
-    view: &View,
-    before: &Before,
-    accesses: &[NodeAccess],
-    all: &Chain,
-    moving: &Chain,
-    j: usize,
-) -> bool
-    requires shaped { ShapedView view.now }
-    requires rows { Rows view.now before.now }
-    requires listed { Listed view.now accesses.now }
-    requires j { j < length accesses.now }
-    requires all { Links accesses.now (length view.now.pieces) j true all.now }
-    requires moving { Links accesses.now (length view.now.pieces) j false moving.now }
-    requires good { GoodBelow view.now accesses.now j }
-    ensures { result ≡ true → (i : ℕ) → i < j → Good view.now accesses.now i j }
-{
-    if moves(accesses[j].access.kind) {
-        is_clean_in(view, before, accesses, all, j)
-    } else {
-        is_clean_in(view, before, accesses, moving, j)
+    // Whether all accesses of the piece in the chain are tied with the one at place `j`. Behind a change nothing is looked
+    // at: what is tied with a change that is tied with `j` is tied with `j`.
+    fn is_chain_tied(&self, chain: &Chain, j: usize, q: u32) -> bool
+        requires j { j < length self.now.accesses }
+        requires q { q < length self.now.view.pieces }
+        requires links { Links self.now.accesses (length self.now.view.pieces) j chain.now.loads chain.now }
+        requires below { PlacesTiedBelow self.now.view self.now.accesses j }
+        requires over { overlap self.now.view q (piece_of self.now.accesses j) ≡ true }
+        ensures { result ≡ true → (i : ℕ) → i < j → piece_of self.now.accesses i ≡ q → IsIn chain.now.loads self.now.accesses i → TiedAt self.now.view self.now.accesses i j }
+    {
+        let mut m = chain.last(q);
+        'back: while m > 0 {
+            let i = m - 1;
+            if !self.is_tied(i, j) {
+                return false;
+            }
+            if self.access(i).access.kind.changes() {
+                return true;
+            }
+            m = chain.before(i);
+        }
+        true
     }
-}
 
-// The first access that is not tied with the one at place `j`.
-fn scan(view: &View, before: &Before, accesses: &[NodeAccess], j: usize) -> Option<Untied>
-    requires shaped { ShapedView view.now }
-    requires rows { Rows view.now before.now }
-    requires listed { Listed view.now accesses.now }
-    requires j { j < length accesses.now }
-    ensures { MatchOption result ((i : ℕ) → i < j → Good view.now accesses.now i j) (λ untied. IsFirstWith view.now accesses.now j untied) }
-{
-    for i in 0..j {
-        if let Some(flaw) = flaw_at(view, before, accesses, i, j) {
-            return Some(Untied {
-                first: accesses[i].node,
-                second: accesses[j].node,
-                flaw,
-            });
+    // The same, for a piece that may have no byte in common with that of the access at place `j`.
+    fn is_piece_tied(&self, chain: &Chain, j: usize, q: u32) -> bool
+        requires j { j < length self.now.accesses }
+        requires q { q < length self.now.view.pieces }
+        requires links { Links self.now.accesses (length self.now.view.pieces) j chain.now.loads chain.now }
+        requires below { PlacesTiedBelow self.now.view self.now.accesses j }
+        ensures { result ≡ true → (i : ℕ) → i < j → piece_of self.now.accesses i ≡ q → IsIn chain.now.loads self.now.accesses i → TiedAt self.now.view self.now.accesses i j }
+    {
+        !self.view.overlap(q, self.access(j).access.piece) || self.is_chain_tied(chain, j, q)
+    }
+
+    // Whether all accesses in the chain are tied with the one at place `j`.
+    fn are_pieces_tied(&self, chain: &Chain, j: usize) -> bool
+        requires j { j < length self.now.accesses }
+        requires links { Links self.now.accesses (length self.now.view.pieces) j chain.now.loads chain.now }
+        requires below { PlacesTiedBelow self.now.view self.now.accesses j }
+        ensures { result ≡ true → (i : ℕ) → i < j → IsIn chain.now.loads self.now.accesses i → TiedAt self.now.view self.now.accesses i j }
+    {
+        for q in 0..self.view.piece_count() as u32 {
+            if !self.is_piece_tied(chain, j, q) {
+                return false;
+            }
+        }
+        true
+    }
+
+    // Whether all earlier accesses are tied with the one at place `j`. Loads do not clash with loads.
+    fn are_all_tied(&self, chains: &Chains, j: usize) -> bool
+        requires j { j < length self.now.accesses }
+        requires links { BothLinks self.now.accesses (length self.now.view.pieces) j chains.now }
+        requires below { PlacesTiedBelow self.now.view self.now.accesses j }
+        ensures { result ≡ true → (i : ℕ) → i < j → TiedAt self.now.view self.now.accesses i j }
+    {
+        if clashes_with_loads(self.access(j).access.kind) {
+            self.are_pieces_tied(&chains.all, j)
+        } else {
+            self.are_pieces_tied(&chains.no_loads, j)
         }
     }
-    None
-}
 
-// The same; all accesses are looked at only where one is not tied.
-fn first_with(
-    view: &View,
-    before: &Before,
-    accesses: &[NodeAccess],
-    all: &Chain,
-    moving: &Chain,
-    j: usize,
-) -> Option<Untied>
-    requires shaped { ShapedView view.now }
-    requires rows { Rows view.now before.now }
-    requires listed { Listed view.now accesses.now }
-    requires j { j < length accesses.now }
-    requires all { Links accesses.now (length view.now.pieces) j true all.now }
-    requires moving { Links accesses.now (length view.now.pieces) j false moving.now }
-    requires good { GoodBelow view.now accesses.now j }
-    ensures { MatchOption result ((i : ℕ) → i < j → Good view.now accesses.now i j) (λ untied. IsFirstWith view.now accesses.now j untied) }
-{
-    if is_clean(view, before, accesses, all, moving, j) {
-        return None;
+    // The first access that is not tied with the one at place `j`.
+    fn scan(&self, j: usize) -> Option<Untied>
+        requires j { j < length self.now.accesses }
+        ensures { MatchOption result ((i : ℕ) → i < j → TiedAt self.now.view self.now.accesses i j) (λ untied. IsFirstWith self.now.view self.now.accesses j untied) }
+    {
+        for i in 0..j {
+            if let Some(flaw) = self.flaw_at(i, j) {
+                return Some(Untied {
+                    first: self.access(i).node,
+                    second: self.access(j).node,
+                    flaw,
+                });
+            }
+        }
+        None
     }
-    scan(view, before, accesses, j)
+
+    // The same; all accesses are looked at only where one is not tied.
+    fn first_with(&self, chains: &Chains, j: usize) -> Option<Untied>
+        requires j { j < length self.now.accesses }
+        requires links { BothLinks self.now.accesses (length self.now.view.pieces) j chains.now }
+        requires below { PlacesTiedBelow self.now.view self.now.accesses j }
+        ensures { MatchOption result ((i : ℕ) → i < j → TiedAt self.now.view self.now.accesses i j) (λ untied. IsFirstWith self.now.view self.now.accesses j untied) }
+    {
+        if self.are_all_tied(chains, j) {
+            return None;
+        }
+        self.scan(j)
+    }
+
+    fn first(&self, alloc: Global) -> Result<Option<Untied>, NoMemory>
+        ensures { IfOk result (FindsFirst self.now.view self.now.accesses) }
+    {
+        let mut chains = Chains::new(alloc, self.view.piece_count())?;
+        for j in 0..self.accesses.len() {
+            if let Some(untied) = self.first_with(&chains, j) {
+                return Ok(Some(untied));
+            }
+            chains.push(self, j)?;
+        }
+        Ok(None)
+    }
 }
 
 /// The first two accesses that are not tied: of those with the least later one that with the least earlier one.
@@ -184,16 +156,9 @@ pub fn first_flaw(
     requires shaped { ShapedView view.now }
     requires rows { Rows view.now before.now }
     requires listed { Listed view.now accesses.now }
-    ensures { IfOk result (λ found. MatchOption found (TiedBelow view.now accesses.now (length accesses.now)) (λ untied. IsFirst view.now accesses.now untied)) }
+    ensures first { IfOk result (FindsFirst view.now accesses.now) }
+    ensures tied { IfOk result (DecidesTied view.now accesses.now) }
 {
-    let mut all = Chain::new(alloc, true, view.piece_count())?;
-    let mut moving = Chain::new(alloc, false, view.piece_count())?;
-    for j in 0..accesses.len() {
-        if let Some(untied) = first_with(view, before, accesses, &all, &moving, j) {
-            return Ok(Some(untied));
-        }
-        all.push(accesses, j)?;
-        moving.push(accesses, j)?;
-    }
-    Ok(None)
+    before_laws();
+    Listing::new(view, before, accesses).first(alloc)
 }

@@ -1,20 +1,30 @@
-use Rattle.std.proofs.Common.{◌∙◌, ap, subst}
-use Rattle.std.specs.Prelude.{MatchOption}
-use Rattle.fg_checker.specs.Hazards.{HazardIn}
-use Rattle.fg_checker.specs.Verdicts.{Clean}
-use Rattle.fg_checker.proofs.Nodes.{nodes_there, acts_listed}
-use Rattle.fg_checker.proofs.Verdicts.{hazard_found, sound_found}
+use Rattle.std.proofs.Common.{◌≡◌, ◌<◌, MatchOption, ◌∙◌, ap, sym, subst}
+use Rattle.fg_checker.specs.Code.Decided.{Clean, IsFound}
+use Rattle.fg_checker.proofs.Verdicts.{rows_of, hazard_found, sound_found}
+use Rattle.fg_hb.specs.Orders.{Among, Order}
+use Rattle.fg_view.specs.ShapedView.{Listed}
 use Rattle.fg_view.specs.Views.{node_accesses_of}
 use Rattle.fg_checker.proofs.judge.judge_order.Goals as goal
 
 pub node_accesses_of-requires : goal.node_accesses_of-requires
-node_accesses_of-requires c = nodes_there c.args.view.now c.args.order c.as_slice-2.result.now c.requires.shaped c.requires.order.order c.as_slice-2.ensures
+node_accesses_of-requires c = λ n m. subst (λ count. n < count) (sym c.requires.shaped.effects) (c.requires.order.order.only n (subst (λ l. Among n l) c.as_slice-2.ensures m))
+
+pub first_hazard-requires-clause-rows : goal.first_hazard-requires-clause-rows
+first_hazard-requires-clause-rows c = rows_of c.args.program.now c.args.view.now c.in_ok-before.before c.requires.view c.in_ok-before.ensures.count c.in_ok-before.ensures.happens c.in_ok-before.ensures.within
 
 pub first_hazard-requires-clause-listed : goal.first_hazard-requires-clause-listed
-first_hazard-requires-clause-listed c = acts_listed c.args.view.now c.args.order c.as_slice-2.result.now c.requires.shaped c.requires.order.order c.as_slice-2.ensures c.as_slice-3.result.now (c.as_slice-3.ensures ∙ c.in_ok-accesses.ensures)
+first_hazard-requires-clause-listed c =
+    subst (λ l. Listed c.args.view.now l) (sym c.as_slice-3.ensures)
+    (c.in_ok-accesses.ensures.listed c.requires.shaped (subst (λ l. Order c.args.view.now.nodes l) (sym c.as_slice-2.ensures) c.requires.order.order))
 
 pub returns-in-Some : goal.returns-in-Some
-returns-in-Some c = hazard_found c.args.program.now c.args.view.now c.args.order c.as_slice-3.result.now c.requires.view c.requires.order (c.as_slice-3.ensures ∙ (c.in_ok-accesses.ensures ∙ ap (node_accesses_of c.args.view.now) c.as_slice-2.ensures)) c.in-Some.hazard (subst (λ o. MatchOption o (Clean c.args.view.now c.as_slice-3.result.now) (HazardIn c.args.view.now c.as_slice-3.result.now)) c.in-Some.is c.in_ok-hazard.ensures)
+returns-in-Some c =
+    let is : c.as_slice-3.result.now ≡ node_accesses_of c.args.view.now c.args.order = c.as_slice-3.ensures ∙ (c.in_ok-accesses.ensures.accesses ∙ ap (node_accesses_of c.args.view.now) c.as_slice-2.ensures) in
+    hazard_found c.args.program.now c.args.view.now c.args.order c.as_slice-3.result.now c.requires.view c.requires.order is c.in-Some.hazard
+    (subst (λ o. MatchOption o (Clean c.args.view.now c.as_slice-3.result.now) (IsFound c.args.view.now c.as_slice-3.result.now)) c.in-Some.is (c.in_ok-hazard.ensures c.args.order c.requires.order.order is))
 
 pub returns-in-None : goal.returns-in-None
-returns-in-None c = sound_found c.args.program.now c.args.view.now c.args.order c.as_slice-3.result.now c.requires.view c.requires.order (c.as_slice-3.ensures ∙ (c.in_ok-accesses.ensures ∙ ap (node_accesses_of c.args.view.now) c.as_slice-2.ensures)) c.requires.shaped (subst (λ o. MatchOption o (Clean c.args.view.now c.as_slice-3.result.now) (HazardIn c.args.view.now c.as_slice-3.result.now)) c.in-None.is c.in_ok-hazard.ensures)
+returns-in-None c =
+    let is : c.as_slice-3.result.now ≡ node_accesses_of c.args.view.now c.args.order = c.as_slice-3.ensures ∙ (c.in_ok-accesses.ensures.accesses ∙ ap (node_accesses_of c.args.view.now) c.as_slice-2.ensures) in
+    sound_found c.args.program.now c.args.view.now c.args.order c.as_slice-3.result.now c.requires.view c.requires.order is
+    (subst (λ o. MatchOption o (Clean c.args.view.now c.as_slice-3.result.now) (IsFound c.args.view.now c.as_slice-3.result.now)) c.in-None.is (c.in_ok-hazard.ensures c.args.order c.requires.order.order is))

@@ -1,17 +1,15 @@
-use Rattle.std.proofs.Common.{◌≡◌, length, rules, subst}
+use Rattle.std.proofs.Common.{◌≡◌, ◌<◌, rules, sym, subst}
 use Rattle.fg_hb.specs.Orders.{Order}
-use Rattle.fg_view.proofs.Listing.{all_there, listed}
 use Rattle.fg_view.specs.ShapedView.{Listed}
-use Rattle.fg_view.specs.Views.{node_accesses_of}
 use Rattle.fg_ties.proofs.tests.untied.Goals as goal
 
 pub node_accesses_of-requires : goal.node_accesses_of-requires
 node_accesses_of-requires c =
     let whole : Order c.in_ok-view.view.nodes c.deref-in-Whole.result.now = search rules in
-    all_there c.in_ok-view.view.nodes (length c.in_ok-view.view.effects) c.deref-in-Whole.result.now c.in_ok-view.ensures.shaped.effects whole
+    λ n m. subst (λ count. n < count) (sym c.in_ok-view.ensures.shaped.effects) (whole.only n m)
 
 pub first_flaw-requires-clause-listed : goal.first_flaw-requires-clause-listed
 first_flaw-requires-clause-listed c =
     let whole : Order c.in_ok-view.view.nodes c.deref-in-Whole.result.now = search rules in
-    let accesses : node_accesses_of c.in_ok-view.view c.deref-in-Whole.result.now ≡ c.deref-in-Whole-2.result.now = search rules in
-    subst (λ accesses. Listed c.in_ok-view.view accesses) accesses (listed c.in_ok-view.view c.in_ok-view.ensures.shaped c.deref-in-Whole.result.now whole.once whole.only)
+    let accesses : c.in_ok-accesses.accesses ≡ c.deref-in-Whole-2.result.now = search rules in
+    subst (λ l. Listed c.in_ok-view.view l) accesses (c.in_ok-accesses.ensures.listed c.in_ok-view.ensures.shaped whole)
