@@ -1,0 +1,12 @@
+//! Frames and programs for tests, each sketched by a line of words. No crate of the product stands on it but for its tests.
+#![tactic(auto)]
+
+mod op;
+mod program;
+mod words;
+
+pub use program::sketched_program;
+pub use words::SketchError;
+
+#[cfg(test)]
+mod tests;
