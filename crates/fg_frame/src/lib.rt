@@ -12,11 +12,7 @@ mod numbers;
 mod path;
 mod place;
 mod repeats;
-#[cfg(test)]
-mod sketch;
 mod table;
-#[cfg(test)]
-mod tests;
 mod units;
 mod unknowns;
 mod uses;

@@ -13,7 +13,7 @@ use Rattle.fg_frame.specs.Numbered.{NumberedFrame}
 use Rattle.fg_frame.specs.Units.{Unit}
 use Rattle.fg_frame.specs.declared.numbered.NumberedPass.{NumberedPass}
 use Rattle.fg_meaning.specs.Meaning.{all_bytes, stores_to, meaning}
-use Rattle.fg_meaning.specs.Stored.{marked_by, marked, AreMarked, chosen}
+use Rattle.fg_meaning.specs.Code.Stored.{marked_by, marked, AreMarked, chosen}
 
 or_false : (a : Bool) → (a || false) ≡ a
 or_false true = refl

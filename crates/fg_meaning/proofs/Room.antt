@@ -10,9 +10,9 @@ use Rattle.fg_frame.specs.Good.{shapes_in}
 use Rattle.fg_frame.specs.Numbered.{NumberedFrame}
 use Rattle.fg_meaning.proofs.Runs.{destination_long, destination_within, same_sources, still_sized}
 use Rattle.fg_meaning.proofs.Settling.{carried}
-use Rattle.fg_meaning.specs.Held.{IsAt, Stands, is_wanted}
+use Rattle.fg_meaning.specs.Code.Held.{IsAt, Stands, is_wanted}
 use Rattle.fg_meaning.specs.Meaning.{after_ops}
-use Rattle.fg_meaning.specs.Sizes.{AreSized, IsRunnable}
+use Rattle.fg_meaning.specs.Code.Sizes.{AreSized, IsRunnable}
 use Rattle.fg_pixels.specs.Anew.{IgnoresOld}
 
 pub destination_there : (n : NumberedFrame) (op : Op ℕ) → IsRunnable (shapes_in n) op → destination_of op < length n.units

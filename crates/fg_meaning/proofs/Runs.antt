@@ -14,7 +14,7 @@ use Rattle.fg_base.specs.declared.op.Op.{Op}
 use Rattle.fg_base.specs.declared.op.Op.TheVariants.{FillBuffer, ClearImage, CopyBuffer, CopyImage, BufferToImage, ImageToBuffer, Ramp, Map, Combine, Select, Convert, Box3, Halve, Histogram, Draw}
 use Rattle.fg_base.specs.declared.op.Rect.{Rect}
 use Rattle.fg_base.specs.declared.shape.Shape.{Shape}
-use Rattle.fg_meaning.specs.Sizes.{AreSized}
+use Rattle.fg_meaning.specs.Code.Sizes.{AreSized}
 use Rattle.fg_pixels.specs.Sources.{source_bytes, is_draw}
 
 no_some : false ≡ true → ⊥

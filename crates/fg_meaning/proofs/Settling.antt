@@ -20,9 +20,9 @@ use Rattle.fg_meaning.proofs.Lists.{item_first}
 use Rattle.fg_meaning.proofs.Remaining.{as_ops}
 use Rattle.fg_meaning.proofs.Runs.{at_destination, at_sources, map_same, still_sized}
 use Rattle.fg_meaning.proofs.Steps.{are_sized}
-use Rattle.fg_meaning.specs.Held.{IsAt, Stands, all_ops, all_released, all_settled, first_at, is_wanted, released, settled}
+use Rattle.fg_meaning.specs.Code.Held.{IsAt, Stands, all_ops, all_released, all_settled, first_at, is_wanted, released, settled}
 use Rattle.fg_meaning.specs.Meaning.{first_bytes, all_bytes, has_picture, meaning}
-use Rattle.fg_meaning.specs.Sizes.{AreSized}
+use Rattle.fg_meaning.specs.Code.Sizes.{AreSized}
 
 equal : (u v : ℕ) → u ≡ v → (u == v) ≡ true
 equal u v same = ⊎_elim (λ h. h.0) (λ h. absurd (h.1 same)) (eqb_tells u v)

@@ -20,8 +20,8 @@ use Rattle.fg_frame.specs.declared.numbered.NumberedPass.{NumberedPass}
 use Rattle.fg_meaning.proofs.Marks.{marked_by-length, are_marked}
 use Rattle.fg_meaning.proofs.Runs.{destination_within}
 use Rattle.fg_meaning.specs.Meaning.{first_bytes, after_ops, after_passes, all_bytes}
-use Rattle.fg_meaning.specs.Sizes.{AreSized, IsRunnable}
-use Rattle.fg_meaning.specs.Stored.{marked_by, marked, AreMarked}
+use Rattle.fg_meaning.specs.Code.Sizes.{AreSized, IsRunnable}
+use Rattle.fg_meaning.specs.Code.Stored.{marked_by, marked, AreMarked}
 
 -- the pass that is looked up, with the rest of the passes
 record AtPass (passes : List NumberedPass) (p : ℕ) (ops : List (Op ℕ)) : Type 0 where

@@ -1,4 +1,2 @@
-pub mod Held
+pub mod Code
 pub mod Meaning
-pub mod Sizes
-pub mod Stored

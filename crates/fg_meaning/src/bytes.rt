@@ -10,7 +10,7 @@ ghost use Rattle.fg_base.specs.Shapes.{bytes_of, shape_at};
 ghost use Rattle.fg_frame.specs.Good.{shapes_in};
 ghost use Rattle.fg_frame.specs.Numbered.{numbered};
 ghost use Rattle.fg_meaning.specs.Meaning.{first_bytes, after_ops};
-ghost use Rattle.fg_meaning.specs.Sizes.{AreSized, IsRunnable};
+ghost use Rattle.fg_meaning.specs.Code.Sizes.{AreSized, IsRunnable};
 
 use crate::spare::{Spare, zeros};
 use crate::stored::destination;

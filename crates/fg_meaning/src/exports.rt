@@ -4,7 +4,7 @@ ghost use Rattle.std.specs.Prelude.{◌≡◌, ◌<◌, [], true, Some, is_some,
 ghost use Rattle.std.specs.List.{All};
 ghost use Rattle.fg_base.specs.Applied.{bytes_at};
 ghost use Rattle.fg_frame.specs.Numbered.{numbered};
-ghost use Rattle.fg_meaning.specs.Held.{IsAt, all_settled};
+ghost use Rattle.fg_meaning.specs.Code.Held.{IsAt, all_settled};
 ghost use Rattle.fg_meaning.specs.Meaning.{meaning};
 
 use crate::bytes::Bytes;

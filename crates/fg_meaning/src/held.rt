@@ -6,8 +6,8 @@ ghost use Rattle.fg_base.specs.Operands.{operands_of};
 ghost use Rattle.fg_base.specs.declared.op.Op.{Op};
 ghost use Rattle.fg_frame.specs.Good.{shapes_in};
 ghost use Rattle.fg_frame.specs.Numbered.{numbered};
-ghost use Rattle.fg_meaning.specs.Held.{IsAt, all_ops, all_released, all_settled, is_wanted, ops_at, ops_from, released, settled};
-ghost use Rattle.fg_meaning.specs.Sizes.{IsRunnable};
+ghost use Rattle.fg_meaning.specs.Code.Held.{IsAt, all_ops, all_released, all_settled, is_wanted, ops_at, ops_from, released, settled};
+ghost use Rattle.fg_meaning.specs.Code.Sizes.{IsRunnable};
 
 use crate::bytes::{Bytes, first_bytes, shape_of};
 use crate::ops::ops_of;

@@ -5,8 +5,8 @@ ghost use Rattle.std.specs.List.{All};
 ghost use Rattle.fg_base.specs.Operands.{operands_of};
 ghost use Rattle.fg_frame.specs.Good.{IsGood, shapes_in};
 ghost use Rattle.fg_frame.specs.Numbered.{numbered};
-ghost use Rattle.fg_meaning.specs.Held.{ops_at};
-ghost use Rattle.fg_meaning.specs.Sizes.{IsRunnable};
+ghost use Rattle.fg_meaning.specs.Code.Held.{ops_at};
+ghost use Rattle.fg_meaning.specs.Code.Sizes.{IsRunnable};
 
 use fg_base::Op;
 use fg_frame::GoodFrame;

@@ -23,7 +23,7 @@ pub struct Pictures {
 
 impl Model for Pictures {
     ghost use Rattle.std.specs.Prelude.{◌≡◌, ℕ, List, Option, length};
-    ghost use Rattle.fg_meaning.specs.Stored.{chosen};
+    ghost use Rattle.fg_meaning.specs.Code.Stored.{chosen};
 
     ghost Value = { List (Option (List ℕ)) };
 

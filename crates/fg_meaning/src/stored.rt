@@ -6,7 +6,7 @@ ghost use Rattle.fg_base.specs.Operands.{destination_of, operands_of, mapped};
 ghost use Rattle.fg_base.specs.Shapes.{shape_at};
 ghost use Rattle.fg_base.specs.Wholes.{is_whole};
 ghost use Rattle.fg_frame.specs.Numbered.{numbered};
-ghost use Rattle.fg_meaning.specs.Stored.{marked_by, AreMarked};
+ghost use Rattle.fg_meaning.specs.Code.Stored.{marked_by, AreMarked};
 
 use fg_base::{List, NoMemory, Op, Shape};
 use fg_frame::GoodFrame;

@@ -4,7 +4,7 @@ ghost use Rattle.std.specs.Prelude.{◌≡◌, ◌<◌, ◌≤◌, ◌+◌, ◌=
 ghost use Rattle.std.specs.List.{list_any};
 ghost use Rattle.fg_base.specs.Operands.{touches};
 ghost use Rattle.fg_frame.specs.Numbered.{numbered};
-ghost use Rattle.fg_meaning.specs.Held.{all_ops, is_wanted, ops_at, ops_from};
+ghost use Rattle.fg_meaning.specs.Code.Held.{all_ops, is_wanted, ops_at, ops_from};
 
 use crate::ops::ops_of;
 use fg_base::Op;

@@ -1,4 +1,4 @@
-//! Operations over numbered pieces.
+//! Operations over what the parts of a word name.
 
 use crate::SketchError;
 use crate::words::Word;
@@ -20,9 +20,16 @@ fn rects(alloc: Global, count: u32) -> Result<List<Rect>, SketchError> {
     Ok(rects)
 }
 
-/// The operation of a word: its verb, the pieces that it names, sources first, and what else there is.
-pub fn op(alloc: Global, word: Word) -> Result<Op<u32>, SketchError> {
-    let first = word.number(1)?;
+/// The operation of a word: its verb, its operands, sources first, and what else there is. `operand` gives what a part of
+/// the word names.
+pub fn op<R: Drop, F: Fn(usize) -> Result<R, SketchError>>(
+    alloc: Global,
+    word: Word,
+    operand: F,
+) -> Result<Op<R>, SketchError>
+    requires { F.IsAlwaysCallable operand }
+{
+    let first = operand(1)?;
     Ok(match word.verb() {
         "fill" => Op::FillBuffer {
             dst: first,
@@ -36,19 +43,29 @@ pub fn op(alloc: Global, word: Word) -> Result<Op<u32>, SketchError> {
         },
         "copy" => Op::CopyBuffer {
             src: first,
-            dst: word.number(2)?,
+            dst: operand(2)?,
             src_offset: 0,
             dst_offset: 0,
             size: word.number(3)?,
         },
+        "across" => Op::CopyImage {
+            src: first,
+            dst: operand(2)?,
+            src_x: 0,
+            src_y: 0,
+            dst_x: 0,
+            dst_y: 0,
+            width: 2,
+            height: 2,
+        },
         "in" => Op::BufferToImage {
             src: first,
-            dst: word.number(2)?,
+            dst: operand(2)?,
             offset: 0,
         },
         "out" => Op::ImageToBuffer {
             src: first,
-            dst: word.number(2)?,
+            dst: operand(2)?,
             offset: 0,
         },
         "ramp" => Op::Ramp {
@@ -59,9 +76,15 @@ pub fn op(alloc: Global, word: Word) -> Result<Op<u32>, SketchError> {
         },
         "map" => Op::Map {
             src: first,
-            dst: word.number(2)?,
+            dst: operand(2)?,
             fun: Fun::Add,
             value: 1,
+        },
+        "select" => Op::Select {
+            mask: first,
+            a: operand(2)?,
+            b: operand(3)?,
+            dst: operand(4)?,
         },
         "draw" => Op::Draw {
             dst: first,

@@ -129,7 +129,7 @@ fn item(alloc: Global, word: Word) -> Result<Item, SketchError> {
         ),
         "release" => Item::Release(transfer(word)?),
         "acquire" => Item::Acquire(transfer(word)?),
-        _ => Item::Command(op(alloc, word)?),
+        _ => Item::Command(op(alloc, word, |at| word.number(at))?),
     })
 }
 

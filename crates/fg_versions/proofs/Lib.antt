@@ -1,6 +1,5 @@
 pub mod Begin
 pub mod Grow
-pub mod Lookups
 pub mod Needed
 pub mod Pop
 pub mod Reach

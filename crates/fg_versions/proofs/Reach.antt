@@ -12,11 +12,10 @@ use Rattle.fg_frame.specs.Numbered.{NumberedFrame}
 use Rattle.fg_frame.specs.declared.frame.Write.{Write}
 use Rattle.fg_frame.specs.declared.numbered.NumberedPass.{NumberedPass}
 use Rattle.fg_versions.proofs.Grow.{row_is}
-use Rattle.fg_versions.specs.Counts.{is_root, count_of, RowLeads, RowReaches, stays, goes, IsNeeded, IsForward}
+use Rattle.fg_versions.specs.Code.Counts.{is_root, count_of, RowLeads, RowReaches, stays, goes, IsNeeded, IsForward}
+use Rattle.fg_versions.specs.Code.Roots.{effects, marked, rooted, AreRoots}
 use Rattle.fg_versions.specs.Culled.{Leads, Reaches, here, on, Matters, has_effect, makes_export, Culled, AreKept}
-use Rattle.fg_versions.specs.Roots.{effects, marked, rooted, AreRoots}
-use Rattle.fg_versions.specs.Rows.{row_of}
-use Rattle.fg_versions.specs.Versions.{made_by, made, imported, versions, all_versions, latest, latest_maker, no_pass, pass_at, used, sources, Numbers, numbers_of}
+use Rattle.fg_versions.specs.Versions.{row_of, made_by, made, imported, versions, all_versions, latest, latest_maker, no_pass, pass_at, used, sources, Numbers, numbers_of}
 
 no_some : false ≡ true → ⊥
 no_some e = cc

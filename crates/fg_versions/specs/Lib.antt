@@ -1,5 +1,3 @@
-pub mod Counts
+pub mod Code
 pub mod Culled
-pub mod Roots
-pub mod Rows
 pub mod Versions

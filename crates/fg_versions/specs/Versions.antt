@@ -77,6 +77,17 @@ pub record Numbers : Type 0 where
   pub writes : List (List ℕ)
   pub sources : List (List ℕ)
 
+-- the versions of a unit, the numbers of a pass
+abbrev pub row_of : List (List (Option ℕ)) → ℕ → List (Option ℕ)
+row_of rows unit = slice_index_or rows unit []
+
+abbrev pub row_at : List (List ℕ) → ℕ → List ℕ
+row_at rows p = slice_index_or rows p []
+
+-- the number of the last version
+abbrev pub last_number : List (Option ℕ) → Option ℕ
+last_number row = if length row == 0 then None else Some (length row - 1)
+
 -- of the first p passes
 abbrev pub numbers_until : NumberedFrame → ℕ → Numbers
 numbers_until frame p = record {

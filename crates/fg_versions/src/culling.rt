@@ -3,10 +3,9 @@
 ghost use Rattle.std.specs.Prelude.{◌≡◌, ◌<◌, ◌^◌, ℕ, length, IfOk, Some};
 ghost use Rattle.std.specs.List.{All};
 ghost use Rattle.fg_frame.specs.Numbered.{numbered};
+ghost use Rattle.fg_versions.specs.Code.Roots.{effects, rooted, AreRoots};
 ghost use Rattle.fg_versions.specs.Culled.{AreKept};
-ghost use Rattle.fg_versions.specs.Roots.{effects, rooted, AreRoots};
-ghost use Rattle.fg_versions.specs.Rows.{row_of};
-ghost use Rattle.fg_versions.specs.Versions.{latest_maker, numbers_of};
+ghost use Rattle.fg_versions.specs.Versions.{row_of, latest_maker, numbers_of};
 
 use crate::counts::{needed, positive};
 use crate::{Kept, Versions};

@@ -3,8 +3,8 @@
 ghost use Rattle.std.specs.Prelude.{◌≡◌, ◌==◌, ◌<◌, ◌≤◌, ◌++◌, map, length, Some, None, IfOk, OnOk, slice_get};
 ghost use Rattle.std.specs.List.{All, filter_map, range_with_len};
 ghost use Rattle.fg_frame.specs.Numbered.{numbered};
-ghost use Rattle.fg_versions.specs.Rows.{row_of, grown, added, added_numbers};
-ghost use Rattle.fg_versions.specs.Versions.{imported, versions, latest, latest_maker, changes};
+ghost use Rattle.fg_versions.specs.Code.Rows.{grown, added, added_numbers};
+ghost use Rattle.fg_versions.specs.Versions.{row_of, imported, versions, latest, latest_maker, changes};
 
 use fg_base::{List, NoMemory};
 use fg_frame::{GoodFrame, Write};

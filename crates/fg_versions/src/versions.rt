@@ -2,9 +2,7 @@
 
 ghost use Rattle.std.specs.Prelude.{◌≡◌, ◌<◌, ◌+◌, ◌-◌, length, IfOk, OnOk, Some, None, slice_get};
 ghost use Rattle.fg_frame.specs.Numbered.{numbered};
-ghost use Rattle.fg_versions.specs.Rows.{row_of, last_number};
-ghost use Rattle.fg_versions.specs.Versions.{Numbers, numbers_until, numbers_of};
-ghost use Rattle.fg_versions.specs.Counts.{row_at};
+ghost use Rattle.fg_versions.specs.Versions.{row_of, last_number, Numbers, numbers_until, numbers_of, row_at};
 
 use crate::makers::Makers;
 use fg_base::{List, NoMemory};

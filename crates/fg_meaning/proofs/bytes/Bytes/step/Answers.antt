@@ -9,8 +9,8 @@ use Rattle.fg_frame.specs.Numbered.{numbered}
 use Rattle.fg_meaning.proofs.Remaining.{next_op}
 use Rattle.fg_meaning.proofs.Settling.{ready_count, ready_sized, run_within, stepped}
 use Rattle.fg_meaning.proofs.bytes.Bytes.step.Goals as goal
-use Rattle.fg_meaning.specs.Held.{IsAt, ops_at, ops_from}
-use Rattle.fg_meaning.specs.Sizes.{IsRunnable}
+use Rattle.fg_meaning.specs.Code.Held.{IsAt, ops_at, ops_from}
+use Rattle.fg_meaning.specs.Code.Sizes.{IsRunnable}
 
 pub make_room-requires : goal.make_room-requires
 make_room-requires c =

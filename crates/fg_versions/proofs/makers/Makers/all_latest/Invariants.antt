@@ -1,6 +1,5 @@
 use Rattle.std.proofs.Common.{◌≡◌, map, take}
-use Rattle.fg_versions.specs.Rows.{row_of}
-use Rattle.fg_versions.specs.Versions.{latest}
+use Rattle.fg_versions.specs.Versions.{row_of, latest}
 use Rattle.fg_versions.proofs.makers.Makers.all_latest.Given as goal
 
 abbrev pub invariant-loop-unit : goal.invariant-loop-unit

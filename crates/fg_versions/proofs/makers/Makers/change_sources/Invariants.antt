@@ -1,7 +1,6 @@
 use Rattle.std.proofs.Common.{◌≡◌, ◌++◌, drop}
 use Rattle.std.specs.List.{filter_map}
-use Rattle.fg_versions.specs.Rows.{row_of}
-use Rattle.fg_versions.specs.Versions.{latest_maker, changes}
+use Rattle.fg_versions.specs.Versions.{row_of, latest_maker, changes}
 use Rattle.fg_versions.proofs.makers.Makers.change_sources.Given as goal
 
 abbrev pub invariant-loop-write : goal.invariant-loop-write

@@ -1,7 +1,6 @@
 use Rattle.std.proofs.Common.{◌≡◌, ◌++◌, drop}
 use Rattle.std.specs.List.{filter_map}
-use Rattle.fg_versions.specs.Rows.{row_of}
-use Rattle.fg_versions.specs.Versions.{latest_maker}
+use Rattle.fg_versions.specs.Versions.{row_of, latest_maker}
 use Rattle.fg_versions.proofs.makers.Makers.read_sources.Given as goal
 
 abbrev pub invariant-loop-unit : goal.invariant-loop-unit

@@ -1,8 +1,7 @@
 use Rattle.std.proofs.Common.{ℕ, Option, ◌++◌, ap, sym, ◌∙◌}
 use Rattle.std.specs.List.{filter_map}
 use Rattle.std.proofs.lemmas.List.Elements.{filter_map-append}
-use Rattle.fg_versions.specs.Rows.{row_of}
-use Rattle.fg_versions.specs.Versions.{latest_maker, changes}
+use Rattle.fg_versions.specs.Versions.{row_of, latest_maker, changes}
 use Rattle.fg_versions.proofs.makers.Makers.sources.Goals as goal
 
 pub returns : goal.returns

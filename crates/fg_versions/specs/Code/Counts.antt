@@ -1,11 +1,9 @@
 -- Reference counts.
 use Rattle.std.specs.Prelude.{suc, map, ◌≡◌, ◌<◌, ◌+◌, ◌-◌, ◌++◌, ◌∷◌, ◌==◌, ℕ, List, [], length, slice_index_or, slice_set, Bool, true, false, if◌then◌else◌}
 use Rattle.std.specs.List.{All, Contains, count_by, sum_by}
+use Rattle.fg_versions.specs.Versions.{row_at}
 
 -- BY ROWS: ENTRY q HAS THE SOURCES OF PASS q
-
-abbrev pub row_at : List (List ℕ) → ℕ → List ℕ
-row_at sources q = slice_index_or sources q []
 
 abbrev pub RowLeads : List (List ℕ) → ℕ → ℕ → Type 0
 RowLeads sources p q = (q < length sources) × Contains (row_at sources q) p

@@ -10,7 +10,7 @@ use Rattle.fg_frame.specs.Numbered.{NumberedFrame}
 use Rattle.fg_frame.specs.Units.{Unit}
 use Rattle.fg_frame.specs.declared.numbered.NumberedPass.{NumberedPass}
 use Rattle.fg_meaning.specs.Meaning.{first_bytes, after_ops, all_bytes}
-use Rattle.fg_meaning.specs.Sizes.{AreSized}
+use Rattle.fg_meaning.specs.Code.Sizes.{AreSized}
 
 -- WHAT IS STILL TO RUN
 

@@ -1,13 +1,7 @@
 -- Rows of versions as they grow.
-use Rattle.std.specs.Prelude.{ℕ, List, [], ◌∷◌, ◌++◌, ◌-◌, ◌==◌, length, Option, Some, None, slice_index_or, slice_set, if◌then◌else◌}
+use Rattle.std.specs.Prelude.{ℕ, List, [], ◌∷◌, ◌++◌, length, Option, Some, slice_set}
 use Rattle.fg_frame.specs.declared.frame.Write.{Write}
-
-abbrev pub row_of : List (List (Option ℕ)) → ℕ → List (Option ℕ)
-row_of rows unit = slice_index_or rows unit []
-
--- the number of the last version
-abbrev pub last_number : List (Option ℕ) → Option ℕ
-last_number row = if length row == 0 then None else Some (length row - 1)
+use Rattle.fg_versions.specs.Versions.{row_of}
 
 -- one version more, which pass p makes
 abbrev pub grown : ℕ → ℕ → List (List (Option ℕ)) → List (List (Option ℕ))

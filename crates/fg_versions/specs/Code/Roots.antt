@@ -1,10 +1,9 @@
 -- The passes that matter by themselves.
 use Rattle.std.specs.Prelude.{◌≡◌, ◌<◌, ℕ, List, [], ◌∷◌, map, length, Bool, true, Option, Some, None, slice_set}
 use Rattle.fg_frame.specs.Numbered.{NumberedFrame}
-use Rattle.fg_versions.specs.Counts.{is_root}
+use Rattle.fg_versions.specs.Code.Counts.{is_root}
 use Rattle.fg_versions.specs.Culled.{Matters}
-use Rattle.fg_versions.specs.Rows.{row_of}
-use Rattle.fg_versions.specs.Versions.{latest_maker}
+use Rattle.fg_versions.specs.Versions.{row_of, latest_maker}
 
 -- those with a side effect
 abbrev pub effects : NumberedFrame → List Bool

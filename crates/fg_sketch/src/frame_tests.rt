@@ -1,6 +1,6 @@
-use crate::sketch::{full, sketched, spot};
-use crate::{Frame, FrameEnd, FrameFault, GoodFrame, Sharing, Spot, well_formed};
-use fg_base::{Family, Leg, NoMemory};
+use crate::sketched_frame;
+use fg_base::{Leg, NoMemory};
+use fg_frame::{Frame, FrameEnd, FrameFault, well_formed};
 use std::alloc::Global;
 use std::process::Abort;
 use std::test::Fail;
@@ -34,7 +34,7 @@ fn printed(alloc: Global, frame: &Frame) -> Result<String, Fail> {
 
 // The first fault of the frame of a line; nothing for a good one. A frame that is refused comes back as it was.
 fn fault_of(rt: &impl Abort, alloc: Global, line: &str) -> Result<String, Fail> {
-    let frame = sketched(rt, alloc, line)?;
+    let frame = sketched_frame(alloc, line)?;
     let before = printed(alloc, &frame.copy(alloc)?)?;
     match well_formed(alloc, frame) {
         Ok(_) => Ok(String::new(alloc)),
@@ -197,82 +197,18 @@ fn faults(rt: HostRuntime) -> Result<(), Fail> {
     judge(&rt, alloc, &FITTED)
 }
 
-// How many entries a pass reads.
-fn entries(good: &GoodFrame, pass: u32) -> usize {
-    if pass < good.pass_count() {
-        good.reads(pass).len()
-    } else {
-        0
-    }
-}
-
-fn at_limit(rt: &impl Abort, good: &GoodFrame) {
-    assert_eq!(rt; good.pass_count(), 256);
-    assert_eq!(rt; entries(good, 255), 256);
-}
-
-#[test]
-fn at_every_limit(rt: HostRuntime) -> Result<(), Fail> {
-    let alloc = rt.alloc();
-    let Ok(good) = well_formed(alloc, full(&rt, alloc)?) else {
-        return Err(NoMemory)?;
-    };
-    at_limit(&rt, &good);
-    Ok(())
-}
-
-fn counts(rt: &impl Abort, good: &GoodFrame) {
-    assert_eq!(rt; good.queue_count(), 2);
-    assert_eq!(rt; good.pass_count(), 2);
-    assert_eq!(rt; good.unit_count(), 6);
-    assert_eq!(rt; good.shapes().len(), 6);
-    assert_eq!(rt; good.exports(), [4u32, 2, 3].as_slice());
-    assert_eq!(rt; good.frame().passes.len(), 2);
-}
-
-// Whether the queue of a pass is this one, of this family.
-fn runs_on(good: &GoodFrame, pass: u32, queue: u32, family: Family) -> bool {
-    if pass < good.pass_count() {
-        let found = good.queue_of(pass);
-        found == queue && good.family(found) == family
-    } else {
-        false
-    }
-}
-
-// Whether a pass reads these units, and has so many writes and operations.
-fn does(good: &GoodFrame, pass: u32, reads: &[u32], writes: usize, ops: usize) -> bool {
-    if pass < good.pass_count() {
-        let counted = good.writes(pass).len() == writes && good.ops(pass).len() == ops;
-        counted && good.reads(pass) == reads
-    } else {
-        false
-    }
-}
-
-// Whether a unit has this name, and is of this resource, which queues share so.
-fn is_named(good: &GoodFrame, unit: u32, name: &Spot, resource: u32, sharing: Sharing) -> bool {
-    if unit < good.unit_count() {
-        let known = good.unit_resource(unit) == resource && good.sharing(unit) == sharing;
-        known && good.unit_name(unit) == *name
-    } else {
-        false
-    }
-}
-
 // The readers of a good frame speak of units.
 #[test]
-fn readers(rt: HostRuntime) -> Result<(), Fail> {
+fn units(rt: HostRuntime) -> Result<(), Fail> {
     let alloc = rt.alloc();
     let line =
         "x:one x:im |t w:+b fill:b:16 |g r:in r:b w:+im w:+one clear:im/1 clear:im/0 map:im/1:one";
-    let Ok(good) = well_formed(alloc, sketched(&rt, alloc, line)?) else {
+    let Ok(good) = well_formed(alloc, sketched_frame(alloc, line)?) else {
         return Err(NoMemory)?;
     };
-    counts(&rt, &good);
-    assert!(rt; runs_on(&good, 0, 1, Family::Transfer));
-    assert!(rt; does(&good, 1, &[5, 0], 3, 3));
-    assert!(rt; is_named(&good, 3, &spot(&rt, "im/1"), 2, Sharing::Concurrent));
-    assert!(rt; is_named(&good, 4, &spot(&rt, "one"), 3, Sharing::Concurrent));
+    assert_eq!(&rt; good.queue_count(), 2);
+    assert_eq!(&rt; good.pass_count(), 2);
+    assert_eq!(&rt; good.unit_count(), 6);
+    assert_eq!(&rt; good.exports(), [4u32, 2, 3].as_slice());
     Ok(())
 }
