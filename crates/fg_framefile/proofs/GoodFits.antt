@@ -10,7 +10,6 @@ use Rattle.fg_base.specs.Names.{IsName}
 use Rattle.fg_base.specs.Operands.{operands_of}
 use Rattle.fg_base.specs.Shapes.{is_buffer}
 use Rattle.fg_base.specs.Walks.{first_in}
-use Rattle.fg_base.specs.declared.limit.Limit.TheVariants as limits
 use Rattle.fg_base.specs.declared.op.Op.{Op}
 use Rattle.fg_base.specs.declared.op.Op.TheVariants.{FillBuffer, ClearImage, CopyBuffer, CopyImage, BufferToImage, ImageToBuffer, Ramp, Map, Combine, Select, Convert, Box3, Halve, Histogram, Draw}
 use Rattle.fg_base.specs.declared.shape.Shape.{Shape}
@@ -18,26 +17,20 @@ use Rattle.fg_base.specs.declared.shape.Shape.TheVariants.{Buffer, Image}
 use Rattle.fg_forms.proofs.Ranges.{in_range}
 use Rattle.fg_forms.specs.Leaves.{greatest}
 use Rattle.fg_base.proofs.Absence.{all_pass, or_first, or_second, map_none, first_none, has_it}
-use Rattle.fg_frame.specs.FirstFault.{broken, shapes_of, imports_of, name_broken, misfit_broken, first_broken, first_fault}
-use Rattle.fg_frame.specs.Limits.{over, layers_allowed, all_bytes, op_count, rects_over, exported, count_broken, size_broken, limit_broken}
+use Rattle.fg_frame.specs.Good.{IsDeclared}
+use Rattle.fg_frame.specs.Limits.{layers_allowed}
 use Rattle.fg_frame.specs.Members.{member_at}
-use Rattle.fg_frame.specs.Numbered.{all_uses, export_units}
-use Rattle.fg_frame.specs.Paths.{told}
-use Rattle.fg_frame.specs.Places.{first_over}
-use Rattle.fg_frame.specs.Repeats.{repeated}
 use Rattle.fg_frame.specs.Units.{Numbering, numbering, stretches, stretch_of}
 use Rattle.fg_frame.specs.Unknowns.{has_queue, has_layer, picks_one, is_known, is_known_unit, unknown_at, unknown_operand, unknown_in, unknown}
-use Rattle.fg_frame.specs.Uses.{first_use, unwritten, import_fits, misfit_import}
+use Rattle.fg_frame.specs.Uses.{import_fits}
 use Rattle.fg_frame.specs.declared.frame.Frame.{Frame}
 use Rattle.fg_frame.specs.declared.frame.Pass.{Pass}
 use Rattle.fg_frame.specs.declared.frame.Resource.{Resource}
 use Rattle.fg_frame.specs.declared.frame.Spot.{Spot}
 use Rattle.fg_frame.specs.declared.frame.Write.{Write}
 use Rattle.fg_frame.specs.declared.numbered.Stretch.{Stretch}
-use Rattle.fg_frame.specs.declared.place.Broken.{Broken}
 use Rattle.fg_frame.specs.declared.place.Place.{Place}
 use Rattle.fg_frame.specs.declared.place.Place.TheVariants as at
-use Rattle.fg_frame.specs.declared.uses.Rule.TheVariants as rules
 use Rattle.fg_framefile.specs.Frames.{FitsFrame}
 use Rattle.fg_framefile.specs.Passes.{FitsPass}
 use Rattle.fg_framefile.specs.Resources.{FitsImport, FitsResource}
@@ -185,106 +178,16 @@ module _ (n : Numbering) (few : (name : List ℕ) → IfSome (stretch_of n name)
 
 -- FRAMES
 
-module _ (frame : Frame) (none : first_broken frame ≡ None) where
-  -- the rules after those on names
-  abbrev shapes : List Shape
-  shapes = shapes_of frame
-
-  abbrev runs_rule : Option Broken
-  runs_rule = option_map (broken 7) (first_use rules.Runs frame shapes (all_uses frame))
-
-  abbrev declared_rule : Option Broken
-  declared_rule = option_map (broken 8) (first_use rules.Declared frame shapes (all_uses frame))
-
-  abbrev whole_rule : Option Broken
-  whole_rule = option_map (broken 9) (first_use rules.Whole frame shapes (all_uses frame))
-
-  abbrev contents_rule : Option Broken
-  contents_rule = option_map (broken 10) (unwritten (imports_of frame) (all_uses frame) (export_units frame))
-
-  abbrev fits_rule : Option Broken
-  fits_rule = option_map (broken 11) (misfit_broken frame shapes (all_uses frame))
-
-  abbrev last_rules : Option Broken
-  last_rules =
-      option_or (option_map (broken 12) (first_use rules.InPlace frame shapes (all_uses frame)))
-      (option_map (broken 13) (first_use rules.ReadNew frame shapes (all_uses frame)))
-
-  abbrev use_rules : Option Broken
-  use_rules = option_or runs_rule (option_or declared_rule (option_or whole_rule (option_or contents_rule (option_or fits_rule last_rules))))
-
-  -- the rules on names
-  abbrev repeat_rule : Option Broken
-  repeat_rule = option_map (broken 5) (repeated frame)
-
-  abbrev unknown_rule : Option Broken
-  unknown_rule = option_map (broken 6) (unknown frame)
-
-  -- the limits
-  abbrev layer_limit : Option Broken
-  layer_limit = option_map (λ i. over limits.Layers (at.Resource i)) (position (λ r. not (layers_allowed r)) frame.resources)
-
-  abbrev other_limits : Option Broken
-  other_limits =
-      option_or (if is_between 1 4 (length frame.queues) then None else Some (over limits.Queues at.Queues))
-      (option_or (option_map (λ i. over limits.Resources at.Resources) (first_over (λ r. r.layers) 256 0 frame.resources))
-      (option_or (if nat_le (length frame.passes) 256 then None else Some (over limits.Passes at.Passes))
-      (option_or (option_map (λ p. over limits.Ops (at.Ops p)) (first_over op_count 256 0 frame.passes))
-      (option_or (option_map (over limits.Rects) (rects_over 4096 0 frame.passes))
-      (option_map (λ i. over limits.Exports at.Exports) (first_over (exported frame) 32 0 frame.exports))))))
-
-  abbrev side_limit : Option Broken
-  side_limit = option_map (λ i. over limits.Side (at.Resource i)) (position (λ r. not (sides_allowed r.shape)) frame.resources)
-
-  abbrev size_limit : Option Broken
-  size_limit = option_map (λ i. over limits.Size (at.Resource i)) (position (λ r. not (size_allowed r.shape)) frame.resources)
-
-  abbrev total_limit : Option Broken
-  total_limit = option_map (λ i. over limits.Total (at.Resource i)) (first_over all_bytes 268435456 0 frame.resources)
-
-  names_none : name_broken frame ≡ None
-  names_none = or_first (name_broken frame) use_rules none
-
-  limits_none : limit_broken frame ≡ None
-  limits_none = or_first (limit_broken frame) (option_or repeat_rule unknown_rule) names_none
-
-  unknown_none : unknown frame ≡ None
-  unknown_none = map_none (broken 6) (unknown frame) (or_second repeat_rule unknown_rule (or_second (limit_broken frame) (option_or repeat_rule unknown_rule) names_none))
-
-  after_runs : option_or declared_rule (option_or whole_rule (option_or contents_rule (option_or fits_rule last_rules))) ≡ None
-  after_runs = or_second runs_rule (option_or declared_rule (option_or whole_rule (option_or contents_rule (option_or fits_rule last_rules)))) (or_second (name_broken frame) use_rules none)
-
-  fits_none : fits_rule ≡ None
-  fits_none = or_first fits_rule last_rules (or_second contents_rule (option_or fits_rule last_rules) (or_second whole_rule (option_or contents_rule (option_or fits_rule last_rules)) (or_second declared_rule (option_or whole_rule (option_or contents_rule (option_or fits_rule last_rules))) after_runs)))
-
-  imports_allowed : All (λ r. import_fits r.shape r.import ≡ true) frame.resources
-  imports_allowed = all_pass (λ r. import_fits r.shape r.import) frame.resources (map_none (λ i. at.Import i) (position (λ r. not (import_fits r.shape r.import)) frame.resources) (or_first (misfit_import frame.resources) (first_use rules.Fits frame shapes (all_uses frame)) (map_none (broken 11) (misfit_broken frame shapes (all_uses frame)) fits_none)))
-
-  layers_are : All (λ r. layers_allowed r ≡ true) frame.resources
-  layers_are = all_pass layers_allowed frame.resources (map_none (λ i. over limits.Layers (at.Resource i)) (position (λ r. not (layers_allowed r)) frame.resources) (or_first layer_limit other_limits (or_first (count_broken frame) (size_broken frame.resources) limits_none)))
-
-  sizes_none : size_broken frame.resources ≡ None
-  sizes_none = or_second (count_broken frame) (size_broken frame.resources) limits_none
-
-  sides_are : All (λ r. sides_allowed r.shape ≡ true) frame.resources
-  sides_are = all_pass (λ r. sides_allowed r.shape) frame.resources (map_none (λ i. over limits.Side (at.Resource i)) (position (λ r. not (sides_allowed r.shape)) frame.resources) (or_first side_limit (option_or size_limit total_limit) sizes_none))
-
-  sizes_are : All (λ r. size_allowed r.shape ≡ true) frame.resources
-  sizes_are = all_pass (λ r. size_allowed r.shape) frame.resources (map_none (λ i. over limits.Size (at.Resource i)) (position (λ r. not (size_allowed r.shape)) frame.resources) (or_first size_limit total_limit (or_second side_limit (option_or size_limit total_limit) sizes_none)))
-
-  fits_by : IsTypedFrame frame → FitsFrame frame
-  fits_by typed =
-      let n = numbering frame in
-      let resources : AllByRecursion FitsResource frame.resources = resources_fit frame.resources layers_are sides_are sizes_are imports_allowed typed.resources in
-      let few : (name : List ℕ) → IfSome (stretch_of n name) Few = λ name. found n.stretches (position (bytes_eq name) n.names) (few_stretches 0 frame.resources resources) in
-      let passes : Option Place = first_in (unknown_in frame n) 0 frame.passes in
-      let exports : Option Place = option_map (λ i. at.Export i) (position (λ spot. not (is_known n spot)) frame.exports) in
-      record {
-        queues = typed.queues;
-        resources = resources;
-        passes = passes_fit n few frame 0 frame.passes (or_first passes exports unknown_none) typed.passes;
-        exports = spots_fit n few frame.exports (all_pass (is_known n) frame.exports (map_none (λ i. at.Export i) (position (λ spot. not (is_known n spot)) frame.exports) (or_second passes exports unknown_none))) typed.exports;
-      }
-
-pub good_fits : (frame : Frame) → first_fault frame ≡ None → IsTypedFrame frame → FitsFrame frame
-good_fits frame none typed = fits_by frame (map_none told (first_broken frame) none) typed
+pub good_fits : (frame : Frame) → IsDeclared frame → IsTypedFrame frame → FitsFrame frame
+good_fits frame declared typed =
+    let n = numbering frame in
+    let resources : AllByRecursion FitsResource frame.resources = resources_fit frame.resources declared.layers declared.sides declared.sizes declared.imports typed.resources in
+    let few : (name : List ℕ) → IfSome (stretch_of n name) Few = λ name. found n.stretches (position (bytes_eq name) n.names) (few_stretches 0 frame.resources resources) in
+    let passes : Option Place = first_in (unknown_in frame n) 0 frame.passes in
+    let exports : Option Place = option_map (λ i. at.Export i) (position (λ spot. not (is_known n spot)) frame.exports) in
+    record {
+      queues = typed.queues;
+      resources = resources;
+      passes = passes_fit n few frame 0 frame.passes (or_first passes exports declared.known) typed.passes;
+      exports = spots_fit n few frame.exports (all_pass (is_known n) frame.exports (map_none (λ i. at.Export i) (position (λ spot. not (is_known n spot)) frame.exports) (or_second passes exports declared.known))) typed.exports;
+    }

@@ -6,9 +6,11 @@ use crate::pass::PassForm;
 use crate::queue::QueueForm;
 use crate::resource::ResourceForm;
 use crate::spot::SpotForm;
-use fg_forms::{ListForm, Place, ReadEnd, Reader, Writer, others, required};
+use fg_forms::{
+    ListForm, Place, ReadEnd, Reader, Writer, others, required, with_form, with_member,
+};
 use fg_frame::Frame;
-use serde_json::{Value, json};
+use serde_json::{Map, Value};
 use std::alloc::{AllocError, Global};
 
 /// A whole frame file of a format, whose `format` was examined before.
@@ -48,10 +50,26 @@ impl<const FORMAT: u32> Writer for FrameForm<FORMAT> {
     ghost writes = { frame_data };
 
     fn write(alloc: Global, frame: &Frame) -> Result<Value, AllocError> {
-        let queues = <ListForm<QueueForm>>::write(alloc, &frame.queues)?;
-        let resources = <ListForm<ResourceForm<FORMAT>>>::write(alloc, &frame.resources)?;
-        let passes = <ListForm<PassForm<FORMAT>>>::write(alloc, &frame.passes)?;
-        let exports = <ListForm<SpotForm<FORMAT>>>::write(alloc, &frame.exports)?;
-        json!(in alloc; {"exports": exports, "format": 2u32, "passes": passes, "queues": queues, "resources": resources})
+        let members = with_form::<ListForm<SpotForm<FORMAT>>>(
+            alloc,
+            Map::new(alloc),
+            "exports",
+            &frame.exports,
+        )?;
+        let members = with_member(alloc, members, "format", Value::from(2u32))?;
+        let members = with_form::<ListForm<PassForm<FORMAT>>>(
+            alloc,
+            members,
+            "passes",
+            &frame.passes,
+        )?;
+        let members = with_form::<ListForm<QueueForm>>(alloc, members, "queues", &frame.queues)?;
+        let members = with_form::<ListForm<ResourceForm<FORMAT>>>(
+            alloc,
+            members,
+            "resources",
+            &frame.resources,
+        )?;
+        Ok(Value::Object(members))
     }
 }

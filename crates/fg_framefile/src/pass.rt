@@ -1,8 +1,6 @@
 //! Passes in a file.
 
-ghost use Rattle.std.specs.Prelude.{◌≡◌, IfOk};
-ghost use Rattle.fg_framefile.specs.Passes.{pass_at, pass_object, pass_data, FitsPass};
-ghost use Rattle.serde_json.specs.View.{view};
+ghost use Rattle.fg_framefile.specs.Passes.{pass_at, pass_data, FitsPass};
 
 use crate::flag::FlagForm;
 use crate::spot::SpotForm;
@@ -10,10 +8,11 @@ use crate::write::WriteForm;
 use fg_base::List;
 use fg_forms::{
     ListForm, NameForm, Place, ReadEnd, Reader, Writer, object, optional, others, required,
+    with_form, with_member,
 };
 use fg_frame::Pass;
 use fg_opforms::OpForm;
-use serde_json::{Value, json};
+use serde_json::{Map, Value};
 use std::alloc::{AllocError, Global};
 
 /// An entry of `passes`.
@@ -58,27 +57,24 @@ impl<const FORMAT: u32> Writer for PassForm<FORMAT> {
     ghost writes = { pass_data };
 
     fn write(alloc: Global, pass: &Pass) -> Result<Value, AllocError> {
-        let name = NameForm::write(alloc, &pass.name)?;
-        let queue = NameForm::write(alloc, &pass.queue)?;
-        let reads = <ListForm<SpotForm<FORMAT>>>::write(alloc, &pass.reads)?;
-        let writes = <ListForm<WriteForm<FORMAT>>>::write(alloc, &pass.writes)?;
-        let ops = <ListForm<OpForm<SpotForm<FORMAT>>>>::write(alloc, &pass.ops)?;
-        pass_object(alloc, name, ops, queue, reads, pass.side_effect, writes)
+        let members = with_form::<NameForm>(alloc, Map::new(alloc), "name", &pass.name)?;
+        let members = with_form::<ListForm<OpForm<SpotForm<FORMAT>>>>(
+            alloc, members, "ops", &pass.ops,
+        )?;
+        let members = with_form::<NameForm>(alloc, members, "queue", &pass.queue)?;
+        let members = with_form::<ListForm<SpotForm<FORMAT>>>(
+            alloc,
+            members,
+            "reads",
+            &pass.reads,
+        )?;
+        let members = with_member(alloc, members, "side_effect", Value::Bool(pass.side_effect))?;
+        let members = with_form::<ListForm<WriteForm<FORMAT>>>(
+            alloc,
+            members,
+            "writes",
+            &pass.writes,
+        )?;
+        Ok(Value::Object(members))
     }
-}
-
-// A pass from what its members are written as.
-fn pass_object(
-    alloc: Global,
-    name: Value,
-    ops: Value,
-    queue: Value,
-    reads: Value,
-    side_effect: bool,
-    writes: Value,
-) -> Result<Value, AllocError>
-    ensures { IfOk result (λ json. view json
-        ≡ pass_object (view name) (view ops) (view queue) (view reads) side_effect (view writes)) }
-{
-    json!(in alloc; {"name": name, "ops": ops, "queue": queue, "reads": reads, "side_effect": side_effect, "writes": writes})
 }

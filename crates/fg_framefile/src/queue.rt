@@ -2,10 +2,12 @@
 
 ghost use Rattle.fg_framefile.specs.Queues.{queue_at, queue_data, FitsQueue};
 
-use fg_forms::{NameForm, Place, ReadEnd, Reader, TextForm, Writer, object, others, required};
+use fg_forms::{
+    NameForm, Place, ReadEnd, Reader, TextForm, Writer, object, others, required, with_form,
+};
 use fg_frame::QueueDecl;
 use fg_shapeforms::FamilyWord;
-use serde_json::{Value, json};
+use serde_json::{Map, Value};
 use std::alloc::{AllocError, Global};
 
 /// An entry of `queues`.
@@ -34,8 +36,13 @@ impl Writer for QueueForm {
     ghost writes = { queue_data };
 
     fn write(alloc: Global, queue: &QueueDecl) -> Result<Value, AllocError> {
-        let name = NameForm::write(alloc, &queue.name)?;
-        let family = <TextForm<FamilyWord>>::write(alloc, &queue.family)?;
-        json!(in alloc; {"family": family, "name": name})
+        let members = with_form::<TextForm<FamilyWord>>(
+            alloc,
+            Map::new(alloc),
+            "family",
+            &queue.family,
+        )?;
+        let members = with_form::<NameForm>(alloc, members, "name", &queue.name)?;
+        Ok(Value::Object(members))
     }
 }

@@ -1,14 +1,12 @@
 //! The members of a resource as they are written.
 
-ghost use Rattle.std.specs.Prelude.{◌≡◌, codes, option_map, IfOk};
-ghost use Rattle.fg_forms.specs.Leaves.{text_data, same_bytes};
+ghost use Rattle.std.specs.Prelude.{◌≡◌, option_map, IfOk};
 ghost use Rattle.fg_framefile.specs.Resources.{put_maybe, layers_data, sharing_data, shape_members, resource_members};
 ghost use Rattle.fg_shapeforms.specs.Hexadecimal.{hex_data};
-ghost use Rattle.serde_json.specs.Data.{put};
 ghost use Rattle.serde_json.specs.View.{view, members_view};
 
-use fg_base::{List, Name, Shape};
-use fg_forms::{Members, NameForm, TextForm, Writer, with_member};
+use fg_base::{List, Shape};
+use fg_forms::{Members, NameForm, TextForm, Writer, with_form, with_member};
 use fg_frame::{Resource, Sharing};
 use fg_shapeforms::{HexForm, SharingWord, TexelWord};
 use serde_json::{Map, Value, json};
@@ -28,13 +26,6 @@ fn with_maybe(
     }
 }
 
-fn with_name(alloc: Global, members: Members, name: &Name) -> Result<Members, AllocError>
-    ensures { IfOk result (λ more. members_view more.entries ≡ put (codes "name") (text_data same_bytes name.now) (members_view members.entries)) }
-{
-    let value = NameForm::write(alloc, name)?;
-    with_member(alloc, members, "name", value)
-}
-
 fn with_shape(alloc: Global, members: Members, shape: Shape) -> Result<Members, AllocError>
     ensures { IfOk result (λ more. members_view more.entries ≡ shape_members shape (members_view members.entries)) }
 {
@@ -45,8 +36,7 @@ fn with_shape(alloc: Global, members: Members, shape: Shape) -> Result<Members, 
             height,
             texel,
         } => {
-            let texel = <TextForm<TexelWord>>::write(alloc, &texel)?;
-            let members = with_member(alloc, members, "texel", texel)?;
+            let members = with_form::<TextForm<TexelWord>>(alloc, members, "texel", &texel)?;
             let sides = json!(in alloc; [width, height])?;
             with_member(alloc, members, "image", sides)
         }
@@ -85,7 +75,7 @@ fn sharing_value(alloc: Global, sharing: Sharing) -> Result<Option<Value>, Alloc
 pub fn resource_members(alloc: Global, resource: &Resource) -> Result<Members, AllocError>
     ensures { IfOk result (λ members. members_view members.entries ≡ resource_members resource.now) }
 {
-    let members = with_name(alloc, Map::new(alloc), &resource.name)?;
+    let members = with_form::<NameForm>(alloc, Map::new(alloc), "name", &resource.name)?;
     let members = with_shape(alloc, members, resource.shape)?;
     let import = import_value(alloc, &resource.import)?;
     let members = with_maybe(alloc, members, "import", import)?;

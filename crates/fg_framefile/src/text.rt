@@ -8,7 +8,7 @@ ghost use Rattle.fg_framefile.specs.Frames.{FitsFrame};
 use crate::frame::FrameForm;
 use fg_base::{NoMemory, Text};
 use fg_forms::{Typed, write_json};
-use fg_frame::Frame;
+use fg_frame::{Frame, frame_laws};
 use std::alloc::Global;
 
 /// The canonical text of a frame: its value in format 2, compact, with the members of each object in the byte order of
@@ -18,6 +18,7 @@ pub fn write_frame(alloc: Global, frame: &Frame) -> Result<Text, NoMemory>
     ensures again { IfOk result (λ text. FitsFrame frame.now → frame_of text ≡ Ok frame.now) }
     ensures good { IfOk result (λ text. first_fault frame.now ≡ None → frame_of text ≡ Ok frame.now) }
 {
+    frame_laws();
     <FrameForm<2>>::look(frame);
     write_json::<FrameForm<2>>(alloc, frame)
 }

@@ -7,9 +7,9 @@ ghost use Rattle.fg_framefile.specs.Writes.{new_at, change_at, write_at, write_d
 ghost use Rattle.serde_json.specs.View.{view};
 
 use crate::spot::SpotForm;
-use fg_forms::{Place, ReadEnd, Reader, Writer, object, others, required};
+use fg_forms::{Place, ReadEnd, Reader, Writer, object, others, required, with_form};
 use fg_frame::{Spot, Write};
-use serde_json::{Value, json};
+use serde_json::{Map, Value};
 use std::alloc::{AllocError, Global};
 
 /// An entry of a pass's `writes`.
@@ -74,11 +74,8 @@ impl<const FORMAT: u32> Writer for WriteForm<FORMAT> {
     ghost writes = { write_data };
 
     fn write(alloc: Global, write: &Write<Spot>) -> Result<Value, AllocError> {
-        let what = <SpotForm<FORMAT>>::write(alloc, &write.what)?;
-        if write.fresh {
-            json!(in alloc; {"new": what})
-        } else {
-            json!(in alloc; {"change": what})
-        }
+        let word = if write.fresh { "new" } else { "change" };
+        let members = with_form::<SpotForm<FORMAT>>(alloc, Map::new(alloc), word, &write.what)?;
+        Ok(Value::Object(members))
     }
 }

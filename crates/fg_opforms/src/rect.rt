@@ -1,17 +1,14 @@
 //! Rectangles of draws.
 
-ghost use Rattle.std.specs.Prelude.{◌≡◌, IfOk};
-ghost use Rattle.fg_forms.specs.Leaves.{text_data};
-ghost use Rattle.fg_opforms.specs.Mixes.{mix_text};
 ghost use Rattle.fg_opforms.specs.Rects.{rect_at, rect_data, FitsRect};
-ghost use Rattle.serde_json.specs.View.{view};
 
 use crate::MixForm;
 use fg_base::{Mix, Rect};
 use fg_forms::{
     NumberForm, Place, ReadEnd, Reader, Typed, Writer, object, optional, others, required,
+    with_form,
 };
-use serde_json::{Value, json};
+use serde_json::{Map, Value};
 use std::alloc::{AllocError, Global};
 
 /// A rectangle as an object. An absent `mix` is read as `Set`, and is always written.
@@ -56,17 +53,14 @@ impl Writer for RectForm {
     ghost writes = { rect_data };
 
     fn write(alloc: Global, rect: &Rect) -> Result<Value, AllocError> {
-        let mix = MixForm::write(alloc, &rect.mix)?;
-        rect_object(alloc, rect, mix)
+        let members = with_form::<NumberForm>(alloc, Map::new(alloc), "height", &rect.height)?;
+        let members = with_form::<MixForm>(alloc, members, "mix", &rect.mix)?;
+        let members = with_form::<NumberForm>(alloc, members, "value", &rect.value)?;
+        let members = with_form::<NumberForm>(alloc, members, "width", &rect.width)?;
+        let members = with_form::<NumberForm>(alloc, members, "x", &rect.x)?;
+        let members = with_form::<NumberForm>(alloc, members, "y", &rect.y)?;
+        Ok(Value::Object(members))
     }
-}
-
-// All members; the text of `mix` is given.
-fn rect_object(alloc: Global, rect: &Rect, mix: Value) -> Result<Value, AllocError>
-    requires { view mix ≡ text_data mix_text rect.now.mix }
-    ensures { IfOk result (λ json. view json ≡ rect_data rect.now) }
-{
-    json!(in alloc; {"height": rect.height, "mix": mix, "value": rect.value, "width": rect.width, "x": rect.x, "y": rect.y})
 }
 
 impl Typed for RectForm {

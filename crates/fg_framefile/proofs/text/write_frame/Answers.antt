@@ -16,4 +16,4 @@ returns-clause-again c =
 pub returns-clause-good : goal.returns-clause-good
 returns-clause-good c =
     let f = c.args.frame.now in
-    IfOk-weaker c.write_json.result _ _ (λ text reads none. read_back f text (good_fits f none c.look.ensures) (reads (omega (arith, (frame_flat f).shallow)))) c.write_json.ensures.again
+    IfOk-weaker c.write_json.result _ _ (λ text reads none. read_back f text (good_fits f (c.frame_laws.ensures.declared f none) c.look.ensures) (reads (omega (arith, (frame_flat f).shallow)))) c.write_json.ensures.again
