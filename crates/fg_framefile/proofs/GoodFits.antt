@@ -1,6 +1,6 @@
 -- A frame that breaks no rule fits the format, where its parts are what their types say.
 use Rattle.std.proofs.Common.{◌≡◌, ℕ, zero, suc, ◌+◌, ◌<◌, ◌≤◌, true, false, arith, List, [], ◌∷◌, length, get_or, slice_get, nat_lt, not, Option, Some, None, refl, if◌then◌else◌}
-use Rattle.std.specs.Prelude.{◌&&◌, ◌==◌, nat_le, IfSome}
+use Rattle.std.specs.Prelude.{◌&&◌, ◌==◌, IfSome}
 use Rattle.std.specs.List.{All, AllByRecursion, position}
 use Rattle.std.specs.Option.{option_or, option_map, option_map_or, option_and_then}
 use Rattle.std.specs.Str.{bytes_eq}
@@ -21,7 +21,7 @@ use Rattle.fg_frame.specs.Good.{IsDeclared}
 use Rattle.fg_frame.specs.Limits.{layers_allowed}
 use Rattle.fg_frame.specs.Members.{member_at}
 use Rattle.fg_frame.specs.Units.{Numbering, numbering, stretches, stretch_of}
-use Rattle.fg_frame.specs.Unknowns.{has_queue, has_layer, picks_one, is_known, is_known_unit, unknown_at, unknown_operand, unknown_in, unknown}
+use Rattle.fg_frame.specs.Unknowns.{has_queue, has_layer, picks_one, is_known, is_known_unit, unknown_at, unknown_operand, unknown_in}
 use Rattle.fg_frame.specs.Uses.{import_fits}
 use Rattle.fg_frame.specs.declared.frame.Frame.{Frame}
 use Rattle.fg_frame.specs.declared.frame.Pass.{Pass}
