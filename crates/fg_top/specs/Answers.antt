@@ -1,5 +1,5 @@
 -- What a command answers to the bytes of its input.
-use Rattle.std.specs.Prelude.{◌≡◌, ◌⊎◌, ℕ, ◌<◌, ◌≤◌, Bool, List, [], ◌++◌, length, Option, Some, None, Result, Ok, Err, codes}
+use Rattle.std.specs.Prelude.{◌≡◌, ◌⊎◌, ℕ, ◌<◌, ◌≤◌, Bool, List, [], ◌++◌, length, Option, Result, Ok, Err, codes}
 use Rattle.std.specs.Io.KnownBytes.{Keeps}
 use Rattle.fg_base.specs.declared.limit.Limit.TheVariants.{Input}
 use Rattle.fg_frame.specs.Faults.{over_limit}
@@ -16,26 +16,20 @@ use Rattle.fg_top.specs.Files.{frame_file, program_file}
 use Rattle.fg_top.specs.Outcomes.{Tells, EndsAs}
 use Rattle.fg_top.specs.Texts.{AreExported}
 use Rattle.fg_subs.specs.Faults as subs
-use Rattle.fg_subs.specs.Nodes.{nodes_of}
+use Rattle.fg_subs.specs.Entries.{entries_of}
 use Rattle.fg_subs.specs.declared.fault.SubFault.{SubFault}
 use Rattle.fg_subs.specs.declared.program.Program.{Program}
 use Rattle.fg_top.specs.declared.answer.Answer.{Answer}
-use Rattle.fg_top.specs.declared.asked.Asked.{Asked}
-use Rattle.fg_top.specs.declared.asked.Asked.TheVariants as asked
 use Rattle.fg_top.specs.declared.ended.Status.{Status}
 use Rattle.fg_top.specs.declared.ended.Status.TheVariants.{Done, Rejected, Refused, ReadFault, NoMemory}
 use Rattle.fg_versions.specs.Culled.{AreKept}
 use Rattle.fg_view.specs.declared.hazard.Hazard.{Hazard}
 use Rattle.fg_words.specs.declared.command.Command.{Command}
-use Rattle.fg_words.specs.declared.command.Command.TheVariants.{Run, Check, Cull, Meaning, Migrate}
-
--- what a command does with a frame; `check` reads a submission
-abbrev pub asked_of : Command → Option Asked
-asked_of Run = Some asked.Run
-asked_of Cull = Some asked.Cull
-asked_of Meaning = Some asked.Meaning
-asked_of Migrate = Some asked.Migrate
-asked_of Check = None
+use Rattle.fg_words.specs.declared.command.Command.TheVariants as reads
+use Rattle.fg_words.specs.declared.command.FrameCommand.{FrameCommand}
+use Rattle.fg_words.specs.declared.command.FrameCommand.TheVariants.{Run, Cull, Meaning, Migrate}
+use Rattle.fg_words.specs.declared.command.SubmissionCommand.{SubmissionCommand}
+use Rattle.fg_words.specs.declared.command.SubmissionCommand.TheVariants.{Check}
 
 abbrev pub refusal : FrameFault → Answer
 refusal fault = record { status = Refused; text = frame_fault_text fault }
@@ -47,17 +41,14 @@ abbrev pub rejection : Hazard → Answer
 rejection hazard = record { status = Rejected; text = hazard_text hazard }
 
 -- 16 MiB of a frame, 32 MiB of a submission
-abbrev pub limit_for : Option Asked → ℕ
-limit_for (Some asked) = 16777216
-limit_for None = 33554432
-
 abbrev pub input_limit : Command → ℕ
-input_limit command = limit_for (asked_of command)
+input_limit (reads.Frame asked) = 16777216
+input_limit (reads.Submission asked) = 33554432
 
--- the answer to more bytes
-abbrev pub over_for : Option Asked → Answer
-over_for (Some asked) = refusal (over_limit Input [])
-over_for None = program_refusal (subs.over_limit Input [])
+-- the answer to more bytes than that
+abbrev pub over_input : Command → Answer
+over_input (reads.Frame asked) = refusal (over_limit Input [])
+over_input (reads.Submission asked) = program_refusal (subs.over_limit Input [])
 
 -- the passes that are kept, and then the exports with the bytes of the frame's meaning
 pub record IsRunText (frame : Frame) (text : List ℕ) : Type 0 where
@@ -88,19 +79,19 @@ pub record MigratesFrame (frame : Frame) (answer : Answer) : Type 0 where
   pub again : frame_of (frame_text frame) ≡ Ok frame
 
 -- what is made of a frame without a fault
-abbrev pub AnswersFrame : Asked → Frame → Answer → Type 0
-AnswersFrame asked.Run frame answer = RunsFrame frame answer
-AnswersFrame asked.Cull frame answer = CullsFrame frame answer
-AnswersFrame asked.Meaning frame answer = MeansFrame frame answer
-AnswersFrame asked.Migrate frame answer = MigratesFrame frame answer
+abbrev pub AnswersFrame : FrameCommand → Frame → Answer → Type 0
+AnswersFrame Run frame answer = RunsFrame frame answer
+AnswersFrame Cull frame answer = CullsFrame frame answer
+AnswersFrame Meaning frame answer = MeansFrame frame answer
+AnswersFrame Migrate frame answer = MigratesFrame frame answer
 
-abbrev pub AnswersFile : Asked → Result Frame FrameFault → Answer → Type 0
-AnswersFile asked (Ok frame) answer = AnswersFrame asked frame answer
-AnswersFile asked (Err fault) answer = answer ≡ refusal fault
+abbrev pub AnswersFrameFile : FrameCommand → Result Frame FrameFault → Answer → Type 0
+AnswersFrameFile asked (Ok frame) answer = AnswersFrame asked frame answer
+AnswersFrameFile asked (Err fault) answer = answer ≡ refusal fault
 
 pub record Accepts (program : Program) (answer : Answer) : Type 0 where
   pub sound : IsSound program
-  pub whole : answer ≡ record { status = Done; text = check_text (length (nodes_of program)) }
+  pub whole : answer ≡ record { status = Done; text = check_text (length (entries_of program)) }
 
 pub record Rejects (program : Program) (answer : Answer) : Type 0 where
   pub hazard : Hazard
@@ -108,18 +99,22 @@ pub record Rejects (program : Program) (answer : Answer) : Type 0 where
   pub whole : answer ≡ rejection hazard
 
 -- what is made of a program without a fault
-abbrev pub AnswersProgram : Result Program SubFault → Answer → Type 0
-AnswersProgram (Ok program) answer = Accepts program answer ⊎ Rejects program answer
-AnswersProgram (Err fault) answer = answer ≡ program_refusal fault
+abbrev pub AnswersProgram : SubmissionCommand → Program → Answer → Type 0
+AnswersProgram Check program answer = Accepts program answer ⊎ Rejects program answer
 
-abbrev pub AnswersBytes : Option Asked → List ℕ → Answer → Type 0
-AnswersBytes (Some asked) bytes answer = AnswersFile asked (frame_file bytes) answer
-AnswersBytes None bytes answer = AnswersProgram (program_file bytes) answer
+abbrev pub AnswersProgramFile : SubmissionCommand → Result Program SubFault → Answer → Type 0
+AnswersProgramFile asked (Ok program) answer = AnswersProgram asked program answer
+AnswersProgramFile asked (Err fault) answer = answer ≡ program_refusal fault
+
+-- what is made of bytes within the limit
+abbrev pub AnswersBytes : Command → List ℕ → Answer → Type 0
+AnswersBytes (reads.Frame asked) bytes answer = AnswersFrameFile asked (frame_file bytes) answer
+AnswersBytes (reads.Submission asked) bytes answer = AnswersProgramFile asked (program_file bytes) answer
 
 -- more bytes than the limit are refused before anything else
 pub record Answers (command : Command) (bytes : List ℕ) (answer : Answer) : Type 0 where
-  pub over : input_limit command < length bytes → answer ≡ over_for (asked_of command)
-  pub within : length bytes ≤ input_limit command → AnswersBytes (asked_of command) bytes answer
+  pub over : input_limit command < length bytes → answer ≡ over_input command
+  pub within : length bytes ≤ input_limit command → AnswersBytes command bytes answer
 
 -- the answer to the bytes that were left
 pub record AnswersLeft (command : Command) (left : Option (List ℕ)) (answer : Answer) : Type 0 where

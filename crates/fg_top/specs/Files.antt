@@ -19,12 +19,6 @@ abbrev pub if_read : {X E : Type 0} → (X → Option E) → Result X E → Resu
 if_read broken (Ok value) = unless_broken value (broken value)
 if_read broken (Err fault) = Err fault
 
-abbrev pub judged : Frame → Result Frame FrameFault
-judged frame = unless_broken frame (first_fault frame)
-
-abbrev pub program_judged : Program → Result Program SubFault
-program_judged program = unless_broken program (subs.first_fault program)
-
 -- what bytes within the limit are
 abbrev pub frame_file : List ℕ → Result Frame FrameFault
 frame_file bytes = if_read first_fault (frame_of bytes)

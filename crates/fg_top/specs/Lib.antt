@@ -1,9 +1,11 @@
 pub mod Answers
 pub mod AtRest
+pub mod Calls
 pub mod Causes
+pub mod Code
 pub mod Complete
+pub mod Ends
 pub mod Files
-pub mod Intakes
 pub mod Outcomes
 pub mod Statuses
 pub mod Texts

@@ -1,8 +1,7 @@
 -- What was read and written.
-use Rattle.std.specs.Prelude.{ℕ, ◌+◌, ◌≤◌, List, ◌++◌, length, ◌≡◌, ◌⊎◌, Bool, true, false, Some, None}
+use Rattle.std.specs.Prelude.{ℕ, ◌+◌, ◌≤◌, List, ◌++◌, length, ◌≡◌, ◌⊎◌, Some, None}
 use Rattle.std.specs.declared.option.Option.{Option}
 use Rattle.std.specs.Io.KnownBytes.{Appends, Consumes, Keeps}
-use Rattle.fg_base.specs.Counts.{Rose}
 use Rattle.fg_top.specs.declared.ended.Status.{Status}
 use Rattle.fg_top.specs.declared.ended.Status.TheVariants.{ReadFault, WriteFault, NoMemory}
 
@@ -23,11 +22,6 @@ TakesWhole limit old new = (taken : List ℕ) × Consumes old new taken × (Tell
 abbrev pub TakesFront : List ℕ → Option (List ℕ) → Option (List ℕ) → Type 0
 TakesFront text old new = (front : List ℕ) × (rest : List ℕ) × (front ++ rest ≡ text) × Appends old new front
 
--- all of the text was taken; or a front of it, and the sink counted a fault
-abbrev pub IsWritten : List ℕ → Option (List ℕ) → Option (List ℕ) → ℕ → ℕ → Bool → Type 0
-IsWritten text old new before after true = Appends old new text × (after ≡ before)
-IsWritten text old new before after false = TakesFront text old new × Rose before after
-
 -- the call ended with the wanted status and its whole text, or for a reason beside it: a read fault and want of memory
 -- wrote nothing, a write fault a front of the text
 abbrev pub EndsAs : Status → List ℕ → Option (List ℕ) → Option (List ℕ) → Status → Type 0
@@ -41,10 +35,3 @@ abbrev pub IsUnanswered : Status → Type 0
 IsUnanswered ReadFault = Unit {0}
 IsUnanswered NoMemory = Unit {0}
 IsUnanswered status = ⊥
-
--- a status that comes with a text
-abbrev pub HasText : Status → Type 0
-HasText ReadFault = ⊥
-HasText NoMemory = ⊥
-HasText WriteFault = ⊥
-HasText status = Unit {0}

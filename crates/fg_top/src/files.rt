@@ -1,17 +1,17 @@
 //! A file is read, and the command's answer to it written.
 
 ghost use Rattle.std.specs.Prelude.{◌≡◌, ◌+◌, ◌<◌, ◌⊎◌, ◌^◌, IfOk, IfErr};
-ghost use Rattle.fg_top.specs.Answers.{AnswersBytes, AnswersLeft, IsAnswered, input_limit, limit_for, over_for};
-ghost use Rattle.fg_top.specs.Causes.{ReadCause, WriteCause, ReadsAnswer};
-ghost use Rattle.fg_top.specs.Outcomes.{HasText, IsUnanswered, TakesAtMost, TakesWhole};
+ghost use Rattle.fg_top.specs.Answers.{AnswersBytes, AnswersLeft, IsAnswered, input_limit, over_input};
+ghost use Rattle.fg_top.specs.Causes.{ReadCause, WriteCause};
+ghost use Rattle.fg_top.specs.Code.Steps.{HasText, ReadsAnswer};
+ghost use Rattle.fg_top.specs.Outcomes.{IsUnanswered, TakesAtMost, TakesWhole};
 
 use crate::Status;
 use crate::answer::{Answer, program_refusal, refusal};
-use crate::asked::{Asked, asked_of};
-use crate::frames::answer_file;
+use crate::frames::answer_frame_file;
 use crate::intake::{Intake, read_input};
 use crate::output::put;
-use crate::programs::answer_program;
+use crate::programs::answer_program_file;
 use fg_base::{Limit, List, NoMemory, Sink, Source};
 use fg_frame::FrameFault;
 use fg_subs::SubFault;
@@ -47,43 +47,44 @@ fn answer_input<I: Source>(alloc: Global, command: Command, input: &mut I) -> Re
     ensures taken { TakesAtMost (input_limit command + 1) (I.left input.old) (I.left input.new) }
     ensures whole { IfOk result (λ _. TakesWhole (input_limit command) (I.left input.old) (I.left input.new)) }
 {
-    let asked = asked_of(command);
-    match read_input(alloc, input, limit_for(asked)) {
-        Intake::Whole(bytes) => Ok(answer_bytes(alloc, asked, bytes.as_slice())?),
-        Intake::Over => Ok(over_for(alloc, asked)?),
+    match read_input(alloc, input, input_limit(command)) {
+        Intake::Whole(bytes) => Ok(answer_bytes(alloc, command, bytes.as_slice())?),
+        Intake::Over => Ok(over_input(alloc, command)?),
         Intake::Fault => Err(Status::ReadFault),
         Intake::NoMemory => Err(Status::NoMemory),
     }
 }
 
 // 16 MiB of a frame, 32 MiB of a submission.
-fn limit_for(asked: Option<Asked>) -> usize
-    ensures limit { result ≡ limit_for asked }
+fn input_limit(command: Command) -> usize
+    ensures limit { result ≡ input_limit command }
     ensures small { result < 2 ^ 32 }
 {
-    match asked {
-        Some(_) => 16_777_216,
-        None => 33_554_432,
+    match command {
+        Command::Frame(_) => 16_777_216,
+        Command::Submission(_) => 33_554_432,
     }
 }
 
-fn over_for(alloc: Global, asked: Option<Asked>) -> Result<Answer, NoMemory>
-    ensures over { IfOk result (λ answer. answer ≡ over_for asked) }
+fn over_input(alloc: Global, command: Command) -> Result<Answer, NoMemory>
+    ensures over { IfOk result (λ answer. answer ≡ over_input command) }
     ensures has_text { IfOk result (λ answer. HasText answer.status) }
 {
     let place = List::new(alloc);
-    match asked {
-        Some(_) => refusal(alloc, &FrameFault::over_limit(Limit::Input, place)),
-        None => program_refusal(alloc, &SubFault::over_limit(Limit::Input, place)),
+    match command {
+        Command::Frame(_) => refusal(alloc, &FrameFault::over_limit(Limit::Input, place)),
+        Command::Submission(_) => {
+            program_refusal(alloc, &SubFault::over_limit(Limit::Input, place))
+        }
     }
 }
 
-fn answer_bytes(alloc: Global, asked: Option<Asked>, bytes: &[u8]) -> Result<Answer, NoMemory>
-    ensures file { IfOk result (AnswersBytes asked bytes.now) }
+fn answer_bytes(alloc: Global, command: Command, bytes: &[u8]) -> Result<Answer, NoMemory>
+    ensures answer { IfOk result (AnswersBytes command bytes.now) }
     ensures has_text { IfOk result (λ answer. HasText answer.status) }
 {
-    match asked {
-        Some(asked) => answer_file(alloc, asked, bytes),
-        None => answer_program(alloc, bytes),
+    match command {
+        Command::Frame(asked) => answer_frame_file(alloc, asked, bytes),
+        Command::Submission(asked) => answer_program_file(alloc, asked, bytes),
     }
 }

@@ -1,7 +1,7 @@
 //! Input is read to its end, or to one byte over a limit.
 
 ghost use Rattle.std.specs.Prelude.{◌≡◌, ◌<◌, ◌+◌, ◌^◌, length, vec_len, IfOk};
-ghost use Rattle.fg_top.specs.Intakes.{IsIntake, IsStep};
+ghost use Rattle.fg_top.specs.Code.Intakes.{IsIntake, IsStep};
 ghost use Rattle.fg_top.specs.Outcomes.{TakesAtMost};
 
 use fg_base::{NoMemory, Source, Taken};

@@ -2,7 +2,6 @@
 #![tactic(auto)]
 
 mod answer;
-mod asked;
 mod cull;
 mod ended;
 mod exports;

@@ -2,7 +2,7 @@
 
 ghost use Rattle.std.specs.Prelude.{IfOk};
 ghost use Rattle.fg_top.specs.Answers.{MeansFrame};
-ghost use Rattle.fg_top.specs.Outcomes.{HasText};
+ghost use Rattle.fg_top.specs.Code.Steps.{HasText};
 
 use crate::Status;
 use crate::answer::Answer;

@@ -1,7 +1,7 @@
 //! Frames of every operation, run and meant.
 
 use crate::Status;
-use crate::tests::{CHAIN, FILL, gives};
+use crate::tests::gives;
 use std::test::Fail;
 
 // A frame, the text of its exports, and what `run` prints before them.
@@ -129,26 +129,10 @@ fn operations(rt: HostRuntime) -> Result<(), Fail> {
     let alloc = rt.alloc();
     for (file, exports, kept) in FRAMES {
         let text = format!(in alloc; "{kept}{exports}")?;
-        gives(&rt, alloc, &["run"], file, Status::Done, text.as_str())?;
-        gives(&rt, alloc, &["meaning"], file, Status::Done, exports)?;
+        gives(&rt, alloc, "run", file, Status::Done, text.as_str())?;
+        gives(&rt, alloc, "meaning", file, Status::Done, exports)?;
     }
     Ok(())
-}
-
-#[test]
-fn chains(rt: HostRuntime) -> Result<(), Fail> {
-    let alloc = rt.alloc();
-    let fill = "export b 16\n07000000070000000700000007000000\n";
-    gives(&rt, alloc, &["meaning"], FILL, Status::Done, fill)?;
-    let culled = "kept 0 culled 3\nculled a\nculled b\nculled c\n";
-    gives(&rt, alloc, &["run"], CHAIN, Status::Done, culled)?;
-    let seen = CHAIN.replace(
-        alloc,
-        "\"name\":\"c\",",
-        "\"name\":\"c\",\"side_effect\":true,",
-    )?;
-    let kept = "kept 3 culled 0\n";
-    gives(&rt, alloc, &["run"], seen.as_str(), Status::Done, kept)
 }
 
 // As many passes as there can be, none of which does anything; and one more.
@@ -168,7 +152,7 @@ fn many_passes(rt: HostRuntime) -> Result<(), Fail> {
     gives(
         &rt,
         alloc,
-        &["run"],
+        "run",
         file.as_str(),
         Status::Done,
         text.as_str(),
@@ -179,7 +163,7 @@ fn many_passes(rt: HostRuntime) -> Result<(), Fail> {
         ",{\"name\":\"q\",\"queue\":\"g\"}],\"exports\"",
     )?;
     let fault = "fault F4 Passes $.passes\n";
-    gives(&rt, alloc, &["run"], more.as_str(), Status::Refused, fault)
+    gives(&rt, alloc, "run", more.as_str(), Status::Refused, fault)
 }
 
 // Counts of texels by their lowest byte: 1,920 by 1,080 of them in one table, and 480 by 270 in the other.
@@ -198,5 +182,5 @@ fn deferred_frame(rt: HostRuntime) -> Result<(), Fail> {
         };
         write!(text, "{:040}{middle}{:016}\n", 0, 0)?;
     }
-    gives(&rt, alloc, &["run"], DEFERRED, Status::Done, text.as_str())
+    gives(&rt, alloc, "run", DEFERRED, Status::Done, text.as_str())
 }

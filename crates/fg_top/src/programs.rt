@@ -1,9 +1,10 @@
-//! The command that reads a submission.
+//! The commands that read a submission.
 
-ghost use Rattle.std.specs.Prelude.{◌≡◌, ◌⊎◌, IfOk};
-ghost use Rattle.fg_top.specs.Answers.{AnswersProgram, Accepts, Rejects, rejection};
-ghost use Rattle.fg_top.specs.Files.{program_judged, program_file};
-ghost use Rattle.fg_top.specs.Outcomes.{HasText};
+ghost use Rattle.std.specs.Prelude.{◌≡◌, IfOk};
+ghost use Rattle.fg_subfile.specs.Files.{ProgramGives};
+ghost use Rattle.fg_top.specs.Answers.{AnswersProgram, AnswersProgramFile, rejection};
+ghost use Rattle.fg_top.specs.Code.Steps.{HasText};
+ghost use Rattle.fg_top.specs.Files.{program_file};
 
 use crate::Status;
 use crate::answer::{Answer, program_refusal};
@@ -11,23 +12,42 @@ use fg_base::NoMemory;
 use fg_checker::{CheckEnd, Hazard, check};
 use fg_report::{check_text, hazard_text};
 use fg_subfile::{SubReadEnd, read_program};
-use fg_subs::{Program, ShapeEnd, Shaped, SubFault, shape};
+use fg_subs::{ShapeEnd, Shaped, shape};
+use fg_words::SubmissionCommand;
 use std::alloc::Global;
 
 /// The answer to the bytes of a submission.
-pub fn answer_program(alloc: Global, bytes: &[u8]) -> Result<Answer, NoMemory>
-    ensures program { IfOk result (AnswersProgram (program_file bytes.now)) }
+pub fn answer_program_file(
+    alloc: Global,
+    asked: SubmissionCommand,
+    bytes: &[u8],
+) -> Result<Answer, NoMemory>
+    ensures file { IfOk result (AnswersProgramFile asked (program_file bytes.now)) }
     ensures has_text { IfOk result (λ answer. HasText answer.status) }
 {
-    match shaped(alloc, bytes)? {
-        Ok(program) => check_program(alloc, program),
-        Err(fault) => program_refusal(alloc, &fault),
+    match shaped(alloc, bytes) {
+        Ok(program) => answer_program(alloc, asked, program),
+        Err(SubReadEnd::Refused(fault)) => program_refusal(alloc, &fault),
+        Err(SubReadEnd::NoMemory) => Err(NoMemory),
+    }
+}
+
+fn answer_program(
+    alloc: Global,
+    asked: SubmissionCommand,
+    program: Shaped,
+) -> Result<Answer, NoMemory>
+    ensures program { IfOk result (AnswersProgram asked program) }
+    ensures has_text { IfOk result (λ answer. HasText answer.status) }
+{
+    match asked {
+        SubmissionCommand::Check => check_program(alloc, program),
     }
 }
 
 // Sound or not.
 fn check_program(alloc: Global, program: Shaped) -> Result<Answer, NoMemory>
-    ensures checked { IfOk result (λ answer. Accepts program answer ⊎ Rejects program answer) }
+    ensures checked { IfOk result (AnswersProgram SubmissionCommand.Check program) }
     ensures has_text { IfOk result (λ answer. HasText answer.status) }
 {
     let nodes = program.node_count();
@@ -51,22 +71,12 @@ fn rejection(alloc: Global, hazard: &Hazard) -> Result<Answer, NoMemory>
 }
 
 // The program that bytes are, or their first fault.
-fn shaped(alloc: Global, bytes: &[u8]) -> Result<Result<Shaped, SubFault>, NoMemory>
-    ensures { IfOk result (λ found. found ≡ program_file bytes.now) }
+fn shaped(alloc: Global, bytes: &[u8]) -> Result<Shaped, SubReadEnd>
+    ensures { ProgramGives result (program_file bytes.now) }
 {
-    match read_program(alloc, bytes) {
-        Ok(program) => judge(alloc, program),
-        Err(SubReadEnd::Refused(fault)) => Ok(Err(fault)),
-        Err(SubReadEnd::NoMemory) => Err(NoMemory),
-    }
-}
-
-fn judge(alloc: Global, program: Program) -> Result<Result<Shaped, SubFault>, NoMemory>
-    ensures { IfOk result (λ found. found ≡ program_judged program) }
-{
-    match shape(alloc, program) {
-        Ok(shaped) => Ok(Ok(shaped)),
-        Err(ShapeEnd::Refused(fault, _)) => Ok(Err(fault)),
-        Err(ShapeEnd::NoMemory(_)) => Err(NoMemory),
+    match shape(alloc, read_program(alloc, bytes)?) {
+        Ok(shaped) => Ok(shaped),
+        Err(ShapeEnd::Refused(fault, _)) => Err(SubReadEnd::Refused(fault)),
+        Err(ShapeEnd::NoMemory(_)) => Err(SubReadEnd::NoMemory),
     }
 }

@@ -13,17 +13,18 @@ use std::sync::Wait;
 use std::test::Fail;
 use std::thread::Threads;
 
-pub(crate) const FILL: &str =
+const FILL: &str =
     "{\"format\":1,\"queues\":[{\"name\":\"g\",\"family\":\"graphics\"}],\"resources\":[{\"name\":\"b\",\"buffer\":16}],\"passes\":[{\"name\":\"p\",\"queue\":\"g\",\"writes\":[{\"new\":\"b\"}],\"ops\":[{\"op\":\"fill_buffer\",\"dst\":\"b\",\"offset\":0,\"size\":16,\"word\":7}]}],\"exports\":[\"b\"]}";
 
 const FILL_TEXT: &str = "kept 1 culled 0\nexport b 16\n07000000070000000700000007000000\n";
 
-fn words_of(alloc: Global, words: &[&str]) -> Result<Vec<String>, AllocError> {
-    let mut list = Vec::new(alloc);
-    for word in words {
-        list.push(String::from_str(alloc, word)?)?;
+// The words of a command line.
+fn words_of(alloc: Global, line: &str) -> Result<Vec<String>, AllocError> {
+    let mut words = Vec::new(alloc);
+    for word in line.split_whitespace() {
+        words.push(String::from_str(alloc, word)?)?;
     }
-    Ok(list)
+    Ok(words)
 }
 
 fn bytes_of(alloc: Global, text: &str) -> Result<List<u8>, AllocError> {
@@ -42,11 +43,11 @@ fn spaces(alloc: Global, count: usize) -> Result<List<u8>, AllocError> {
 fn status_of<R: Threads + Wait + Sync, I: Source, O: Sink>(
     rt: &R,
     alloc: Global,
-    words: &[&str],
+    line: &str,
     input: &mut I,
     output: &mut O,
 ) -> Result<Option<Status>, AllocError> {
-    let words = words_of(alloc, words)?;
+    let words = words_of(alloc, line)?;
     let mut taps: Vec<Box<dyn Tap>> = Vec::new(alloc);
     taps.push(Box::new(alloc, CountTap::new())?)?;
     let Ended {
@@ -69,206 +70,232 @@ fn status_of<R: Threads + Wait + Sync, I: Source, O: Sink>(
     }
 }
 
-// The status and the text of words on a file are these.
+// The status and the text of a command line on a file are these.
 pub(crate) fn gives(
     rt: &(impl Threads + Wait + Sync + Abort),
     alloc: Global,
-    words: &[&str],
+    line: &str,
     file: &str,
     wanted: Status,
     text: &str,
 ) -> Result<(), Fail> {
     let mut source = SteadySource::new(bytes_of(alloc, file)?, 7);
     let mut sink = MemorySink::new(alloc, 5000, 13, List::new(alloc))?;
-    let status = status_of(rt, alloc, words, &mut source, &mut sink)?;
-    assert_eq!(rt; status, Some(wanted), "status of {words:?} on {file}");
-    assert_eq!(rt;
-        sink.bytes(),
-        text.as_bytes(),
-        "text of {words:?} on {file}"
-    );
+    let status = status_of(rt, alloc, line, &mut source, &mut sink)?;
+    assert_eq!(rt; status, Some(wanted), "status of {line} on {file}");
+    assert_eq!(rt; sink.bytes(), text.as_bytes(), "text of {line} on {file}");
     Ok(())
-}
-
-// Pieces of the file of the one fill, or all of it, others in their places, and the text of the file's fault.
-const FAULTS: [(&str, &str, &str); 12] = [
-    ("\"b\"]}", "\"b\"]", "fault F1 $\n"),
-    (
-        "\"word\":7",
-        "\"word\":7,\"note\":0",
-        "fault F2 $.passes[0].ops[0].note\n",
-    ),
-    (
-        "\"exports\":[\"b\"]",
-        "\"exports\":[\"b\"],\"x\u{e9}\":0",
-        "fault F2 $.x??\n",
-    ),
-    ("\"format\":1", "\"format\":3", "fault F3 $.format\n"),
-    (
-        "{\"name\":\"g\",\"family\":\"graphics\"}",
-        "",
-        "fault F4 Queues $.queues\n",
-    ),
-    (
-        "\"exports\":[\"b\"]",
-        "\"exports\":[\"c\"]",
-        "fault F6 $.exports[0]\n",
-    ),
-    (
-        "{\"new\":\"b\"}",
-        "{\"change\":\"b\"}",
-        "fault F10 $.passes[0].writes[0]\n",
-    ),
-    (
-        "\"size\":16",
-        "\"size\":8",
-        "fault F9 $.passes[0].writes[0]\n",
-    ),
-    (
-        "\"buffer\":16",
-        "\"buffer\":16,\"import\":\"00\"",
-        "fault F11 $.resources[0].import\n",
-    ),
-    // A clear and a map on a transfer queue.
-    (
-        FILL,
-        r#"{"format":1,"queues":[{"name":"t","family":"transfer"}],"resources":[{"name":"im","image":[1,1],"texel":"r8"}],"passes":[{"name":"p","queue":"t","writes":[{"new":"im"}],"ops":[{"op":"clear_image","dst":"im","value":1}]}],"exports":["im"]}"#,
-        "fault F7 $.passes[0].ops[0].op\n",
-    ),
-    (
-        FILL,
-        r#"{"format":1,"queues":[{"name":"t","family":"transfer"}],"resources":[{"name":"in","buffer":4,"import":"01020304"},{"name":"out","buffer":4}],"passes":[{"name":"p","queue":"t","reads":["in"],"writes":[{"new":"out"}],"ops":[{"op":"map","src":"in","dst":"out","fun":"add","value":1}]}],"exports":["out"]}"#,
-        "fault F7 $.passes[0].ops[0].op\n",
-    ),
-    // An operand that names an image of two layers whole.
-    (
-        FILL,
-        r#"{"format":2,"queues":[{"name":"g","family":"graphics"}],"resources":[{"name":"im","image":[2,1],"texel":"r8","layers":2}],"passes":[{"name":"w","queue":"g","writes":[{"new":"im"}],"ops":[{"op":"ramp","dst":"im","base":1,"dx":1,"dy":0},{"op":"ramp","dst":"im/1","base":5,"dx":2,"dy":0}]}],"exports":["im"]}"#,
-        "fault F6 $.passes[0].ops[0].dst\n",
-    ),
-];
-
-// The same where the file is still a good frame, and the text of its export.
-const FILLS: [(&str, &str, &str); 5] = [
-    (
-        "\"format\":1",
-        "\"format\":2",
-        "export b 16\n07000000070000000700000007000000\n",
-    ),
-    (
-        "\"graphics\"",
-        "\"transfer\"",
-        "export b 16\n07000000070000000700000007000000\n",
-    ),
-    (
-        "\"word\":7",
-        "\"word\":305419896",
-        "export b 16\n78563412785634127856341278563412\n",
-    ),
-    (
-        "\"word\":7",
-        "\"word\":8,\"word\":9",
-        "export b 16\n09000000090000000900000009000000\n",
-    ),
-    (
-        "16",
-        "36",
-        "export b 36\n0700000007000000070000000700000007000000070000000700000007000000\n07000000\n",
-    ),
-];
-
-#[test]
-fn faults(rt: HostRuntime) -> Result<(), Fail> {
-    let alloc = rt.alloc();
-    gives(&rt, alloc, &["run"], "", Status::Refused, "fault F1 $\n")?;
-    gives(&rt, alloc, &["run"], "[]", Status::Refused, "fault F2 $\n")?;
-    for (piece, other, text) in FAULTS {
-        let file = FILL.replace(alloc, piece, other)?;
-        gives(&rt, alloc, &["run"], file.as_str(), Status::Refused, text)?;
-    }
-    Ok(())
-}
-
-#[test]
-fn fills(rt: HostRuntime) -> Result<(), Fail> {
-    let alloc = rt.alloc();
-    gives(&rt, alloc, &["run"], FILL, Status::Done, FILL_TEXT)?;
-    for (piece, other, export) in FILLS {
-        let file = FILL.replace(alloc, piece, other)?;
-        let text = format!(in alloc; "kept 1 culled 0\n{export}")?;
-        gives(
-            &rt,
-            alloc,
-            &["run"],
-            file.as_str(),
-            Status::Done,
-            text.as_str(),
-        )?;
-    }
-    Ok(())
-}
-
-// A pass without writes after the one fill, and a second buffer that it fills.
-const READER: &str = r#"},{"name":"idle","queue":"g","reads":["b"]}],"exports""#;
-
-const TWO_BUFFERS: [(&str, &str); 3] = [
-    (r#""buffer":16}"#, r#""buffer":16},{"name":"d","buffer":4}"#),
-    (r#"{"new":"b"}"#, r#"{"new":"b"},{"new":"d"}"#),
-    (
-        r#""word":7}"#,
-        r#""word":7},{"op":"fill_buffer","dst":"d","offset":0,"size":4,"word":9}"#,
-    ),
-];
-
-// A fill and two copies, one after another, that nobody exports.
-pub(crate) const CHAIN: &str =
-    r#"{"format":1,"queues":[{"name":"g","family":"graphics"}],"resources":[{"name":"x","buffer":4},{"name":"y","buffer":4},{"name":"z","buffer":4}],"passes":[{"name":"a","queue":"g","writes":[{"new":"x"}],"ops":[{"op":"fill_buffer","dst":"x","offset":0,"size":4,"word":7}]},{"name":"b","queue":"g","reads":["x"],"writes":[{"new":"y"}],"ops":[{"op":"copy_buffer","src":"x","dst":"y","src_offset":0,"dst_offset":0,"size":4}]},{"name":"c","queue":"g","reads":["y"],"writes":[{"new":"z"}],"ops":[{"op":"copy_buffer","src":"y","dst":"z","src_offset":0,"dst_offset":0,"size":4}]}],"exports":[]}"#;
-
-const CULLED: &str = "kept 0 culled 3\npass a culled\npass b culled\npass c culled\n";
-
-const KEPT: &str = "kept 3 culled 0\npass a kept\npass b kept\npass c kept\n";
-
-#[test]
-fn culling(rt: HostRuntime) -> Result<(), Fail> {
-    let alloc = rt.alloc();
-    let reader = FILL.replace(alloc, "}],\"exports\"", READER)?;
-    let idle = "kept 1 culled 1\npass p kept\npass idle culled\n";
-    gives(&rt, alloc, &["cull"], reader.as_str(), Status::Done, idle)?;
-    let mut two = String::from_str(alloc, FILL)?;
-    for (piece, other) in TWO_BUFFERS {
-        two = two.replace(alloc, piece, other)?;
-    }
-    let kept = "kept 1 culled 0\npass p kept\n";
-    gives(&rt, alloc, &["cull"], two.as_str(), Status::Done, kept)?;
-    gives(&rt, alloc, &["cull"], CHAIN, Status::Done, CULLED)?;
-    let seen = CHAIN.replace(
-        alloc,
-        "\"name\":\"c\",",
-        "\"name\":\"c\",\"side_effect\":true,",
-    )?;
-    gives(&rt, alloc, &["cull"], seen.as_str(), Status::Done, KEPT)?;
-    gives(&rt, alloc, &["cull"], "", Status::Refused, "fault F1 $\n")
 }
 
 const CANONICAL: &str =
     "{\"exports\":[\"b\"],\"format\":2,\"passes\":[{\"name\":\"p\",\"ops\":[{\"dst\":\"b\",\"offset\":0,\"op\":\"fill_buffer\",\"size\":16,\"word\":7}],\"queue\":\"g\",\"reads\":[],\"side_effect\":false,\"writes\":[{\"new\":\"b\"}]}],\"queues\":[{\"family\":\"graphics\",\"name\":\"g\"}],\"resources\":[{\"buffer\":16,\"name\":\"b\"}]}\n";
 
-#[test]
-fn migration(rt: HostRuntime) -> Result<(), Fail> {
-    let alloc = rt.alloc();
-    gives(&rt, alloc, &["migrate"], FILL, Status::Done, CANONICAL)?;
-    gives(&rt, alloc, &["migrate"], CANONICAL, Status::Done, CANONICAL)?;
-    gives(&rt, alloc, &["run"], CANONICAL, Status::Done, FILL_TEXT)?;
-    let ended = "fault F6 $.exports[0]\n";
-    let broken = FILL.replace(alloc, "\"exports\":[\"b\"]", "\"exports\":[\"c\"]")?;
-    gives(
-        &rt,
-        alloc,
-        &["migrate"],
-        broken.as_str(),
+// A command line, a piece of the file of the one fill, or all of it, another in its place, the status and the text.
+const FILLS: [(&str, &str, &str, Status, &str); 35] = [
+    ("run", FILL, FILL, Status::Done, FILL_TEXT),
+    ("run", FILL, CANONICAL, Status::Done, FILL_TEXT),
+    (
+        "meaning",
+        FILL,
+        FILL,
+        Status::Done,
+        "export b 16\n07000000070000000700000007000000\n",
+    ),
+    ("migrate", FILL, FILL, Status::Done, CANONICAL),
+    ("migrate", FILL, CANONICAL, Status::Done, CANONICAL),
+    (
+        "run",
+        "\"format\":1",
+        "\"format\":2",
+        Status::Done,
+        "kept 1 culled 0\nexport b 16\n07000000070000000700000007000000\n",
+    ),
+    (
+        "run",
+        "\"graphics\"",
+        "\"transfer\"",
+        Status::Done,
+        "kept 1 culled 0\nexport b 16\n07000000070000000700000007000000\n",
+    ),
+    (
+        "run",
+        "\"word\":7",
+        "\"word\":305419896",
+        Status::Done,
+        "kept 1 culled 0\nexport b 16\n78563412785634127856341278563412\n",
+    ),
+    (
+        "run",
+        "\"word\":7",
+        "\"word\":8,\"word\":9",
+        Status::Done,
+        "kept 1 culled 0\nexport b 16\n09000000090000000900000009000000\n",
+    ),
+    (
+        "run",
+        "16",
+        "36",
+        Status::Done,
+        "kept 1 culled 0\nexport b 36\n0700000007000000070000000700000007000000070000000700000007000000\n07000000\n",
+    ),
+    // A pass that reads and writes nothing.
+    (
+        "cull",
+        "}],\"exports\"",
+        r#"},{"name":"idle","queue":"g","reads":["b"]}],"exports""#,
+        Status::Done,
+        "kept 1 culled 1\npass p kept\npass idle culled\n",
+    ),
+    // Two buffers, of which one is exported.
+    (
+        "cull",
+        FILL,
+        r#"{"format":1,"queues":[{"name":"g","family":"graphics"}],"resources":[{"name":"b","buffer":16},{"name":"d","buffer":4}],"passes":[{"name":"p","queue":"g","writes":[{"new":"b"},{"new":"d"}],"ops":[{"op":"fill_buffer","dst":"b","offset":0,"size":16,"word":7},{"op":"fill_buffer","dst":"d","offset":0,"size":4,"word":9}]}],"exports":["b"]}"#,
+        Status::Done,
+        "kept 1 culled 0\npass p kept\n",
+    ),
+    ("run", FILL, "", Status::Refused, "fault F1 $\n"),
+    ("cull", FILL, "", Status::Refused, "fault F1 $\n"),
+    ("run", FILL, "[]", Status::Refused, "fault F2 $\n"),
+    ("run", "\"b\"]}", "\"b\"]", Status::Refused, "fault F1 $\n"),
+    (
+        "run",
+        "\"word\":7",
+        "\"word\":7,\"note\":0",
         Status::Refused,
-        ended,
-    )
+        "fault F2 $.passes[0].ops[0].note\n",
+    ),
+    (
+        "run",
+        "\"exports\":[\"b\"]",
+        "\"exports\":[\"b\"],\"x\u{e9}\":0",
+        Status::Refused,
+        "fault F2 $.x??\n",
+    ),
+    (
+        "run",
+        "\"format\":1",
+        "\"format\":3",
+        Status::Refused,
+        "fault F3 $.format\n",
+    ),
+    (
+        "run",
+        "{\"name\":\"g\",\"family\":\"graphics\"}",
+        "",
+        Status::Refused,
+        "fault F4 Queues $.queues\n",
+    ),
+    (
+        "run",
+        "\"exports\":[\"b\"]",
+        "\"exports\":[\"c\"]",
+        Status::Refused,
+        "fault F6 $.exports[0]\n",
+    ),
+    (
+        "run",
+        "{\"new\":\"b\"}",
+        "{\"change\":\"b\"}",
+        Status::Refused,
+        "fault F10 $.passes[0].writes[0]\n",
+    ),
+    (
+        "run",
+        "\"size\":16",
+        "\"size\":8",
+        Status::Refused,
+        "fault F9 $.passes[0].writes[0]\n",
+    ),
+    (
+        "run",
+        "\"buffer\":16",
+        "\"buffer\":16,\"import\":\"00\"",
+        Status::Refused,
+        "fault F11 $.resources[0].import\n",
+    ),
+    // A clear and a map on a transfer queue.
+    (
+        "run",
+        FILL,
+        r#"{"format":1,"queues":[{"name":"t","family":"transfer"}],"resources":[{"name":"im","image":[1,1],"texel":"r8"}],"passes":[{"name":"p","queue":"t","writes":[{"new":"im"}],"ops":[{"op":"clear_image","dst":"im","value":1}]}],"exports":["im"]}"#,
+        Status::Refused,
+        "fault F7 $.passes[0].ops[0].op\n",
+    ),
+    (
+        "run",
+        FILL,
+        r#"{"format":1,"queues":[{"name":"t","family":"transfer"}],"resources":[{"name":"in","buffer":4,"import":"01020304"},{"name":"out","buffer":4}],"passes":[{"name":"p","queue":"t","reads":["in"],"writes":[{"new":"out"}],"ops":[{"op":"map","src":"in","dst":"out","fun":"add","value":1}]}],"exports":["out"]}"#,
+        Status::Refused,
+        "fault F7 $.passes[0].ops[0].op\n",
+    ),
+    // An operand that names an image of two layers whole.
+    (
+        "run",
+        FILL,
+        r#"{"format":2,"queues":[{"name":"g","family":"graphics"}],"resources":[{"name":"im","image":[2,1],"texel":"r8","layers":2}],"passes":[{"name":"w","queue":"g","writes":[{"new":"im"}],"ops":[{"op":"ramp","dst":"im","base":1,"dx":1,"dy":0},{"op":"ramp","dst":"im/1","base":5,"dx":2,"dy":0}]}],"exports":["im"]}"#,
+        Status::Refused,
+        "fault F6 $.passes[0].ops[0].dst\n",
+    ),
+    (
+        "migrate",
+        "\"exports\":[\"b\"]",
+        "\"exports\":[\"c\"]",
+        Status::Refused,
+        "fault F6 $.exports[0]\n",
+    ),
+    ("", FILL, FILL, Status::Words, "words\n"),
+    ("Run", FILL, FILL, Status::Words, "words\n"),
+    ("--help", FILL, FILL, Status::Words, "words\n"),
+    ("check --workers 2", FILL, FILL, Status::Words, "words\n"),
+    ("run --workers 17", FILL, FILL, Status::Words, "words\n"),
+    ("run run", FILL, FILL, Status::Words, "words\n"),
+    ("run --version", FILL, FILL, Status::Words, "words\n"),
+];
+
+#[test]
+fn fills(rt: HostRuntime) -> Result<(), Fail> {
+    let alloc = rt.alloc();
+    for (line, piece, other, status, text) in FILLS {
+        let file = FILL.replace(alloc, piece, other)?;
+        gives(&rt, alloc, line, file.as_str(), status, text)?;
+    }
+    Ok(())
+}
+
+// A fill and two copies, one after another, that nobody exports.
+const CHAIN: &str =
+    r#"{"format":1,"queues":[{"name":"g","family":"graphics"}],"resources":[{"name":"x","buffer":4},{"name":"y","buffer":4},{"name":"z","buffer":4}],"passes":[{"name":"a","queue":"g","writes":[{"new":"x"}],"ops":[{"op":"fill_buffer","dst":"x","offset":0,"size":4,"word":7}]},{"name":"b","queue":"g","reads":["x"],"writes":[{"new":"y"}],"ops":[{"op":"copy_buffer","src":"x","dst":"y","src_offset":0,"dst_offset":0,"size":4}]},{"name":"c","queue":"g","reads":["y"],"writes":[{"new":"z"}],"ops":[{"op":"copy_buffer","src":"y","dst":"z","src_offset":0,"dst_offset":0,"size":4}]}],"exports":[]}"#;
+
+const CULLED: &str = "kept 0 culled 3\npass a culled\npass b culled\npass c culled\n";
+
+// A command line, and its text where nobody sees what the chain does, and where its last pass has a side effect.
+const CHAINS: [(&str, &str, &str); 2] = [
+    (
+        "run",
+        "kept 0 culled 3\nculled a\nculled b\nculled c\n",
+        "kept 3 culled 0\n",
+    ),
+    (
+        "cull",
+        CULLED,
+        "kept 3 culled 0\npass a kept\npass b kept\npass c kept\n",
+    ),
+];
+
+#[test]
+fn chains(rt: HostRuntime) -> Result<(), Fail> {
+    let alloc = rt.alloc();
+    let seen = CHAIN.replace(
+        alloc,
+        "\"name\":\"c\",",
+        "\"name\":\"c\",\"side_effect\":true,",
+    )?;
+    for (line, culled, kept) in CHAINS {
+        gives(&rt, alloc, line, CHAIN, Status::Done, culled)?;
+        gives(&rt, alloc, line, seen.as_str(), Status::Done, kept)?;
+    }
+    Ok(())
 }
 
 #[test]
@@ -276,34 +303,14 @@ fn at_rest_leaves_run(rt: HostRuntime) -> Result<(), Fail> {
     let alloc = rt.alloc();
     let mut source = SteadySource::new(bytes_of(alloc, CHAIN)?, 9);
     let mut sink = MemorySink::new(alloc, 1000, 9, List::new(alloc))?;
-    let words = words_of(alloc, &["run"])?;
+    let words = words_of(alloc, "run")?;
     let left = at_rest(alloc, words.as_slice(), &mut source, &mut sink);
     assert_eq!(rt; left, None);
     assert_eq!(rt; sink.bytes().len(), 0);
-    let words = words_of(alloc, &["cull"])?;
+    let words = words_of(alloc, "cull")?;
     let status = at_rest(alloc, words.as_slice(), &mut source, &mut sink);
     assert_eq!(rt; status, Some(Status::Done));
     assert_eq!(rt; sink.bytes(), CULLED.as_bytes());
-    Ok(())
-}
-
-const NO_LINES: [&str; 7] = [
-    "",
-    "Run",
-    "--help",
-    "check --workers 2",
-    "run --workers 17",
-    "run run",
-    "run --version",
-];
-
-#[test]
-fn other_words(rt: HostRuntime) -> Result<(), Fail> {
-    let alloc = rt.alloc();
-    for line in NO_LINES {
-        let words: Vec<&str> = line.split_whitespace().collect(alloc)?;
-        gives(&rt, alloc, words.as_slice(), FILL, Status::Words, "words\n")?;
-    }
     Ok(())
 }
 
@@ -318,7 +325,7 @@ fn is_refused(
 ) -> Result<(), Fail> {
     let mut source = SteadySource::new(file, u32::MAX);
     let mut sink = MemorySink::new(alloc, 100, 100, List::new(alloc))?;
-    let status = status_of(rt, alloc, &[word], &mut source, &mut sink)?;
+    let status = status_of(rt, alloc, word, &mut source, &mut sink)?;
     assert_eq!(rt; status, Some(Status::Refused));
     assert_eq!(rt; sink.bytes(), text.as_bytes());
     assert_eq!(rt; source.read(&mut [0u8; 8]), rest);
@@ -376,7 +383,7 @@ fn ends(
 {
     let mut source = MemorySource::new(bytes_of(alloc, FILL)?, read.0, calls(alloc, &[read.1])?);
     let mut sink = MemorySink::new(alloc, 1000, write.0, calls(alloc, &[write.1])?)?;
-    let status = status_of(rt, alloc, &["run"], &mut source, &mut sink)?;
+    let status = status_of(rt, alloc, "run", &mut source, &mut sink)?;
     assert_eq!(rt; status, Some(wanted), "status of {read:?} and {write:?}");
     assert_eq!(rt;
         sink.bytes(),
@@ -386,21 +393,21 @@ fn ends(
     Ok(source)
 }
 
+// How many bytes are read a call and which read fails, the same of writes, the status and the text.
+const ENDS: [((u32, u32), (u32, u32), Status, &str); 5] = [
+    ((100, 1), (10, 9), Status::ReadFault, ""),
+    ((100, 3), (10, 9), Status::ReadFault, ""),
+    ((100, 99), (10, 2), Status::WriteFault, "kept 1 cul"),
+    ((100, 99), (10, 9), Status::Done, FILL_TEXT),
+    ((1, 999), (10, 9), Status::Done, FILL_TEXT),
+];
+
 #[test]
 fn failing_ends(rt: HostRuntime) -> Result<(), Fail> {
     let alloc = rt.alloc();
-    ends(&rt, alloc, (100, 1), (10, 9), Status::ReadFault, "")?;
-    ends(&rt, alloc, (100, 3), (10, 9), Status::ReadFault, "")?;
-    ends(
-        &rt,
-        alloc,
-        (100, 99),
-        (10, 2),
-        Status::WriteFault,
-        "kept 1 cul",
-    )?;
-    ends(&rt, alloc, (100, 99), (10, 9), Status::Done, FILL_TEXT)?;
-    ends(&rt, alloc, (1, 999), (10, 9), Status::Done, FILL_TEXT)?;
+    for (read, write, status, text) in ENDS {
+        ends(&rt, alloc, read, write, status, text)?;
+    }
     Ok(())
 }
 
@@ -441,7 +448,7 @@ fn each_write_fails(rt: HostRuntime) -> Result<(), Fail> {
 fn is_offered(
     rt: &(impl Threads + Wait + Sync + Abort),
     alloc: Global,
-    words: &[&str],
+    line: &str,
     wanted: Status,
     lengths: &[usize],
 ) -> Result<(), Fail> {
@@ -449,7 +456,7 @@ fn is_offered(
     let mut offers = Offers {
         lengths: Vec::new(alloc),
     };
-    let status = status_of(rt, alloc, words, &mut source, &mut offers)?;
+    let status = status_of(rt, alloc, line, &mut source, &mut offers)?;
     assert_eq!(rt; status, Some(wanted));
     assert_eq!(rt; offers.lengths.as_slice(), lengths);
     Ok(())
@@ -460,9 +467,9 @@ fn is_offered(
 fn whole_rest_at_each_write(rt: HostRuntime) -> Result<(), Fail> {
     let alloc = rt.alloc();
     let mut source = SteadySource::new(bytes_of(alloc, FILL)?, 1);
-    let status = status_of(&rt, alloc, &["run"], &mut source, &mut SteadySink::new())?;
+    let status = status_of(&rt, alloc, "run", &mut source, &mut SteadySink::new())?;
     assert_eq!(rt; status, Some(Status::Done));
-    is_offered(&rt, alloc, &["run", "run"], Status::Words, &[6, 2])?;
+    is_offered(&rt, alloc, "run run", Status::Words, &[6, 2])?;
     let lengths = [61, 57, 53, 49, 45, 41, 37, 33, 29, 25, 21, 17, 13, 9, 5, 1];
-    is_offered(&rt, alloc, &["run"], Status::Done, &lengths)
+    is_offered(&rt, alloc, "run", Status::Done, &lengths)
 }

@@ -1,19 +1,16 @@
 //! The top call.
 
-ghost use Rattle.std.specs.Prelude.{◌≡◌, ◌+◌, ◌⊎◌, [], map, string_bytes, Some, None, codes};
-ghost use Rattle.fg_base.specs.Counts.{Rose};
-ghost use Rattle.fg_top.specs.Answers.{IsAnswered, input_limit};
-ghost use Rattle.fg_top.specs.Causes.{ReadCause, WriteCause};
-ghost use Rattle.fg_top.specs.Complete.{IsComplete};
-ghost use Rattle.fg_top.specs.Outcomes.{EndsAs, IsUnanswered, TakesAtMost, TakesWhole};
+ghost use Rattle.std.specs.Prelude.{◌≡◌, [], map, string_bytes, None};
+ghost use Rattle.fg_top.specs.Calls.{Call};
+ghost use Rattle.fg_top.specs.Ends.{ends};
+ghost use Rattle.fg_top.specs.Outcomes.{IsUnanswered};
 ghost use Rattle.fg_top.specs.Told.{IsUntold};
 ghost use Rattle.fg_words.specs.Lines.{command_of};
-ghost use Rattle.fg_words.specs.declared.command.Command.{Command};
 
 use crate::files::answer;
 use crate::{Ended, Status, at_rest};
 use fg_base::{Gate, Sink, Source, Tap};
-use fg_words::Command;
+use fg_words::{Command, FrameCommand};
 use std::alloc::Global;
 use std::sync::Wait;
 use std::thread::Threads;
@@ -32,28 +29,22 @@ pub fn framec<R: Threads + Wait + Sync, I: Source, O: Sink, G: Gate + Sync>(
     gate: &G,
     taps: &mut Vec<Box<dyn Tap>>,
 ) -> Ended
-    // Words that are no command line.
-    ensures words { command_of (map string_bytes words.now) ≡ None → EndsAs Status.Words (codes "words\n") (O.taken output.old) (O.taken output.new) result.status }
+    // The status, what was written and how much was read.
+    ensures call { let seen = ends I.left I.faults O.taken O.faults in
+        Call (command_of (map string_bytes words.now)) (seen input.old output.old) (seen input.new output.new) result.status }
+
+    // Words that are no command line read nothing; a call without an answer writes nothing.
     ensures unread { command_of (map string_bytes words.now) ≡ None → input.new ≡ input.old }
-
-    // Words that are one.
-    ensures command { (command : Command) → command_of (map string_bytes words.now) ≡ Some command → IsAnswered command (I.left input.old) (O.taken output.old) (O.taken output.new) result.status }
-    ensures taken { (command : Command) → command_of (map string_bytes words.now) ≡ Some command → TakesAtMost (input_limit command + 1) (I.left input.old) (I.left input.new) }
-    ensures whole { (command : Command) → command_of (map string_bytes words.now) ≡ Some command → ¬ IsUnanswered result.status → TakesWhole (input_limit command) (I.left input.old) (I.left input.new) }
-
-    // The causes of faults, for all words.
-    ensures read { ReadCause (I.faults input.old) (I.faults input.new) result.status }
-    ensures write { WriteCause (O.faults output.old) (O.faults output.new) result.status }
-
-    // Where a read failed or memory ran out; and where no read and no write failed.
     ensures unwritten { IsUnanswered result.status → output.new ≡ output.old }
-    ensures complete { ¬ Rose (I.faults input.old) (I.faults input.new) → ¬ Rose (O.faults output.old) (O.faults output.new) → (result.status ≡ Status.NoMemory) ⊎ IsComplete (command_of (map string_bytes words.now)) (I.left input.old) (O.taken output.old) (O.taken output.new) result.status }
 
     ensures untold { IsUntold taps.old.items taps.new.items result.spent.items result.places.items }
 {
     match at_rest(alloc, words, input, output) {
         Some(status) => untold(alloc, status),
-        None => untold(alloc, answer(alloc, Command::Run, input, output)),
+        None => untold(
+            alloc,
+            answer(alloc, Command::Frame(FrameCommand::Run), input, output),
+        ),
     }
 }
 

@@ -1,21 +1,36 @@
-//! The commands, by their words.
+//! The commands, and their words.
 
 ghost use Rattle.std.specs.Prelude.{◌≡◌};
 ghost use Rattle.fg_words.specs.Commands.{named};
 
-/// A command that the program has.
+/// A command that the program has, by what it reads. One that reads nothing, or more than one file, will stand beside
+/// these.
 #[derive(Clone, Copy, Debug, PartialEq, Eq)]
 pub enum Command {
-    /// Runs a frame and prints what it exports.
+    /// A command that reads a frame.
+    Frame(FrameCommand),
+    /// A command that reads a submission.
+    Submission(SubmissionCommand),
+}
+
+/// What is done with a frame.
+#[derive(Clone, Copy, Debug, PartialEq, Eq)]
+pub enum FrameCommand {
+    /// Runs it and prints what it exports.
     Run,
-    /// Prints whether a submission is sound, or its first hazard.
-    Check,
-    /// Prints which passes of a frame are culled.
+    /// Prints which of its passes are culled.
     Cull,
-    /// Prints the exports of a frame from its sequential meaning.
+    /// Prints its exports from its sequential meaning.
     Meaning,
-    /// Prints a frame's canonical text.
+    /// Prints its canonical text.
     Migrate,
+}
+
+/// What is done with a submission.
+#[derive(Clone, Copy, Debug, PartialEq, Eq)]
+pub enum SubmissionCommand {
+    /// Prints whether it is sound, or its first hazard.
+    Check,
 }
 
 impl Command {
@@ -24,11 +39,11 @@ impl Command {
         ensures { result ≡ named word.now }
     {
         match word {
-            "run" => Some(Command::Run),
-            "check" => Some(Command::Check),
-            "cull" => Some(Command::Cull),
-            "meaning" => Some(Command::Meaning),
-            "migrate" => Some(Command::Migrate),
+            "run" => Some(Command::Frame(FrameCommand::Run)),
+            "cull" => Some(Command::Frame(FrameCommand::Cull)),
+            "meaning" => Some(Command::Frame(FrameCommand::Meaning)),
+            "migrate" => Some(Command::Frame(FrameCommand::Migrate)),
+            "check" => Some(Command::Submission(SubmissionCommand::Check)),
             _ => None,
         }
     }

@@ -5,7 +5,7 @@ mod command;
 mod line;
 mod matching;
 
-pub use command::Command;
+pub use command::{Command, FrameCommand, SubmissionCommand};
 pub use line::command_of;
 
 #[cfg(test)]

@@ -1,36 +1,47 @@
-use crate::{Command, command_of};
+use crate::{Command, FrameCommand, SubmissionCommand, command_of};
 use std::alloc::{AllocError, Global};
 use std::test::Fail;
 
-fn words_of(alloc: Global, words: &[&str]) -> Result<Vec<String>, AllocError> {
-    let mut list = Vec::new(alloc);
-    for word in words {
-        list.push(String::from_str(alloc, word)?)?;
+// The words of a line.
+fn words_of(alloc: Global, line: &str) -> Result<Vec<String>, AllocError> {
+    let mut words = Vec::new(alloc);
+    for word in line.split_whitespace() {
+        words.push(String::from_str(alloc, word)?)?;
     }
-    Ok(list)
+    Ok(words)
 }
+
+const COMMANDS: [(&str, Command); 5] = [
+    ("run", Command::Frame(FrameCommand::Run)),
+    ("-- cull", Command::Frame(FrameCommand::Cull)),
+    ("meaning", Command::Frame(FrameCommand::Meaning)),
+    ("migrate", Command::Frame(FrameCommand::Migrate)),
+    ("check", Command::Submission(SubmissionCommand::Check)),
+];
+
+const NO_COMMANDS: [&str; 6] = [
+    "",
+    "Run",
+    "run run",
+    "run --help",
+    "--version",
+    "check --workers 2",
+];
 
 #[test]
 fn command_lines(rt: HostRuntime) -> Result<(), Fail> {
     let alloc = rt.alloc();
-    let none: [&str; 0] = [];
-    let lines: [(&[&str], Option<Command>); 11] = [
-        (&none, None),
-        (&["run"], Some(Command::Run)),
-        (&["check"], Some(Command::Check)),
-        (&["--", "cull"], Some(Command::Cull)),
-        (&["meaning"], Some(Command::Meaning)),
-        (&["migrate"], Some(Command::Migrate)),
-        (&["Run"], None),
-        (&["run", "run"], None),
-        (&["run", "--help"], None),
-        (&["--version"], None),
-        (&["check", "--workers", "2"], None),
-    ];
-    for (line, wanted) in lines {
+    for (line, wanted) in COMMANDS {
         let words = words_of(alloc, line)?;
-        let found = command_of(alloc, words.as_slice())?;
-        assert_eq!(rt; found, wanted, "{line:?}");
+        assert_eq!(rt;
+            command_of(alloc, words.as_slice())?,
+            Some(wanted),
+            "{line}"
+        );
+    }
+    for line in NO_COMMANDS {
+        let words = words_of(alloc, line)?;
+        assert_eq!(rt; command_of(alloc, words.as_slice())?, None, "{line}");
     }
     Ok(())
 }

@@ -1,4 +1,4 @@
--- For the code alone, and cited by no public clause: what reading the input came to.
+-- What reading the input came to.
 use Rattle.std.specs.Prelude.{ℕ, List, ◌++◌, ◌<◌, ◌≤◌, ◌≡◌, length}
 use Rattle.std.specs.declared.option.Option.{Option}
 use Rattle.std.specs.Io.KnownBytes.{Consumes, IsAtEnd, Keeps}

@@ -1,0 +1,25 @@
+-- What the steps of a call come to: a file that is read to be answered, and a text that is written.
+use Rattle.std.specs.Prelude.{ℕ, List, ◌≡◌, Bool, true, false, Option, Result, Ok, Err}
+use Rattle.std.specs.Io.KnownBytes.{Appends}
+use Rattle.fg_base.specs.Counts.{Rose}
+use Rattle.fg_top.specs.Causes.{ReadCause}
+use Rattle.fg_top.specs.Outcomes.{TakesFront}
+use Rattle.fg_top.specs.declared.ended.Status.{Status}
+use Rattle.fg_top.specs.declared.ended.Status.TheVariants.{ReadFault, WriteFault, NoMemory}
+
+-- why a file has no answer: a fault of reading leaves none
+abbrev pub ReadsAnswer : {X : Type 0} → ℕ → ℕ → Result X Status → Type 0
+ReadsAnswer before after (Ok answer) = after ≡ before
+ReadsAnswer before after (Err status) = ReadCause before after status
+
+-- all of the text was taken; or a front of it, and the sink counted a fault
+abbrev pub IsWritten : List ℕ → Option (List ℕ) → Option (List ℕ) → ℕ → ℕ → Bool → Type 0
+IsWritten text old new before after true = Appends old new text × (after ≡ before)
+IsWritten text old new before after false = TakesFront text old new × Rose before after
+
+-- a status that comes with a text
+abbrev pub HasText : Status → Type 0
+HasText ReadFault = ⊥
+HasText NoMemory = ⊥
+HasText WriteFault = ⊥
+HasText status = Unit {0}
