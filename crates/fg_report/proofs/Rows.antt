@@ -11,7 +11,7 @@ use Rattle.fg_report.specs.Exports.{export_lines}
 use Rattle.fg_report.specs.Faults.{frame_fault_text, sub_fault_text}
 use Rattle.fg_report.specs.Hazards.{hazard_text, check_text}
 use Rattle.fg_subs.specs.Faults as subs
-use Rattle.fg_view.specs.declared.hazard.Hazard.TheVariants.{Stuck, NotVisible, BadLayout, BadOwner, Unmatched, Aliased}
+use Rattle.fg_checker.specs.declared.hazard.Hazard.TheVariants.{Stuck, NotVisible, BadLayout, BadOwner, Unmatched, Aliased}
 
 at_the_root : frame_fault_text not_json ≡ codes "fault F1 $\n"
 unfolding digits

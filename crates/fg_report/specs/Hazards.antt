@@ -5,8 +5,8 @@ use Rattle.std.specs.Option.{option_map_or}
 use Rattle.fg_base.specs.Families.{family_name}
 use Rattle.fg_base.specs.declared.shape.Family.{Family}
 use Rattle.fg_bits.specs.Layouts.{layout_name}
-use Rattle.fg_view.specs.declared.hazard.Hazard.{Hazard}
-use Rattle.fg_view.specs.declared.hazard.Hazard.TheVariants.{Stuck, Unordered, NotAvailable, NotVisible, BadLayout, BadOwner, Unmatched, Undefined, Aliased}
+use Rattle.fg_checker.specs.declared.hazard.Hazard.{Hazard}
+use Rattle.fg_checker.specs.declared.hazard.Hazard.TheVariants.{Stuck, Unordered, NotAvailable, NotVisible, BadLayout, BadOwner, Unmatched, Undefined, Aliased}
 
 abbrev pub owner_name : Option Family → List ℕ
 owner_name owner = option_map_or family_name owner (codes "none")

@@ -4,8 +4,8 @@ ghost use Rattle.std.specs.Prelude.{◌≡◌, ◌++◌, OnOk, IfOk};
 ghost use Rattle.fg_report.specs.Hazards.{owner_name, field, number_field, two_numbers, hazard_number, hazard_fields, hazard_text, check_text};
 
 use fg_base::{Family, List, NoMemory, Text};
+use fg_checker::Hazard;
 use fg_lines::Lines;
-use fg_view::Hazard;
 use std::alloc::Global;
 
 fn owner_name(owner: Option<Family>) -> &'static [u8]

@@ -1,9 +1,9 @@
 use super::*;
 use crate::export::add_export;
 use fg_base::{Leg, Limit, List, Name, NoMemory, Text};
+use fg_checker::Hazard;
 use fg_frame::{FrameFault, Spot};
 use fg_subs::SubFault;
-use fg_view::Hazard;
 use std::alloc::Global;
 use std::process::Abort;
 use std::test::Fail;

@@ -23,7 +23,7 @@ use Rattle.fg_top.specs.declared.answer.Answer.{Answer}
 use Rattle.fg_top.specs.declared.ended.Status.{Status}
 use Rattle.fg_top.specs.declared.ended.Status.TheVariants.{Done, Rejected, Refused, ReadFault, NoMemory}
 use Rattle.fg_versions.specs.Culled.{AreKept}
-use Rattle.fg_view.specs.declared.hazard.Hazard.{Hazard}
+use Rattle.fg_checker.specs.declared.hazard.Hazard.{Hazard}
 use Rattle.fg_words.specs.declared.command.Command.{Command}
 use Rattle.fg_words.specs.declared.command.Command.TheVariants as reads
 use Rattle.fg_words.specs.declared.command.FrameCommand.{FrameCommand}
