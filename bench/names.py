@@ -199,7 +199,8 @@ def look_at_model():
             named |= {(crate, word) for crate in last if word.endswith(".antt")}
     for source in SOURCES:
         if source.parent.name == "specs" and source.suffix == ".antt" and source.stem not in ("Lib", "Code"):
-            if (crate_of(source), source.name) not in named:
+            defines = re.search(r"^(?:pub )?(?:abbrev|record|data)\b", TEXTS[source], re.M)
+            if defines and (crate_of(source), source.name) not in named:
                 problem(path, 1, f"{source.relative_to(TOP)} is not named")
 
 

@@ -67,10 +67,10 @@ def reached(edges, start):
 
 
 def crate_lines():
-    """The crates of the repository that each of them stands on."""
+    """The crates of the repository that each of them stands on, without those for tests."""
     lines = [line.split(":") for line in (TOP / "crates.txt").read_text(encoding="utf-8").splitlines() if ":" in line and not line.startswith("#")]
-    names = [name.split()[0] for name, _ in lines]
-    return {name.split()[0]: [dep for dep in deps.split() if dep in names] for name, deps in lines}
+    names = [name.split()[0] for name, _ in lines if name.split()[0] not in TESTS]
+    return {name.split()[0]: [dep for dep in deps.split() if dep in names] for name, deps in lines if name.split()[0] in names}
 
 
 GROUPS = [
@@ -78,8 +78,10 @@ GROUPS = [
     ("rose", "submissions", {"fg_subs", "fg_hb", "fg_view", "fg_ties", "fg_stated", "fg_checker", "fg_reach"}),
     ("green", "files", {"fg_forms", "fg_opforms", "fg_shapeforms", "fg_framefile", "fg_subfile"}),
     ("amber", "the program", {"fg_words", "fg_lines", "fg_report", "fg_top", "framec"}),
-    ("none", "tests", {"fg_sketch"}),
 ]
+
+# On these crates others stand by their tests alone.
+TESTS = {"fg_sketch"}
 
 
 def fill_of(crate):
