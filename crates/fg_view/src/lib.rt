@@ -1,4 +1,4 @@
-//! A program as it is checked: what each node does to memory, and what can be wrong with that.
+//! A program as it is checked: what each node does to memory, and in which pieces.
 #![tactic(auto)]
 
 mod access;
@@ -6,13 +6,11 @@ mod barrier;
 mod command;
 mod effect;
 mod effects;
-mod hazard;
 mod node_access;
 mod view;
 
 pub use access::{Access, AccessKind, Agent, Handover};
 pub use effect::{Effect, Scope};
-pub use hazard::Hazard;
 pub use node_access::{NodeAccess, node_accesses_of};
 pub use view::{View, view_of};
 
