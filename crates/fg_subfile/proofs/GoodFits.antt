@@ -11,7 +11,7 @@ use Rattle.fg_base.specs.declared.shape.Family.TheVariants.{Graphics, Compute, T
 use Rattle.fg_base.specs.declared.shape.Shape.{Shape}
 use Rattle.fg_base.specs.declared.shape.Shape.TheVariants as shapes
 use Rattle.fg_bits.specs.Accesses.{Access, accesses, access_names}
-use Rattle.fg_bits.specs.Families.{stages_of, on_family}
+use Rattle.fg_bits.specs.Families.{family_number, stages_of, on_family}
 use Rattle.fg_bits.specs.Sets.{meets, union_from}
 use Rattle.fg_bits.specs.Stages.{expand, host, stage_names}
 use Rattle.fg_bits.specs.Support.{supported, supported_part, supports}
@@ -28,15 +28,9 @@ use Rattle.fg_subfile.specs.Pieces.{FitsPiece}
 use Rattle.fg_subfile.specs.Programs.{FitsProgram}
 use Rattle.fg_subfile.specs.Timelines.{FitsWait, FitsSignal}
 use Rattle.fg_subfile.specs.Typed.{IsTypedPiece, IsTypedWait, IsTypedItem, IsTypedBatch, IsTypedQueue, IsTypedProgram}
-use Rattle.fg_base.proofs.Absence.{map_none}
-use Rattle.fg_subs.proofs.Few.{is_small}
-use Rattle.fg_subs.proofs.Keeping.{keeps}
 use Rattle.fg_subs.specs.Barriers.{both_supported, both_on_family, on_queue}
-use Rattle.fg_subs.specs.FirstFault.{first_broken, first_fault}
-use Rattle.fg_subs.specs.Kept.{BatchKeeps, BatchAt}
-use Rattle.fg_subs.specs.Paths.{told}
-use Rattle.fg_subs.specs.Ranges.{family_number}
-use Rattle.fg_subs.specs.Rules.{wait_keeps, item_keeps, signal_keeps, shapes_of}
+use Rattle.fg_subs.specs.Obeys.{BatchObeys, BatchAt, IsSmall, Obeys}
+use Rattle.fg_subs.specs.Rules.{wait_obeys, item_obeys, signal_obeys, shapes_of}
 use Rattle.fg_subs.specs.Timelines.{highest}
 use Rattle.fg_subs.specs.declared.program.Batch.{Batch}
 use Rattle.fg_subs.specs.declared.program.Item.{Item}
@@ -46,6 +40,7 @@ use Rattle.fg_subs.specs.declared.program.Program.{Program}
 use Rattle.fg_subs.specs.declared.program.Queue.{Queue}
 use Rattle.fg_subs.specs.declared.program.Signal.{Signal}
 use Rattle.fg_subs.specs.declared.program.WaitFor.{WaitFor}
+use Rattle.fg_subs.specs.declared.rule.Rule.{Rule}
 use Rattle.fg_subs.specs.declared.rule.Rule.TheVariants as rules
 
 -- LISTS
@@ -125,8 +120,8 @@ pieces_fit (piece ∷ pieces) sides sizes typed = (
 
 -- QUEUES
 
-module _ (program : Program) (none : first_broken program ≡ None) where
-  item_fits : (family : Family) (item : Item) → item_keeps rules.OnQueue (shapes_of program) family item ≡ true → item_keeps rules.Supported (shapes_of program) family item ≡ true → IsTypedItem item → FitsItem item
+module _ (program : Program) (obeys : (rule : Rule) → Obeys rule program) where
+  item_fits : (family : Family) (item : Item) → item_obeys rules.OnQueue (shapes_of program) family item ≡ true → item_obeys rules.Supported (shapes_of program) family item ≡ true → IsTypedItem item → FitsItem item
   item_fits family (items.Command op) on supported typed = typed
   item_fits family (items.Global masks) on supported typed = masks_fit family masks on supported
   item_fits family (items.BufferBarrier piece masks) on supported typed = (typed, masks_fit family masks on supported)
@@ -134,23 +129,23 @@ module _ (program : Program) (none : first_broken program ≡ None) where
   item_fits family (items.Release t) on supported typed = record { piece = typed; masks = masks_fit family t.masks on supported }
   item_fits family (items.Acquire t) on supported typed = record { piece = typed; masks = masks_fit family t.masks on supported }
 
-  items_fit : (family : Family) (its : List Item) → All (λ item. item_keeps rules.OnQueue (shapes_of program) family item ≡ true) its → All (λ item. item_keeps rules.Supported (shapes_of program) family item ≡ true) its → AllByRecursion IsTypedItem its → AllByRecursion FitsItem its
+  items_fit : (family : Family) (its : List Item) → All (λ item. item_obeys rules.OnQueue (shapes_of program) family item ≡ true) its → All (λ item. item_obeys rules.Supported (shapes_of program) family item ≡ true) its → AllByRecursion IsTypedItem its → AllByRecursion FitsItem its
   items_fit family [] on supported typed = tt
   items_fit family (item ∷ its) on supported typed = (
-    item_fits family item (All-head (λ i. item_keeps rules.OnQueue (shapes_of program) family i ≡ true) item its on) (All-head (λ i. item_keeps rules.Supported (shapes_of program) family i ≡ true) item its supported) typed.0,
-    items_fit family its (All-tail (λ i. item_keeps rules.OnQueue (shapes_of program) family i ≡ true) item its on) (All-tail (λ i. item_keeps rules.Supported (shapes_of program) family i ≡ true) item its supported) typed.1,
+    item_fits family item (All-head (λ i. item_obeys rules.OnQueue (shapes_of program) family i ≡ true) item its on) (All-head (λ i. item_obeys rules.Supported (shapes_of program) family i ≡ true) item its supported) typed.0,
+    items_fit family its (All-tail (λ i. item_obeys rules.OnQueue (shapes_of program) family i ≡ true) item its on) (All-tail (λ i. item_obeys rules.Supported (shapes_of program) family i ≡ true) item its supported) typed.1,
   )
 
-  signal_fits : (family : Family) (reached : ℕ) (signal : Option Signal) → IfSome signal (λ s. signal_keeps rules.OnQueue family reached s ≡ true) → IfSome signal FitsSignal
+  signal_fits : (family : Family) (reached : ℕ) (signal : Option Signal) → IfSome signal (λ s. signal_obeys rules.OnQueue family reached s ≡ true) → IfSome signal FitsSignal
   signal_fits family reached None on = tt
   signal_fits family reached (Some signal) on = queue_stages family signal.stages.0 on
 
-  wait_fits : (count : ℕ) (family : Family) (wait : WaitFor) → IsTypedWait wait → wait_keeps rules.OnQueue count family wait ≡ true → FitsWait wait
+  wait_fits : (count : ℕ) (family : Family) (wait : WaitFor) → IsTypedWait wait → wait_obeys rules.OnQueue count family wait ≡ true → FitsWait wait
   wait_fits count family wait typed on = record { queue = typed; stages = queue_stages family wait.stages.0 on }
 
-  batch_fits : (queue : Queue) (b : ℕ) (batch : Batch) → BatchKeeps rules.OnQueue program queue b batch → BatchKeeps rules.Supported program queue b batch → IsTypedBatch batch → FitsBatch batch
+  batch_fits : (queue : Queue) (b : ℕ) (batch : Batch) → BatchObeys rules.OnQueue program queue b batch → BatchObeys rules.Supported program queue b batch → IsTypedBatch batch → FitsBatch batch
   batch_fits queue b batch on supported typed = record {
-    waits = all_fit IsTypedWait (λ wait. wait_keeps rules.OnQueue (length program.queues) queue.family wait ≡ true) FitsWait (wait_fits (length program.queues) queue.family) batch.waits typed.waits on.waits;
+    waits = all_fit IsTypedWait (λ wait. wait_obeys rules.OnQueue (length program.queues) queue.family wait ≡ true) FitsWait (wait_fits (length program.queues) queue.family) batch.waits typed.waits on.waits;
     items = items_fit queue.family batch.items on.items supported.items typed.items;
     signal = signal_fits queue.family (highest (take b queue.batches)) batch.signal on.signal;
   }
@@ -159,17 +154,12 @@ module _ (program : Program) (none : first_broken program ≡ None) where
   queue_fits q queue at typed =
       each_fits IsTypedBatch FitsBatch queue.batches (λ b batch is.
       let there : BatchAt program q b queue batch = record { queue_is = at; batch_is = is } in
-      batch_fits queue b batch ((keeps program none rules.OnQueue).batches q b queue batch there) ((keeps program none rules.Supported).batches q b queue batch there)) typed
+      batch_fits queue b batch ((obeys rules.OnQueue).batches q b queue batch there) ((obeys rules.Supported).batches q b queue batch there)) typed
 
-  fits_by : IsTypedProgram program → FitsProgram program
-  fits_by typed =
-      let small = is_small program none in
-      record {
-        memories = typed.memories;
-        pieces = pieces_fit program.pieces small.sides small.sizes typed.pieces;
-        queues = each_fits IsTypedQueue FitsQueue program.queues queue_fits typed.queues;
-        readbacks = typed.readbacks;
-      }
-
-pub good_fits : (program : Program) → first_fault program ≡ None → IsTypedProgram program → FitsProgram program
-good_fits program none typed = fits_by program (map_none told (first_broken program) none) typed
+pub good_fits : (program : Program) → IsSmall program → ((rule : Rule) → Obeys rule program) → IsTypedProgram program → FitsProgram program
+good_fits program small obeys typed = record {
+  memories = typed.memories;
+  pieces = pieces_fit program.pieces small.sides small.sizes typed.pieces;
+  queues = each_fits IsTypedQueue FitsQueue program.queues (queue_fits program obeys) typed.queues;
+  readbacks = typed.readbacks;
+}

@@ -8,7 +8,7 @@ ghost use Rattle.serde_json.specs.View.{view, members_view};
 
 use crate::mask::{AccessesForm, StagesForm};
 use fg_bits::Masks;
-use fg_forms::{Members, Place, ReadEnd, Writer, required, with_member, with_text};
+use fg_forms::{Members, Place, ReadEnd, required, with_form, with_member, with_text};
 use serde_json::{Map, Value};
 use std::alloc::{AllocError, Global};
 
@@ -35,14 +35,10 @@ pub fn read_masks(alloc: Global, at: &Place<'_>, json: &Value) -> Result<Masks, 
 pub fn mask_members(alloc: Global, masks: &Masks) -> Result<Members, AllocError>
     ensures { IfOk result (λ members. members_view members.entries ≡ mask_members masks.now) }
 {
-    let src_stage = StagesForm::write(alloc, &masks.src_stages)?;
-    let members = with_member(alloc, Map::new(alloc), "src_stage", src_stage)?;
-    let src_access = AccessesForm::write(alloc, &masks.src_accesses)?;
-    let members = with_member(alloc, members, "src_access", src_access)?;
-    let dst_stage = StagesForm::write(alloc, &masks.dst_stages)?;
-    let members = with_member(alloc, members, "dst_stage", dst_stage)?;
-    let dst_access = AccessesForm::write(alloc, &masks.dst_accesses)?;
-    with_member(alloc, members, "dst_access", dst_access)
+    let members = with_form::<StagesForm>(alloc, Map::new(alloc), "src_stage", &masks.src_stages)?;
+    let members = with_form::<AccessesForm>(alloc, members, "src_access", &masks.src_accesses)?;
+    let members = with_form::<StagesForm>(alloc, members, "dst_stage", &masks.dst_stages)?;
+    with_form::<AccessesForm>(alloc, members, "dst_access", &masks.dst_accesses)
 }
 
 /// The members of a barrier on a piece: the word of the item, the piece's number, and the masks.

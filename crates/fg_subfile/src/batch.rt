@@ -6,9 +6,9 @@ use crate::item::ItemForm;
 use crate::signal::SignalForm;
 use crate::wait::WaitForm;
 use fg_base::List;
-use fg_forms::{ListForm, Place, ReadEnd, Reader, Writer, object, optional, others};
+use fg_forms::{ListForm, Place, ReadEnd, Reader, Writer, object, optional, others, with_form};
 use fg_subs::Batch;
-use serde_json::{Value, json};
+use serde_json::{Map, Value};
 use std::alloc::{AllocError, Global};
 
 /// An entry of `batches`.
@@ -42,13 +42,18 @@ impl Writer for BatchForm {
     ghost writes = { batch_data };
 
     fn write(alloc: Global, batch: &Batch) -> Result<Value, AllocError> {
-        let waits = <ListForm<WaitForm>>::write(alloc, &batch.waits)?;
-        let items = <ListForm<ItemForm>>::write(alloc, &batch.items)?;
+        let members = with_form::<ListForm<ItemForm>>(
+            alloc,
+            Map::new(alloc),
+            "items",
+            &batch.items,
+        )?;
+        let members = with_form::<ListForm<WaitForm>>(alloc, members, "waits", &batch.waits)?;
         match &batch.signal {
-            None => json!(in alloc; {"items": items, "waits": waits}),
+            None => Ok(Value::Object(members)),
             Some(signal) => {
-                let signal = SignalForm::write(alloc, signal)?;
-                json!(in alloc; {"items": items, "signal": signal, "waits": waits})
+                let members = with_form::<SignalForm>(alloc, members, "signal", signal)?;
+                Ok(Value::Object(members))
             }
         }
     }

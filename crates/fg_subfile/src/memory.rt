@@ -6,10 +6,10 @@ ghost use Rattle.fg_forms.specs.Reading.{Gives};
 ghost use Rattle.fg_subfile.specs.Memories.{plain_at, import_at, is_plain, memory_at, memory_data, FitsMemory};
 ghost use Rattle.serde_json.specs.View.{view};
 
-use fg_forms::{NumberForm, Place, ReadEnd, Reader, Writer, object, others, required};
+use fg_forms::{NumberForm, Place, ReadEnd, Reader, Writer, object, others, required, with_form};
 use fg_shapeforms::HexForm;
 use fg_subs::Memory;
-use serde_json::{Value, json};
+use serde_json::{Map, Value};
 use std::alloc::{AllocError, Global};
 
 /// An entry of `memories`.
@@ -67,10 +67,13 @@ impl Writer for MemoryForm {
 
     fn write(alloc: Global, memory: &Memory) -> Result<Value, AllocError> {
         match memory {
-            Memory::Plain { size } => json!(in alloc; {"size": *size}),
+            Memory::Plain { size } => {
+                let members = with_form::<NumberForm>(alloc, Map::new(alloc), "size", size)?;
+                Ok(Value::Object(members))
+            }
             Memory::Import { bytes } => {
-                let import = HexForm::write(alloc, bytes)?;
-                json!(in alloc; {"import": import})
+                let members = with_form::<HexForm>(alloc, Map::new(alloc), "import", bytes)?;
+                Ok(Value::Object(members))
             }
         }
     }

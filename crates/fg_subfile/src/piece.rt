@@ -6,10 +6,10 @@ ghost use Rattle.serde_json.specs.View.{view};
 
 use fg_base::{Shape, Texel};
 use fg_bits::Sharing;
-use fg_forms::{TextForm, Writer};
+use fg_forms::{NumberForm, TextForm, Writer, with_form, with_member, with_text};
 use fg_shapeforms::TexelWord;
 use fg_subs::Piece;
-use serde_json::{Value, json};
+use serde_json::{Map, Value, json};
 use std::alloc::{AllocError, Global};
 
 /// A piece as an entry of its own. `sharing` is written where it is concurrent, and `layers` never.
@@ -24,12 +24,13 @@ fn buffer_value(
 ) -> Result<Value, AllocError>
     ensures { IfOk result (λ json. view json ≡ buffer_data size memory offset sharing) }
 {
+    let members = with_form::<NumberForm>(alloc, Map::new(alloc), "buffer", &size)?;
+    let members = with_form::<NumberForm>(alloc, members, "memory", &memory)?;
+    let members = with_form::<NumberForm>(alloc, members, "offset", &offset)?;
     match sharing {
-        Sharing::Exclusive => {
-            json!(in alloc; {"buffer": size, "memory": memory, "offset": offset})
-        }
+        Sharing::Exclusive => Ok(Value::Object(members)),
         Sharing::Concurrent => {
-            json!(in alloc; {"buffer": size, "memory": memory, "offset": offset, "sharing": "concurrent"})
+            Ok(Value::Object(with_text(alloc, members, "sharing", "concurrent")?))
         }
     }
 }
@@ -45,13 +46,14 @@ fn image_value(
     ensures { IfOk result (λ json. view json ≡ image_data sides.0 sides.1 texel memory offset sharing) }
 {
     let sides = json!(in alloc; [sides.0, sides.1])?;
-    let texel = <TextForm<TexelWord>>::write(alloc, &texel)?;
+    let members = with_member(alloc, Map::new(alloc), "image", sides)?;
+    let members = with_form::<NumberForm>(alloc, members, "memory", &memory)?;
+    let members = with_form::<NumberForm>(alloc, members, "offset", &offset)?;
+    let members = with_form::<TextForm<TexelWord>>(alloc, members, "texel", &texel)?;
     match sharing {
-        Sharing::Exclusive => {
-            json!(in alloc; {"image": sides, "memory": memory, "offset": offset, "texel": texel})
-        }
+        Sharing::Exclusive => Ok(Value::Object(members)),
         Sharing::Concurrent => {
-            json!(in alloc; {"image": sides, "memory": memory, "offset": offset, "sharing": "concurrent", "texel": texel})
+            Ok(Value::Object(with_text(alloc, members, "sharing", "concurrent")?))
         }
     }
 }

@@ -12,9 +12,10 @@ use crate::piece::PieceForm;
 use crate::queue::QueueForm;
 use fg_forms::{
     ListForm, NumberForm, Place, RangeForm, ReadEnd, Reader, Writer, object, others, required,
+    with_form, with_member,
 };
 use fg_subs::Program;
-use serde_json::{Value, json};
+use serde_json::{Map, Value};
 use std::alloc::{AllocError, Global};
 
 /// A whole submission file.
@@ -69,10 +70,21 @@ impl Writer for ProgramForm {
     ghost writes = { program_data };
 
     fn write(alloc: Global, program: &Program) -> Result<Value, AllocError> {
-        let memories = <ListForm<MemoryForm>>::write(alloc, &program.memories)?;
-        let pieces = <ListForm<PieceForm>>::write(alloc, &program.pieces)?;
-        let queues = <ListForm<QueueForm>>::write(alloc, &program.queues)?;
-        let readbacks = <ListForm<NumberForm>>::write(alloc, &program.readbacks)?;
-        json!(in alloc; {"format": 2u32, "memories": memories, "pieces": pieces, "queues": queues, "readbacks": readbacks})
+        let members = with_member(alloc, Map::new(alloc), "format", Value::from(2u32))?;
+        let members = with_form::<ListForm<MemoryForm>>(
+            alloc,
+            members,
+            "memories",
+            &program.memories,
+        )?;
+        let members = with_form::<ListForm<PieceForm>>(alloc, members, "pieces", &program.pieces)?;
+        let members = with_form::<ListForm<QueueForm>>(alloc, members, "queues", &program.queues)?;
+        let members = with_form::<ListForm<NumberForm>>(
+            alloc,
+            members,
+            "readbacks",
+            &program.readbacks,
+        )?;
+        Ok(Value::Object(members))
     }
 }

@@ -3,10 +3,12 @@
 ghost use Rattle.fg_subfile.specs.Batches.{queue_at, queue_data, FitsQueue};
 
 use crate::batch::BatchForm;
-use fg_forms::{ListForm, Place, ReadEnd, Reader, TextForm, Writer, object, others, required};
+use fg_forms::{
+    ListForm, Place, ReadEnd, Reader, TextForm, Writer, object, others, required, with_form,
+};
 use fg_shapeforms::FamilyWord;
 use fg_subs::Queue;
-use serde_json::{Value, json};
+use serde_json::{Map, Value};
 use std::alloc::{AllocError, Global};
 
 /// An entry of `queues`.
@@ -35,8 +37,13 @@ impl Writer for QueueForm {
     ghost writes = { queue_data };
 
     fn write(alloc: Global, queue: &Queue) -> Result<Value, AllocError> {
-        let family = <TextForm<FamilyWord>>::write(alloc, &queue.family)?;
-        let batches = <ListForm<BatchForm>>::write(alloc, &queue.batches)?;
-        json!(in alloc; {"batches": batches, "family": family})
+        let members = with_form::<ListForm<BatchForm>>(
+            alloc,
+            Map::new(alloc),
+            "batches",
+            &queue.batches,
+        )?;
+        let members = with_form::<TextForm<FamilyWord>>(alloc, members, "family", &queue.family)?;
+        Ok(Value::Object(members))
     }
 }

@@ -4,9 +4,9 @@ ghost use Rattle.fg_subfile.specs.Timelines.{signal_at, signal_data, FitsSignal}
 
 use crate::mask::StagesForm;
 use crate::value::ValueForm;
-use fg_forms::{Place, ReadEnd, Reader, Writer, object, others, required};
+use fg_forms::{Place, ReadEnd, Reader, Writer, object, others, required, with_form, with_member};
 use fg_subs::Signal;
-use serde_json::{Value, json};
+use serde_json::{Map, Value};
 use std::alloc::{AllocError, Global};
 
 /// The member `signal` of a batch.
@@ -35,7 +35,8 @@ impl Writer for SignalForm {
     ghost writes = { signal_data };
 
     fn write(alloc: Global, signal: &Signal) -> Result<Value, AllocError> {
-        let stages = StagesForm::write(alloc, &signal.stages)?;
-        json!(in alloc; {"stage": stages, "value": signal.value})
+        let members = with_form::<StagesForm>(alloc, Map::new(alloc), "stage", &signal.stages)?;
+        let members = with_member(alloc, members, "value", Value::from(signal.value))?;
+        Ok(Value::Object(members))
     }
 }

@@ -8,7 +8,7 @@ ghost use Rattle.fg_subfile.specs.Programs.{FitsProgram};
 use crate::program::ProgramForm;
 use fg_base::{NoMemory, Text};
 use fg_forms::{Typed, write_json};
-use fg_subs::Program;
+use fg_subs::{Program, rule_laws};
 use std::alloc::Global;
 
 /// The canonical text of a program: its value in format 2, compact, with the members of each object in the byte order of
@@ -18,6 +18,7 @@ pub fn write_program(alloc: Global, program: &Program) -> Result<Text, NoMemory>
     ensures again { IfOk result (λ text. FitsProgram program.now → program_of text ≡ Ok program.now) }
     ensures good { IfOk result (λ text. first_fault program.now ≡ None → program_of text ≡ Ok program.now) }
 {
+    rule_laws();
     ProgramForm::look(program);
     write_json::<ProgramForm>(alloc, program)
 }

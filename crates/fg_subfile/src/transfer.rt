@@ -10,9 +10,7 @@ use crate::barrier_masks::{piece_members, read_masks};
 use crate::layout::LayoutForm;
 use fg_base::Family;
 use fg_bits::Layouts;
-use fg_forms::{
-    Members, NumberForm, Place, ReadEnd, TextForm, Writer, others, required, with_member,
-};
+use fg_forms::{Members, NumberForm, Place, ReadEnd, TextForm, others, required, with_form};
 use fg_shapeforms::FamilyWord;
 use fg_subs::Transfer;
 use serde_json::Value;
@@ -86,10 +84,8 @@ pub fn read_transfer(alloc: Global, at: &Place<'_>, json: &Value) -> Result<Tran
 pub fn with_both(alloc: Global, members: Members, layouts: &Layouts) -> Result<Members, AllocError>
     ensures { IfOk result (λ more. members_view more.entries ≡ with_layouts (Some layouts.now) (members_view members.entries)) }
 {
-    let from = LayoutForm::write(alloc, &layouts.from)?;
-    let members = with_member(alloc, members, "from", from)?;
-    let to = LayoutForm::write(alloc, &layouts.to)?;
-    with_member(alloc, members, "to", to)
+    let members = with_form::<LayoutForm>(alloc, members, "from", &layouts.from)?;
+    with_form::<LayoutForm>(alloc, members, "to", &layouts.to)
 }
 
 fn with_families(
@@ -100,10 +96,8 @@ fn with_families(
 ) -> Result<Members, AllocError>
     ensures { IfOk result (λ more. members_view more.entries ≡ with_families from.now to.now (members_view members.entries)) }
 {
-    let from = <TextForm<FamilyWord>>::write(alloc, from)?;
-    let members = with_member(alloc, members, "from_family", from)?;
-    let to = <TextForm<FamilyWord>>::write(alloc, to)?;
-    with_member(alloc, members, "to_family", to)
+    let members = with_form::<TextForm<FamilyWord>>(alloc, members, "from_family", from)?;
+    with_form::<TextForm<FamilyWord>>(alloc, members, "to_family", to)
 }
 
 /// A release or an acquire, by its word.

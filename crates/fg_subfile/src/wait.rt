@@ -4,9 +4,11 @@ ghost use Rattle.fg_subfile.specs.Timelines.{wait_at, wait_data, FitsWait};
 
 use crate::mask::StagesForm;
 use crate::value::ValueForm;
-use fg_forms::{NumberForm, Place, ReadEnd, Reader, Writer, object, others, required};
+use fg_forms::{
+    NumberForm, Place, ReadEnd, Reader, Writer, object, others, required, with_form, with_member,
+};
 use fg_subs::WaitFor;
-use serde_json::{Value, json};
+use serde_json::{Map, Value};
 use std::alloc::{AllocError, Global};
 
 /// An entry of `waits`.
@@ -40,7 +42,9 @@ impl Writer for WaitForm {
     ghost writes = { wait_data };
 
     fn write(alloc: Global, wait: &WaitFor) -> Result<Value, AllocError> {
-        let stages = StagesForm::write(alloc, &wait.stages)?;
-        json!(in alloc; {"queue": wait.queue, "stage": stages, "value": wait.value})
+        let members = with_form::<NumberForm>(alloc, Map::new(alloc), "queue", &wait.queue)?;
+        let members = with_form::<StagesForm>(alloc, members, "stage", &wait.stages)?;
+        let members = with_member(alloc, members, "value", Value::from(wait.value))?;
+        Ok(Value::Object(members))
     }
 }

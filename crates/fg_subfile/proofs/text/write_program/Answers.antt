@@ -16,4 +16,4 @@ returns-clause-again c =
 pub returns-clause-good : goal.returns-clause-good
 returns-clause-good c =
     let p = c.args.program.now in
-    IfOk-weaker c.write_json.result _ _ (λ text reads none. read_back p text (good_fits p none c.look.ensures) (reads (omega (arith, (program_flat p).shallow)))) c.write_json.ensures.again
+    IfOk-weaker c.write_json.result _ _ (λ text reads none. read_back p text (good_fits p (c.rule_laws.ensures.small p none) (c.rule_laws.ensures.obeys p none) c.look.ensures) (reads (omega (arith, (program_flat p).shallow)))) c.write_json.ensures.again
