@@ -2,7 +2,6 @@ pub mod Counting
 pub mod Entering
 pub mod Few
 pub mod Growing
-pub mod Keeping
 pub mod Obeying
 pub mod Peaks
 pub mod Within

@@ -3,7 +3,6 @@ pub mod Code
 pub mod Entries
 pub mod Faults
 pub mod FirstFault
-pub mod Kept
 pub mod Limits
 pub mod Numbers
 pub mod Obeys

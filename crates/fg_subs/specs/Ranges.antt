@@ -9,7 +9,7 @@ use Rattle.fg_base.specs.Shapes.{bytes_of, is_buffer, is_image, shape_at}
 use Rattle.fg_base.specs.declared.op.Op.{Op}
 use Rattle.fg_base.specs.declared.shape.Family.{Family}
 use Rattle.fg_base.specs.declared.shape.Shape.{Shape}
-pub use Rattle.fg_bits.specs.Families.{family_number}
+use Rattle.fg_bits.specs.Families.{family_number}
 use Rattle.fg_bits.specs.Layouts.{is_undefined}
 use Rattle.fg_bits.specs.declared.layout.Layouts.{Layouts}
 use Rattle.fg_subs.specs.Limits.{memory_bytes}

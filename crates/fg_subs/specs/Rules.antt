@@ -96,14 +96,3 @@ broken_at rule program shapes =
     option_or (option_map (λ i. at.Piece i) (position (λ piece. not (piece_obeys rule program.memories piece)) program.pieces))
     (option_or (first_in (queue_place rule (length program.queues) shapes) 0 program.queues)
     (option_map (λ k. at.Readback k) (position (λ piece. not (readback_obeys rule shapes piece)) program.readbacks)))
-
--- NAMES OF BEFORE
-
-abbrev pub wait_keeps : Rule → ℕ → Family → WaitFor → Bool
-wait_keeps = wait_obeys
-
-abbrev pub item_keeps : Rule → List Shape → Family → Item → Bool
-item_keeps = item_obeys
-
-abbrev pub signal_keeps : Rule → Family → ℕ → Signal → Bool
-signal_keeps = signal_obeys
