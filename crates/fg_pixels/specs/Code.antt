@@ -1,0 +1,2 @@
+-- What clauses of private functions cite.
+pub mod Sums
