@@ -8,12 +8,14 @@ use Rattle.std.proofs.Math.Seq.{get_or-append_seam}
 use Rattle.std.proofs.lemmas.List.Elements.{All-map, All-replicate}
 use Rattle.std.proofs.lemmas.List.Folds.{list_any_at}
 use Rattle.fg_base.specs.Bounds.{sides_allowed, size_allowed}
+use Rattle.fg_base.specs.Broken.{of_rule}
 use Rattle.fg_base.specs.Fits.{fits}
 use Rattle.fg_base.specs.InPlace.{in_place}
 use Rattle.fg_base.specs.Operands.{sources_of, destination_of, operands_of, mapped}
 use Rattle.fg_base.specs.Runs.{runs}
 use Rattle.fg_base.specs.Shapes.{shape_at}
 use Rattle.fg_base.specs.Walks.{first_in}
+use Rattle.fg_base.specs.declared.broken.Broken.{Broken}
 use Rattle.fg_base.specs.declared.op.Op.{Op}
 use Rattle.fg_base.specs.declared.shape.Family.{Family}
 use Rattle.fg_base.specs.declared.shape.Family.TheVariants.{Graphics}
@@ -25,7 +27,7 @@ use Rattle.fg_base.proofs.Booleans.{clash}
 use Rattle.fg_base.proofs.Lists.{each_of}
 use Rattle.fg_base.proofs.Absence.{all_pass, first_none, or_first, or_second, map_none, has_it, not_none, not_false, position-none}
 use Rattle.fg_frame.proofs.Small.{names_good, then_uses, few_queues, few_units, limits_none, unknown_none, some_layers, length_units, passes_few, layers_good, sides_good, sizes_allowed, passes_within, families_are}
-use Rattle.fg_frame.specs.FirstFault.{broken, shapes_of, imports_of, misfit_broken, first_broken, first_fault}
+use Rattle.fg_frame.specs.FirstFault.{shapes_of, imports_of, rule_broken, misfit_broken, first_broken, first_fault}
 use Rattle.fg_frame.specs.Good.{is_import, renews, has_contents, IsGoodOp, IsGoodPass, IsDeclared, IsGood}
 use Rattle.fg_frame.specs.Members.{member_at}
 use Rattle.fg_frame.specs.Numbered.{numbered, numbered_pass, write_each, writes_of, stored_of, uses_of, all_uses, export_units}
@@ -39,12 +41,11 @@ use Rattle.fg_frame.specs.declared.frame.Spot.{Spot}
 use Rattle.fg_frame.specs.declared.frame.Write.{Write}
 use Rattle.fg_frame.specs.declared.numbered.NumberedPass.{NumberedPass}
 use Rattle.fg_frame.specs.declared.numbered.Uses.{Uses}
-use Rattle.fg_frame.specs.declared.place.Broken.{Broken}
 use Rattle.fg_frame.specs.declared.place.Operand.TheVariants.{Dst}
 use Rattle.fg_frame.specs.declared.place.Place.{Place}
 use Rattle.fg_frame.specs.declared.place.Place.TheVariants as at
-use Rattle.fg_frame.specs.declared.uses.Rule.{Rule}
-use Rattle.fg_frame.specs.declared.uses.Rule.TheVariants as rules
+use Rattle.fg_frame.specs.declared.rule.Rule.{Rule}
+use Rattle.fg_frame.specs.declared.rule.Rule.TheVariants as rules
 
 -- NOTHING FOUND
 
@@ -169,69 +170,60 @@ module _ (frame : Frame) (none : first_broken frame ≡ None) where
   abbrev uses : List Uses
   uses = all_uses frame
 
-  abbrev rule_runs : Option Broken
-  rule_runs = option_map (broken 7) (first_use rules.Runs frame shapes uses)
+  abbrev by : Rule → Option (Broken Rule Place)
+  by rule = rule_broken rule frame shapes uses
 
-  abbrev rule_declared : Option Broken
-  rule_declared = option_map (broken 8) (first_use rules.Declared frame shapes uses)
+  abbrev by_written : Option (Broken Rule Place)
+  by_written = option_map (of_rule rules.Unwritten) (unwritten (imports_of frame) uses (export_units frame))
 
-  abbrev rule_whole : Option Broken
-  rule_whole = option_map (broken 9) (first_use rules.Whole frame shapes uses)
+  abbrev by_imports : Option (Broken Rule Place)
+  by_imports = option_map (of_rule rules.Fits) (misfit_import frame.resources)
 
-  abbrev rule_written : Option Broken
-  rule_written = option_map (broken 10) (unwritten (imports_of frame) uses (export_units frame))
+  abbrev by_fits : Option (Broken Rule Place)
+  by_fits = misfit_broken frame shapes uses
 
-  abbrev rule_fits : Option Broken
-  rule_fits = option_map (broken 11) (misfit_broken frame shapes uses)
+  abbrev from_in_place : Option (Broken Rule Place)
+  from_in_place = option_or (by rules.InPlace) (by rules.ReadNew)
 
-  abbrev rule_in_place : Option Broken
-  rule_in_place = option_map (broken 12) (first_use rules.InPlace frame shapes uses)
+  abbrev from_fits : Option (Broken Rule Place)
+  from_fits = option_or by_fits from_in_place
 
-  abbrev rule_read_new : Option Broken
-  rule_read_new = option_map (broken 13) (first_use rules.ReadNew frame shapes uses)
+  abbrev from_written : Option (Broken Rule Place)
+  from_written = option_or by_written from_fits
 
-  abbrev from_in_place : Option Broken
-  from_in_place = option_or rule_in_place rule_read_new
+  abbrev from_whole : Option (Broken Rule Place)
+  from_whole = option_or (by rules.Whole) from_written
 
-  abbrev from_fits : Option Broken
-  from_fits = option_or rule_fits from_in_place
+  abbrev from_declared : Option (Broken Rule Place)
+  from_declared = option_or (by rules.Declared) from_whole
 
-  abbrev from_written : Option Broken
-  from_written = option_or rule_written from_fits
-
-  abbrev from_whole : Option Broken
-  from_whole = option_or rule_whole from_written
-
-  abbrev from_declared : Option Broken
-  from_declared = option_or rule_declared from_whole
-
-  all_none : option_or rule_runs from_declared ≡ None
+  all_none : option_or (by rules.Runs) from_declared ≡ None
   all_none = sym (then_uses frame (names_good frame none)) ∙ none
 
   declared_none : from_declared ≡ None
-  declared_none = or_second rule_runs from_declared all_none
+  declared_none = or_second (by rules.Runs) from_declared all_none
 
   whole_none : from_whole ≡ None
-  whole_none = or_second rule_declared from_whole declared_none
+  whole_none = or_second (by rules.Declared) from_whole declared_none
 
   written_none : from_written ≡ None
-  written_none = or_second rule_whole from_written whole_none
+  written_none = or_second (by rules.Whole) from_written whole_none
 
   fits_none : from_fits ≡ None
-  fits_none = or_second rule_written from_fits written_none
+  fits_none = or_second by_written from_fits written_none
 
   in_place_none : from_in_place ≡ None
-  in_place_none = or_second rule_fits from_in_place fits_none
+  in_place_none = or_second by_fits from_in_place fits_none
 
   -- a rule that no pass breaks
-  at_pass : (rule : Rule) (number : ℕ) → option_map (broken number) (first_use rule frame shapes uses) ≡ None → (p : ℕ) (d : Pass) → p < length frame.passes → use_at rule frame shapes p (uses_of frame n (get_or frame.passes p d)) ≡ None
-  at_pass rule number rule_none p d lt = rule_mapped (use_at rule frame shapes) (uses_of frame n) frame.passes (map_none (broken number) (first_use rule frame shapes uses) rule_none) p d lt
+  at_pass : (rule : Rule) → by rule ≡ None → (p : ℕ) (d : Pass) → p < length frame.passes → use_at rule frame shapes p (uses_of frame n (get_or frame.passes p d)) ≡ None
+  at_pass rule rule_none p d lt = rule_mapped (use_at rule frame shapes) (uses_of frame n) frame.passes (map_none (of_rule rule) (first_use rule frame shapes uses) rule_none) p d lt
 
   unwritten_none : unwritten (imports_of frame) uses (export_units frame) ≡ None
-  unwritten_none = map_none (broken 10) (unwritten (imports_of frame) uses (export_units frame)) (or_first rule_written from_fits written_none)
+  unwritten_none = map_none (of_rule rules.Unwritten) (unwritten (imports_of frame) uses (export_units frame)) (or_first by_written from_fits written_none)
 
-  misfit_none : misfit_broken frame shapes uses ≡ None
-  misfit_none = map_none (broken 11) (misfit_broken frame shapes uses) (or_first rule_fits from_in_place fits_none)
+  misfit_none : by_fits ≡ None
+  misfit_none = or_first by_fits from_in_place fits_none
 
   module _ (p : ℕ) (d : Pass) (lt : p < length frame.passes) where
     abbrev pass : Pass
@@ -255,21 +247,21 @@ module _ (frame : Frame) (none : first_broken frame ≡ None) where
     good_op : (k : ℕ) (e : Op ℕ) → k < length here.ops → IsGoodOp (numbered frame) here (get_or here.ops k e)
     good_op k e less =
         let op = get_or here.ops k e in
-        let undeclared = none_at (undeclared_operand here p) here.ops (at_pass rules.Declared 8 (or_first rule_declared from_whole declared_none) p d lt) k e less in
+        let undeclared = none_at (undeclared_operand here p) here.ops (at_pass rules.Declared (or_first (by rules.Declared) from_whole declared_none) p d lt) k e less in
         record {
-          on_queue = λ family is. subst (λ f. runs op f ≡ true) (family_there frame.queues here.queue family is) (all_pass (λ o. runs o (family_of frame here.queue)) here.ops (map_none (λ j. at.Op p j) (position (λ o. not (runs o (family_of frame here.queue))) here.ops) (at_pass rules.Runs 7 (or_first rule_runs from_declared all_none) p d lt)) k e less);
+          on_queue = λ family is. subst (λ f. runs op f ≡ true) (family_there frame.queues here.queue family is) (all_pass (λ o. runs o (family_of frame here.queue)) here.ops (map_none (λ j. at.Op p j) (position (λ o. not (runs o (family_of frame here.queue))) here.ops) (at_pass rules.Runs (or_first (by rules.Runs) from_declared all_none) p d lt)) k e less);
           declared_sources = declared_sources here p k op undeclared;
           declared_destination = declared_destination here p k op undeclared;
-          fitting = has_it (fits (mapped (shape_at shapes) op)) (at.Op p k) (none_at (misfit_at shapes p) here.ops (rule_mapped (use_at rules.Fits frame shapes) (uses_of frame n) frame.passes (or_second (misfit_import frame.resources) (first_use rules.Fits frame shapes uses) misfit_none) p d lt) k e less);
-          not_in_place = position-none in_place here.ops k e less (map_none (λ j. at.Operand p j Dst) (position in_place here.ops) (at_pass rules.InPlace 12 (or_first rule_in_place rule_read_new in_place_none) p d lt));
+          fitting = has_it (fits (mapped (shape_at shapes) op)) (at.Op p k) (none_at (misfit_at shapes p) here.ops (at_pass rules.Fits (or_second by_imports (by rules.Fits) misfit_none) p d lt) k e less);
+          not_in_place = position-none in_place here.ops k e less (map_none (λ j. at.Operand p j Dst) (position in_place here.ops) (at_pass rules.InPlace (or_first (by rules.InPlace) (by rules.ReadNew) in_place_none) p d lt));
         }
 
     good_pass : IsGoodPass (numbered frame) (take p (numbered frame).passes) here
     good_pass = record {
       reads_there = λ k e less. sym (there_before frame p (get_or here.reads k e)) ∙ entries_there there n pass.reads (map_none (λ k. at.Read p k) (position (is_missing there) (map (span_of n) pass.reads)) (or_first reads_found changes_found entries_none)) k e less;
       changes_there = λ k e less. λ stale. sym (there_before frame p (get_or here.writes k e).what) ∙ changes_there there n pass.writes (map_none (λ j. at.Write p j) (position (λ w. not w.fresh && is_missing there w.units) (map (stored_of n) pass.writes)) (or_second reads_found changes_found entries_none)) k e less stale;
-      new_whole = new_whole shapes here.ops p n pass.writes (at_pass rules.Whole 9 (or_first rule_whole from_written whole_none) p d lt);
-      new_unread = new_unread here n pass.writes (map_none (λ j. at.Write p j) (position (λ w. w.fresh && list_any (reads_it here) (units_in w.units)) (map (stored_of n) pass.writes)) (at_pass rules.ReadNew 13 (or_second rule_in_place rule_read_new in_place_none) p d lt));
+      new_whole = new_whole shapes here.ops p n pass.writes (at_pass rules.Whole (or_first (by rules.Whole) from_written whole_none) p d lt);
+      new_unread = new_unread here n pass.writes (map_none (λ j. at.Write p j) (position (λ w. w.fresh && list_any (reads_it here) (units_in w.units)) (map (stored_of n) pass.writes)) (at_pass rules.ReadNew (or_second (by rules.InPlace) (by rules.ReadNew) in_place_none) p d lt));
       ops_good = good_op;
     }
 
@@ -282,7 +274,7 @@ module _ (frame : Frame) (none : first_broken frame ≡ None) where
       by_list (first ∷ passes) e less = subst (λ x. IsGoodPass (numbered frame) (take p (numbered frame).passes) x) (sym (get_or-map (numbered_pass frame n) frame.passes p first d less)) (good_pass p first less)
 
   imports_good : All (λ r. import_fits r.shape r.import ≡ true) frame.resources
-  imports_good = all_pass (λ r. import_fits r.shape r.import) frame.resources (map_none (λ i. at.Import i) (position (λ r. not (import_fits r.shape r.import)) frame.resources) (or_first (misfit_import frame.resources) (first_use rules.Fits frame shapes uses) misfit_none))
+  imports_good = all_pass (λ r. import_fits r.shape r.import) frame.resources (map_none (λ i. at.Import i) (position (λ r. not (import_fits r.shape r.import)) frame.resources) (map_none (of_rule rules.Fits) (misfit_import frame.resources) (or_first by_imports (by rules.Fits) misfit_none)))
 
   units_all : (P : Unit → Type 0) → All (λ r. P (unit_from r)) frame.resources → All P (units frame)
   units_all P all = each_of P units_from frame.resources (λ k d lt. All-replicate P (get_or frame.resources k d).layers (unit_from (get_or frame.resources k d)) (all k d lt))

@@ -1,5 +1,6 @@
 -- Worked rows: the first fault of small frames.
 use Rattle.std.proofs.Common.{◌≡◌, ℕ, List, [], ◌∷◌, Some, None, true, false, codes, refl, replicate}
+use Rattle.fg_base.specs.Broken.{of_rule}
 use Rattle.fg_base.specs.declared.limit.Limit.TheVariants as limits
 use Rattle.fg_base.specs.declared.op.Op.{Op}
 use Rattle.fg_base.specs.declared.op.Op.TheVariants.{FillBuffer, ClearImage, Map}
@@ -9,7 +10,7 @@ use Rattle.fg_base.specs.declared.shape.Family.TheVariants.{Graphics, Transfer}
 use Rattle.fg_base.specs.declared.shape.Shape.TheVariants.{Buffer, Image}
 use Rattle.fg_base.specs.declared.shape.Texel.TheVariants.{R32}
 use Rattle.fg_bits.specs.declared.sharing.Sharing.TheVariants.{Exclusive}
-use Rattle.fg_frame.specs.FirstFault.{first_broken, broken}
+use Rattle.fg_frame.specs.FirstFault.{first_broken}
 use Rattle.fg_frame.specs.Limits.{over}
 use Rattle.fg_frame.specs.Numbered.{numbered}
 use Rattle.fg_frame.specs.declared.frame.Frame.{Frame}
@@ -17,6 +18,7 @@ use Rattle.fg_frame.specs.declared.frame.Spot.{Spot}
 use Rattle.fg_frame.specs.declared.frame.Write.{Write}
 use Rattle.fg_frame.specs.declared.place.Operand.TheVariants.{Src, Dst}
 use Rattle.fg_frame.specs.declared.place.Place.TheVariants as at
+use Rattle.fg_frame.specs.declared.rule.Rule.TheVariants as rules
 
 abbrev all : List ℕ → Spot
 all name = record { name = name; layer = None }
@@ -46,40 +48,40 @@ good : first_broken (frame Graphics [] (new (all (codes "b")) ∷ []) (fill 16 �
 good = refl
 
 -- a write that is declared as a change of contents that nothing wrote
-not_there : first_broken (frame Graphics [] (change (all (codes "b")) ∷ []) (fill 16 ∷ []) (all (codes "b") ∷ [])) ≡ Some (broken 10 (at.Write 0 0))
+not_there : first_broken (frame Graphics [] (change (all (codes "b")) ∷ []) (fill 16 ∷ []) (all (codes "b") ∷ [])) ≡ Some (of_rule rules.Unwritten (at.Write 0 0))
 not_there = refl
 
 -- new contents of which the first store leaves a part
-half : first_broken (frame Graphics [] (new (all (codes "b")) ∷ []) (fill 8 ∷ []) (all (codes "b") ∷ [])) ≡ Some (broken 9 (at.Write 0 0))
+half : first_broken (frame Graphics [] (new (all (codes "b")) ∷ []) (fill 8 ∷ []) (all (codes "b") ∷ [])) ≡ Some (of_rule rules.Whole (at.Write 0 0))
 half = refl
 
 -- the image is cleared on a queue that cannot
-clear_on_transfer : first_broken (frame Transfer [] (new (layer (codes "im") 1) ∷ []) (ClearImage (layer (codes "im") 1) 0 ∷ []) []) ≡ Some (broken 7 (at.Op 0 0))
+clear_on_transfer : first_broken (frame Transfer [] (new (layer (codes "im") 1) ∷ []) (ClearImage (layer (codes "im") 1) 0 ∷ []) []) ≡ Some (of_rule rules.Runs (at.Op 0 0))
 clear_on_transfer = refl
 
 -- the whole image beside one of its layers
-layers_clash : first_broken (frame Graphics (layer (codes "im") 0 ∷ all (codes "im") ∷ []) [] [] []) ≡ Some (broken 5 (at.Read 0 1))
+layers_clash : first_broken (frame Graphics (layer (codes "im") 0 ∷ all (codes "im") ∷ []) [] [] []) ≡ Some (of_rule rules.Repeated (at.Read 0 1))
 layers_clash = refl
 
-past_the_last_layer : first_broken (frame Graphics (layer (codes "im") 1 ∷ layer (codes "im") 2 ∷ []) [] [] []) ≡ Some (broken 6 (at.Read 0 1))
+past_the_last_layer : first_broken (frame Graphics (layer (codes "im") 1 ∷ layer (codes "im") 2 ∷ []) [] [] []) ≡ Some (of_rule rules.Unknown (at.Read 0 1))
 past_the_last_layer = refl
 
-layer_of_a_buffer : first_broken (frame Graphics (layer (codes "b") 0 ∷ []) [] [] []) ≡ Some (broken 6 (at.Read 0 0))
+layer_of_a_buffer : first_broken (frame Graphics (layer (codes "b") 0 ∷ []) [] [] []) ≡ Some (of_rule rules.Unknown (at.Read 0 0))
 layer_of_a_buffer = refl
 
 -- an operand has to say which layer
-which_layer : first_broken (frame Graphics [] (new (all (codes "im")) ∷ []) (ClearImage (all (codes "im")) 0 ∷ []) []) ≡ Some (broken 6 (at.Operand 0 0 Dst))
+which_layer : first_broken (frame Graphics [] (new (all (codes "im")) ∷ []) (ClearImage (all (codes "im")) 0 ∷ []) []) ≡ Some (of_rule rules.Unknown (at.Operand 0 0 Dst))
 which_layer = refl
 
 -- of a write that names both layers only the first is stored
-one_layer_left : first_broken (frame Graphics [] (new (all (codes "im")) ∷ []) (ClearImage (layer (codes "im") 0) 0 ∷ []) []) ≡ Some (broken 9 (at.Write 0 0))
+one_layer_left : first_broken (frame Graphics [] (new (all (codes "im")) ∷ []) (ClearImage (layer (codes "im") 0) 0 ∷ []) []) ≡ Some (of_rule rules.Whole (at.Write 0 0))
 one_layer_left = refl
 
 -- in place: the store is whole, so the new contents are no fault
-in_place : first_broken (frame Graphics [] (new (all (codes "b")) ∷ []) (Map (all (codes "b")) (all (codes "b")) Add 1 ∷ []) []) ≡ Some (broken 12 (at.Operand 0 0 Dst))
+in_place : first_broken (frame Graphics [] (new (all (codes "b")) ∷ []) (Map (all (codes "b")) (all (codes "b")) Add 1 ∷ []) []) ≡ Some (of_rule rules.InPlace (at.Operand 0 0 Dst))
 in_place = refl
 
-undeclared_source : first_broken (frame Graphics [] (new (layer (codes "im") 0) ∷ []) (Map (layer (codes "im") 1) (layer (codes "im") 0) Add 1 ∷ []) []) ≡ Some (broken 8 (at.Operand 0 0 Src))
+undeclared_source : first_broken (frame Graphics [] (new (layer (codes "im") 0) ∷ []) (Map (layer (codes "im") 1) (layer (codes "im") 0) Add 1 ∷ []) []) ≡ Some (of_rule rules.Declared (at.Operand 0 0 Src))
 undeclared_source = refl
 
 -- exports stand for all layers: 33 of one buffer are one too many, before it is seen that they repeat

@@ -8,15 +8,17 @@ use Rattle.std.proofs.lemmas.List.Elements.{All-map}
 use Rattle.std.proofs.lemmas.List.FromFn.{length-map-range_with_len}
 use Rattle.std.proofs.lemmas.Option.{slice_get_read}
 use Rattle.fg_base.specs.Bounds.{is_between, sides_allowed, size_allowed}
+use Rattle.fg_base.specs.Broken.{of_rule}
 use Rattle.fg_base.specs.Shapes.{is_buffer}
 use Rattle.fg_base.specs.Walks.{first_in}
+use Rattle.fg_base.specs.declared.broken.Broken.{Broken}
 use Rattle.fg_base.specs.declared.limit.Limit.TheVariants as limits
 use Rattle.fg_base.specs.declared.shape.Shape.{Shape}
 use Rattle.fg_bits.specs.declared.sharing.Sharing.{Sharing}
 use Rattle.fg_frame.proofs.Known.{uses_within}
 use Rattle.fg_base.proofs.Absence.{all_pass, or_first, or_second, map_none, has_it}
 use Rattle.fg_frame.specs.Clashes.{first_clash}
-use Rattle.fg_frame.specs.FirstFault.{broken, shapes_of, sharings_of, imports_of, name_broken, use_broken, first_broken, first_fault, AllWithin}
+use Rattle.fg_frame.specs.FirstFault.{shapes_of, sharings_of, imports_of, name_broken, use_broken, first_broken, first_fault, AllWithin}
 use Rattle.fg_frame.specs.Limits.{over, layers_allowed, all_bytes, op_count, rects_over, exported, count_broken, size_broken, limit_broken}
 use Rattle.fg_frame.specs.Numbered.{IsWithin, numbered, numbered_pass, uses_of, all_uses, export_units}
 use Rattle.fg_frame.specs.Parts.{parts_of}
@@ -34,8 +36,10 @@ use Rattle.fg_frame.specs.declared.good.Parts.{Parts}
 use Rattle.fg_frame.specs.declared.numbered.NumberedPass.{NumberedPass}
 use Rattle.fg_frame.specs.declared.numbered.Span.{Span}
 use Rattle.fg_frame.specs.declared.numbered.Uses.{Uses}
-use Rattle.fg_frame.specs.declared.place.Broken.{Broken}
+use Rattle.fg_frame.specs.declared.place.Place.{Place}
 use Rattle.fg_frame.specs.declared.place.Place.TheVariants as at
+use Rattle.fg_frame.specs.declared.rule.Rule.{Rule}
+use Rattle.fg_frame.specs.declared.rule.Rule.TheVariants as rules
 
 -- LIMITS
 
@@ -52,31 +56,31 @@ over_none (r ∷ rs) room i none = by_test (nat_lt room r.layers) refl none (λ 
 
 -- the limits one after another
 module _ (frame : Frame) (none : limit_broken frame ≡ None) where
-  abbrev layers : Option Broken
+  abbrev layers : Option (Broken Rule Place)
   layers = option_map (λ i. over limits.Layers (at.Resource i)) (position (λ r. not (layers_allowed r)) frame.resources)
 
-  abbrev queues : Option Broken
+  abbrev queues : Option (Broken Rule Place)
   queues = if is_between 1 4 (length frame.queues) then None else Some (over limits.Queues at.Queues)
 
-  abbrev resources : Option Broken
+  abbrev resources : Option (Broken Rule Place)
   resources = option_map (λ i. over limits.Resources at.Resources) (first_over (λ r. r.layers) 256 0 frame.resources)
 
-  abbrev passes : Option Broken
+  abbrev passes : Option (Broken Rule Place)
   passes = if nat_le (length frame.passes) 256 then None else Some (over limits.Passes at.Passes)
 
-  abbrev ops : Option Broken
+  abbrev ops : Option (Broken Rule Place)
   ops = option_map (λ p. over limits.Ops (at.Ops p)) (first_over op_count 256 0 frame.passes)
 
-  abbrev rects : Option Broken
+  abbrev rects : Option (Broken Rule Place)
   rects = option_map (over limits.Rects) (rects_over 4096 0 frame.passes)
 
-  abbrev exports : Option Broken
+  abbrev exports : Option (Broken Rule Place)
   exports = option_map (λ i. over limits.Exports at.Exports) (first_over (exported frame) 32 0 frame.exports)
 
-  abbrev others : Option Broken
+  abbrev others : Option (Broken Rule Place)
   others = option_or ops (option_or rects exports)
 
-  abbrev rest : Option Broken
+  abbrev rest : Option (Broken Rule Place)
   rest = option_or passes others
 
   counts : count_broken frame ≡ None
@@ -109,13 +113,13 @@ module _ (frame : Frame) (none : limit_broken frame ≡ None) where
   pub rects_none : rects_over 4096 0 frame.passes ≡ None
   rects_none = map_none (over limits.Rects) (rects_over 4096 0 frame.passes) (or_first rects exports (or_second ops (option_or rects exports) (or_second passes others (or_second resources rest after_queues))))
 
-  abbrev sides : Option Broken
+  abbrev sides : Option (Broken Rule Place)
   sides = option_map (λ i. over limits.Side (at.Resource i)) (position (λ r. not (sides_allowed r.shape)) frame.resources)
 
-  abbrev sizes : Option Broken
+  abbrev sizes : Option (Broken Rule Place)
   sizes = option_map (λ i. over limits.Size (at.Resource i)) (position (λ r. not (size_allowed r.shape)) frame.resources)
 
-  abbrev total : Option Broken
+  abbrev total : Option (Broken Rule Place)
   total = option_map (λ i. over limits.Total (at.Resource i)) (first_over all_bytes 268435456 0 frame.resources)
 
   pub layers_good : All (λ r. layers_allowed r ≡ true) frame.resources
@@ -166,10 +170,10 @@ names_differ frame none =
 -- NAMES
 
 pub limits_none : (frame : Frame) → name_broken frame ≡ None → limit_broken frame ≡ None
-limits_none frame none = or_first (limit_broken frame) (option_or (option_map (broken 5) (repeated frame)) (option_map (broken 6) (unknown frame))) none
+limits_none frame none = or_first (limit_broken frame) (option_or (option_map (of_rule rules.Repeated) (repeated frame)) (option_map (of_rule rules.Unknown) (unknown frame))) none
 
 pub unknown_none : (frame : Frame) → name_broken frame ≡ None → unknown frame ≡ None
-unknown_none frame none = map_none (broken 6) (unknown frame) (or_second (option_map (broken 5) (repeated frame)) (option_map (broken 6) (unknown frame)) (or_second (limit_broken frame) (option_or (option_map (broken 5) (repeated frame)) (option_map (broken 6) (unknown frame))) none))
+unknown_none frame none = map_none (of_rule rules.Unknown) (unknown frame) (or_second (option_map (of_rule rules.Repeated) (repeated frame)) (option_map (of_rule rules.Unknown) (unknown frame)) (or_second (limit_broken frame) (option_or (option_map (of_rule rules.Repeated) (repeated frame)) (option_map (of_rule rules.Unknown) (unknown frame))) none))
 
 pub few_queues : (frame : Frame) → name_broken frame ≡ None → length frame.queues ≤ 4
 few_queues frame none = queues_few frame (limits_none frame none)
@@ -214,7 +218,7 @@ same_passes frame = passes_same frame frame.passes
 pub then_uses : (frame : Frame) → name_broken frame ≡ None → first_broken frame ≡ use_broken frame (shapes_of frame) (imports_of frame) (all_uses frame) (export_units frame)
 then_uses frame none = ap (λ o. option_or o (use_broken frame (shapes_of frame) (imports_of frame) (all_uses frame) (export_units frame))) none
 
-pub names_first : (frame : Frame) (b : Broken) → name_broken frame ≡ Some b → first_broken frame ≡ Some b
+pub names_first : (frame : Frame) (b : Broken Rule Place) → name_broken frame ≡ Some b → first_broken frame ≡ Some b
 names_first frame b found = ap (λ o. option_or o (use_broken frame (shapes_of frame) (imports_of frame) (all_uses frame) (export_units frame))) found
 
 -- GOOD FRAMES
@@ -289,7 +293,7 @@ uses_by frame n uses same is = is ∙ ap (λ m. map (uses_of frame m) frame.pass
 pub spans_by : (frame : Frame) (n : Numbering) (spans : List Span) → n ≡ numbering frame → spans ≡ map (span_of n) frame.exports → spans ≡ export_units frame
 spans_by frame n spans same is = is ∙ ap (λ m. map (span_of m) frame.exports) same
 
-pub uses_are : (frame : Frame) (shapes : List Shape) (imported : List Bool) (uses : List Uses) (exports : List Span) (r : Option Broken) → name_broken frame ≡ None → shapes ≡ shapes_of frame → imported ≡ imports_of frame → uses ≡ all_uses frame → exports ≡ export_units frame → r ≡ use_broken frame shapes imported uses exports → r ≡ first_broken frame
+pub uses_are : (frame : Frame) (shapes : List Shape) (imported : List Bool) (uses : List Uses) (exports : List Span) (r : Option (Broken Rule Place)) → name_broken frame ≡ None → shapes ≡ shapes_of frame → imported ≡ imports_of frame → uses ≡ all_uses frame → exports ≡ export_units frame → r ≡ use_broken frame shapes imported uses exports → r ≡ first_broken frame
 uses_are frame shapes imported uses exports r none same-shapes same-imported same-uses same-exports is =
     is
     ∙ ap (λ x. use_broken frame x imported uses exports) same-shapes

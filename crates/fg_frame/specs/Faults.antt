@@ -1,8 +1,23 @@
 -- The faults of frame files, by their numbers.
-use Rattle.std.specs.Prelude.{List, [], Some, None}
+use Rattle.std.specs.Prelude.{ℕ, List, [], Some, None}
 use Rattle.fg_base.specs.declared.limit.Limit.{Limit}
 use Rattle.fg_base.specs.declared.path.Leg.{Leg}
 use Rattle.fg_frame.specs.declared.fault.FrameFault.{FrameFault}
+use Rattle.fg_frame.specs.declared.rule.Rule.{Rule}
+use Rattle.fg_frame.specs.declared.rule.Rule.TheVariants as rules
+
+-- the number that a fault line prints
+abbrev pub number_of : Rule → ℕ
+number_of rules.Limits = 4
+number_of rules.Repeated = 5
+number_of rules.Unknown = 6
+number_of rules.Runs = 7
+number_of rules.Declared = 8
+number_of rules.Whole = 9
+number_of rules.Unwritten = 10
+number_of rules.Fits = 11
+number_of rules.InPlace = 12
+number_of rules.ReadNew = 13
 
 -- F1, at the root of the file
 abbrev pub not_json : FrameFault
@@ -14,4 +29,4 @@ misshapen place = record { number = 2; limit = None; place = place }
 
 -- F4, at the list, resource or draw that goes over the limit
 abbrev pub over_limit : Limit → List Leg → FrameFault
-over_limit limit place = record { number = 4; limit = Some limit; place = place }
+over_limit limit place = record { number = number_of rules.Limits; limit = Some limit; place = place }

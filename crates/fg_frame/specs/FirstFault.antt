@@ -1,7 +1,9 @@
 -- The first rule that a frame breaks.
-use Rattle.std.specs.Prelude.{◌≡◌, ℕ, List, map, is_some, Bool, Option, Some, None}
+use Rattle.std.specs.Prelude.{◌≡◌, ℕ, List, map, is_some, Bool, Option, Some}
 use Rattle.std.specs.List.{All}
 use Rattle.std.specs.Option.{option_or, option_map}
+use Rattle.fg_base.specs.Broken.{of_rule}
+use Rattle.fg_base.specs.declared.broken.Broken.{Broken}
 use Rattle.fg_base.specs.declared.shape.Shape.{Shape}
 use Rattle.fg_bits.specs.declared.sharing.Sharing.{Sharing}
 use Rattle.fg_frame.specs.Limits.{limit_broken}
@@ -17,12 +19,9 @@ use Rattle.fg_frame.specs.declared.good.FrameEnd.{FrameEnd}
 use Rattle.fg_frame.specs.declared.good.FrameEnd.TheVariants.{Refused, NoMemory}
 use Rattle.fg_frame.specs.declared.numbered.Span.{Span}
 use Rattle.fg_frame.specs.declared.numbered.Uses.{Uses}
-use Rattle.fg_frame.specs.declared.place.Broken.{Broken}
 use Rattle.fg_frame.specs.declared.place.Place.{Place}
-use Rattle.fg_frame.specs.declared.uses.Rule.TheVariants as rules
-
-abbrev pub broken : ℕ → Place → Broken
-broken number place = record { number = number; limit = None; place = place }
+use Rattle.fg_frame.specs.declared.rule.Rule.{Rule}
+use Rattle.fg_frame.specs.declared.rule.Rule.TheVariants as rules
 
 abbrev pub shapes_of : Frame → List Shape
 shapes_of frame = map (λ unit. unit.shape) (units frame)
@@ -35,28 +34,34 @@ abbrev pub imports_of : Frame → List Bool
 imports_of frame = map (λ unit. is_some unit.imported) (units frame)
 
 -- the rules on limits and names
-abbrev pub name_broken : Frame → Option Broken
+abbrev pub name_broken : Frame → Option (Broken Rule Place)
 name_broken frame =
     option_or (limit_broken frame)
-    (option_or (option_map (broken 5) (repeated frame))
-    (option_map (broken 6) (unknown frame)))
+    (option_or (option_map (of_rule rules.Repeated) (repeated frame))
+    (option_map (of_rule rules.Unknown) (unknown frame)))
+
+-- a rule on what one pass does
+abbrev pub rule_broken : Rule → Frame → List Shape → List Uses → Option (Broken Rule Place)
+rule_broken rule frame shapes passes = option_map (of_rule rule) (first_use rule frame shapes passes)
 
 -- imports come before operations
-abbrev pub misfit_broken : Frame → List Shape → List Uses → Option Place
-misfit_broken frame shapes passes = option_or (misfit_import frame.resources) (first_use rules.Fits frame shapes passes)
+abbrev pub misfit_broken : Frame → List Shape → List Uses → Option (Broken Rule Place)
+misfit_broken frame shapes passes =
+    option_or (option_map (of_rule rules.Fits) (misfit_import frame.resources))
+    (rule_broken rules.Fits frame shapes passes)
 
 -- the rules on uses, over a frame's units, passes and exports
-abbrev pub use_broken : Frame → List Shape → List Bool → List Uses → List Span → Option Broken
+abbrev pub use_broken : Frame → List Shape → List Bool → List Uses → List Span → Option (Broken Rule Place)
 use_broken frame shapes imported passes exports =
-    option_or (option_map (broken 7) (first_use rules.Runs frame shapes passes))
-    (option_or (option_map (broken 8) (first_use rules.Declared frame shapes passes))
-    (option_or (option_map (broken 9) (first_use rules.Whole frame shapes passes))
-    (option_or (option_map (broken 10) (unwritten imported passes exports))
-    (option_or (option_map (broken 11) (misfit_broken frame shapes passes))
-    (option_or (option_map (broken 12) (first_use rules.InPlace frame shapes passes))
-    (option_map (broken 13) (first_use rules.ReadNew frame shapes passes)))))))
+    option_or (rule_broken rules.Runs frame shapes passes)
+    (option_or (rule_broken rules.Declared frame shapes passes)
+    (option_or (rule_broken rules.Whole frame shapes passes)
+    (option_or (option_map (of_rule rules.Unwritten) (unwritten imported passes exports))
+    (option_or (misfit_broken frame shapes passes)
+    (option_or (rule_broken rules.InPlace frame shapes passes)
+    (rule_broken rules.ReadNew frame shapes passes))))))
 
-abbrev pub first_broken : Frame → Option Broken
+abbrev pub first_broken : Frame → Option (Broken Rule Place)
 first_broken frame = option_or (name_broken frame) (use_broken frame (shapes_of frame) (imports_of frame) (all_uses frame) (export_units frame))
 
 abbrev pub first_fault : Frame → Option FrameFault

@@ -4,9 +4,11 @@ use Rattle.std.specs.List.{position, find}
 use Rattle.std.specs.Option.{option_or, option_map, option_map_or}
 use Rattle.std.specs.Str.{bytes_eq}
 use Rattle.fg_base.specs.Bounds.{is_between, sides_allowed, size_allowed}
+use Rattle.fg_base.specs.Broken.{over_limit}
 use Rattle.fg_base.specs.Maxima.{max_queues, max_rects, max_layers, max_units, max_passes, max_ops, max_exports, max_resource_bytes}
 use Rattle.fg_base.specs.Operands.{rect_count}
 use Rattle.fg_base.specs.Shapes.{bytes_of, is_buffer}
+use Rattle.fg_base.specs.declared.broken.Broken.{Broken}
 use Rattle.fg_base.specs.declared.limit.Limit.{Limit}
 use Rattle.fg_base.specs.declared.limit.Limit.TheVariants as limits
 use Rattle.fg_frame.specs.Places.{first_over, room_after}
@@ -14,12 +16,13 @@ use Rattle.fg_frame.specs.declared.frame.Frame.{Frame}
 use Rattle.fg_frame.specs.declared.frame.Pass.{Pass}
 use Rattle.fg_frame.specs.declared.frame.Resource.{Resource}
 use Rattle.fg_frame.specs.declared.frame.Spot.{Spot}
-use Rattle.fg_frame.specs.declared.place.Broken.{Broken}
 use Rattle.fg_frame.specs.declared.place.Place.{Place}
 use Rattle.fg_frame.specs.declared.place.Place.TheVariants as at
+use Rattle.fg_frame.specs.declared.rule.Rule.{Rule}
+use Rattle.fg_frame.specs.declared.rule.Rule.TheVariants as rules
 
-abbrev pub over : Limit → Place → Broken
-over limit place = record { number = 4; limit = Some limit; place = place }
+abbrev pub over : Limit → Place → Broken Rule Place
+over limit place = over_limit rules.Limits limit place
 
 -- a buffer has one layer, an image 1 to 8 of them
 abbrev pub layers_allowed : Resource → Bool
@@ -41,7 +44,7 @@ abbrev pub exported : Frame → Spot → ℕ
 exported frame spot = if is_some spot.layer then 1 else option_map_or (λ r. r.layers) (find (λ r. bytes_eq r.name spot.name) frame.resources) 1
 
 -- the limits on what stands in the lists
-abbrev pub count_broken : Frame → Option Broken
+abbrev pub count_broken : Frame → Option (Broken Rule Place)
 count_broken frame =
     option_or (option_map (λ i. over limits.Layers (at.Resource i)) (position (λ r. not (layers_allowed r)) frame.resources))
     (option_or (if is_between 1 max_queues (length frame.queues) then None else Some (over limits.Queues at.Queues))
@@ -52,11 +55,11 @@ count_broken frame =
     (option_map (λ i. over limits.Exports at.Exports) (first_over (exported frame) max_exports 0 frame.exports)))))))
 
 -- the limits on each resource, and on all bytes together
-abbrev pub size_broken : List Resource → Option Broken
+abbrev pub size_broken : List Resource → Option (Broken Rule Place)
 size_broken resources =
     option_or (option_map (λ i. over limits.Side (at.Resource i)) (position (λ r. not (sides_allowed r.shape)) resources))
     (option_or (option_map (λ i. over limits.Size (at.Resource i)) (position (λ r. not (size_allowed r.shape)) resources))
     (option_map (λ i. over limits.Total (at.Resource i)) (first_over all_bytes max_resource_bytes 0 resources)))
 
-abbrev pub limit_broken : Frame → Option Broken
+abbrev pub limit_broken : Frame → Option (Broken Rule Place)
 limit_broken frame = option_or (count_broken frame) (size_broken frame.resources)

@@ -1,14 +1,16 @@
 -- The path of a place.
 use Rattle.std.specs.Prelude.{ℕ, List, [], ◌∷◌, ◌++◌, codes}
 use Rattle.fg_base.specs.Paths.{entry}
+use Rattle.fg_base.specs.declared.broken.Broken.{Broken}
 use Rattle.fg_base.specs.declared.path.Leg.{Leg}
 use Rattle.fg_base.specs.declared.path.Leg.TheVariants.{Member}
+use Rattle.fg_frame.specs.Faults.{number_of}
 use Rattle.fg_frame.specs.declared.fault.FrameFault.{FrameFault}
-use Rattle.fg_frame.specs.declared.place.Broken.{Broken}
 use Rattle.fg_frame.specs.declared.place.Operand.{Operand}
 use Rattle.fg_frame.specs.declared.place.Operand.TheVariants.{Src, Mask, A, B, Dst}
 use Rattle.fg_frame.specs.declared.place.Place.{Place}
 use Rattle.fg_frame.specs.declared.place.Place.TheVariants as at
+use Rattle.fg_frame.specs.declared.rule.Rule.{Rule}
 
 abbrev pub operand_name : Operand → List ℕ
 operand_name Src = codes "src"
@@ -40,5 +42,5 @@ path_of (at.Operand p k member) = in_op p k (operand_name member)
 path_of (at.Export i) = entry (codes "exports") i
 
 -- as it is told: with the path of its place
-abbrev pub told : Broken → FrameFault
-told b = record { number = b.number; limit = b.limit; place = path_of b.place }
+abbrev pub told : Broken Rule Place → FrameFault
+told b = record { number = number_of b.rule; limit = b.limit; place = path_of b.place }

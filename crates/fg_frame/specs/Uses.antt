@@ -24,8 +24,8 @@ use Rattle.fg_frame.specs.declared.numbered.Uses.{Uses}
 use Rattle.fg_frame.specs.declared.place.Operand.TheVariants.{Dst}
 use Rattle.fg_frame.specs.declared.place.Place.{Place}
 use Rattle.fg_frame.specs.declared.place.Place.TheVariants as at
-use Rattle.fg_frame.specs.declared.uses.Rule.{Rule}
-use Rattle.fg_frame.specs.declared.uses.Rule.TheVariants as rules
+use Rattle.fg_frame.specs.declared.rule.Rule.{Rule}
+use Rattle.fg_frame.specs.declared.rule.Rule.TheVariants as rules
 
 -- OPERATIONS RUN ON THEIR QUEUES
 
@@ -129,7 +129,12 @@ read_new_in p uses = option_map (λ j. at.Write p j) (position (λ w. w.fresh &&
 
 -- EACH RULE OVER ALL PASSES
 
+-- a rule on what one pass does; the others stand above and in other files
 abbrev pub use_at : Rule → Frame → List Shape → ℕ → Uses → Option Place
+use_at rules.Limits frame shapes p uses = None
+use_at rules.Repeated frame shapes p uses = None
+use_at rules.Unknown frame shapes p uses = None
+use_at rules.Unwritten frame shapes p uses = None
 use_at rules.Runs frame shapes p uses = stranger_in frame p uses.pass
 use_at rules.Declared frame shapes p uses = undeclared_in p uses.pass
 use_at rules.Whole frame shapes p uses = not_whole_in shapes p uses

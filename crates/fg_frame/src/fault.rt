@@ -3,6 +3,7 @@
 ghost use Rattle.std.specs.Prelude.{◌≡◌};
 ghost use Rattle.fg_frame.specs.Faults.{over_limit, not_json, misshapen};
 
+use crate::rule::Rule;
 use fg_base::{Limit, List, Path};
 use std::alloc::Global;
 
@@ -43,7 +44,7 @@ impl FrameFault {
         ensures { result ≡ over_limit limit place }
     {
         FrameFault {
-            number: 4,
+            number: Rule::Limits.number(),
             limit: Some(limit),
             place,
         }

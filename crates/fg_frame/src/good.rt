@@ -2,7 +2,7 @@
 
 ghost use Rattle.std.specs.Prelude.{◌≡◌, ◌≤◌, ◌<◌, IfOk, IfErr, IfSome, length, None, Some, slice_get, map, is_some, option_copied};
 ghost use Rattle.std.specs.List.{All};
-ghost use Rattle.fg_frame.specs.FirstFault.{broken, shapes_of, name_broken, misfit_broken, use_broken, first_broken, first_fault, Ends, AllWithin};
+ghost use Rattle.fg_frame.specs.FirstFault.{shapes_of, name_broken, rule_broken, misfit_broken, use_broken, first_broken, first_fault, Ends, AllWithin};
 ghost use Rattle.fg_base.specs.Operands.{operands_of};
 ghost use Rattle.fg_frame.specs.Good.{IsGood};
 ghost use Rattle.fg_frame.specs.Numbered.{numbered, all_uses, export_units};
@@ -13,15 +13,16 @@ use crate::limits::limit_broken;
 use crate::numbered::{NumberedPass, Span, Uses};
 use crate::numbers::{all_units, all_uses, spans};
 use crate::path::told;
-use crate::place::{Broken, Place};
+use crate::place::Place;
 use crate::repeats::repeated;
+use crate::rule::Rule;
 use crate::table::Table;
 use crate::units::{imports, owners, shapes, sharings, spots};
 use crate::unknowns::unknown;
-use crate::uses::{Rule, first_use, misfit_import};
+use crate::uses::{first_use, misfit_import};
 use crate::written::unwritten;
 use crate::{Frame, FrameFault, Sharing, Spot, Write};
-use fg_base::{Family, List, NoMemory, Op, Shape};
+use fg_base::{Broken, Family, List, NoMemory, Op, Shape};
 use std::alloc::Global;
 use std::marker::Model;
 
@@ -66,44 +67,48 @@ pub enum FrameEnd {
     NoMemory(Frame),
 }
 
-fn broken(number: u8, place: Place) -> Broken
-    ensures { result ≡ broken number place }
-{
-    Broken {
-        number,
-        limit: None,
-        place,
-    }
-}
-
 // The rules on limits and names, and then the table of names.
 #[tactic(auto, using(crate::proofs::Small::few_units, crate::proofs::Small::names_differ))]
-fn named(alloc: Global, frame: &Frame) -> Result<Result<Table, Broken>, NoMemory>
+fn named(alloc: Global, frame: &Frame) -> Result<Result<Table, Broken<Rule, Place>>, NoMemory>
     ensures broken { IfOk result (λ found. IfErr found (λ b. name_broken frame.now ≡ Some b)) }
     ensures none { IfOk result (λ found. IfOk found (λ table. name_broken frame.now ≡ None)) }
     ensures table { IfOk result (λ found. IfOk found (λ table. table ≡ numbering frame.now)) }
 {
-    if let Some(over) = limit_broken(frame) {
-        return Ok(Err(over));
+    if let Some(broken) = limit_broken(frame) {
+        return Ok(Err(broken));
     }
     if let Some(place) = repeated(alloc, frame)? {
-        return Ok(Err(broken(5, place)));
+        return Ok(Err(Broken::of_rule(Rule::Repeated, place)));
     }
     let table = Table::new(alloc, frame)?;
     if let Some(place) = unknown(frame, &table) {
-        return Ok(Err(broken(6, place)));
+        return Ok(Err(Broken::of_rule(Rule::Unknown, place)));
     }
     Ok(Ok(table))
 }
 
-fn misfit_broken(frame: &Frame, shapes: &[Shape], passes: &[Uses]) -> Option<Place>
+// A rule on what one pass does.
+fn rule_broken(
+    rule: Rule,
+    frame: &Frame,
+    shapes: &[Shape],
+    passes: &[Uses],
+) -> Option<Broken<Rule, Place>>
+    requires { AllWithin (length frame.now.queues) (length shapes.now) passes.now }
+    ensures { result ≡ rule_broken rule frame.now shapes.now passes.now }
+{
+    Broken::at(rule, first_use(rule, frame, shapes, passes))
+}
+
+// Imports come before operations.
+fn misfit_broken(frame: &Frame, shapes: &[Shape], passes: &[Uses]) -> Option<Broken<Rule, Place>>
     requires { AllWithin (length frame.now.queues) (length shapes.now) passes.now }
     ensures { result ≡ misfit_broken frame.now shapes.now passes.now }
 {
     if let Some(place) = misfit_import(&frame.resources) {
-        return Some(place);
+        return Some(Broken::of_rule(Rule::Fits, place));
     }
-    first_use(Rule::Fits, frame, shapes, passes)
+    rule_broken(Rule::Fits, frame, shapes, passes)
 }
 
 fn use_broken(
@@ -112,33 +117,30 @@ fn use_broken(
     imported: List<bool>,
     passes: &[Uses],
     exports: &[Span],
-) -> Option<Broken>
+) -> Option<Broken<Rule, Place>>
     requires imported { length imported ≡ length shapes.now }
     requires within { AllWithin (length frame.now.queues) (length shapes.now) passes.now }
     ensures { result ≡ use_broken frame.now shapes.now imported passes.now exports.now }
 {
-    if let Some(place) = first_use(Rule::Runs, frame, shapes, passes) {
-        return Some(broken(7, place));
+    if let Some(broken) = rule_broken(Rule::Runs, frame, shapes, passes) {
+        return Some(broken);
     }
-    if let Some(place) = first_use(Rule::Declared, frame, shapes, passes) {
-        return Some(broken(8, place));
+    if let Some(broken) = rule_broken(Rule::Declared, frame, shapes, passes) {
+        return Some(broken);
     }
-    if let Some(place) = first_use(Rule::Whole, frame, shapes, passes) {
-        return Some(broken(9, place));
+    if let Some(broken) = rule_broken(Rule::Whole, frame, shapes, passes) {
+        return Some(broken);
     }
     if let Some(place) = unwritten(imported, frame.queues.len(), passes, exports) {
-        return Some(broken(10, place));
+        return Some(Broken::of_rule(Rule::Unwritten, place));
     }
-    if let Some(place) = misfit_broken(frame, shapes, passes) {
-        return Some(broken(11, place));
+    if let Some(broken) = misfit_broken(frame, shapes, passes) {
+        return Some(broken);
     }
-    if let Some(place) = first_use(Rule::InPlace, frame, shapes, passes) {
-        return Some(broken(12, place));
+    if let Some(broken) = rule_broken(Rule::InPlace, frame, shapes, passes) {
+        return Some(broken);
     }
-    if let Some(place) = first_use(Rule::ReadNew, frame, shapes, passes) {
-        return Some(broken(13, place));
-    }
-    None
+    rule_broken(Rule::ReadNew, frame, shapes, passes)
 }
 
 fn passes_of(alloc: Global, uses: List<Uses>) -> Result<List<NumberedPass>, NoMemory>
@@ -160,7 +162,7 @@ fn judged(
     shapes: &[Shape],
     uses: &[Uses],
     exports: &[Span],
-) -> Result<Option<Broken>, NoMemory>
+) -> Result<Option<Broken<Rule, Place>>, NoMemory>
     requires named { name_broken frame.now ≡ None }
     requires shapes { shapes.now ≡ shapes_of frame.now }
     requires uses { uses.now ≡ all_uses frame.now }
@@ -197,7 +199,11 @@ fn collected(
 
 // A frame's parts, or the first rule that it breaks.
 #[tactic(auto, using(crate::proofs::Small::few_queues, crate::proofs::Small::uses_by, crate::proofs::Small::spans_by))]
-fn parts_of(alloc: Global, frame: &Frame, table: &Table) -> Result<Result<Parts, Broken>, NoMemory>
+fn parts_of(
+    alloc: Global,
+    frame: &Frame,
+    table: &Table,
+) -> Result<Result<Parts, Broken<Rule, Place>>, NoMemory>
     requires named { name_broken frame.now ≡ None }
     requires table { table.now ≡ numbering frame.now }
     ensures broken { IfOk result (λ found. IfErr found (λ b. first_broken frame.now ≡ Some b)) }
@@ -214,14 +220,17 @@ fn parts_of(alloc: Global, frame: &Frame, table: &Table) -> Result<Result<Parts,
 }
 
 #[tactic(auto, using(crate::proofs::Small::names_first))]
-fn first_broken(alloc: Global, frame: &Frame) -> Result<Result<Parts, Broken>, NoMemory>
+fn first_broken(
+    alloc: Global,
+    frame: &Frame,
+) -> Result<Result<Parts, Broken<Rule, Place>>, NoMemory>
     ensures broken { IfOk result (λ found. IfErr found (λ b. first_broken frame.now ≡ Some b)) }
     ensures none { IfOk result (λ found. IfOk found (λ parts. first_broken frame.now ≡ None)) }
     ensures parts { IfOk result (λ found. IfOk found (λ parts. parts ≡ parts_of frame.now)) }
 {
     match named(alloc, frame)? {
         Ok(table) => parts_of(alloc, frame, &table),
-        Err(over) => Ok(Err(over)),
+        Err(broken) => Ok(Err(broken)),
     }
 }
 
@@ -232,7 +241,7 @@ pub fn well_formed(alloc: Global, frame: Frame) -> Result<GoodFrame, FrameEnd>
 {
     match first_broken(alloc, &frame) {
         Ok(Ok(parts)) => Ok(GoodFrame { frame, parts }),
-        Ok(Err(over)) => match told(alloc, over) {
+        Ok(Err(broken)) => match told(alloc, broken) {
             Ok(fault) => Err(FrameEnd::Refused(fault, frame)),
             Err(NoMemory) => Err(FrameEnd::NoMemory(frame)),
         },

@@ -12,6 +12,7 @@ mod numbers;
 mod path;
 mod place;
 mod repeats;
+mod rule;
 mod table;
 mod units;
 mod unknowns;

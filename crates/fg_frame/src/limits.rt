@@ -9,21 +9,18 @@ ghost use Rattle.fg_base.specs.Maxima.{max_units, max_ops, max_rects, max_export
 ghost use Rattle.fg_base.specs.Operands.{rect_count};
 ghost use Rattle.fg_frame.specs.Places.{first_over, room_after};
 
-use crate::place::{Broken, Place};
+use crate::place::Place;
+use crate::rule::Rule;
 use crate::{Frame, Pass, Resource, Spot};
 use fg_base::{
-    Limit, MAX_EXPORTS, MAX_LAYERS, MAX_OPS, MAX_PASSES, MAX_QUEUES, MAX_RECTS, MAX_RESOURCE_BYTES,
-    MAX_UNITS, Op,
+    Broken, Limit, MAX_EXPORTS, MAX_LAYERS, MAX_OPS, MAX_PASSES, MAX_QUEUES, MAX_RECTS,
+    MAX_RESOURCE_BYTES, MAX_UNITS, Op,
 };
 
-fn over(limit: Limit, place: Place) -> Broken
+fn over(limit: Limit, place: Place) -> Broken<Rule, Place>
     ensures { result ≡ over limit place }
 {
-    Broken {
-        number: 4,
-        limit: Some(limit),
-        place,
-    }
+    Broken::over_limit(Rule::Limits, limit, place)
 }
 
 fn layers_allowed(resource: &Resource) -> bool
@@ -172,7 +169,7 @@ fn bytes_over(resources: &[Resource]) -> Option<usize>
 }
 
 // The limits on what stands in the lists.
-fn count_broken(frame: &Frame) -> Option<Broken>
+fn count_broken(frame: &Frame) -> Option<Broken<Rule, Place>>
     ensures { result ≡ count_broken frame.now }
 {
     if let Some(i) = wrong_layers(&frame.resources) {
@@ -200,7 +197,7 @@ fn count_broken(frame: &Frame) -> Option<Broken>
 }
 
 // The limits on each resource and on their bytes.
-fn size_broken(resources: &[Resource]) -> Option<Broken>
+fn size_broken(resources: &[Resource]) -> Option<Broken<Rule, Place>>
     ensures { result ≡ size_broken resources.now }
 {
     if let Some(i) = wrong_sides(resources) {
@@ -216,7 +213,7 @@ fn size_broken(resources: &[Resource]) -> Option<Broken>
 }
 
 /// The first limit that is broken.
-pub(crate) fn limit_broken(frame: &Frame) -> Option<Broken>
+pub(crate) fn limit_broken(frame: &Frame) -> Option<Broken<Rule, Place>>
     ensures { result ≡ limit_broken frame.now }
 {
     if let Some(broken) = count_broken(frame) {

@@ -4,8 +4,9 @@ ghost use Rattle.std.specs.Prelude.{◌≡◌, IfOk};
 ghost use Rattle.fg_frame.specs.Paths.{operand_name, in_op, path_of, told};
 
 use crate::FrameFault;
-use crate::place::{Broken, Operand, Place};
-use fg_base::{List, NoMemory, Path};
+use crate::place::{Operand, Place};
+use crate::rule::Rule;
+use fg_base::{Broken, List, NoMemory, Path};
 use std::alloc::Global;
 
 fn operand_name(member: Operand) -> &'static [u8]
@@ -55,11 +56,11 @@ fn path_of(alloc: Global, place: Place) -> Result<Path, NoMemory>
 }
 
 /// The fault as it is told.
-pub(crate) fn told(alloc: Global, broken: Broken) -> Result<FrameFault, NoMemory>
+pub(crate) fn told(alloc: Global, broken: Broken<Rule, Place>) -> Result<FrameFault, NoMemory>
     ensures { IfOk result (λ fault. fault ≡ told broken) }
 {
     Ok(FrameFault {
-        number: broken.number,
+        number: broken.rule.number(),
         limit: broken.limit,
         place: path_of(alloc, broken.place)?,
     })

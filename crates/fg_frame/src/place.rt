@@ -1,7 +1,5 @@
 //! Where a frame breaks a rule, by positions.
 
-use fg_base::Limit;
-
 /// A member of an operation that names what it works on.
 #[derive(Clone, Copy, Debug, PartialEq, Eq)]
 pub enum Operand {
@@ -32,12 +30,4 @@ pub enum Place {
     Rects(usize, usize),
     Operand(usize, usize, Operand),
     Export(usize),
-}
-
-/// The first broken rule, with its place by positions.
-#[derive(Clone, Copy, Debug, PartialEq, Eq)]
-pub struct Broken {
-    pub number: u8,
-    pub limit: Option<Limit>,
-    pub place: Place,
 }

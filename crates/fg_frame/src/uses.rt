@@ -13,19 +13,9 @@ ghost use Rattle.fg_frame.specs.Uses.{family_of, stranger_in, writes_it, reads_i
 use crate::members::member_at;
 use crate::numbered::{NumberedPass, Span, Stored, Uses};
 use crate::place::{Operand, Place};
+use crate::rule::Rule;
 use crate::{Frame, Resource};
 use fg_base::{Family, Op, Shape, first_in, op_fits, op_in_place, op_runs};
-
-/// A rule on each pass.
-#[derive(Clone, Copy, Debug, PartialEq, Eq)]
-pub enum Rule {
-    Runs,
-    Declared,
-    Whole,
-    Fits,
-    InPlace,
-    ReadNew,
-}
 
 fn family_of(frame: &Frame, queue: u32) -> Family
     ensures { result ≡ family_of frame.now queue }
@@ -238,6 +228,7 @@ fn use_at(rule: Rule, frame: &Frame, shapes: &[Shape], p: usize, uses: &Uses) ->
     ensures { result ≡ use_at rule frame.now shapes.now p uses.now }
 {
     match rule {
+        Rule::Limits | Rule::Repeated | Rule::Unknown | Rule::Unwritten => None,
         Rule::Runs => stranger_in(frame, p, &uses.pass),
         Rule::Declared => undeclared_op(&uses.pass, p, &uses.pass.ops),
         Rule::Whole => not_whole(&uses.pass.ops, shapes, p, &uses.writes),
@@ -247,7 +238,7 @@ fn use_at(rule: Rule, frame: &Frame, shapes: &[Shape], p: usize, uses: &Uses) ->
     }
 }
 
-/// The first place in the passes where the rule is broken.
+/// The first place in the passes where a rule on what one pass does is broken.
 pub(crate) fn first_use(
     rule: Rule,
     frame: &Frame,
