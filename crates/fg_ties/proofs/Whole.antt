@@ -1,19 +1,25 @@
 -- A program whose pairs are tied is tied, and one with a flaw is not.
+use Rattle.std.specs.Prelude.{◌↔◌}
 use Rattle.std.proofs.Common.{◌≡◌, ◌⊎◌, inl, inr, ℕ, ◌<◌, true, false, List, length, slice_get, Option, Some, None, Result, Ok, Err, IfOk, sym, ap, subst, ◌∙◌, ⊎_elim, arith}
 use Rattle.std.proofs.lemmas.Bool.{cases_eq, cases_lt}
 use Rattle.std.proofs.lemmas.Option.{slice_get_within}
 use Rattle.std.specs.Option.{option_map_or}
-use Rattle.fg_hb.specs.Laws.{GoesForward, IsIrreflexive}
+use Rattle.fg_hb.specs.Before.{Reached, happens}
+use Rattle.fg_hb.specs.Edges.{edge}
+use Rattle.fg_hb.specs.Laws.{GoesForward, IsIrreflexive, IsWithin}
+use Rattle.fg_hb.specs.Nodes.{program_nodes}
 use Rattle.fg_hb.specs.Orders.{Order}
 use Rattle.fg_hb.specs.declared.node.Node.{Node}
-use Rattle.fg_reach.specs.Paths.{then_on}
+use Rattle.fg_reach.specs.Paths.{Path, then_on}
 use Rattle.fg_view.specs.AccessKinds.{changes, transfers}
 use Rattle.fg_view.specs.ShapedView.{ShapedView, Has, NodeAccessAt}
-use Rattle.fg_view.specs.Views.{View, node_access, node_accesses_of}
+use Rattle.fg_view.specs.Views.{View, view_of, node_access, node_accesses_of}
 use Rattle.fg_view.specs.declared.access.Access.{Access}
 use Rattle.fg_view.specs.declared.node_access.NodeAccess.{NodeAccess}
 use Rattle.fg_ties.specs.First.{DecidesTied, FindsFirst, IsFirst}
+use Rattle.fg_subs.specs.declared.program.Program.{Program}
 use Rattle.fg_ties.specs.Passing.{Before}
+use Rattle.fg_ties.specs.Rows.{Rows}
 use Rattle.fg_ties.specs.Tied.{Clashing, Tied, PairTied, Flawed, TiedBelow, FirstFlaw}
 use Rattle.fg_ties.specs.declared.tie.Flaw.{Flaw}
 use Rattle.fg_ties.specs.declared.tie.Flaw.TheVariants.{Unordered, NotAvailable, NotVisible}
@@ -70,3 +76,7 @@ decides V accesses (Some untied) forward never S F order O is = let first = subs
 pub all_decided : {E : Type 0} (V : View) (accesses : List NodeAccess) (result : Result (Option Untied) E) → ((nodes : List Node) → GoesForward nodes) → ((nodes : List Node) → IsIrreflexive nodes) → ShapedView V → IfOk result (FindsFirst V accesses) → IfOk result (DecidesTied V accesses)
 all_decided V accesses (Ok found) forward never S F = decides V accesses found forward never S F
 all_decided V accesses (Err n) forward never S F = tt
+
+-- rows of a program's nodes, by what `before_of` says
+pub rows_of : (P : Program) (V : View) (reached : Reached) → V ≡ view_of P → length reached.places ≡ length (program_nodes P) → ((x y : ℕ) → x < length (program_nodes P) → y < length (program_nodes P) → (happens reached x y ≡ true) ↔ Path (edge (program_nodes P)) x y) → IsWithin (program_nodes P) → Rows V reached
+rows_of P V reached same size paths within = subst (λ W. Rows W reached) (sym same) (record { size = size; paths = paths; within = within })
