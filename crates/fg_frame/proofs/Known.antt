@@ -1,12 +1,11 @@
 -- Names that a frame has get numbers of queues and units.
-use Rattle.std.proofs.Common.{subst, zero, suc, if◌then◌else◌, is_some, map, nat_lt, ◌≡◌, ℕ, ◌+◌, ◌-◌, ◌<◌, ◌≤◌, ◌&&◌, ◌⊎◌, inl, inr, List, [], ◌∷◌, length, get_or, slice_get, not, Bool, true, false, Option, None, Some, refl, sym, ap, ◌∙◌, cond, arith}
+use Rattle.std.proofs.Common.{subst, zero, suc, if◌then◌else◌, is_some, map, nat_lt, ◌≡◌, ℕ, ◌+◌, ◌-◌, ◌<◌, ◌≤◌, List, [], ◌∷◌, length, get_or, slice_get, not, Bool, true, false, Option, None, Some, refl, sym, ap, cond, arith}
 use Rattle.std.specs.List.{position, position_or_len, All, flat_map, range_with_len}
 use Rattle.std.specs.Option.{option_or, option_map, option_map_or, option_and_then, unwrap_or}
 use Rattle.std.specs.Str.{bytes_eq}
 use Rattle.std.proofs.lemmas.Bool.{and_parts, ltb-true, lt-ltb}
-use Rattle.std.proofs.lemmas.List.Elements.{All-map, All-append}
+use Rattle.std.proofs.lemmas.List.Elements.{All-map}
 use Rattle.std.proofs.lemmas.List.FromFn.{length-range_with_len, get_or-range_with_len}
-use Rattle.std.proofs.lemmas.Option.{get_or_from_slice_get, slice_get_cases}
 use Rattle.fg_base.proofs.Booleans.{clash}
 use Rattle.fg_base.proofs.Lists.{entry_of, each_of}
 use Rattle.fg_base.proofs.Absence.{or_first, or_second, map_none, first_none, has_it, all_pass}

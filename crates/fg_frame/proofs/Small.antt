@@ -10,21 +10,19 @@ use Rattle.std.proofs.lemmas.Option.{slice_get_read}
 use Rattle.fg_base.specs.Bounds.{is_between, sides_allowed, size_allowed}
 use Rattle.fg_base.specs.Broken.{of_rule}
 use Rattle.fg_base.specs.Shapes.{is_buffer}
-use Rattle.fg_base.specs.Walks.{first_in}
 use Rattle.fg_base.specs.declared.broken.Broken.{Broken}
 use Rattle.fg_base.specs.declared.limit.Limit.TheVariants as limits
 use Rattle.fg_base.specs.declared.shape.Shape.{Shape}
 use Rattle.fg_bits.specs.declared.sharing.Sharing.{Sharing}
 use Rattle.fg_frame.proofs.Known.{uses_within}
 use Rattle.fg_base.proofs.Absence.{all_pass, or_first, or_second, map_none, has_it}
-use Rattle.fg_frame.specs.Clashes.{first_clash}
 use Rattle.fg_frame.specs.FirstFault.{shapes_of, sharings_of, imports_of, name_broken, use_broken, first_broken, first_fault, AllWithin}
 use Rattle.fg_frame.specs.Limits.{over, layers_allowed, all_bytes, op_count, rects_over, exported, count_broken, size_broken, limit_broken}
 use Rattle.fg_frame.specs.Numbered.{IsWithin, numbered, numbered_pass, uses_of, all_uses, export_units}
 use Rattle.fg_frame.specs.Parts.{parts_of}
 use Rattle.fg_frame.specs.Paths.{told}
 use Rattle.fg_frame.specs.Places.{first_over}
-use Rattle.fg_frame.specs.Repeats.{first_repeat, repeats_in, repeated}
+use Rattle.fg_frame.specs.Repeats.{repeated}
 use Rattle.fg_frame.specs.Units.{Numbering, numbering, span_of, layers_of, units, units_from, unit_from, owners, spots_of, layer_spot, unit_spots}
 use Rattle.fg_frame.specs.Unknowns.{unknown}
 use Rattle.fg_frame.specs.declared.frame.Frame.{Frame}
@@ -159,13 +157,6 @@ module _ (frame : Frame) (none : limit_broken frame ≡ None) where
 count_few : (rs : List Resource) → All (λ r. 0 < r.layers) rs → length rs ≤ layers_of rs
 count_few [] some = omega arith
 count_few (r ∷ rs) some = let here : 0 < r.layers = some zero r (omega arith) in let more = count_few rs (λ k d lt. some (suc k) d (omega arith)) in omega arith
-
-pub names_differ : (frame : Frame) → repeated frame ≡ None → first_repeat (map (λ r. r.name) frame.resources) ≡ None
-names_differ frame none =
-    let queues = option_map (λ i. at.Queue i) (first_repeat (map (λ q. q.name) frame.queues)) in
-    let resources = option_map (λ i. at.Resource i) (first_repeat (map (λ r. r.name) frame.resources)) in
-    let others = option_or (first_in (repeats_in (map (λ p. p.name) frame.passes)) 0 frame.passes) (option_map (λ i. at.Export i) (first_clash frame.exports)) in
-    map_none (λ i. at.Resource i) (first_repeat (map (λ r. r.name) frame.resources)) (or_first resources others (or_second queues (option_or resources others) none))
 
 -- NAMES
 

@@ -14,7 +14,7 @@ use crate::numbered::{NumberedPass, Span, Uses};
 use crate::numbers::{all_units, all_uses, spans};
 use crate::path::told;
 use crate::place::Place;
-use crate::repeats::repeated;
+use crate::repeats::table_of;
 use crate::rule::Rule;
 use crate::table::Table;
 use crate::units::{imports, owners, shapes, sharings, spots};
@@ -68,7 +68,7 @@ pub enum FrameEnd {
 }
 
 // The rules on limits and names, and then the table of names.
-#[tactic(auto, using(crate::proofs::Small::few_units, crate::proofs::Small::names_differ))]
+#[tactic(auto, using(crate::proofs::Small::few_units))]
 fn named(alloc: Global, frame: &Frame) -> Result<Result<Table, Broken<Rule, Place>>, NoMemory>
     ensures broken { IfOk result (λ found. IfErr found (λ b. name_broken frame.now ≡ Some b)) }
     ensures none { IfOk result (λ found. IfOk found (λ table. name_broken frame.now ≡ None)) }
@@ -77,10 +77,10 @@ fn named(alloc: Global, frame: &Frame) -> Result<Result<Table, Broken<Rule, Plac
     if let Some(broken) = limit_broken(frame) {
         return Ok(Err(broken));
     }
-    if let Some(place) = repeated(alloc, frame)? {
-        return Ok(Err(Broken::of_rule(Rule::Repeated, place)));
-    }
-    let table = Table::new(alloc, frame)?;
+    let table = match table_of(alloc, frame)? {
+        Ok(table) => table,
+        Err(place) => return Ok(Err(Broken::of_rule(Rule::Repeated, place))),
+    };
     if let Some(place) = unknown(frame, &table) {
         return Ok(Err(Broken::of_rule(Rule::Unknown, place)));
     }

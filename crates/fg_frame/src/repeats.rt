@@ -6,31 +6,14 @@ ghost use Rattle.std.specs.Str.{bytes_eq};
 ghost use Rattle.fg_base.specs.Walks.{first_in};
 ghost use Rattle.fg_frame.specs.Clashes.{clash, first_clash};
 ghost use Rattle.fg_frame.specs.Repeats.{repeats_at, first_repeat, repeats_in, repeated};
+ghost use Rattle.fg_frame.specs.Units.{numbering, layers_of};
 
 use crate::place::Place;
+use crate::table::{Table, distinct};
 use crate::{Frame, Pass, Spot, Write};
 use fg_base::{List, Name, NoMemory};
 use indexmap::IndexSet;
 use std::alloc::Global;
-
-/// The names as a table, or the position of the first that stands before it too.
-#[tactic(auto, using(fg_base::proofs::Walks::first_on))]
-pub(crate) fn distinct(
-    alloc: Global,
-    names: &[Name],
-) -> Result<Result<IndexSet<Name>, usize>, NoMemory>
-    ensures table { IfOk result (λ found. IfOk found (λ table. (table.keys ≡ names.now) × (first_repeat names.now ≡ None))) }
-    ensures repeat { IfOk result (λ found. IfErr found (λ at. first_repeat names.now ≡ Some at)) }
-{
-    let mut seen = IndexSet::new(alloc);
-    for (i, name) in names.iter().enumerate() {
-        let (_, added) = seen.insert_full(*name)?;
-        if !added {
-            return Ok(Err(i));
-        }
-    }
-    Ok(Ok(seen))
-}
 
 fn first_repeat(alloc: Global, names: &[Name]) -> Result<Option<usize>, NoMemory>
     ensures { IfOk result (λ place. place ≡ first_repeat names.now) }
@@ -144,16 +127,6 @@ fn queue_names(alloc: Global, frame: &Frame) -> Result<List<Name>, NoMemory>
     Ok(names)
 }
 
-pub(crate) fn resource_names(alloc: Global, frame: &Frame) -> Result<List<Name>, NoMemory>
-    ensures { IfOk result (λ names. names ≡ map (λ r. r.name) frame.now.resources) }
-{
-    let mut names = List::new(alloc);
-    for resource in frame.resources.iter() {
-        names.push(resource.name)?;
-    }
-    Ok(names)
-}
-
 fn pass_names(alloc: Global, frame: &Frame) -> Result<List<Name>, NoMemory>
     ensures { IfOk result (λ names. names ≡ map (λ p. p.name) frame.now.passes) }
 {
@@ -203,22 +176,26 @@ fn repeats_in_passes(
     Ok(None)
 }
 
-/// The first name that stands twice, or entry that names a unit twice.
-pub(crate) fn repeated(alloc: Global, frame: &Frame) -> Result<Option<Place>, NoMemory>
-    ensures { IfOk result (λ place. place ≡ repeated frame.now) }
+/// The table of a frame's names, or the first name that stands twice, or entry that names a unit twice.
+pub(crate) fn table_of(alloc: Global, frame: &Frame) -> Result<Result<Table, Place>, NoMemory>
+    requires { layers_of frame.now.resources ≤ 256 }
+    ensures none { IfOk result (λ found. IfOk found (λ table. repeated frame.now ≡ None)) }
+    ensures table { IfOk result (λ found. IfOk found (λ table. table ≡ numbering frame.now)) }
+    ensures repeat { IfOk result (λ found. IfErr found (λ place. repeated frame.now ≡ Some place)) }
 {
     if let Some(i) = first_repeat(alloc, &queue_names(alloc, frame)?)? {
-        return Ok(Some(Place::Queue(i)));
+        return Ok(Err(Place::Queue(i)));
     }
-    if let Some(i) = first_repeat(alloc, &resource_names(alloc, frame)?)? {
-        return Ok(Some(Place::Resource(i)));
-    }
+    let table = match Table::new(alloc, frame)? {
+        Ok(table) => table,
+        Err(i) => return Ok(Err(Place::Resource(i))),
+    };
     let names = pass_names(alloc, frame)?;
     if let Some(place) = repeats_in_passes(alloc, &names, &frame.passes)? {
-        return Ok(Some(place));
+        return Ok(Err(place));
     }
     match first_clash(alloc, &frame.exports)? {
-        Some(i) => Ok(Some(Place::Export(i))),
-        None => Ok(None),
+        Some(i) => Ok(Err(Place::Export(i))),
+        None => Ok(Ok(table)),
     }
 }

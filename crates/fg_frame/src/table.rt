@@ -1,13 +1,12 @@
 //! From the names of resources to their units.
 
-ghost use Rattle.std.specs.Prelude.{◌≡◌, ◌≤◌, ◌<◌, ◌+◌, IfOk, IfSome, None, map, slice_get};
+ghost use Rattle.std.specs.Prelude.{◌≡◌, ◌≤◌, ◌<◌, ◌+◌, IfOk, IfErr, IfSome, None, Some, map, slice_get};
 ghost use Rattle.std.specs.List.{All};
 ghost use Rattle.fg_frame.specs.Repeats.{first_repeat};
 ghost use Rattle.fg_frame.specs.Units.{Numbering, numbering, stretches, stretch_of, layers_of, layer_unit, span_in, span_of, unit_of};
 ghost use Rattle.fg_frame.specs.Unknowns.{has_layer, picks_one, is_known, is_known_unit};
 
 use crate::numbered::{Span, Stretch};
-use crate::repeats::{distinct, resource_names};
 use crate::{Frame, Resource, Spot};
 use fg_base::{List, Name, NoMemory};
 use indexmap::IndexSet;
@@ -33,6 +32,35 @@ impl Model for Table {
     ghost invariant = { λ t. All (λ s. s.first + s.layers ≤ 256) t.stretches };
 }
 
+/// The names as a table, or the position of the first that stands before it too.
+#[tactic(auto, using(fg_base::proofs::Walks::first_on))]
+pub(crate) fn distinct(
+    alloc: Global,
+    names: &[Name],
+) -> Result<Result<IndexSet<Name>, usize>, NoMemory>
+    ensures table { IfOk result (λ found. IfOk found (λ table. (table.keys ≡ names.now) × (first_repeat names.now ≡ None))) }
+    ensures repeat { IfOk result (λ found. IfErr found (λ at. first_repeat names.now ≡ Some at)) }
+{
+    let mut seen = IndexSet::new(alloc);
+    for (i, name) in names.iter().enumerate() {
+        let (_, added) = seen.insert_full(*name)?;
+        if !added {
+            return Ok(Err(i));
+        }
+    }
+    Ok(Ok(seen))
+}
+
+fn resource_names(alloc: Global, frame: &Frame) -> Result<List<Name>, NoMemory>
+    ensures { IfOk result (λ names. names ≡ map (λ r. r.name) frame.now.resources) }
+{
+    let mut names = List::new(alloc);
+    for resource in frame.resources.iter() {
+        names.push(resource.name)?;
+    }
+    Ok(names)
+}
+
 #[tactic(auto, using(crate::proofs::Stretches::stretches_on, crate::proofs::Stretches::few_on, crate::proofs::Stretches::few_here, crate::proofs::Stretches::all_small))]
 fn stretches(alloc: Global, resources: &[Resource]) -> Result<List<Stretch>, NoMemory>
     requires { layers_of resources.now ≤ 256 }
@@ -53,19 +81,20 @@ fn stretches(alloc: Global, resources: &[Resource]) -> Result<List<Stretch>, NoM
 }
 
 impl Table {
-    /// The table of a frame whose resources have different names.
-    pub fn new(alloc: Global, frame: &Frame) -> Result<Table, NoMemory>
-        requires few { layers_of frame.now.resources ≤ 256 }
-        requires distinct { first_repeat (map (λ r. r.name) frame.now.resources) ≡ None }
-        ensures { IfOk result (λ table. table ≡ numbering frame.now) }
+    /// The table of a frame, or the position of the first resource whose name stands before it too.
+    pub fn new(alloc: Global, frame: &Frame) -> Result<Result<Table, usize>, NoMemory>
+        requires { layers_of frame.now.resources ≤ 256 }
+        ensures none { IfOk result (λ found. IfOk found (λ table. first_repeat (map (λ r. r.name) frame.now.resources) ≡ None)) }
+        ensures table { IfOk result (λ found. IfOk found (λ table. table ≡ numbering frame.now)) }
+        ensures repeat { IfOk result (λ found. IfErr found (λ at. first_repeat (map (λ r. r.name) frame.now.resources) ≡ Some at)) }
     {
         let names = resource_names(alloc, frame)?;
         match distinct(alloc, &names)? {
-            Ok(names) => Ok(Table {
+            Ok(names) => Ok(Ok(Table {
                 names,
                 stretches: stretches(alloc, &frame.resources)?,
-            }),
-            Err(_) => unreachable!(),
+            })),
+            Err(at) => Ok(Err(at)),
         }
     }
 

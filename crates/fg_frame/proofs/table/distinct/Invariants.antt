@@ -1,6 +1,6 @@
 use Rattle.std.proofs.Common.{◌≡◌, drop, take}
 use Rattle.fg_base.specs.Walks.{first_in}
-use Rattle.fg_frame.proofs.repeats.distinct.Given as goal
+use Rattle.fg_frame.proofs.table.distinct.Given as goal
 use Rattle.fg_frame.specs.Repeats.{repeats_at, first_repeat}
 
 abbrev pub invariant-loop-i : goal.invariant-loop-i
