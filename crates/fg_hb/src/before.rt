@@ -1,6 +1,7 @@
 //! What happens before what.
 
 ghost use Rattle.std.specs.Prelude.{◌≡◌, ◌<◌, ◌≤◌, ◌↔◌, ℕ, length, true, get_or, None, Some, IfOk};
+ghost use Rattle.fg_base.specs.Maxima.{max_nodes};
 ghost use Rattle.fg_hb.specs.Before.{joined, happens, place};
 ghost use Rattle.fg_hb.specs.Code.Filling.{Filling, Added, Tabled, Passes, QueueDone, NodeDone};
 ghost use Rattle.fg_hb.specs.Edges.{edge, node_at, holds_back, signalled, meeting, is_signal, is_host, next_signal};
@@ -157,7 +158,7 @@ fn add_all(rows: &mut Rows, edges: &Edges, places: &[u32])
 
 // The place of each node in the order.
 fn places_of(alloc: Global, order: &[u32], count: usize) -> Result<Vec<u32>, NoMemory>
-    requires few { length order.now ≤ 20000 }
+    requires few { length order.now ≤ max_nodes }
     requires once { Distinct order.now }
     requires below { (k : ℕ) → k < length order.now → get_or order.now k 0 < count }
     ensures length { IfOk result (λ places. length places.items ≡ count) }
@@ -172,7 +173,7 @@ fn places_of(alloc: Global, order: &[u32], count: usize) -> Result<Vec<u32>, NoM
 
 // The closed edges, over the places of an order.
 fn rows_of(alloc: Global, edges: &Edges, order: &[u32], places: &[u32]) -> Result<Rows, NoMemory>
-    requires few { length order.now ≤ 20000 }
+    requires few { length order.now ≤ max_nodes }
     requires tabled { Tabled edges.now places.now (length order.now) }
     ensures count { IfOk result (λ rows. rows.count ≡ length order.now) }
     ensures paths { IfOk result (λ rows. (x y : ℕ) → x < length edges.now → y < length edges.now → (joined rows places.now x y ≡ true) ↔ Path (edge edges.now) x y) }

@@ -2,6 +2,7 @@
 
 ghost use Rattle.std.specs.Prelude.{◌≡◌, ◌<◌, ◌≤◌, ◌+◌, ◌-◌, ◌++◌, ℕ, length, true, false, get_or, Some, IfOk, MatchOption, IfSome};
 ghost use Rattle.std.specs.List.{range_with_len};
+ghost use Rattle.fg_base.specs.Maxima.{max_nodes};
 ghost use Rattle.fg_hb.specs.Answers.{Answers};
 ghost use Rattle.fg_hb.specs.Nodes.{program_nodes};
 ghost use Rattle.fg_hb.specs.Code.Queues.{Ready, queues_of, node_open, goes_on};
@@ -95,7 +96,7 @@ fn first_nodes(alloc: Global, starts: &[usize], queues: usize) -> Result<Vec<usi
 // The host reads, which are the numbers from `from` on, below `count`.
 fn push_hosts(mut order: List<u32>, from: usize, count: usize) -> Result<List<u32>, NoMemory>
     requires from { from ≤ count }
-    requires few { count ≤ 20000 }
+    requires few { count ≤ max_nodes }
     ensures { IfOk result (λ all. all ≡ order ++ range_with_len from (count - from)) }
 {
     for n in from..count {

@@ -1,6 +1,7 @@
 //! The direct edges of a program.
 
 ghost use Rattle.std.specs.Prelude.{◌≡◌, ◌<◌, ◌≤◌, length, true, IfOk};
+ghost use Rattle.fg_base.specs.Maxima.{max_nodes};
 ghost use Rattle.fg_hb.specs.Edges.{edge, node_at, is_at, is_signal, next_signal, meeting, signalled};
 ghost use Rattle.fg_hb.specs.Code.Tables.{link_of};
 ghost use Rattle.fg_hb.specs.Nodes.{program_nodes};
@@ -56,7 +57,7 @@ impl Edges {
     /// The number of nodes.
     pub fn count(&self) -> usize
         ensures count { result ≡ length self.now }
-        ensures few { result ≤ 20000 }
+        ensures few { result ≤ max_nodes }
     {
         self.nodes.len()
     }

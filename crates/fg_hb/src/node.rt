@@ -1,6 +1,7 @@
 //! A node as edges see it.
 
 ghost use Rattle.std.specs.Prelude.{◌≡◌, ◌≤◌, IfOk, length};
+ghost use Rattle.fg_base.specs.Maxima.{max_nodes};
 ghost use Rattle.fg_hb.specs.Code.Filling.{takes_over};
 ghost use Rattle.fg_hb.specs.Edges.{signals, reaches, holds_back};
 ghost use Rattle.fg_bits.specs.Roles.{op_stage};
@@ -146,7 +147,7 @@ fn entry_node(queues: u32, entry: Entry) -> Node
 #[tactic(auto, using(crate::proofs::Tables::one_image, crate::proofs::Tables::as_many))]
 pub(crate) fn program_nodes(alloc: Global, shaped: &Shaped) -> Result<List<Node>, NoMemory>
     ensures nodes { IfOk result (λ nodes. nodes ≡ program_nodes shaped.now) }
-    ensures few { IfOk result (λ nodes. length nodes ≤ 20000) }
+    ensures few { IfOk result (λ nodes. length nodes ≤ max_nodes) }
 {
     let queues = shaped.program().queues.len() as u32;
     let mut nodes = List::new(alloc);

@@ -2,6 +2,7 @@
 
 ghost use Rattle.std.specs.Prelude.{◌≡◌, ◌<◌, ◌≤◌, ◌+◌, length, IfOk};
 ghost use Rattle.std.specs.List.{position};
+ghost use Rattle.fg_base.specs.Maxima.{max_nodes};
 ghost use Rattle.fg_hb.specs.Edges.{node_at, next_signal, signals, reaches};
 ghost use Rattle.fg_hb.specs.Code.Tables.{link_of, links_until};
 
@@ -22,7 +23,7 @@ fn first_reaching(nodes: &[Node], queue: u32, value: u64) -> Option<usize>
 }
 
 fn next_signal(nodes: &[Node], n: usize) -> Option<usize>
-    requires few { length nodes.now ≤ 20000 }
+    requires few { length nodes.now ≤ max_nodes }
     requires n { n < length nodes.now }
     ensures { result ≡ next_signal nodes.now n }
 {
@@ -33,7 +34,7 @@ fn next_signal(nodes: &[Node], n: usize) -> Option<usize>
 }
 
 fn link_of(nodes: &[Node], n: usize) -> Option<usize>
-    requires few { length nodes.now ≤ 20000 }
+    requires few { length nodes.now ≤ max_nodes }
     requires n { n < length nodes.now }
     ensures { result ≡ link_of nodes.now n (node_at nodes.now n).kind }
 {
@@ -47,7 +48,7 @@ fn link_of(nodes: &[Node], n: usize) -> Option<usize>
 /// Of each signal the next one of its queue, of each wait the signal that meets it.
 #[tactic(auto, using(crate::proofs::Tables::one_link))]
 pub(crate) fn links_of(alloc: Global, nodes: &[Node]) -> Result<List<Option<usize>>, NoMemory>
-    requires few { length nodes.now ≤ 20000 }
+    requires few { length nodes.now ≤ max_nodes }
     ensures { IfOk result (λ links. links ≡ links_until nodes.now (length nodes.now)) }
 {
     let mut links = List::new(alloc);

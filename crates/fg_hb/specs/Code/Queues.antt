@@ -1,5 +1,6 @@
 -- Queues of nodes, and the next node of each.
 use Rattle.std.specs.Prelude.{◌≡◌, ℕ, zero, suc, ◌+◌, ◌-◌, ◌<◌, ◌≤◌, Bool, true, false, ◌&&◌, ◌||◌, nat_lt, not, List, length, get_or, Option, Some, None}
+use Rattle.fg_base.specs.Maxima.{max_nodes}
 use Rattle.fg_hb.specs.Edges.{is_wait, is_sync, node_at, next_signal, meeting}
 use Rattle.fg_hb.specs.Orders.{is_queued}
 use Rattle.fg_hb.specs.declared.node.Node.{Node}
@@ -61,6 +62,6 @@ pub record Lined (nodes : List Node) (starts : List ℕ) (queues count : ℕ) : 
 
 -- the nodes of so many queues, and where each queue begins
 pub record Ready (nodes : List Node) (starts : List ℕ) (queues : ℕ) : Type 0 where
-  pub few : length nodes ≤ 20000
+  pub few : length nodes ≤ max_nodes
   pub lined : Lined nodes starts queues (get_or starts queues 0)
   pub size : length starts ≡ queues + 1

@@ -1,6 +1,7 @@
 -- The tables of edges and of what happens before what.
 use Rattle.std.specs.Prelude.{◌≡◌, ◌<◌, ◌≤◌, ℕ, List, length, map, Option, None}
 use Rattle.std.specs.List.{range_with_len}
+use Rattle.fg_base.specs.Maxima.{max_nodes}
 use Rattle.fg_hb.specs.Before.{Reached, place}
 use Rattle.fg_hb.specs.Edges.{node_at, next_signal, meeting}
 use Rattle.fg_hb.specs.declared.before.Before.TheInside as before
@@ -19,7 +20,7 @@ abbrev pub links_until : List Node → ℕ → List (Option ℕ)
 links_until nodes count = map (λ n. link_of nodes n (node_at nodes n).kind) (range_with_len 0 count)
 
 pub record HasLinks (edges : Inside) : Type 0 where
-  pub few : length edges.nodes ≤ 20000
+  pub few : length edges.nodes ≤ max_nodes
   pub links : edges.links ≡ links_until edges.nodes (length edges.nodes)
 
 abbrev pub reached_by : before.Inside → Reached
