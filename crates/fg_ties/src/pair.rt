@@ -1,6 +1,7 @@
 //! Whether an earlier access and a later one are tied.
 
 ghost use Rattle.std.specs.Prelude.{◌≡◌, ◌↔◌, ◌<◌, ◌≤◌, ◌==◌, ◌||◌, length, true, false, IfSome, MatchOption};
+ghost use Rattle.fg_base.specs.Maxima.{max_nodes};
 ghost use Rattle.fg_view.specs.AccessKinds.{changes, transfers};
 ghost use Rattle.fg_ties.specs.Code.Around.{up_from, down_from};
 ghost use Rattle.fg_ties.specs.Code.Passings.{AvailableAt, VisibleFrom, InvisibleFrom, NotPassed};
@@ -16,7 +17,7 @@ use fg_view::{AccessKind, NodeAccess};
 fn up_from(start: u32, count: u32, k: u32) -> u32
     requires start { start < count }
     requires k { k < count }
-    requires few { count ≤ 20000 }
+    requires few { count ≤ max_nodes }
     ensures is { result ≡ up_from start count k }
     ensures below { result < count }
 {
@@ -31,7 +32,7 @@ fn up_from(start: u32, count: u32, k: u32) -> u32
 fn down_from(start: u32, count: u32, k: u32) -> u32
     requires start { start < count }
     requires k { k < count }
-    requires few { count ≤ 20000 }
+    requires few { count ≤ max_nodes }
     ensures is { result ≡ down_from start count k }
     ensures below { result < count }
 {

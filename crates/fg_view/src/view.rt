@@ -2,6 +2,7 @@
 
 ghost use Rattle.std.specs.Prelude.{◌≡◌, ◌<◌, ◌≤◌, length, map, slice_get, false, IfOk};
 ghost use Rattle.std.specs.Option.{option_map_or};
+ghost use Rattle.fg_base.specs.Maxima.{max_nodes};
 ghost use Rattle.fg_hb.specs.Edges.{node_at};
 ghost use Rattle.fg_view.specs.ShapedView.{ShapedView};
 ghost use Rattle.fg_view.specs.Views.{view_of, is_import, piece_imported, effect_at, piece_at, pieces_overlap, is_before_end, has_agent, is_on, makes_available, makes_visible, clash, overlap, imported_at, shared_at, family_at};
@@ -38,7 +39,7 @@ impl View {
     /// The number of nodes.
     pub fn count(&self) -> usize
         ensures count { result ≡ length self.now.nodes }
-        ensures few { result ≤ 20000 }
+        ensures few { result ≤ max_nodes }
     {
         self.edges.count()
     }
