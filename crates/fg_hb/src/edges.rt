@@ -87,7 +87,7 @@ impl Edges {
     }
 
     /// The signal that meets a wait.
-    pub(crate) fn met(&self, n: usize) -> Option<usize>
+    pub fn met(&self, n: usize) -> Option<usize>
         requires n { n < length self.now }
         ensures { result ≡ meeting self.now (node_at self.now n).kind }
     {
