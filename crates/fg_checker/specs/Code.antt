@@ -1,4 +1,4 @@
--- Definitions for the code alone.
+-- Definitions that serve the code alone: no public clause reaches them.
 pub mod Decided
 pub mod Hazards
 pub mod Inside

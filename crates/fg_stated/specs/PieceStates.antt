@@ -21,7 +21,7 @@ last_that test (a ∷ accesses) = option_or (last_that test accesses) (if test a
 abbrev pub on_piece : ℕ → (AccessKind → Bool) → NodeAccess → Bool
 on_piece p test a = (a.access.piece == p) && test a.access.kind
 
--- of the first accesses the last one of the piece that is so
+-- the last of these accesses that is of the piece, and so
 abbrev pub last_on : (AccessKind → Bool) → ℕ → List NodeAccess → Option NodeAccess
 last_on test p accesses = last_that (on_piece p test) accesses
 

@@ -1,4 +1,5 @@
-//! Whether accesses find their pieces in the layouts that they want, owned by their families, and with bytes in them.
+//! Whether accesses find their pieces in the layouts that they want, owned by their families, and with the other half of their
+//! transfers (`Stated`); and whether loads find bytes, stored through their own pieces (`Fed`).
 #![tactic(auto)]
 
 mod ahead;

@@ -8,7 +8,7 @@ use Rattle.std.proofs.lemmas.List.Elements.{All-nil, All-cons, All-append, All-m
 use Rattle.std.proofs.lemmas.Option.{slice_get-map, slice_get_read, slice_get_within}
 use Rattle.std.proofs.lemmas.Simd.{map-map}
 use Rattle.fg_base.proofs.Lists.{entry_of}
-use Rattle.fg_subs.specs.Code.Found.{batch_entry, queued_entry, entry_at}
+use Rattle.fg_subs.specs.Code.Standing.{batch_entry, queued_entry, entry_at}
 use Rattle.fg_subs.specs.Entries.{Entry, OfWait, OfItem, OfSignal, OfHost, batch_entries, queue_entries, entries_of, queue_of, first_node, ByQueue}
 use Rattle.fg_subs.specs.Code.Nodes.{signal_nodes, batch_nodes, queue_nodes, nodes_of}
 use Rattle.fg_subs.specs.Places.{all_in}

@@ -1,4 +1,4 @@
--- What clauses of private functions cite.
+-- Definitions that serve the code alone: no public clause reaches them.
 pub mod Counts
-pub mod Found
 pub mod Nodes
+pub mod Standing

@@ -50,7 +50,7 @@ spend_batch q room b batch = spend_in (spend_item q b) room 0 batch.items
 abbrev pub spend_queue : ℕ → ℕ → Queue → Result ℕ Place
 spend_queue room q queue = spend_in (spend_batch q) room 0 queue.batches
 
--- the first item with which the rectangles are more than 4,096
+-- the first item with which the rectangles are more than one program may have
 abbrev pub rects_over : List Queue → Option Place
 rects_over queues = not_lasting (spend_in spend_queue max_rects 0 queues)
 

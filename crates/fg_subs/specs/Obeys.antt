@@ -23,7 +23,7 @@ pub record BatchAt (program : Program) (q : ℕ) (b : ℕ) (queue : Queue) (batc
   pub queue_is : slice_get program.queues q ≡ Some queue
   pub batch_is : slice_get queue.batches b ≡ Some batch
 
--- each part of the program obeys a rule
+-- each part of the program obeys a rule: nothing where it is the rule on limits
 pub record Obeys (rule : Rule) (program : Program) : Type 0 where
   pub pieces : All (λ piece. piece_obeys rule program.memories piece ≡ true) program.pieces
   pub batches : (q b : ℕ) (queue : Queue) (batch : Batch) → BatchAt program q b queue batch → BatchObeys rule program queue b batch

@@ -1,4 +1,4 @@
--- Walks over lists that know the position of each entry.
+-- What the entries of a list give, each by its position.
 use Rattle.std.specs.Prelude.{ℕ, suc, List, [], ◌∷◌, ◌++◌}
 
 -- what each entry of a list gives, one after another

@@ -2,7 +2,7 @@
 
 ghost use Rattle.std.specs.Prelude.{◌≡◌};
 ghost use Rattle.std.specs.Option.{option_map};
-ghost use Rattle.fg_subs.specs.Code.Found.{batch_entry, queued_entry, entry_at};
+ghost use Rattle.fg_subs.specs.Code.Standing.{batch_entry, queued_entry, entry_at};
 ghost use Rattle.fg_subs.specs.Entries.{seen};
 
 use crate::nodes::NodeAt;

@@ -26,7 +26,7 @@ pub struct Piece {
     pub sharing: Sharing,
 }
 
-/// A wait for another queue's timeline to reach a value.
+/// A wait for a queue's timeline to reach a value.
 #[derive(Clone, Copy, Debug, PartialEq, Eq)]
 pub struct WaitFor {
     /// The number of the queue whose timeline it is.

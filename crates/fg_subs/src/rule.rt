@@ -3,7 +3,7 @@
 ghost use Rattle.std.specs.Prelude.{◌≡◌};
 ghost use Rattle.fg_subs.specs.Faults.{number_of};
 
-/// A rule on each part of a program.
+/// A rule of programs. All but the one on limits are on each part.
 #[derive(Clone, Copy, Debug, PartialEq, Eq)]
 pub enum Rule {
     /// No limit is gone over.

@@ -1,4 +1,4 @@
--- Definitions for the code alone.
+-- Definitions that serve the code alone: no public clause reaches them.
 pub mod Around
 pub mod Chains
 pub mod Inside

@@ -1,3 +1,3 @@
--- Definitions that serve the code alone.
+-- Definitions that serve the code alone: no public clause reaches them.
 pub mod Inside
 pub mod KnownEntries
