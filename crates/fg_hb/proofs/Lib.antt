@@ -2,6 +2,7 @@ pub mod Bridge
 pub mod Drained
 pub mod Filling
 pub mod Going
+pub mod HostReads
 pub mod Hosts
 pub mod InOrder
 pub mod Lines

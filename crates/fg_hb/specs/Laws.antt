@@ -1,9 +1,11 @@
 -- Laws of happens-before: a path of direct edges.
-use Rattle.std.specs.Prelude.{ℕ, ◌<◌, List, length}
-use Rattle.fg_hb.specs.Edges.{edge}
+use Rattle.std.specs.Prelude.{◌≡◌, ℕ, ◌<◌, true, List, length}
+use Rattle.fg_hb.specs.Edges.{edge, is_host, node_at}
+use Rattle.fg_hb.specs.Nodes.{program_nodes}
 use Rattle.fg_hb.specs.Orders.{Earlier, Order}
 use Rattle.fg_hb.specs.declared.node.Node.{Node}
 use Rattle.fg_reach.specs.Paths.{Path}
+use Rattle.fg_subs.specs.declared.program.Program.{Program}
 
 -- what happens before a node stands before it in every order
 abbrev pub GoesForward : List Node → Type 0
@@ -23,3 +25,7 @@ IsWithin nodes = (x y : ℕ) → Path (edge nodes) x y → (x < length nodes) ×
 -- what happens before a node does not stand after it in an order
 abbrev pub IsAsymmetric : List Node → Type 0
 IsAsymmetric nodes = (order : List ℕ) → Order nodes order → (x y : ℕ) → Path (edge nodes) x y → Earlier order y x → ⊥
+
+-- no node is held back by a host read
+abbrev pub IsEnding : Program → Type 0
+IsEnding program = (x y : ℕ) → is_host (node_at (program_nodes program) x).kind ≡ true → edge (program_nodes program) x y ≡ true → ⊥

@@ -2,7 +2,7 @@
 
 ghost use Rattle.std.specs.Prelude.{◌≡◌, ◌<◌, ◌≤◌, ◌+◌, ◌-◌, ◌++◌, ℕ, length, true, false, get_or, Some, IfOk, MatchOption, IfSome};
 ghost use Rattle.std.specs.List.{range_with_len};
-ghost use Rattle.fg_base.specs.Maxima.{max_nodes};
+ghost use Rattle.fg_base.specs.Maxima.{max_nodes, max_queues};
 ghost use Rattle.fg_hb.specs.Answers.{Answers};
 ghost use Rattle.fg_hb.specs.Nodes.{program_nodes};
 ghost use Rattle.fg_hb.specs.Code.Queues.{Ready, queues_of, node_open, goes_on};
@@ -107,7 +107,7 @@ fn push_hosts(mut order: List<u32>, from: usize, count: usize) -> Result<List<u3
 
 fn drained(alloc: Global, edges: &Edges, starts: &[usize], queues: usize) -> Result<Drain, NoMemory>
     requires ready { Ready edges.now starts.now queues }
-    requires few { queues ≤ 4 }
+    requires few { queues ≤ max_queues }
     ensures { IfOk result (λ drain. Answers edges.now drain) }
 {
     let mut next = first_nodes(alloc, starts, queues)?;
@@ -127,7 +127,7 @@ fn drained(alloc: Global, edges: &Edges, starts: &[usize], queues: usize) -> Res
 
 // The number at which each queue begins, and that of the first host read.
 fn starts_of(alloc: Global, program: &Shaped, queues: usize) -> Result<Vec<usize>, NoMemory>
-    requires few { queues ≤ 4 }
+    requires few { queues ≤ max_queues }
     requires queues { queues ≡ length program.now.queues }
     ensures length { IfOk result (λ starts. length starts.items ≡ queues + 1) }
     ensures begins { IfOk result (λ starts. (q : ℕ) → q ≤ queues → get_or starts.items q 0 ≡ first_node program.now q) }

@@ -1,3 +1,4 @@
+use Rattle.fg_hb.proofs.HostReads.{ends}
 use Rattle.fg_hb.proofs.InOrder.{goes_not_back, path_within, goes_forward, comes_never_back}
 use Rattle.fg_hb.proofs.laws.before_laws.Goals as goal
 use Rattle.fg_reach.specs.Paths.{then_on}
@@ -16,3 +17,6 @@ returns-clause-asymmetric c = goes_not_back
 
 pub returns-clause-within : goal.returns-clause-within
 returns-clause-within c = path_within
+
+pub returns-clause-ends : goal.returns-clause-ends
+returns-clause-ends c = ends
