@@ -7,7 +7,7 @@ ghost use Rattle.fg_base.specs.Operands.{operands_of};
 ghost use Rattle.fg_frame.specs.Good.{IsGood};
 ghost use Rattle.fg_frame.specs.Numbered.{numbered, all_uses, export_units};
 ghost use Rattle.fg_frame.specs.Parts.{parts_of};
-ghost use Rattle.fg_frame.specs.Units.{numbering, units, owners, unit_spots};
+ghost use Rattle.fg_frame.specs.Units.{numbering, owners, unit_spots};
 
 use crate::limits::limit_broken;
 use crate::numbered::{NumberedPass, Span, Uses};

@@ -3,7 +3,7 @@
 ghost use Rattle.std.specs.Prelude.{◌≡◌};
 ghost use Rattle.fg_frame.specs.Faults.{number_of};
 
-/// A rule on each part of a frame.
+/// A rule of frames.
 #[derive(Clone, Copy, Debug, PartialEq, Eq)]
 pub enum Rule {
     /// No limit is gone over.

@@ -4,7 +4,7 @@ ghost use Rattle.std.specs.Prelude.{◌≡◌, ◌<◌, not, None, Some, IfSome,
 ghost use Rattle.std.specs.List.{position};
 ghost use Rattle.fg_base.specs.Walks.{first_in};
 ghost use Rattle.fg_frame.specs.Members.{member_at};
-ghost use Rattle.fg_frame.specs.Unknowns.{queue_at, has_queue, is_known, is_known_unit, unknown_at, unknown_operand, unknown_in, unknown_by};
+ghost use Rattle.fg_frame.specs.Unknowns.{queue_at, has_queue, is_known, unknown_at, unknown_operand, unknown_in, unknown_by};
 
 use crate::members::member_at;
 use crate::place::Place;

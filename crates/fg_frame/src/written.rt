@@ -4,7 +4,7 @@ ghost use Rattle.std.specs.Prelude.{◌≡◌, ◌<◌, ◌&&◌, ◌||◌, not,
 ghost use Rattle.std.specs.List.{All, position, list_any};
 ghost use Rattle.fg_base.specs.Walks.{first_in};
 ghost use Rattle.fg_frame.specs.Numbered.{IsWithin};
-ghost use Rattle.fg_frame.specs.Uses.{makes, is_there, is_marked, is_missing, unwritten_in, unwritten_at, unwritten};
+ghost use Rattle.fg_frame.specs.Uses.{is_there, is_marked, is_missing, unwritten_in, unwritten_at, unwritten};
 
 use crate::Write;
 use crate::numbered::{Span, Stored, Uses};
