@@ -197,7 +197,7 @@ fn faults(rt: HostRuntime) -> Result<(), Fail> {
     judge(&rt, alloc, &FITTED)
 }
 
-// The readers of a good frame speak of units.
+// The counts and exports of a good frame speak of units.
 #[test]
 fn units(rt: HostRuntime) -> Result<(), Fail> {
     let alloc = rt.alloc();

@@ -1,5 +1,8 @@
 //! Words, and what their parts stand for.
 
+ghost use Rattle.std.specs.Prelude.{◌≡◌, IfOk};
+ghost use Rattle.fg_base.specs.Families.{family_name};
+
 use fg_base::{Family, NoMemory, Texel};
 use fg_bits::{Accesses, Layout, Layouts, Masks, Stages};
 
@@ -50,12 +53,17 @@ fn pair(text: &str) -> Result<(&str, &str), SketchError> {
     text.split_once('>').ok_or(SketchError::Word)
 }
 
-pub fn family(text: &str) -> Result<Family, SketchError> {
-    match text {
-        "graphics" => Ok(Family::Graphics),
-        "compute" => Ok(Family::Compute),
-        "transfer" => Ok(Family::Transfer),
-        _ => Err(SketchError::Word),
+pub fn family(text: &str) -> Result<Family, SketchError>
+    ensures { IfOk result (λ family. text.now ≡ family_name family) }
+{
+    if text == Family::Graphics.name() {
+        Ok(Family::Graphics)
+    } else if text == Family::Compute.name() {
+        Ok(Family::Compute)
+    } else if text == Family::Transfer.name() {
+        Ok(Family::Transfer)
+    } else {
+        Err(SketchError::Word)
     }
 }
 
