@@ -1,0 +1,12 @@
+//! Whether two programs, or two parts of them, are the same.
+#![tactic(auto)]
+
+mod op;
+mod parts;
+mod program;
+mod same;
+
+pub use same::{Same, same_all};
+
+#[cfg(test)]
+mod tests;
