@@ -1,0 +1,7 @@
+pub mod Filled
+pub mod Legal
+pub mod Moved
+pub mod Only
+pub mod Order
+pub mod Squares
+pub mod Stepped

@@ -1,0 +1,13 @@
+//! Where transient resources lie in one heap, so that those that are used one after another share memory.
+#![tactic(auto)]
+
+mod least;
+mod next;
+mod pairs;
+mod placement;
+
+pub use pairs::Pairs;
+pub use placement::{Placement, place};
+
+#[cfg(test)]
+mod tests;
