@@ -1,0 +1,5 @@
+mod Below
+mod Entering
+mod Latest
+mod Placed
+mod Worked
