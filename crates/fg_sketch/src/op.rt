@@ -5,19 +5,91 @@ use crate::words::Word;
 use fg_base::{Fun, List, Mix, Op, Rect};
 use std::alloc::Global;
 
-fn rects(alloc: Global, count: u32) -> Result<List<Rect>, SketchError> {
+const TEXEL: Rect = Rect {
+    x: 0,
+    y: 0,
+    width: 1,
+    height: 1,
+    mix: Mix::Set,
+    value: 1,
+};
+
+fn draw<R: Drop>(alloc: Global, count: u32, dst: R) -> Result<Op<R>, SketchError> {
     let mut rects = List::new(alloc);
     for _k in 0..count {
-        rects.push(Rect {
-            x: 0,
-            y: 0,
-            width: 1,
-            height: 1,
-            mix: Mix::Set,
-            value: 1,
-        })?;
+        rects.push(TEXEL)?;
     }
-    Ok(rects)
+    Ok(Op::Draw {
+        dst,
+        clear: None,
+        rects,
+    })
+}
+
+fn fill<R>(dst: R, size: u32) -> Op<R> {
+    Op::FillBuffer {
+        dst,
+        offset: 0,
+        size,
+        word: 7,
+    }
+}
+
+fn ramp<R>(dst: R) -> Op<R> {
+    Op::Ramp {
+        dst,
+        base: 1,
+        dx: 1,
+        dy: 4,
+    }
+}
+
+fn copy<R>(src: R, dst: R, size: u32) -> Op<R> {
+    Op::CopyBuffer {
+        src,
+        dst,
+        src_offset: 0,
+        dst_offset: 0,
+        size,
+    }
+}
+
+fn across<R>(src: R, dst: R) -> Op<R> {
+    Op::CopyImage {
+        src,
+        dst,
+        src_x: 0,
+        src_y: 0,
+        dst_x: 0,
+        dst_y: 0,
+        width: 2,
+        height: 2,
+    }
+}
+
+// An operation from one operand to another. The word is that of one.
+fn moved<R: Drop>(word: Word, src: R, dst: R) -> Result<Op<R>, SketchError> {
+    match word.verb() {
+        "copy" => Ok(copy(src, dst, word.number(3)?)),
+        "across" => Ok(across(src, dst)),
+        "in" => Ok(Op::BufferToImage {
+            src,
+            dst,
+            offset: 0,
+        }),
+        "out" => Ok(Op::ImageToBuffer {
+            src,
+            dst,
+            offset: 0,
+        }),
+        "map" => Ok(Op::Map {
+            src,
+            dst,
+            fun: Fun::Add,
+            value: 1,
+        }),
+        _ => Err(SketchError::Word),
+    }
 }
 
 /// The operation of a word: its verb, its operands, sources first, and what else there is. `operand` gives what a part of
@@ -29,68 +101,20 @@ pub fn op<R: Drop, F: Fn(usize) -> Result<R, SketchError>>(
 ) -> Result<Op<R>, SketchError>
     requires { F.IsAlwaysCallable operand }
 {
-    let first = operand(1)?;
-    Ok(match word.verb() {
-        "fill" => Op::FillBuffer {
-            dst: first,
-            offset: 0,
-            size: word.number(2)?,
-            word: 7,
-        },
-        "clear" => Op::ClearImage {
-            dst: first,
+    match word.verb() {
+        "fill" => Ok(fill(operand(1)?, word.number(2)?)),
+        "clear" => Ok(Op::ClearImage {
+            dst: operand(1)?,
             value: 7,
-        },
-        "copy" => Op::CopyBuffer {
-            src: first,
-            dst: operand(2)?,
-            src_offset: 0,
-            dst_offset: 0,
-            size: word.number(3)?,
-        },
-        "across" => Op::CopyImage {
-            src: first,
-            dst: operand(2)?,
-            src_x: 0,
-            src_y: 0,
-            dst_x: 0,
-            dst_y: 0,
-            width: 2,
-            height: 2,
-        },
-        "in" => Op::BufferToImage {
-            src: first,
-            dst: operand(2)?,
-            offset: 0,
-        },
-        "out" => Op::ImageToBuffer {
-            src: first,
-            dst: operand(2)?,
-            offset: 0,
-        },
-        "ramp" => Op::Ramp {
-            dst: first,
-            base: 1,
-            dx: 1,
-            dy: 4,
-        },
-        "map" => Op::Map {
-            src: first,
-            dst: operand(2)?,
-            fun: Fun::Add,
-            value: 1,
-        },
-        "select" => Op::Select {
-            mask: first,
+        }),
+        "ramp" => Ok(ramp(operand(1)?)),
+        "draw" => draw(alloc, word.number(2)?, operand(1)?),
+        "select" => Ok(Op::Select {
+            mask: operand(1)?,
             a: operand(2)?,
             b: operand(3)?,
             dst: operand(4)?,
-        },
-        "draw" => Op::Draw {
-            dst: first,
-            clear: None,
-            rects: rects(alloc, word.number(2)?)?,
-        },
-        _ => return Err(SketchError::Word),
-    })
+        }),
+        _ => moved(word, operand(1)?, operand(2)?),
+    }
 }
