@@ -1,0 +1,15 @@
+pub mod Addresses
+pub mod Anyone
+pub mod Calls
+pub mod Changing
+pub mod Cutting
+pub mod Drawing
+pub mod Effects
+pub mod Growing
+pub mod Making
+pub mod Naming
+pub mod Placing
+pub mod Rooms
+pub mod Running
+pub mod Storing
+pub mod Tiling

@@ -1,0 +1,5 @@
+-- Definitions that serve the code alone: no public clause reaches them.
+pub mod Kept
+pub mod Opened
+pub mod Rows
+pub mod Segments

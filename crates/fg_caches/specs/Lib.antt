@@ -1,0 +1,6 @@
+pub mod Code
+pub mod Draws
+pub mod Effects
+pub mod Lines
+pub mod Places
+pub mod Tables

@@ -1,0 +1,123 @@
+//! A table as it is made: one segment for each memory that has a byte.
+
+ghost use Rattle.std.specs.Prelude.{◌≡◌, ◌<◌, ◌≤◌, ◌+◌, ◌-◌, ◌==◌, ◌++◌, ◌∷◌, [], if◌then◌else◌, IfOk, length, drop, vec_len, vec_capacity};
+ghost use Rattle.std.specs.List.{sum_by};
+ghost use Rattle.fg_caches.specs.Code.Opened.{IsOpened, open_segment};
+
+use crate::cell::Cell;
+use crate::memory::Memory;
+use crate::part::Part;
+use crate::row::Row;
+use crate::segment::Segment;
+use fg_base::{List, NoMemory};
+use std::alloc::Global;
+
+/// As many bytes as all memories may have together.
+pub(crate) const BYTES: u32 = 805_306_368;
+
+// A memory behind the others, with the bytes of its slot. The answer is the first address past it.
+fn add_memory(
+    memories: &mut Vec<Memory>,
+    segments: &mut Vec<Segment>,
+    slot: u32,
+    len: u32,
+    total: u32,
+) -> u32
+    requires total { total + len ≤ BYTES }
+    requires memories { vec_len memories.old < vec_capacity memories.old }
+    requires segments { vec_len segments.old < vec_capacity segments.old }
+    ensures total { result ≡ total + len }
+    ensures memory { memories.new.items ≡ memories.old.items ++ record { start = total; size = len } ∷ [] }
+    ensures segment { segments.new.items ≡ (if len == 0 then segments.old.items else segments.old.items ++ open_segment slot total len ∷ []) }
+    ensures memories_len { vec_len memories.new ≡ vec_len memories.old + 1 }
+    ensures memories_capacity { vec_capacity memories.new ≡ vec_capacity memories.old }
+    ensures segments_len { vec_len segments.new ≤ vec_len segments.old + 1 }
+    ensures segments_capacity { vec_capacity segments.new ≡ vec_capacity segments.old }
+{
+    memories.push_reserved(Memory {
+        start: total,
+        size: len,
+    });
+    if len != 0 {
+        segments.push_reserved(open_segment(slot, total, len));
+    }
+    total + len
+}
+
+// The segment of a memory: its bytes are those of its slot, and no agent has a line.
+fn open_segment(slot: u32, start: u32, len: u32) -> Segment
+    requires { start + len ≤ BYTES }
+    ensures { result ≡ open_segment slot start len }
+{
+    Segment {
+        end: start + len,
+        row: Row {
+            main: Part { slot, start },
+            lines: [Cell::Empty; 32],
+        },
+    }
+}
+
+/// Lays the memories out one behind the other; memory m has the bytes of slot m + 1. The answer is the first address
+/// past them.
+pub(crate) fn lay_out(
+    slots: &[List<u8>],
+    memories: &mut Vec<Memory>,
+    segments: &mut Vec<Segment>,
+) -> u32
+    requires junk { 0 < length slots.now }
+    requires few { length slots.now ≤ 513 }
+    requires small { sum_by length (drop 1 slots.now) ≤ BYTES }
+    requires memories { memories.old.items ≡ [] }
+    requires segments { segments.old.items ≡ [] }
+    requires memories_room { length slots.now ≤ vec_capacity memories.old + 1 }
+    requires segments_room { length slots.now ≤ vec_capacity segments.old + 1 }
+    ensures opened { IsOpened slots.now (length slots.now - 1) result memories.new.items segments.new.items }
+    ensures small { result ≤ BYTES }
+    ensures len { vec_len segments.new + 1 ≤ length slots.now }
+    ensures capacity { vec_capacity segments.new ≡ vec_capacity segments.old }
+{
+    let count = slots.len() - 1;
+    let mut total = 0;
+    for memory in 0..count {
+        let slot = memory + 1;
+        let len = slots[slot].len();
+        total = add_memory(memories, segments, slot as u32, len as u32, total);
+    }
+    total
+}
+
+/// Slot 0 has the junk, and the slots after it the opening bytes; there is room for further slots.
+pub(crate) fn slots_of(
+    junk: List<u8>,
+    opening: List<List<u8>>,
+    stores: u32,
+) -> Result<Vec<List<u8>>, NoMemory>
+    ensures items { IfOk result (λ v. v.items ≡ junk ∷ opening) }
+    ensures room { IfOk result (λ v. vec_len v + stores ≤ vec_capacity v) }
+{
+    let mut slots = opening.into_vec();
+    slots.insert(0, junk)?;
+    slots.reserve(stores as usize)?;
+    Ok(slots)
+}
+
+/// No slot has been noted; there is room for further slots.
+pub(crate) fn marks_of(alloc: Global, count: usize, stores: u32) -> Result<Vec<bool>, NoMemory>
+    ensures length { IfOk result (λ v. length v.items ≡ count) }
+    ensures room { IfOk result (λ v. vec_len v + stores ≤ vec_capacity v) }
+{
+    let mut marks = vec![in alloc; false; count]?;
+    marks.reserve(stores as usize)?;
+    Ok(marks)
+}
+
+/// An empty vector with room.
+pub(crate) fn room_for<T: Drop>(alloc: Global, count: usize) -> Result<Vec<T>, NoMemory>
+    ensures items { IfOk result (λ v. v.items ≡ []) }
+    ensures room { IfOk result (λ v. count ≤ vec_capacity v) }
+{
+    let mut items = Vec::new(alloc);
+    items.reserve(count)?;
+    Ok(items)
+}

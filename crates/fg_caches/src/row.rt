@@ -1,0 +1,44 @@
+//! What lies at the addresses of a segment.
+
+ghost use Rattle.std.specs.Prelude.{◌≡◌, ◌<◌, length};
+ghost use Rattle.std.specs.List.{list_any};
+ghost use Rattle.fg_caches.specs.Code.Rows.{cell_names, names, changed};
+
+use crate::cell::Cell;
+use crate::change::{Change, line_after, main_after};
+use crate::part::Part;
+
+/// As many agents as a table may have.
+pub(crate) const AGENTS: usize = 32;
+
+/// The part that main has, and the lines of each agent.
+#[derive(Clone, Copy, Debug)]
+pub(crate) struct Row {
+    pub main: Part,
+    pub lines: [Cell; 32],
+}
+
+fn any_names(lines: &[Cell], slot: u32) -> bool
+    ensures { result ≡ list_any (cell_names slot) lines.now }
+{
+    lines.iter().any(|cell| cell.names(slot))
+}
+
+impl Row {
+    pub(crate) fn names(&self, slot: u32) -> bool
+        ensures { result ≡ names slot self.now }
+    {
+        let in_lines = any_names(&self.lines, slot);
+        self.main.slot == slot || in_lines
+    }
+
+    pub(crate) fn change(&mut self, agent: usize, change: Change)
+        requires { agent < length self.old.lines }
+        ensures { self.new ≡ changed agent change self.old }
+    {
+        let main = self.main;
+        let line = self.lines[agent];
+        self.main = main_after(change, main, line);
+        self.lines[agent] = line_after(change, main, line);
+    }
+}

@@ -1,0 +1,98 @@
+//! Bytes are copied out of a table, a segment at a time.
+
+ghost use Rattle.std.specs.Prelude.{◌≡◌, ◌<◌, ◌≤◌, ◌+◌, ◌^◌, ℕ, length, slice_index};
+ghost use Rattle.fg_caches.specs.Code.Rows.{seen_part, HasLine};
+ghost use Rattle.fg_caches.specs.Places.{place, row_at};
+ghost use Rattle.fg_caches.specs.Code.Segments.{Ascending};
+ghost use Rattle.fg_caches.specs.Tables.{slot_at, byte_in};
+ghost use Rattle.fg_caches.specs.Code.Kept.{IsThere, Knows};
+
+use crate::cell::Cell;
+use crate::part::Part;
+use crate::row::Row;
+use crate::segment::{Segment, place_of};
+use fg_base::List;
+
+// The part that the agent sees, or main's where no agent is named.
+fn seen_in(row: &Row, agent: Option<u32>) -> Part
+    requires { HasLine row.now agent }
+    ensures { result ≡ seen_part row.now agent }
+{
+    match agent {
+        None => row.main,
+        Some(agent) => match row.lines[agent as usize] {
+            Cell::Empty => row.main,
+            Cell::Clean(part) => part,
+            Cell::Dirty(part) => part,
+        },
+    }
+}
+
+// The bytes of a part from an address on.
+fn copy_part(slots: &[List<u8>], part: Part, at: u32, out: &mut [u8])
+    requires slot { part.slot < length slots.now }
+    requires from { part.start ≤ at }
+    requires to { at + length out.old ≤ part.start + length (slot_at slots.now part.slot) }
+    ensures { (k : ℕ) → k < length out.old → slice_index out.new k ≡ byte_in slots.now part (at + k) }
+{
+    let bytes = slots[part.slot as usize].as_slice();
+    let first = (at - part.start) as usize;
+    let len = out.len();
+    out.copy_from_slice(&bytes[first..first + len]);
+}
+
+// Addresses from a first one up to `end` that have their bytes from one part.
+#[derive(Clone, Copy)]
+struct Run {
+    end: u32,
+    part: Part,
+}
+
+// The addresses of one segment from `at` on, and before `to`.
+fn run_at(segments: &[Segment], index: usize, agent: Option<u32>, at: u32, to: u32) -> Run
+    requires ascending { Ascending segments.now }
+    requires index { index ≡ place segments.now at }
+    requires covered { index < length segments.now }
+    requires lines { HasLine (row_at segments.now at) agent }
+    requires some { at < to }
+    ensures some { at < result.end }
+    ensures end { result.end ≤ to }
+    ensures part { (x : ℕ) → at ≤ x → x < result.end → seen_part (row_at segments.now x) agent ≡ result.part }
+    ensures next { result.end < to → place segments.now result.end ≡ index + 1 }
+{
+    let segment = &segments[index];
+    Run {
+        end: segment.end.min(to),
+        part: seen_in(&segment.row, agent),
+    }
+}
+
+/// Copies the bytes from an address on, as the agent sees them, or main's.
+pub(crate) fn copy_out(
+    segments: &[Segment],
+    slots: &[List<u8>],
+    agent: Option<u32>,
+    from: u32,
+    out: &mut [u8],
+)
+    requires ascending { Ascending segments.now }
+    requires there { (x : ℕ) → from ≤ x → x < from + length out.old → IsThere slots.now segments.now x }
+    requires agent { Knows 32 agent }
+    requires within { from + length out.old < 2 ^ 32 }
+    ensures { (k : ℕ) → k < length out.old → slice_index out.new k ≡ byte_in slots.now (seen_part (row_at segments.now (from + k)) agent) (from + k) }
+{
+    let to = from + out.len() as u32;
+    let mut index = place_of(segments, from);
+    let mut at = from;
+    while at < to {
+        let run = run_at(segments, index, agent, at, to);
+        copy_part(
+            slots,
+            run.part,
+            at,
+            &mut out[(at - from) as usize..(run.end - from) as usize],
+        );
+        at = run.end;
+        index += 1;
+    }
+}
