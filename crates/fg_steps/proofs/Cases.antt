@@ -1,0 +1,156 @@
+-- Kinds of nodes and of accesses, case by case.
+use Rattle.std.proofs.Common.{◌≡◌, ◌⊎◌, inl, inr, ℕ, ◌<◌, Bool, true, false, Some, refl}
+use Rattle.std.proofs.lemmas.Bool.{false≢true}
+use Rattle.fg_bits.specs.declared.layout.Layout.{Layout}
+use Rattle.fg_steps.specs.Agents.{agent_at, agent_number}
+use Rattle.fg_steps.specs.Ready.{is_command}
+use Rattle.fg_hb.specs.Edges.{is_sync, is_host}
+use Rattle.fg_hb.specs.declared.kind.Kind.{Kind}
+use Rattle.fg_hb.specs.declared.kind.Kind.TheVariants as kinds
+use Rattle.fg_view.specs.AccessKinds.{changes, loads, stores, sets_layout, transfers, sets_owner, is_discard, is_acquire, wanted}
+use Rattle.fg_view.specs.ShapedView.{IsByQueue, IsByBarrier}
+use Rattle.fg_view.specs.declared.access.AccessKind.{AccessKind}
+use Rattle.fg_view.specs.declared.access.AccessKind.TheVariants.{Load, Store, Transition, Discard, Release, Acquire}
+
+abbrev pub is_store : AccessKind → Bool
+is_store (Store agent layout) = true
+is_store kind = false
+
+-- the agent that loads or stores is one of so many with a number
+abbrev pub IsNumbered : ℕ → AccessKind → Type 0
+IsNumbered count (Load agent layout) = (agent_at (agent_number agent) ≡ agent) × (agent_number agent < count)
+IsNumbered count (Store agent layout) = (agent_at (agent_number agent) ≡ agent) × (agent_number agent < count)
+IsNumbered count kind = Unit {0}
+
+-- KINDS OF NODES
+
+pub command_is : (k : Kind) → is_command k ≡ true → k ≡ kinds.Command
+command_is kinds.Command h = refl
+command_is k h = absurd (false≢true h)
+
+pub not_sync : (k : Kind) → is_command k ≡ true → is_sync k ≡ true → ⊥
+not_sync kinds.Command h e = false≢true e
+not_sync k h e = false≢true h
+
+pub not_host : (k : Kind) → is_command k ≡ true → is_host k ≡ true → ⊥
+not_host kinds.Command h e = false≢true e
+not_host k h e = false≢true h
+
+pub sync_not_host : (k : Kind) → is_sync k ≡ true → is_host k ≡ true → ⊥
+sync_not_host kinds.Host h e = false≢true h
+sync_not_host k h e = false≢true e
+
+pub one_of_three : (k : Kind) → (is_command k ≡ true) ⊎ ((is_sync k ≡ true) ⊎ (is_host k ≡ true))
+one_of_three kinds.Command = inl refl
+one_of_three kinds.Host = inr (inr refl)
+one_of_three k = inr (inl refl)
+
+-- KINDS OF ACCESSES
+
+pub store_changes : (d : AccessKind) → is_store d ≡ true → changes d ≡ true
+store_changes (Store agent layout) h = refl
+store_changes d h = absurd (false≢true h)
+
+pub store_stores : (d : AccessKind) → is_store d ≡ true → stores d ≡ true
+store_stores (Store agent layout) h = refl
+store_stores d h = absurd (false≢true h)
+
+pub store_loads_not : (d : AccessKind) → is_store d ≡ true → loads d ≡ true → ⊥
+store_loads_not (Store agent layout) h l = false≢true l
+store_loads_not d h l = false≢true h
+
+pub stores_changes : (d : AccessKind) → stores d ≡ true → changes d ≡ true
+stores_changes (Store agent layout) h = refl
+stores_changes (Transition layouts) h = refl
+stores_changes d h = absurd (false≢true h)
+
+pub change_no_transfer : (d : AccessKind) → changes d ≡ true → transfers d ≡ false
+change_no_transfer (Release handover) h = absurd (false≢true h)
+change_no_transfer (Acquire handover) h = absurd (false≢true h)
+change_no_transfer d h = refl
+
+pub load_no_transfer : (d : AccessKind) → loads d ≡ true → transfers d ≡ false
+load_no_transfer (Release handover) h = absurd (false≢true h)
+load_no_transfer (Acquire handover) h = absurd (false≢true h)
+load_no_transfer d h = refl
+
+pub layout_changes : (d : AccessKind) → sets_layout d ≡ true → changes d ≡ true
+layout_changes (Transition layouts) h = refl
+layout_changes (Discard layout) h = refl
+layout_changes d h = absurd (false≢true h)
+
+pub acquire_sets_owner : (d : AccessKind) → is_acquire d ≡ true → sets_owner d ≡ true
+acquire_sets_owner (Acquire handover) h = refl
+acquire_sets_owner d h = absurd (false≢true h)
+
+pub discard_sets_owner : (d : AccessKind) → is_discard d ≡ true → sets_owner d ≡ true
+discard_sets_owner (Discard layout) h = refl
+discard_sets_owner d h = absurd (false≢true h)
+
+-- what decides an owner is a discard or half of a transfer
+pub owner_moves : (d : AccessKind) → sets_owner d ≡ true → (changes d ≡ true) ⊎ (transfers d ≡ true)
+owner_moves (Discard layout) h = inl refl
+owner_moves (Release handover) h = inr refl
+owner_moves (Acquire handover) h = inr refl
+owner_moves d h = absurd (false≢true h)
+
+-- what a command does is no transition and no transfer
+pub record IsPlain (d : AccessKind) : Type 0 where
+  pub layouts : sets_layout d ≡ false
+  pub owners : sets_owner d ≡ false
+  pub discards : is_discard d ≡ false
+  pub acquires : is_acquire d ≡ false
+  pub store : changes d ≡ true → is_store d ≡ true
+
+pub load_plain : (d : AccessKind) → loads d ≡ true → changes d ≡ false → IsPlain d
+load_plain (Load agent layout) h c = record { layouts = refl; owners = refl; discards = refl; acquires = refl; store = λ e. absurd (false≢true e) }
+load_plain (Transition layouts) h c = absurd cc
+load_plain d h c = absurd (false≢true h)
+
+pub of_queue_plain : (q : ℕ) (d : AccessKind) → IsByQueue q d → IsPlain d
+of_queue_plain q (Load agent layout) h = record { layouts = refl; owners = refl; discards = refl; acquires = refl; store = λ e. absurd (false≢true e) }
+of_queue_plain q (Store agent layout) h = record { layouts = refl; owners = refl; discards = refl; acquires = refl; store = λ e. refl }
+of_queue_plain q d h = absurd h
+
+-- what a barrier changes it keeps or discards
+pub barrier_no_store : (d : AccessKind) → IsByBarrier d → is_store d ≡ false
+barrier_no_store (Store agent layout) (inl h) = absurd (false≢true h)
+barrier_no_store (Store agent layout) (inr h) = absurd (false≢true h)
+barrier_no_store d h = refl
+
+-- a change that is no store and loads nothing discards
+pub keeps_or_discards : (d : AccessKind) → changes d ≡ true → is_store d ≡ false → (loads d ≡ true) ⊎ (is_discard d ≡ true)
+keeps_or_discards (Store agent layout) h s = absurd cc
+keeps_or_discards (Transition layouts) h s = inl refl
+keeps_or_discards (Discard layout) h s = inr refl
+keeps_or_discards d h s = absurd (false≢true h)
+
+-- what loads leaves bytes, where it changes them
+pub loads_stores : (d : AccessKind) → loads d ≡ true → changes d ≡ true → stores d ≡ true
+loads_stores (Transition layouts) h c = refl
+loads_stores (Load agent layout) h c = absurd (false≢true c)
+loads_stores d h c = absurd (false≢true h)
+
+-- what leaves bytes and is no store keeps them
+pub stores_loads : (d : AccessKind) → stores d ≡ true → is_store d ≡ false → loads d ≡ true
+stores_loads (Store agent layout) h s = absurd cc
+stores_loads (Transition layouts) h s = refl
+stores_loads d h s = absurd (false≢true h)
+
+pub loads_not_discard : (d : AccessKind) → loads d ≡ true → is_discard d ≡ false
+loads_not_discard (Discard layout) h = absurd (false≢true h)
+loads_not_discard d h = refl
+
+pub discard_stores_not : (d : AccessKind) → is_discard d ≡ true → stores d ≡ false
+discard_stores_not (Discard layout) h = refl
+discard_stores_not d h = absurd (false≢true h)
+
+pub discard_changes : (d : AccessKind) → is_discard d ≡ true → changes d ≡ true
+discard_changes (Discard layout) h = refl
+discard_changes d h = absurd (false≢true h)
+
+-- what wants a layout is no transfer
+pub transfer_wants : (d : AccessKind) (layout : Layout) → wanted d ≡ Some layout → transfers d ≡ false
+transfer_wants (Release handover) layout h = absurd cc
+transfer_wants (Acquire handover) layout h = absurd cc
+transfer_wants d layout h = refl

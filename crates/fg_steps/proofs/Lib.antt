@@ -1,0 +1,33 @@
+pub mod Agreement
+pub mod Before
+pub mod Cases
+pub mod Commands
+pub mod Control
+pub mod Flushes
+pub mod Formed
+pub mod Found
+pub mod Histories
+pub mod Holds
+pub mod HostNodes
+pub mod Insides
+pub mod Invariant
+pub mod Last
+pub mod Left
+pub mod Lengths
+pub mod Listed
+pub mod Moves
+pub mod Nodes
+pub mod Operands
+pub mod Orders
+pub mod Pieces
+pub mod Places
+pub mod Programs
+pub mod Progress
+pub mod Rounds
+mod Rows
+pub mod Running
+pub mod Shared
+pub mod Simulation
+pub mod Steps
+pub mod Syncs
+mod Worked

@@ -1,0 +1,13 @@
+pub mod Agents
+pub mod Devices
+pub mod Flushes
+pub mod Histories
+pub mod Laws
+pub mod Moves
+pub mod Outputs
+pub mod Ready
+pub mod Rounds
+pub mod Runs
+pub mod States
+pub mod Steps
+pub mod Within

@@ -1,0 +1,58 @@
+//! Laws of devices.
+
+ghost use Rattle.std.specs.Prelude.{◌≡◌, ◌<◌, ℕ, Bool, None, List, true};
+ghost use Rattle.fg_base.specs.declared.event.Event.{Event};
+ghost use Rattle.fg_caches.specs.Lines.{Line, Lines, Bytes, Range};
+ghost use Rattle.fg_steps.specs.Devices.{Device, opening, state_of, fresh, NoneBegun};
+ghost use Rattle.fg_steps.specs.Flushes.{DoneBelow, DoneNext, FlushedBelow, FlushedNext};
+ghost use Rattle.fg_steps.specs.Histories.{is_move, GoesNowhere, GoesOnByNode, GoesOnByMove, Joins};
+ghost use Rattle.fg_steps.specs.Laws.{Simulates, Progresses};
+ghost use Rattle.fg_steps.specs.Moves.{MovesBy};
+ghost use Rattle.fg_steps.specs.Ready.{is_command};
+ghost use Rattle.fg_steps.specs.Rounds.{MayGo, IsRound, IsJob, LeavesPhases, CountsDown};
+ghost use Rattle.fg_steps.specs.Runs.{GoesOnBy, Runs};
+ghost use Rattle.fg_steps.specs.States.{opened};
+ghost use Rattle.fg_steps.specs.Within.{LinesWithin};
+ghost use Rattle.fg_subs.specs.FirstFault.{first_fault};
+ghost use Rattle.fg_subs.specs.declared.program.Program.{Program};
+
+/// Of a sound program, whatever events come: a command loads and stores, and the host reads, what it would where all commands
+/// run one after another with bytes of their own for each piece; and unless all nodes are done, one is ready or a command is
+/// begun. And of any program without a fault, no line stands for a byte behind the end of a memory. It does nothing.
+pub fn device_laws()
+    ensures simulates { Simulates }
+    ensures progresses { Progresses }
+    ensures runs { (d : Device) → first_fault d.program ≡ None → Runs d }
+    ensures within { (d : Device) → first_fault d.program ≡ None → LinesWithin d.program (state_of d) }
+{}
+
+/// What a device is when nothing has happened, and what each event that is enabled does to it. It does nothing.
+pub fn event_laws()
+    ensures opens { (program : Program) (fill moves : ℕ) → state_of (fresh program fill moves) ≡ opened (opening program fill) }
+    ensures nodes { (d : Device) (n : ℕ) → GoesOnBy d n }
+    ensures moves { (d : Device) (agent memory start len : ℕ) → MovesBy d agent memory start len }
+    ensures jobs { (d : Device) → first_fault d.program ≡ None → (n : ℕ) → MayGo is_command d n → IsJob d n }
+{}
+
+/// Where a device takes the events of one node right after one another, each round leaves one node less to do. It does nothing.
+pub fn round_laws()
+    ensures rounds { (d : Device) → NoneBegun d → (n : ℕ) → IsRound d n }
+    ensures moves { (d : Device) (event : Event) → is_move event ≡ true → LeavesPhases d event }
+    ensures counts { (d : Device) → CountsDown d }
+{}
+
+/// How a history grows, event by event. It does nothing.
+pub fn history_laws()
+    ensures nowhere { (d : Device) → GoesNowhere d }
+    ensures node { (old new : Device) (events : List Event) (event : Event) → GoesOnByNode old new events event }
+    ensures cache_move { (old new : Device) (events : List Event) (event : Event) → GoesOnByMove old new events event }
+    ensures joins { (old middle new : Device) (first second : List Event) → Joins old middle new first second }
+{}
+
+/// How a loop over agents writes back the lines of a range, or lets them go. It does nothing.
+pub fn flush_laws()
+    ensures none_done { (f : Line → Line) (pass : ℕ → Bool) (range : Range) (lines : Lines) → DoneBelow f pass range lines 0 lines }
+    ensures done { (f : Line → Line) (pass : ℕ → Bool) (range : Range) (before lines : Lines) (k : ℕ) → DoneBelow f pass range before k lines → DoneNext f pass range before k lines }
+    ensures none_flushed { (pass : ℕ → Bool) (range : Range) (lines : Lines) (main : Bytes) → FlushedBelow pass range lines main 0 main }
+    ensures flushed { (pass : ℕ → Bool) (range : Range) (before : Lines) (old main : Bytes) (k : ℕ) → FlushedBelow pass range before old k main → FlushedNext pass range before old k main }
+{}
