@@ -274,7 +274,39 @@ def transfer():
     return picture
 
 
-PICTURES = {"crates": crates, "deferred": passes, "passed": passed, "transfer": transfer}
+def byte():
+    """The life of one byte: which of three places has it after each event."""
+    picture = Picture(1010, 342)
+    events = ["before", "End of the fill", "WriteBack, or none", "Sync of the barrier", "Begin of the map", "End of the map"]
+    left, wide, step = 150, 128, 144
+    for k, event in enumerate(events):
+        picture.text(left + k * step + wide / 2, 26, event, size=12, weight="bold")
+    rows = [
+        ("the fill's cache", ["no line", "7, dirty", "7, dirty or clean", "7, clean", "7, clean", "7, clean"]),
+        ("memory", ["5", "5", "5 or 7", "7", "7", "7"]),
+        ("the map's cache", ["5, clean", "5, clean", "5, clean", "no line", "no line", "8, dirty"]),
+    ]
+    for r, (name, cells) in enumerate(rows):
+        y = 44 + 64 * r
+        picture.text(12, y + 25, name, anchor="start", weight="bold")
+        for k, cell in enumerate(cells):
+            fill = "rose" if "dirty" in cell and "clean" not in cell else "amber" if " or " in cell else "green" if cell.startswith("7") else "none" if cell.startswith("5") or cell.startswith("no") else "blue"
+            picture.box(left + k * step, y, wide, 42, [cell], fill)
+    x = left + 3 * step + wide / 2
+    picture.line([(x - step + 70, 65), (x - step + 80, 90), (x - 66, 118)])
+    picture.line([(x + 66, 129), (x + step - 66, 168)], dashed=True)
+    picture.text(x + step + 4, 150, "loads 7", size=12, anchor="start")
+    notes = [
+        "The Sync makes the fill's stores available: a line that is still dirty goes to memory. It makes memory visible to the map: its old line goes away.",
+        "Without the barrier's source access memory still has 5 where no cache wrote back in time; without its destination access the map sees its own old 5.",
+        "A cache may write back, fetch or drop clean lines between any two events: in a sound program no load can tell.",
+    ]
+    for k, note in enumerate(notes):
+        picture.text(12, 270 + 22 * k, note, anchor="start", size=12)
+    return picture
+
+
+PICTURES = {"byte": byte, "crates": crates, "deferred": passes, "passed": passed, "transfer": transfer}
 
 
 def main():
