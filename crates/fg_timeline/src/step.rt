@@ -1,5 +1,8 @@
 //! One step of what is recorded.
 
+ghost use Rattle.std.specs.Prelude.{◌≡◌};
+ghost use Rattle.fg_timeline.specs.Steps.{queue_of, is_item};
+
 use fg_subs::Item;
 
 /// What is recorded in turn, for all queues together. A step is named by its place in the list.
@@ -9,4 +12,26 @@ pub enum Step {
     Item { queue: u32, item: Item },
     /// The queue's next item comes only after the item of another queue that stands at that step.
     Need { queue: u32, step: u32 },
+}
+
+impl Step {
+    /// The queue that does something, or needs it.
+    pub fn queue(&self) -> u32
+        ensures { result ≡ queue_of self.now }
+    {
+        match self {
+            Step::Item { queue, .. } => *queue,
+            Step::Need { queue, .. } => *queue,
+        }
+    }
+
+    /// Whether it is an item of the queue.
+    pub fn is_item(&self, of: u32) -> bool
+        ensures { result ≡ is_item of self.now }
+    {
+        match self {
+            Step::Item { queue, .. } => *queue == of,
+            Step::Need { .. } => false,
+        }
+    }
 }
