@@ -1,6 +1,6 @@
 -- What a tender draws moves lines of a cache.
-use Rattle.std.proofs.Common.{◌≡◌, ℕ, zero, suc, ◌+◌, ◌-◌, ◌<◌, ◌≤◌, Bool, true, false, List, [], ◌∷◌, length, get_or, sym, ◌∙◌, refl, arith}
-use Rattle.std.specs.Prelude.{◌%◌, nat_eq, nat_lt, min, if◌then◌else◌, filter, ◌&&◌}
+use Rattle.std.proofs.Common.{◌≡◌, ℕ, zero, suc, ◌+◌, ◌-◌, ◌<◌, ◌≤◌, Bool, true, false, List, [], ◌∷◌, length, get_or, refl, arith}
+use Rattle.std.specs.Prelude.{◌%◌, nat_eq, nat_lt, min, if◌then◌else◌, filter}
 use Rattle.std.specs.List.{enumerate_from}
 use Rattle.std.proofs.Math.Nat.{mod-lt}
 use Rattle.fg_base.specs.declared.event.Event.TheVariants.{WriteBack, Fill, DropLine}

@@ -4,7 +4,7 @@ use Rattle.std.specs.List.{enumerate_from}
 use Rattle.rand_pcg.specs.Lcg.{Lcg, started, increment_of}
 use Rattle.rand_pcg.specs.Pcg.{pcg32, multiplier_64}
 use Rattle.fg_base.specs.declared.event.Event.{Event}
-use Rattle.fg_base.specs.declared.event.Event.TheVariants.{Begin, End, Sync, WriteBack, Fill, DropLine, Host}
+use Rattle.fg_base.specs.declared.event.Event.TheVariants.{WriteBack, Fill, DropLine}
 use Rattle.fg_caches.specs.declared.words.Words.{Words}
 
 -- the generator of a seed, on stream 0

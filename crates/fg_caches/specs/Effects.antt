@@ -1,5 +1,5 @@
 -- What stores and moves of caches do to a range of bytes, byte by byte.
-use Rattle.std.specs.Prelude.{ℕ, ◌+◌, ◌-◌, ◌==◌, ◌&&◌, if◌then◌else◌, List, [], length, map, slice_index, slice_index_or}
+use Rattle.std.specs.Prelude.{ℕ, ◌+◌, ◌-◌, ◌==◌, ◌&&◌, if◌then◌else◌, List, [], map, slice_index, slice_index_or}
 use Rattle.std.specs.List.{range_with_len}
 use Rattle.fg_caches.specs.Lines.{Lines, Bytes, Absent, Dirty, seen, written, cleaned, filled, dropped, Range, range, is_in}
 

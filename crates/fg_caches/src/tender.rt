@@ -1,6 +1,6 @@
 //! Random moves of cache lines.
 
-ghost use Rattle.std.specs.Prelude.{◌≡◌, ◌<◌, ◌^◌, length, slice_index_or, IfSome, IsTrue, ◌↔◌, IsSome, if◌then◌else◌, true};
+ghost use Rattle.std.specs.Prelude.{◌≡◌, ◌<◌, ◌^◌, length, slice_index_or, IfSome, ◌↔◌, IsSome, if◌then◌else◌, true};
 ghost use Rattle.fg_caches.specs.Draws.{seeded, word, later, words_of, after_five, filled, may_draw, kind_of, move_of, drawn, IsMove};
 
 use crate::words::Words;

@@ -1,6 +1,5 @@
-ghost use Rattle.std.specs.Prelude.{◌≡◌, ◌<◌, ◌≤◌, ◌+◌, ◌*◌, ◌==◌, if◌then◌else◌, [], ◌∷◌, ℕ, length, slice_index_or, IfOk, OnOk};
+ghost use Rattle.std.specs.Prelude.{◌≡◌, ◌<◌, ◌≤◌, ◌+◌, ◌*◌, ◌==◌, if◌then◌else◌, [], ◌∷◌, length, IfOk, OnOk};
 ghost use Rattle.fg_caches.specs.Tables.{size_of, junk_of, InMemory, Keeps};
-ghost use Rattle.fg_caches.specs.Draws.{Moves};
 ghost use Rattle.fg_caches.specs.Code.Kept.{Knows};
 
 use super::plain::{Byte, Plain};

@@ -1,6 +1,6 @@
 //! Laws of devices.
 
-ghost use Rattle.std.specs.Prelude.{◌≡◌, ◌<◌, ℕ, Bool, None, List, true};
+ghost use Rattle.std.specs.Prelude.{◌≡◌, ℕ, Bool, None, List, true};
 ghost use Rattle.fg_base.specs.declared.event.Event.{Event};
 ghost use Rattle.fg_caches.specs.Lines.{Line, Lines, Bytes, Range};
 ghost use Rattle.fg_steps.specs.Devices.{Device, opening, state_of, fresh, NoneBegun};

@@ -1,4 +1,4 @@
-use Rattle.std.proofs.Common.{◌≡◌, ◌∙◌, sym, ap, subst}
+use Rattle.std.proofs.Common.{◌∙◌, sym, ap, subst}
 use Rattle.fg_base.specs.declared.event.Event.{Event}
 use Rattle.fg_caches.specs.Draws.{drawn, move_of, IsMove}
 use Rattle.fg_caches.proofs.Drawing.{is_drawn}
