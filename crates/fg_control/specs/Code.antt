@@ -1,0 +1,5 @@
+-- Definitions that serve the code alone: no public clause reaches them.
+pub mod Held
+pub mod Kept
+pub mod Running
+pub mod Spans
