@@ -1,0 +1,13 @@
+pub mod Events
+pub mod Facts
+pub mod Fitting
+pub mod Flushing
+pub mod Holding
+pub mod Keeping
+pub mod Lefts
+pub mod Moved
+pub mod Readiness
+pub mod Runnable
+pub mod SeenBytes
+pub mod Sources
+pub mod Starting
