@@ -1,0 +1,11 @@
+//! Laws of groups.
+
+ghost use Rattle.std.specs.Prelude.{List, Bool};
+ghost use Rattle.fg_frame.specs.Numbered.{NumberedFrame};
+ghost use Rattle.fg_groups.specs.Groups.{grouping};
+ghost use Rattle.fg_groups.specs.Laws.{IsGrouped};
+
+/// What holds of the groups of every frame, for the proofs of other crates. It does nothing.
+pub fn group_laws()
+    ensures grouped { (frame : NumberedFrame) (kept : List Bool) → IsGrouped (grouping frame kept) }
+{}
