@@ -2,4 +2,8 @@ mod Below
 mod Entering
 mod Latest
 mod Placed
+mod Walks
+mod Writing
+mod Counting
+mod Submitting
 mod Worked

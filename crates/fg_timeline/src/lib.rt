@@ -2,7 +2,15 @@
 #![tactic(auto)]
 
 mod laws;
+mod needs;
+mod queues;
+mod signals;
 mod step;
+mod submission;
 
 pub use laws::timeline_laws;
+pub use queues::batches;
 pub use step::Step;
+
+#[cfg(test)]
+mod tests;

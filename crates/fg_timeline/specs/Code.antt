@@ -1,0 +1,4 @@
+-- Definitions that serve the code alone: no public clause reaches them.
+pub mod Counts
+pub mod Submissions
+pub mod Walks
