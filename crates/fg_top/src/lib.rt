@@ -11,6 +11,7 @@ mod intake;
 mod meaning;
 mod migrate;
 mod output;
+mod place;
 mod programs;
 mod rest;
 mod run;

@@ -14,6 +14,7 @@ fn words_of(alloc: Global, line: &str) -> Result<Vec<String>, AllocError> {
 const COMMANDS: [(&str, Command); 5] = [
     ("run", Command::Frame(FrameCommand::Run)),
     ("-- cull", Command::Frame(FrameCommand::Cull)),
+    ("place", Command::Frame(FrameCommand::Place)),
     ("meaning", Command::Frame(FrameCommand::Meaning)),
     ("migrate", Command::Frame(FrameCommand::Migrate)),
     ("check", Command::Submission(SubmissionCommand::Check)),
