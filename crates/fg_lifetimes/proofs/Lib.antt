@@ -1,0 +1,4 @@
+pub mod Adding
+pub mod Deciding
+pub mod Forward
+pub mod Pushed
