@@ -26,7 +26,7 @@ use Rattle.fg_frame.proofs.Known.{exports_within}
 use Rattle.fg_base.proofs.Booleans.{clash}
 use Rattle.fg_base.proofs.Lists.{each_of}
 use Rattle.fg_base.proofs.Absence.{all_pass, first_none, or_first, or_second, map_none, has_it, not_none, not_false, position-none}
-use Rattle.fg_frame.proofs.Small.{names_good, then_uses, few_queues, few_units, limits_none, unknown_none, some_layers, length_units, passes_few, layers_good, sides_good, sizes_allowed, passes_within, families_are}
+use Rattle.fg_frame.proofs.Small.{names_good, then_uses, some_queue, few_queues, few_units, limits_none, unknown_none, some_layers, length_units, passes_few, layers_good, sides_good, sizes_allowed, passes_within, families_are}
 use Rattle.fg_frame.specs.FirstFault.{shapes_of, imports_of, rule_broken, misfit_broken, first_broken, first_fault}
 use Rattle.fg_frame.specs.Good.{is_import, renews, has_contents, IsGoodOp, IsGoodPass, IsDeclared, IsGood}
 use Rattle.fg_frame.specs.Members.{member_at}
@@ -284,6 +284,7 @@ module _ (frame : Frame) (none : first_broken frame ≡ None) where
 
   pub good : IsGood (numbered frame)
   good = record {
+    some_queue = subst (λ m. 0 < m) (sym (families_are frame)) (some_queue frame (names_good frame none));
     few_queues = subst (λ m. m ≤ 4) (sym (families_are frame)) (few_queues frame (names_good frame none));
     few_passes = subst (λ m. m ≤ 256) (sym (length-map frame.passes (numbered_pass frame n))) (passes_few frame (limits_none frame (names_good frame none)));
     few_units = subst (λ m. m ≤ 256) (sym (length_units frame.resources)) (few_units frame (limits_none frame (names_good frame none)));

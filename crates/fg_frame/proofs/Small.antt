@@ -142,6 +142,13 @@ module _ (frame : Frame) (none : limit_broken frame ≡ None) where
       right true b e = e
       right false b e = absurd cc
 
+  pub queues_some : 0 < length frame.queues
+  queues_some = let least : 1 ≤ length frame.queues = leb-true 1 (length frame.queues) (left (nat_le 1 (length frame.queues)) (nat_le (length frame.queues) 4) (has_it (is_between 1 4 (length frame.queues)) (over limits.Queues at.Queues) queues_none)) in omega arith
+    where
+      left : (a b : Bool) → (a && b) ≡ true → a ≡ true
+      left true b e = refl
+      left false b e = absurd cc
+
   pub some_layers : All (λ r. 0 < r.layers) frame.resources
   some_layers = λ k d lt. allowed (get_or frame.resources k d) (is_buffer (get_or frame.resources k d).shape) (layers_good k d lt)
     where
@@ -165,6 +172,9 @@ limits_none frame none = or_first (limit_broken frame) (option_or (option_map (o
 
 pub unknown_none : (frame : Frame) → name_broken frame ≡ None → unknown frame ≡ None
 unknown_none frame none = map_none (of_rule rules.Unknown) (unknown frame) (or_second (option_map (of_rule rules.Repeated) (repeated frame)) (option_map (of_rule rules.Unknown) (unknown frame)) (or_second (limit_broken frame) (option_or (option_map (of_rule rules.Repeated) (repeated frame)) (option_map (of_rule rules.Unknown) (unknown frame))) none))
+
+pub some_queue : (frame : Frame) → name_broken frame ≡ None → 0 < length frame.queues
+some_queue frame none = queues_some frame (limits_none frame none)
 
 pub few_queues : (frame : Frame) → name_broken frame ≡ None → length frame.queues ≤ 4
 few_queues frame none = queues_few frame (limits_none frame none)

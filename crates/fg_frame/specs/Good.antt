@@ -59,6 +59,7 @@ pub record IsDeclared (frame : Frame) : Type 0 where
   pub known : unknown frame ≡ None
 
 pub record IsGood (frame : NumberedFrame) : Type 0 where
+  pub some_queue : 0 < length frame.queues
   pub few_queues : length frame.queues ≤ 4
   pub few_passes : length frame.passes ≤ 256
   pub few_units : length frame.units ≤ 256
