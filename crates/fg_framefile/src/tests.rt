@@ -87,10 +87,10 @@ fn whole_files(rt: HostRuntime) -> Result<(), Fail> {
     let alloc = rt.alloc();
     let no_text = b"{\"format\":\"\xff\"}";
     assert_eq!(rt; judge_bytes(alloc, no_text)?.as_str(), "F1 $");
-    for (file, answer) in FILES {
+    for (file, answer) in &FILES {
         assert_eq!(rt;
             judge_bytes(alloc, file.as_bytes())?.as_str(),
-            answer,
+            *answer,
             "{file}"
         );
     }

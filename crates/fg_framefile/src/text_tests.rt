@@ -23,12 +23,12 @@ const TEXTS: [(&str, &str); 3] = [
 #[test]
 fn canonical_texts(rt: HostRuntime) -> Result<(), Fail> {
     let alloc = rt.alloc();
-    for (file, canonical) in TEXTS {
+    for (file, canonical) in &TEXTS {
         let Ok(frame) = read_frame(alloc, file.as_bytes()) else {
             return Err(Fail::new("no frame"));
         };
         let text = write_frame(alloc, &frame)?;
-        assert_eq!(rt; str::from_utf8(text.as_slice())?, canonical);
+        assert_eq!(rt; str::from_utf8(text.as_slice())?, *canonical);
     }
     Ok(())
 }

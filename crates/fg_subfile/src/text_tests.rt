@@ -22,12 +22,12 @@ const TEXTS: [(&str, &str); 2] = [
 fn canonical_texts(rt: HostRuntime) -> Result<(), Fail> {
     let alloc = rt.alloc();
     assert_eq!(rt; judge_shape(alloc, ONE_FILL.as_bytes())?.as_str(), "shaped");
-    for (file, canonical) in TEXTS {
+    for (file, canonical) in &TEXTS {
         let Ok(program) = read_program(alloc, file.as_bytes()) else {
             return Err(Fail::new("no program"));
         };
         let text = write_program(alloc, &program)?;
-        assert_eq!(rt; str::from_utf8(text.as_slice())?, canonical);
+        assert_eq!(rt; str::from_utf8(text.as_slice())?, *canonical);
     }
     Ok(())
 }

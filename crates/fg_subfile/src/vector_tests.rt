@@ -77,13 +77,13 @@ const ROWS: [(&str, &str, &str, &str); 9] = [
 #[test]
 fn the_first_fault_of_each_vector(rt: HostRuntime) -> Result<(), Fail> {
     let alloc = rt.alloc();
-    for (family, items, more, answer) in ROWS {
+    for (family, items, more, answer) in &ROWS {
         let file = FILE.replace(alloc, "FAMILY", family)?;
         let file = file.replace(alloc, "ITEMS", items)?;
         let file = file.replace(alloc, "MORE", more)?;
         assert_eq!(rt;
             judge_shape(alloc, file.as_bytes())?.as_str(),
-            answer,
+            *answer,
             "{items}"
         );
     }

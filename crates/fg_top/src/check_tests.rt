@@ -201,12 +201,12 @@ const FILES: [(&str, Status, &str); 8] = [
 #[test]
 fn batches(rt: HostRuntime) -> Result<(), Fail> {
     let alloc = rt.alloc();
-    for (family, items, status, line) in BATCHES {
+    for (family, items, status, line) in &BATCHES {
         let queue = QUEUE
             .replace(alloc, "FAMILY", family)?
             .replace(alloc, "ITEMS", items)?;
         let file = FILE.replace(alloc, "QUEUES", queue.as_str())?;
-        gives(&rt, alloc, "check", file.as_str(), status, line)?;
+        gives(&rt, alloc, "check", file.as_str(), *status, line)?;
     }
     Ok(())
 }
@@ -214,12 +214,12 @@ fn batches(rt: HostRuntime) -> Result<(), Fail> {
 #[test]
 fn submissions(rt: HostRuntime) -> Result<(), Fail> {
     let alloc = rt.alloc();
-    for (queues, status, line) in QUEUES {
+    for (queues, status, line) in &QUEUES {
         let file = FILE.replace(alloc, "QUEUES", queues)?;
-        gives(&rt, alloc, "check", file.as_str(), status, line)?;
+        gives(&rt, alloc, "check", file.as_str(), *status, line)?;
     }
-    for (file, status, line) in FILES {
-        gives(&rt, alloc, "check", file, status, line)?;
+    for (file, status, line) in &FILES {
+        gives(&rt, alloc, "check", file, *status, line)?;
     }
     Ok(())
 }

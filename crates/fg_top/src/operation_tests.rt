@@ -127,7 +127,7 @@ const DEFERRED: &str =
 #[test]
 fn operations(rt: HostRuntime) -> Result<(), Fail> {
     let alloc = rt.alloc();
-    for (file, exports, kept) in FRAMES {
+    for (file, exports, kept) in &FRAMES {
         let text = format!(in alloc; "{kept}{exports}")?;
         gives(&rt, alloc, "run", file, Status::Done, text.as_str())?;
         gives(&rt, alloc, "meaning", file, Status::Done, exports)?;

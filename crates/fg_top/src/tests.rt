@@ -256,9 +256,9 @@ const FILLS: [(&str, &str, &str, Status, &str); 35] = [
 #[test]
 fn fills(rt: HostRuntime) -> Result<(), Fail> {
     let alloc = rt.alloc();
-    for (line, piece, other, status, text) in FILLS {
+    for (line, piece, other, status, text) in &FILLS {
         let file = FILL.replace(alloc, piece, other)?;
-        gives(&rt, alloc, line, file.as_str(), status, text)?;
+        gives(&rt, alloc, line, file.as_str(), *status, text)?;
     }
     Ok(())
 }
@@ -291,7 +291,7 @@ fn chains(rt: HostRuntime) -> Result<(), Fail> {
         "\"name\":\"c\",",
         "\"name\":\"c\",\"side_effect\":true,",
     )?;
-    for (line, culled, kept) in CHAINS {
+    for (line, culled, kept) in &CHAINS {
         gives(&rt, alloc, line, CHAIN, Status::Done, culled)?;
         gives(&rt, alloc, line, seen.as_str(), Status::Done, kept)?;
     }
@@ -343,8 +343,8 @@ const LENGTHS: [(&str, usize, &str, Taken); 4] = [
 #[test]
 fn input_limit(rt: HostRuntime) -> Result<(), Fail> {
     let alloc = rt.alloc();
-    for (word, count, text, rest) in LENGTHS {
-        is_refused(&rt, alloc, word, spaces(alloc, count)?, text, rest)?;
+    for (word, count, text, rest) in &LENGTHS {
+        is_refused(&rt, alloc, word, spaces(alloc, *count)?, text, *rest)?;
     }
     Ok(())
 }
@@ -404,8 +404,8 @@ const ENDS: [(u32, u32, Status, &str); 4] = [
 #[test]
 fn failing_ends(rt: HostRuntime) -> Result<(), Fail> {
     let alloc = rt.alloc();
-    for (read, write, status, text) in ENDS {
-        ends(&rt, alloc, (100, read), (10, write), status, text)?;
+    for (read, write, status, text) in &ENDS {
+        ends(&rt, alloc, (100, *read), (10, *write), *status, text)?;
     }
     ends(&rt, alloc, (1, 999), (10, 9), Status::Done, FILL_TEXT)?;
     Ok(())
