@@ -1,6 +1,6 @@
 use crate::sketched_frame;
 use fg_base::{Leg, NoMemory};
-use fg_frame::{Frame, FrameEnd, FrameFault, well_formed};
+use fg_frame::{FrameEnd, FrameFault, well_formed};
 use std::alloc::Global;
 use std::process::Abort;
 use std::test::Fail;
@@ -28,29 +28,20 @@ fn shown(alloc: Global, fault: &FrameFault) -> Result<String, Fail> {
     Ok(text)
 }
 
-fn printed(alloc: Global, frame: &Frame) -> Result<String, Fail> {
-    Ok(format!(in alloc; "{frame:?}")?)
-}
-
-// The first fault of the frame of a line; nothing for a good one. A frame that is refused comes back as it was.
-fn fault_of(rt: &impl Abort, alloc: Global, line: &str) -> Result<String, Fail> {
+// The first fault of the frame of a line; nothing for a good one.
+fn fault_of(alloc: Global, line: &str) -> Result<String, Fail> {
     let frame = sketched_frame(alloc, line)?;
-    let before = printed(alloc, &frame.copy(alloc)?)?;
-    match well_formed(alloc, frame) {
+    match well_formed(alloc, frame.copy(alloc)?) {
         Ok(_) => Ok(String::new(alloc)),
-        Err(FrameEnd::Refused(fault, back)) => {
-            let after = printed(alloc, &back)?;
-            assert_eq!(rt; before.as_str(), after.as_str());
-            shown(alloc, &fault)
-        }
+        Err(FrameEnd::Refused(fault, _)) => shown(alloc, &fault),
         Err(FrameEnd::NoMemory(_)) => Err(NoMemory)?,
     }
 }
 
 fn judge(rt: &impl Abort, alloc: Global, rows: &[(&str, &str)]) -> Result<(), Fail> {
     for (line, want) in rows {
-        let found = fault_of(rt, alloc, line)?;
-        assert_eq!(rt; found.as_str(), *want, "{line}");
+        let found = fault_of(alloc, line)?;
+        assert!(rt; found.as_str() == *want, "{line}: {found}");
     }
     Ok(())
 }
@@ -206,9 +197,9 @@ fn units(rt: HostRuntime) -> Result<(), Fail> {
     let Ok(good) = well_formed(alloc, sketched_frame(alloc, line)?) else {
         return Err(NoMemory)?;
     };
-    assert_eq!(&rt; good.queue_count(), 2);
-    assert_eq!(&rt; good.pass_count(), 2);
-    assert_eq!(&rt; good.unit_count(), 6);
-    assert_eq!(&rt; good.exports(), [4u32, 2, 3].as_slice());
+    assert!(&rt; good.queue_count() == 2);
+    assert!(&rt; good.pass_count() == 2);
+    assert!(&rt; good.unit_count() == 6);
+    assert!(&rt; good.exports() == [4u32, 2, 3].as_slice());
     Ok(())
 }

@@ -17,9 +17,9 @@ const SKETCHES: [(&str, bool); 3] = [
 #[test]
 fn programs(rt: HostRuntime) -> Result<(), Fail> {
     let alloc = rt.alloc();
-    for (line, good) in SKETCHES {
+    for (line, good) in &SKETCHES {
         let program = sketched_program(alloc, line)?;
-        assert_eq!(&rt; shape(alloc, program).is_ok(), good, "{line}");
+        assert!(&rt; shape(alloc, program).is_ok() == *good, "{line}");
     }
     assert!(&rt; sketched_program(alloc, "plain:x").is_err());
     Ok(())
