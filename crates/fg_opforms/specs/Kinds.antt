@@ -1,30 +1,11 @@
 -- Which operation it is: the words of the kinds, and the members of each.
-use Rattle.std.specs.Prelude.{◌≡◌, refl, ℕ, Bool, List, [], ◌∷◌, Option, Some, None, if◌then◌else◌, codes, ⊤}
-use Rattle.std.specs.List.{list_any}
+use Rattle.std.specs.Prelude.{◌≡◌, refl, ℕ, Bool, List, [], ◌∷◌, Option, Some, codes, ⊤}
+use Rattle.std.specs.List.{find, list_any}
 use Rattle.std.specs.Str.{bytes_eq}
 use Rattle.fg_base.specs.declared.op.Op.{Op}
 use Rattle.fg_base.specs.declared.op.Op.TheVariants as op
 use Rattle.fg_opforms.specs.declared.kind.Kind.{Kind}
 use Rattle.fg_opforms.specs.declared.kind.Kind.TheVariants as kinds
-
-abbrev pub kind_of : List ℕ → Option Kind
-kind_of s =
-    if bytes_eq s (codes "fill_buffer") then Some kinds.FillBuffer else
-    if bytes_eq s (codes "clear_image") then Some kinds.ClearImage else
-    if bytes_eq s (codes "copy_buffer") then Some kinds.CopyBuffer else
-    if bytes_eq s (codes "copy_image") then Some kinds.CopyImage else
-    if bytes_eq s (codes "buffer_to_image") then Some kinds.BufferToImage else
-    if bytes_eq s (codes "image_to_buffer") then Some kinds.ImageToBuffer else
-    if bytes_eq s (codes "ramp") then Some kinds.Ramp else
-    if bytes_eq s (codes "map") then Some kinds.Map else
-    if bytes_eq s (codes "combine") then Some kinds.Combine else
-    if bytes_eq s (codes "select") then Some kinds.Select else
-    if bytes_eq s (codes "convert") then Some kinds.Convert else
-    if bytes_eq s (codes "box3") then Some kinds.Box3 else
-    if bytes_eq s (codes "halve") then Some kinds.Halve else
-    if bytes_eq s (codes "histogram") then Some kinds.Histogram else
-    if bytes_eq s (codes "draw") then Some kinds.Draw else
-    None
 
 abbrev pub kind_text : Kind → List ℕ
 kind_text kinds.FillBuffer = codes "fill_buffer"
@@ -42,6 +23,13 @@ kind_text kinds.Box3 = codes "box3"
 kind_text kinds.Halve = codes "halve"
 kind_text kinds.Histogram = codes "histogram"
 kind_text kinds.Draw = codes "draw"
+
+abbrev pub all_kinds : List Kind
+all_kinds = kinds.FillBuffer ∷ kinds.ClearImage ∷ kinds.CopyBuffer ∷ kinds.CopyImage ∷ kinds.BufferToImage ∷ kinds.ImageToBuffer ∷ kinds.Ramp ∷ kinds.Map ∷ kinds.Combine ∷ kinds.Select ∷ kinds.Convert ∷ kinds.Box3 ∷ kinds.Halve ∷ kinds.Histogram ∷ kinds.Draw ∷ []
+
+-- the kind with this word
+abbrev pub kind_of : List ℕ → Option Kind
+kind_of s = find (λ kind. bytes_eq s (kind_text kind)) all_kinds
 
 pub kind_again : (k : Kind) → ⊤ → kind_of (kind_text k) ≡ Some k
 kind_again kinds.FillBuffer fits = refl

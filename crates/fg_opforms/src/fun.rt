@@ -1,10 +1,25 @@
 //! The functions of two texels.
 
-ghost use Rattle.std.specs.Prelude.{◌≡◌, ⊤};
+ghost use Rattle.std.specs.Prelude.{◌≡◌, ⊤, option_copied};
+ghost use Rattle.std.specs.List.{find};
+ghost use Rattle.std.specs.Str.{bytes_eq};
 ghost use Rattle.fg_opforms.specs.Funs.{fun_of, fun_text, fun_again};
 
 use fg_base::Fun;
 use fg_forms::{TextForm, Word};
+
+const FUNS: [Fun; 10] = [
+    Fun::Add,
+    Fun::Sub,
+    Fun::Mul,
+    Fun::And,
+    Fun::Or,
+    Fun::Xor,
+    Fun::Min,
+    Fun::Max,
+    Fun::Shl,
+    Fun::Shr,
+];
 
 /// The words of the functions.
 pub struct FunWord;
@@ -27,46 +42,36 @@ impl Word for FunWord {
         fun_of(text)
     }
 
-    fn text(value: &Fun) -> &str {
-        match value {
-            Fun::Add => "add",
-            Fun::Sub => "sub",
-            Fun::Mul => "mul",
-            Fun::And => "and",
-            Fun::Or => "or",
-            Fun::Xor => "xor",
-            Fun::Min => "min",
-            Fun::Max => "max",
-            Fun::Shl => "shl",
-            Fun::Shr => "shr",
-        }
+    fn text(fun: &Fun) -> &str {
+        fun_text(fun)
     }
+}
+
+fn fun_text(fun: &Fun) -> &'static str
+    ensures { result.now ≡ fun_text fun.now }
+{
+    match fun {
+        Fun::Add => "add",
+        Fun::Sub => "sub",
+        Fun::Mul => "mul",
+        Fun::And => "and",
+        Fun::Or => "or",
+        Fun::Xor => "xor",
+        Fun::Min => "min",
+        Fun::Max => "max",
+        Fun::Shl => "shl",
+        Fun::Shr => "shr",
+    }
+}
+
+fn find<'a>(funs: &'a [Fun], text: &str) -> Option<&'a Fun>
+    ensures { option_copied result ≡ find (λ fun. bytes_eq text.now (fun_text fun)) funs.now }
+{
+    funs.iter().find(|fun| text == fun_text(fun))
 }
 
 fn fun_of(text: &str) -> Option<Fun>
     ensures { result ≡ fun_of text.now }
 {
-    if text == "add" {
-        Some(Fun::Add)
-    } else if text == "sub" {
-        Some(Fun::Sub)
-    } else if text == "mul" {
-        Some(Fun::Mul)
-    } else if text == "and" {
-        Some(Fun::And)
-    } else if text == "or" {
-        Some(Fun::Or)
-    } else if text == "xor" {
-        Some(Fun::Xor)
-    } else if text == "min" {
-        Some(Fun::Min)
-    } else if text == "max" {
-        Some(Fun::Max)
-    } else if text == "shl" {
-        Some(Fun::Shl)
-    } else if text == "shr" {
-        Some(Fun::Shr)
-    } else {
-        None
-    }
+    find(&FUNS, text).copied()
 }

@@ -1,6 +1,8 @@
 //! Which operation it is.
 
-ghost use Rattle.std.specs.Prelude.{◌≡◌, map, ⊤};
+ghost use Rattle.std.specs.Prelude.{◌≡◌, map, ⊤, option_copied};
+ghost use Rattle.std.specs.List.{find};
+ghost use Rattle.std.specs.Str.{bytes_eq};
 ghost use Rattle.fg_opforms.specs.Kinds.{kind_of, kind_text, kind_again, members_of, op_kind};
 
 use fg_base::Op;
@@ -26,6 +28,24 @@ pub enum Kind {
     Draw,
 }
 
+const KINDS: [Kind; 15] = [
+    Kind::FillBuffer,
+    Kind::ClearImage,
+    Kind::CopyBuffer,
+    Kind::CopyImage,
+    Kind::BufferToImage,
+    Kind::ImageToBuffer,
+    Kind::Ramp,
+    Kind::Map,
+    Kind::Combine,
+    Kind::Select,
+    Kind::Convert,
+    Kind::Box3,
+    Kind::Halve,
+    Kind::Histogram,
+    Kind::Draw,
+];
+
 /// The words of the kinds.
 pub struct KindWord;
 
@@ -47,63 +67,43 @@ impl Word for KindWord {
         kind_of(text)
     }
 
-    fn text(value: &Kind) -> &str {
-        match value {
-            Kind::FillBuffer => "fill_buffer",
-            Kind::ClearImage => "clear_image",
-            Kind::CopyBuffer => "copy_buffer",
-            Kind::CopyImage => "copy_image",
-            Kind::BufferToImage => "buffer_to_image",
-            Kind::ImageToBuffer => "image_to_buffer",
-            Kind::Ramp => "ramp",
-            Kind::Map => "map",
-            Kind::Combine => "combine",
-            Kind::Select => "select",
-            Kind::Convert => "convert",
-            Kind::Box3 => "box3",
-            Kind::Halve => "halve",
-            Kind::Histogram => "histogram",
-            Kind::Draw => "draw",
-        }
+    fn text(kind: &Kind) -> &str {
+        kind_text(kind)
     }
+}
+
+fn kind_text(kind: &Kind) -> &'static str
+    ensures { result.now ≡ kind_text kind.now }
+{
+    match kind {
+        Kind::FillBuffer => "fill_buffer",
+        Kind::ClearImage => "clear_image",
+        Kind::CopyBuffer => "copy_buffer",
+        Kind::CopyImage => "copy_image",
+        Kind::BufferToImage => "buffer_to_image",
+        Kind::ImageToBuffer => "image_to_buffer",
+        Kind::Ramp => "ramp",
+        Kind::Map => "map",
+        Kind::Combine => "combine",
+        Kind::Select => "select",
+        Kind::Convert => "convert",
+        Kind::Box3 => "box3",
+        Kind::Halve => "halve",
+        Kind::Histogram => "histogram",
+        Kind::Draw => "draw",
+    }
+}
+
+fn find<'a>(kinds: &'a [Kind], text: &str) -> Option<&'a Kind>
+    ensures { option_copied result ≡ find (λ kind. bytes_eq text.now (kind_text kind)) kinds.now }
+{
+    kinds.iter().find(|kind| text == kind_text(kind))
 }
 
 fn kind_of(text: &str) -> Option<Kind>
     ensures { result ≡ kind_of text.now }
 {
-    if text == "fill_buffer" {
-        Some(Kind::FillBuffer)
-    } else if text == "clear_image" {
-        Some(Kind::ClearImage)
-    } else if text == "copy_buffer" {
-        Some(Kind::CopyBuffer)
-    } else if text == "copy_image" {
-        Some(Kind::CopyImage)
-    } else if text == "buffer_to_image" {
-        Some(Kind::BufferToImage)
-    } else if text == "image_to_buffer" {
-        Some(Kind::ImageToBuffer)
-    } else if text == "ramp" {
-        Some(Kind::Ramp)
-    } else if text == "map" {
-        Some(Kind::Map)
-    } else if text == "combine" {
-        Some(Kind::Combine)
-    } else if text == "select" {
-        Some(Kind::Select)
-    } else if text == "convert" {
-        Some(Kind::Convert)
-    } else if text == "box3" {
-        Some(Kind::Box3)
-    } else if text == "halve" {
-        Some(Kind::Halve)
-    } else if text == "histogram" {
-        Some(Kind::Histogram)
-    } else if text == "draw" {
-        Some(Kind::Draw)
-    } else {
-        None
-    }
+    find(&KINDS, text).copied()
 }
 
 /// The kind of an operation.

@@ -1,10 +1,14 @@
 //! How a rectangle changes texels.
 
-ghost use Rattle.std.specs.Prelude.{◌≡◌, ⊤};
+ghost use Rattle.std.specs.Prelude.{◌≡◌, ⊤, option_copied};
+ghost use Rattle.std.specs.List.{find};
+ghost use Rattle.std.specs.Str.{bytes_eq};
 ghost use Rattle.fg_opforms.specs.Mixes.{mix_of, mix_text, mix_again};
 
 use fg_base::Mix;
 use fg_forms::{TextForm, Word};
+
+const MIXES: [Mix; 4] = [Mix::Set, Mix::And, Mix::Or, Mix::Xor];
 
 /// The words of the ways to change texels.
 pub struct MixWord;
@@ -27,28 +31,30 @@ impl Word for MixWord {
         mix_of(text)
     }
 
-    fn text(value: &Mix) -> &str {
-        match value {
-            Mix::Set => "set",
-            Mix::And => "and",
-            Mix::Or => "or",
-            Mix::Xor => "xor",
-        }
+    fn text(mix: &Mix) -> &str {
+        mix_text(mix)
     }
+}
+
+fn mix_text(mix: &Mix) -> &'static str
+    ensures { result.now ≡ mix_text mix.now }
+{
+    match mix {
+        Mix::Set => "set",
+        Mix::And => "and",
+        Mix::Or => "or",
+        Mix::Xor => "xor",
+    }
+}
+
+fn find<'a>(mixes: &'a [Mix], text: &str) -> Option<&'a Mix>
+    ensures { option_copied result ≡ find (λ mix. bytes_eq text.now (mix_text mix)) mixes.now }
+{
+    mixes.iter().find(|mix| text == mix_text(mix))
 }
 
 fn mix_of(text: &str) -> Option<Mix>
     ensures { result ≡ mix_of text.now }
 {
-    if text == "set" {
-        Some(Mix::Set)
-    } else if text == "and" {
-        Some(Mix::And)
-    } else if text == "or" {
-        Some(Mix::Or)
-    } else if text == "xor" {
-        Some(Mix::Xor)
-    } else {
-        None
-    }
+    find(&MIXES, text).copied()
 }

@@ -2,7 +2,6 @@
 
 ghost use Rattle.std.specs.Prelude.{◌≡◌, IfOk};
 ghost use Rattle.fg_opforms.specs.OpWriting.{op_data, op_members, fill_buffer_members, clear_image_members, copy_buffer_members, copy_image_members, offset_members, ramp_members, map_members, combine_members, select_members, whole_members, draw_members};
-ghost use Rattle.serde_json.specs.Data.{object};
 ghost use Rattle.serde_json.specs.View.{view, members_view};
 
 use crate::{FunForm, RectForm};
