@@ -298,19 +298,26 @@ fn chains(rt: HostRuntime) -> Result<(), Fail> {
     Ok(())
 }
 
+// What is answered at rest.
+fn rests(
+    alloc: Global,
+    word: &str,
+    source: &mut SteadySource,
+    sink: &mut MemorySink,
+) -> Result<Option<Status>, AllocError> {
+    let words = words_of(alloc, word)?;
+    Ok(at_rest(alloc, words.as_slice(), source, sink))
+}
+
 #[test]
 fn at_rest_leaves_run(rt: HostRuntime) -> Result<(), Fail> {
     let alloc = rt.alloc();
     let mut source = SteadySource::new(bytes_of(alloc, CHAIN)?, 9);
     let mut sink = MemorySink::new(alloc, 1000, 9, List::new(alloc))?;
-    let words = words_of(alloc, "run")?;
-    let left = at_rest(alloc, words.as_slice(), &mut source, &mut sink);
-    assert_eq!(rt; left, None);
-    assert_eq!(rt; sink.bytes().len(), 0);
-    let words = words_of(alloc, "cull")?;
-    let status = at_rest(alloc, words.as_slice(), &mut source, &mut sink);
-    assert_eq!(rt; status, Some(Status::Done));
-    assert_eq!(rt; sink.bytes(), CULLED.as_bytes());
+    let left = rests(alloc, "run", &mut source, &mut sink)?;
+    assert!(&rt; left == None && sink.bytes().is_empty());
+    let status = rests(alloc, "cull", &mut source, &mut sink)?;
+    assert!(&rt; status == Some(Status::Done) && sink.bytes() == CULLED.as_bytes());
     Ok(())
 }
 
@@ -326,9 +333,11 @@ fn is_refused(
     let mut source = SteadySource::new(file, u32::MAX);
     let mut sink = MemorySink::new(alloc, 100, 100, List::new(alloc))?;
     let status = status_of(rt, alloc, word, &mut source, &mut sink)?;
-    assert_eq!(rt; status, Some(Status::Refused));
-    assert_eq!(rt; sink.bytes(), text.as_bytes());
-    assert_eq!(rt; source.read(&mut [0u8; 8]), rest);
+    assert!(rt;
+        status == Some(Status::Refused) && sink.bytes() == text.as_bytes(),
+        "{text}"
+    );
+    assert!(rt; source.read(&mut [0u8; 8]) == rest, "{text}");
     Ok(())
 }
 
@@ -368,6 +377,19 @@ impl Sink for Offers {
     }
 }
 
+// The status and the text that were found, where the read or write with this number fails, are these.
+fn are(
+    rt: &impl Abort,
+    failing: u32,
+    status: Option<Status>,
+    bytes: &[u8],
+    wanted: Status,
+    text: &str,
+) {
+    assert!(rt; status == Some(wanted), "status where {failing} fails");
+    assert!(rt; bytes == text.as_bytes(), "text where {failing} fails");
+}
+
 // The one fill, of which so many bytes are read a call and so many written a call; which read fails and which write.
 // Gives the source as the call left it.
 fn ends(
@@ -384,12 +406,8 @@ fn ends(
     let mut source = MemorySource::new(bytes_of(alloc, FILL)?, read.0, calls(alloc, &[read.1])?);
     let mut sink = MemorySink::new(alloc, 1000, write.0, calls(alloc, &[write.1])?)?;
     let status = status_of(rt, alloc, "run", &mut source, &mut sink)?;
-    assert_eq!(rt; status, Some(wanted), "status of {read:?} and {write:?}");
-    assert_eq!(rt;
-        sink.bytes(),
-        text.as_bytes(),
-        "text of {read:?} and {write:?}"
-    );
+    let failing = read.1.min(write.1);
+    are(rt, failing, status, sink.bytes(), wanted, text);
     Ok(source)
 }
 
