@@ -28,20 +28,21 @@ const NO_COMMANDS: [&str; 6] = [
     "check --workers 2",
 ];
 
+fn found(alloc: Global, line: &str) -> Result<Option<Command>, Fail> {
+    let words = words_of(alloc, line)?;
+    Ok(command_of(alloc, words.as_slice())?)
+}
+
 #[test]
 fn command_lines(rt: HostRuntime) -> Result<(), Fail> {
     let alloc = rt.alloc();
-    for (line, wanted) in COMMANDS {
-        let words = words_of(alloc, line)?;
-        assert_eq!(rt;
-            command_of(alloc, words.as_slice())?,
-            Some(wanted),
-            "{line}"
-        );
+    for (line, wanted) in &COMMANDS {
+        let found = found(alloc, line)?;
+        assert!(rt; found == Some(*wanted), "{line}");
     }
-    for line in NO_COMMANDS {
-        let words = words_of(alloc, line)?;
-        assert_eq!(rt; command_of(alloc, words.as_slice())?, None, "{line}");
+    for line in &NO_COMMANDS {
+        let found = found(alloc, line)?;
+        assert!(rt; found == None, "{line}");
     }
     Ok(())
 }
