@@ -1,6 +1,7 @@
 //! Submissions with a fault, or with a hazard alone, through reading and the rules on programs.
 
 use crate::judge::judge_shape;
+use std::alloc::Global;
 use std::test::Fail;
 
 // Four memories, five pieces, and one queue with one batch.
@@ -74,18 +75,19 @@ const ROWS: [(&str, &str, &str, &str); 9] = [
     ),
 ];
 
+fn answer_to(alloc: Global, family: &str, items: &str, more: &str) -> Result<String, Fail> {
+    let file = FILE.replace(alloc, "FAMILY", family)?;
+    let file = file.replace(alloc, "ITEMS", items)?;
+    let file = file.replace(alloc, "MORE", more)?;
+    Ok(judge_shape(alloc, file.as_bytes())?)
+}
+
 #[test]
 fn the_first_fault_of_each_vector(rt: HostRuntime) -> Result<(), Fail> {
     let alloc = rt.alloc();
     for (family, items, more, answer) in &ROWS {
-        let file = FILE.replace(alloc, "FAMILY", family)?;
-        let file = file.replace(alloc, "ITEMS", items)?;
-        let file = file.replace(alloc, "MORE", more)?;
-        assert_eq!(rt;
-            judge_shape(alloc, file.as_bytes())?.as_str(),
-            *answer,
-            "{items}"
-        );
+        let found = answer_to(alloc, family, items, more)?;
+        assert!(rt; found.as_str() == *answer, "{items}: {found}");
     }
     Ok(())
 }
