@@ -2,4 +2,9 @@ mod Below
 mod Entering
 mod Latest
 mod Placed
+mod Scripts
+mod Walks
+mod Writing
+mod Counting
+mod Submitting
 mod Worked

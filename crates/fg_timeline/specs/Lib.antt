@@ -1,5 +1,6 @@
 pub mod Batches
 pub mod Below
+pub mod Code
 pub mod Laws
 pub mod Parts
 pub mod Places

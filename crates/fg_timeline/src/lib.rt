@@ -2,7 +2,17 @@
 #![tactic(auto)]
 
 mod laws;
+mod needs;
+mod queues;
+mod script;
+mod signals;
 mod step;
+mod submission;
 
 pub use laws::timeline_laws;
+pub use queues::batches;
+pub use script::is_script;
 pub use step::Step;
+
+#[cfg(test)]
+mod tests;

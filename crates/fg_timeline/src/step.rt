@@ -1,6 +1,7 @@
 //! One step of what is recorded.
 
 ghost use Rattle.std.specs.Prelude.{◌≡◌};
+ghost use Rattle.fg_timeline.specs.Code.Scripts.{is_other_item};
 ghost use Rattle.fg_timeline.specs.Steps.{queue_of, is_item};
 
 use fg_subs::Item;
@@ -32,6 +33,16 @@ impl Step {
         match self {
             Step::Item { queue, .. } => *queue == of,
             Step::Need { .. } => false,
+        }
+    }
+
+    // Whether it is an item of another queue.
+    pub(crate) fn is_other_item(&self, than: u32) -> bool
+        ensures { result ≡ is_other_item than self.now }
+    {
+        match self {
+            Step::Item { queue, .. } => *queue != than,
+            _ => false,
         }
     }
 }
