@@ -1,0 +1,7 @@
+pub mod Code
+pub mod Commands
+pub mod Groups
+pub mod Laws
+pub mod Needs
+pub mod Placed
+pub mod Uses

@@ -1,0 +1,27 @@
+//! The commands of a kept frame, what they use, and the groups of uses that need no order among themselves.
+#![tactic(auto)]
+
+mod buckets;
+mod by_command;
+mod by_unit;
+mod command;
+mod commands;
+mod grouped;
+mod grouping;
+mod groups;
+mod joins;
+mod laws;
+mod placed;
+mod runs;
+mod setting;
+#[cfg(test)]
+mod tests;
+mod unit_use;
+mod uses;
+
+pub use command::Command;
+pub use grouped::groups_of;
+pub use grouping::Grouping;
+pub use groups::Groups;
+pub use laws::group_laws;
+pub use unit_use::{Use, UseAt};
