@@ -1,3 +1,5 @@
 pub mod Begun
 pub mod Passes
+pub mod Places
 mod Rows
+pub mod Sums

@@ -3,4 +3,5 @@ pub mod Faults
 pub mod Hazards
 pub mod KeptLines
 pub mod Paths
+pub mod PlaceLines
 pub mod UnitNames

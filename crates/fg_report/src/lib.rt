@@ -7,12 +7,14 @@ mod hazard;
 mod kept;
 mod key;
 mod path;
+mod place;
 mod unit;
 
 pub use export::export_text;
 pub use fault::{frame_fault_text, sub_fault_text};
 pub use hazard::{check_text, hazard_text};
 pub use kept::{cull_text, run_text};
+pub use place::place_text;
 
 #[cfg(test)]
 mod tests;

@@ -2,4 +2,5 @@ pub mod AnswerLemmas
 pub mod ExportLemmas
 pub mod KeptLemmas
 pub mod Known
+pub mod PlaceLemmas
 mod Rows

@@ -7,10 +7,15 @@ use Rattle.fg_frame.specs.Numbered.{numbered}
 use Rattle.fg_frame.specs.declared.fault.FrameFault.{FrameFault}
 use Rattle.fg_frame.specs.declared.frame.Frame.{Frame}
 use Rattle.fg_framefile.specs.Files.{frame_of, frame_text}
+use Rattle.fg_groups.specs.Groups.{grouping}
+use Rattle.fg_groups.specs.Placed.{sizes}
+use Rattle.fg_lifetimes.specs.Ordered.{IsOrdered}
+use Rattle.fg_place.specs.Placing.{Places, IsLeast}
 use Rattle.fg_checker.specs.Sound.{IsSound}
 use Rattle.fg_checker.specs.Verdicts.{Unsound}
 use Rattle.fg_report.specs.Faults.{frame_fault_text, sub_fault_text}
 use Rattle.fg_report.specs.Hazards.{check_text, hazard_text}
+use Rattle.fg_report.specs.PlaceLines.{place_text}
 use Rattle.fg_report.specs.KeptLines.{run_text, cull_text}
 use Rattle.fg_top.specs.Files.{frame_file, program_file}
 use Rattle.fg_top.specs.Outcomes.{Tells, EndsAs}
@@ -27,7 +32,7 @@ use Rattle.fg_checker.specs.declared.hazard.Hazard.{Hazard}
 use Rattle.fg_words.specs.declared.command.Command.{Command}
 use Rattle.fg_words.specs.declared.command.Command.TheVariants as reads
 use Rattle.fg_words.specs.declared.command.FrameCommand.{FrameCommand}
-use Rattle.fg_words.specs.declared.command.FrameCommand.TheVariants.{Run, Cull, Meaning, Migrate}
+use Rattle.fg_words.specs.declared.command.FrameCommand.TheVariants.{Run, Cull, Place, Meaning, Migrate}
 use Rattle.fg_words.specs.declared.command.SubmissionCommand.{SubmissionCommand}
 use Rattle.fg_words.specs.declared.command.SubmissionCommand.TheVariants.{Check}
 
@@ -73,6 +78,16 @@ pub record CullsFrame (frame : Frame) (answer : Answer) : Type 0 where
   pub are_kept : AreKept (numbered frame) kept
   pub whole : answer ≡ record { status = Done; text = cull_text frame kept }
 
+-- where the transient units lie: each at its least place, where units that are ordered may share memory
+pub record PlacesFrame (frame : Frame) (answer : Answer) : Type 0 where
+  pub kept : List Bool
+  pub are_kept : AreKept (numbered frame) kept
+  pub ordered : ℕ → ℕ → Bool
+  pub is_ordered : IsOrdered (grouping (numbered frame) kept) ordered
+  pub places : Places
+  pub least : IsLeast (sizes (grouping (numbered frame) kept)) ordered places
+  pub whole : answer ≡ record { status = Done; text = place_text frame (grouping (numbered frame) kept) places }
+
 -- the canonical text and a line feed; from the text the frame is read again
 pub record MigratesFrame (frame : Frame) (answer : Answer) : Type 0 where
   pub whole : answer ≡ record { status = Done; text = frame_text frame ++ codes "\n" }
@@ -82,6 +97,7 @@ pub record MigratesFrame (frame : Frame) (answer : Answer) : Type 0 where
 abbrev pub AnswersFrame : FrameCommand → Frame → Answer → Type 0
 AnswersFrame Run frame answer = RunsFrame frame answer
 AnswersFrame Cull frame answer = CullsFrame frame answer
+AnswersFrame Place frame answer = PlacesFrame frame answer
 AnswersFrame Meaning frame answer = MeansFrame frame answer
 AnswersFrame Migrate frame answer = MigratesFrame frame answer
 

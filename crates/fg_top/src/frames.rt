@@ -10,6 +10,7 @@ use crate::answer::{Answer, refusal};
 use crate::cull::cull_frame;
 use crate::meaning::mean_frame;
 use crate::migrate::migrate_frame;
+use crate::place::place_frame;
 use crate::run::run_frame;
 use fg_base::NoMemory;
 use fg_frame::{FrameEnd, GoodFrame, well_formed};
@@ -40,6 +41,7 @@ fn answer_frame(alloc: Global, asked: FrameCommand, good: &GoodFrame) -> Result<
     match asked {
         FrameCommand::Run => run_frame(alloc, good),
         FrameCommand::Cull => cull_frame(alloc, good),
+        FrameCommand::Place => place_frame(alloc, good),
         FrameCommand::Meaning => mean_frame(alloc, good),
         FrameCommand::Migrate => migrate_frame(alloc, good),
     }

@@ -11,6 +11,7 @@ mod intake;
 mod meaning;
 mod migrate;
 mod output;
+mod place;
 mod programs;
 mod rest;
 mod run;
@@ -24,5 +25,7 @@ pub use top::framec;
 mod check_tests;
 #[cfg(test)]
 mod operation_tests;
+#[cfg(test)]
+mod place_tests;
 #[cfg(test)]
 mod tests;

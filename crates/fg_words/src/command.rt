@@ -20,6 +20,8 @@ pub enum FrameCommand {
     Run,
     /// Prints which of its passes are culled.
     Cull,
+    /// Prints where its transient resources lie in shared memory.
+    Place,
     /// Prints its exports from its sequential meaning.
     Meaning,
     /// Prints its canonical text.
@@ -41,6 +43,7 @@ impl Command {
         match word {
             "run" => Some(Command::Frame(FrameCommand::Run)),
             "cull" => Some(Command::Frame(FrameCommand::Cull)),
+            "place" => Some(Command::Frame(FrameCommand::Place)),
             "meaning" => Some(Command::Frame(FrameCommand::Meaning)),
             "migrate" => Some(Command::Frame(FrameCommand::Migrate)),
             "check" => Some(Command::Submission(SubmissionCommand::Check)),

@@ -11,9 +11,10 @@ fn words_of(alloc: Global, line: &str) -> Result<Vec<String>, AllocError> {
     Ok(words)
 }
 
-const COMMANDS: [(&str, Command); 5] = [
+const COMMANDS: [(&str, Command); 6] = [
     ("run", Command::Frame(FrameCommand::Run)),
     ("-- cull", Command::Frame(FrameCommand::Cull)),
+    ("place", Command::Frame(FrameCommand::Place)),
     ("meaning", Command::Frame(FrameCommand::Meaning)),
     ("migrate", Command::Frame(FrameCommand::Migrate)),
     ("check", Command::Submission(SubmissionCommand::Check)),

@@ -1,0 +1,32 @@
+-- Where transient resources lie, as it is printed.
+use Rattle.std.specs.Prelude.{ℕ, suc, List, [], ◌∷◌, ◌++◌, codes, slice_get}
+use Rattle.std.specs.List.{sum}
+use Rattle.std.specs.Fmt.{decimal}
+use Rattle.std.specs.Option.{option_map_or}
+use Rattle.fg_frame.specs.Units.{unit_spots}
+use Rattle.fg_frame.specs.declared.frame.Frame.{Frame}
+use Rattle.fg_groups.specs.Placed.{placed, sizes}
+use Rattle.fg_groups.specs.declared.grouping.Grouping.{Grouping}
+use Rattle.fg_place.specs.Placing.{Places, number_at}
+use Rattle.fg_report.specs.UnitNames.{spot_text}
+
+-- how many bytes the heap has, and how many the resources would have with memory of their own
+abbrev pub heap_line : List ℕ → ℕ → List ℕ
+heap_line sizes heap = codes "heap " ++ decimal heap ++ codes " separate " ++ decimal (sum sizes) ++ codes "\n"
+
+-- the name of a unit; nothing where there is none with the number
+abbrev pub unit_text : Frame → ℕ → List ℕ
+unit_text frame unit = option_map_or spot_text (slice_get (unit_spots frame) unit) []
+
+-- where a unit begins, how many bytes it has, and its name
+abbrev pub place_line : Frame → ℕ → ℕ → ℕ → List ℕ
+place_line frame offset size unit = decimal offset ++ codes " " ++ decimal size ++ codes " " ++ unit_text frame unit ++ codes "\n"
+
+-- the lines of units, the first of which has place k in the lists of sizes and offsets
+abbrev pub place_lines : Frame → List ℕ → List ℕ → ℕ → List ℕ → List ℕ
+place_lines frame sizes offsets k [] = []
+place_lines frame sizes offsets k (unit ∷ units) = place_line frame (number_at offsets k) (number_at sizes k) unit ++ place_lines frame sizes offsets (suc k) units
+
+-- what `place` prints of the placed units at these places
+abbrev pub place_text : Frame → Grouping → Places → List ℕ
+place_text frame G places = heap_line (sizes G) places.heap ++ place_lines frame (sizes G) places.offsets 0 (placed G)
