@@ -3,8 +3,10 @@
 
     bench/compare.py OTHER [--ours PROGRAM] [--runs 5] [--case NAME ..]
 
-First whole commands: `run`, `meaning` and `cull` of the deferred frame of examples/frames/, `cull` of nearly 16 MiB of imports and
-of 256 passes that read and change each of 256 buffers, and `check` of submissions with as many nodes as there can be:
+First whole commands: `run`, `meaning`, `cull` and `place` of the deferred frame of examples/frames/, `cull` of nearly 16 MiB of
+imports and of 256 passes that read and change each of 256 buffers, `place` of a frame of 256 passes none of which is culled (the
+other program makes it, by its word `gen`, and each pass is given a side effect; one that has no such word is left out), and
+`check` of submissions with as many nodes as there can be:
 barriers alone; fills of one buffer with a full barrier between each two; one fill and its many readers; fills of many
 buffers that share memory. Then each operation: a frame applies it again and again to images of 1920 by 1080 texels and
 exports one texel, so that little is printed; a frame without it is timed too, and its time is taken off. For each case one
@@ -111,6 +113,17 @@ def large():
     }
 
 
+def generated(program):
+    """A frame of 256 passes that the other program makes, each with a side effect; none if it makes none."""
+    done = subprocess.run([program, "gen", "--number", "7", "--passes", "256"], stdin=subprocess.DEVNULL, capture_output=True)
+    if done.returncode != 0:
+        return None
+    made = json.loads(done.stdout)
+    for one in made["passes"]:
+        one["side_effect"] = True
+    return made
+
+
 ALL = {"src_stage": "ALL_COMMANDS", "src_access": "MEMORY_WRITE", "dst_stage": "ALL_COMMANDS", "dst_access": "MEMORY_READ|MEMORY_WRITE"}
 BARRIER = {"item": "global", **ALL}
 FOR_HOST = {"item": "global", **ALL, "dst_stage": "HOST", "dst_access": "HOST_READ"}
@@ -181,11 +194,14 @@ def written(folder, name, value):
     return path
 
 
-def commands(folder):
+def commands(folder, other):
     """Name, word and file."""
     deferred = TOP / "examples/frames/deferred.json"
-    for word in ("run", "meaning", "cull"):
+    for word in ("run", "meaning", "cull", "place"):
         yield f"{word} deferred", word, deferred
+    made = generated(other)
+    if made:
+        yield "place 256 passes", "place", written(folder, "made.json", made)
     yield "cull 16 MiB", "cull", written(folder, "large.json", large())
     yield "cull 256 passes", "cull", written(folder, "wide.json", wide())
     for name, program in submissions():
@@ -213,7 +229,7 @@ def main():
 
     print(f"{'case':24} {'ms':>8} {'other':>8} {'ratio':>6} {'memory':>6}")
     with tempfile.TemporaryDirectory() as folder:
-        for name, word, path in commands(folder):
+        for name, word, path in commands(folder, options.other):
             if wanted(name):
                 (own, other), most = measured(programs, word, options.runs, path)
                 row(name, own, other, most)

@@ -5,8 +5,8 @@
 
 A submission has to print its hazard with status 1, and its twin the other text with status 0; those of examples/profile/ are
 accepted. A frame's `cull` has to begin
-with the line of the table; `run` has to print that line, the culled passes and then what `meaning` prints; and the frame's
-canonical text has to be its own canonical text, and to run as the frame does. Each file of the folders needs a row, and each
+with the line of the table, and so has its `place`; `run` has to print the former line, the culled passes and then what `meaning`
+prints; and the frame's canonical text has to be its own canonical text, and to run as the frame does. Each file of the folders needs a row, and each
 hazard H1 to H9 a file.
 """
 
@@ -55,8 +55,10 @@ class Runs:
     def submission(self, path, line, status):
         self.expect(f"check < {path.name}", self.run("check", path.read_bytes()), (status, f"{line}\n".encode()))
 
-    def frame(self, path, first):
+    def frame(self, path, first, heap):
         text = path.read_bytes()
+        status, placed = self.run("place", text)
+        self.expect(f"place < {path.name}", (status, placed.decode().splitlines()[:1]), (0, [heap]))
         status, culled = self.run("cull", text)
         lines = culled.decode().splitlines()
         self.expect(f"cull < {path.name}", (status, lines[:1]), (0, [first]))
@@ -85,9 +87,9 @@ def main():
     for name, line in profile.items():
         runs.submission(PROFILE / name, line, 0)
     runs.expect("files of examples/profile", {path.name for path in PROFILE.iterdir()}, set(profile))
-    frames = {code(row[0]): code(row[2]) for row in rows("Frames")}
-    for name, first in frames.items():
-        runs.frame(FRAMES / name, first)
+    frames = {code(row[0]): (code(row[2]), code(row[3])) for row in rows("Frames")}
+    for name, (first, heap) in frames.items():
+        runs.frame(FRAMES / name, first, heap)
     runs.expect("files of examples/frames", {path.name for path in FRAMES.iterdir()}, set(frames))
     for line in runs.differences:
         print(line, file=sys.stderr)

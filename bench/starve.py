@@ -51,17 +51,17 @@ __attribute__((destructor)) static void count(void) {
 }
 """
 
-EXAMPLES = TOP / "examples"
+EXAMPLES = TOP / "examples/frames"
 
 
 def cases():
     """Words and input."""
     one = (EXAMPLES / "one_fill.json").read_bytes()
     two = (EXAMPLES / "ramp_and_map.json").read_bytes()
-    for word in ("run", "meaning", "cull", "migrate"):
+    for word in ("run", "meaning", "cull", "place", "migrate"):
         yield [word], one
         yield [word], two
-    for word in ("cull", "migrate"):
+    for word in ("cull", "place", "migrate"):
         yield [word], (EXAMPLES / "deferred.json").read_bytes()
     yield ["run"], json.dumps({**json.loads(one), "more": 7}).encode()
     yield ["run"], one.rstrip()[:-1]
