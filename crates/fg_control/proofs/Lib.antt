@@ -1,0 +1,14 @@
+pub mod Agreement
+pub mod Below
+pub mod Bits
+pub mod Free
+pub mod Gathering
+pub mod Listing
+pub mod Lists
+pub mod Marking
+pub mod Pigeons
+pub mod Ranges
+pub mod Readiness
+pub mod Signals
+pub mod Spanning
+pub mod Walking

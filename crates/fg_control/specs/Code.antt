@@ -1,0 +1,6 @@
+-- Definitions that serve the code alone: no public clause reaches them.
+pub mod Fresh
+pub mod Held
+pub mod Kept
+pub mod Running
+pub mod Spans

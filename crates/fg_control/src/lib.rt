@@ -1,0 +1,19 @@
+//! What a running device knows of its nodes, pieces and timelines: which nodes may go on, and what each event changes.
+#![tactic(auto)]
+
+mod control;
+mod fresh;
+mod going;
+mod held;
+mod lasts;
+mod marks;
+mod pieces;
+mod running;
+mod spans;
+mod spoilt;
+mod timeline;
+
+pub use control::Control;
+
+#[cfg(test)]
+mod tests;
