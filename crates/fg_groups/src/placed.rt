@@ -10,7 +10,16 @@ use crate::buckets::Buckets;
 use fg_base::{List, NoMemory, Shape, shape_at};
 use std::alloc::Global;
 
-// The unit, if it has uses and is no import.
+// The unit has uses and is no import.
+fn has_place(imports: &[bool], by_unit: &Buckets<Use>, unit: u32) -> bool
+    requires imports { unit < length imports.now }
+    requires uses { unit < length by_unit.now }
+    ensures { result ≡ has_place imports.now by_unit.now unit }
+{
+    !by_unit.of(unit).is_empty() && !imports[unit as usize]
+}
+
+// The unit, if it gets a place.
 fn push_placed(
     list: &mut List<u32>,
     imports: &[bool],
@@ -21,7 +30,7 @@ fn push_placed(
     requires uses { unit < length by_unit.now }
     ensures { OnOk result (list.new ≡ (if has_place imports.now by_unit.now unit then list.old ++ unit ∷ [] else list.old)) }
 {
-    if !by_unit.of(unit).is_empty() && !imports[unit as usize] {
+    if has_place(imports, by_unit, unit) {
         list.push(unit)?;
     }
     Ok(())

@@ -1,6 +1,6 @@
 use crate::{Groups, groups_of};
 use fg_bits::Sharing;
-use fg_frame::well_formed;
+use fg_frame::{GoodFrame, well_formed};
 use fg_sketch::{SketchError, sketched_frame};
 use fg_versions::{cull, versions_of};
 use std::alloc::Global;
@@ -29,11 +29,18 @@ const ROWS: [(&str, &str); 5] = [
     ("x:in |g w:+b fill:b:16", " 5:0 /"),
 ];
 
+fn good(alloc: Global, line: &str) -> Result<GoodFrame, Fail> {
+    Ok(well_formed(alloc, sketched_frame(alloc, line)?).map_err(|_| SketchError::Word)?)
+}
+
+fn kept_groups(alloc: Global, frame: &GoodFrame) -> Result<Groups, Fail> {
+    let versions = versions_of(alloc, frame)?;
+    let kept = cull(alloc, frame, &versions)?;
+    Ok(groups_of(alloc, frame, &versions, &kept)?)
+}
+
 fn groups(alloc: Global, line: &str) -> Result<Groups, Fail> {
-    let good = well_formed(alloc, sketched_frame(alloc, line)?).map_err(|_| SketchError::Word)?;
-    let versions = versions_of(alloc, &good)?;
-    let kept = cull(alloc, &good, &versions)?;
-    Ok(groups_of(alloc, &good, &versions, &kept)?)
+    kept_groups(alloc, &good(alloc, line)?)
 }
 
 fn told(alloc: Global, groups: &Groups) -> Result<String, Fail> {

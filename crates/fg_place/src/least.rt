@@ -27,7 +27,8 @@ fn collides(
     requires j { j < length sizes.now }
     ensures { result ≡ collides sizes.now (has ordered.now) offsets.now i offset j }
 {
-    !ordered.may_alias(i, j) && offset < offsets[j] + sizes[j] && offsets[j] < offset + sizes[i]
+    let overlaps = offset < offsets[j] + sizes[j] && offsets[j] < offset + sizes[i];
+    overlaps && !ordered.may_alias(i, j)
 }
 
 // The first multiple of the granule from this one on at which resource i begins after resource j, or this one if they
