@@ -1,0 +1,78 @@
+-- A cache move keeps the device.
+use Rattle.std.proofs.Common.{◌≡◌, ◌∙◌, ℕ, ◌+◌, ◌*◌, ◌-◌, ◌<◌, ◌≤◌, nat_le, nat_lt, true, false, [], ◌∷◌, ◌++◌, List, length, slice_get, Option, Some, None, Vec, Global, vec_len, refl, sym, ap, subst, arith}
+use Rattle.std.specs.Arc.{arc_value}
+use Rattle.std.specs.Option.{option_map_or}
+use Rattle.std.specs.Prelude.{vec_capacity}
+use Rattle.std.proofs.lemmas.Bool.{false≢true, and_parts, leb-true, ltb-true}
+use Rattle.std.proofs.lemmas.Option.{slice_get_within}
+use Rattle.fg_base.specs.declared.event.Event.{Event}
+use Rattle.fg_caches.specs.Lines.{Range}
+use Rattle.fg_caches.specs.Tables.{Table, caches_of, missing, InMemory, Keeps}
+use Rattle.fg_control.specs.Controls.{Control, Agrees}
+use Rattle.fg_device.proofs.Events.{moves, room_moved}
+use Rattle.fg_device.proofs.Fitting.{missing_le, still_fits}
+use Rattle.fg_device.specs.Code.Kept.{device_in, IsKept}
+use Rattle.fg_device.specs.Code.Parts.{HasState, HasRoom}
+use Rattle.fg_device.specs.Code.Tables.{memory_size, HasBytes, FitsProgram}
+use Rattle.fg_device.specs.declared.device.Device.TheInside.{Inside}
+use Rattle.fg_steps.specs.Devices.{state_of}
+use Rattle.fg_steps.specs.Histories.{moved}
+use Rattle.fg_steps.specs.States.{State}
+use Rattle.fg_steps.specs.Steps.{may_move}
+use Rattle.fg_subs.specs.Limits.{memory_bytes}
+use Rattle.fg_subs.specs.declared.program.Memory.{Memory}
+use Rattle.fg_subs.specs.declared.program.Program.{Program}
+
+-- a known agent, and a range of a memory
+pub record IsMove (program : Program) (agent : ℕ) (r : Range) : Type 0 where
+  pub known : agent < 8 * length program.queues
+  pub there : r.memory < length program.memories
+  pub within : r.start + r.len ≤ memory_size program r.memory
+
+in_memory : (program : Program) (r : Range) (o : Option Memory) → slice_get program.memories r.memory ≡ o → option_map_or (λ memory. nat_le (r.start + r.len) (memory_bytes memory)) o false ≡ true → (r.memory < length program.memories) × (r.start + r.len ≤ option_map_or memory_bytes o 0)
+in_memory program r None is e = absurd (false≢true e)
+in_memory program r (Some memory) is e = (slice_get_within program.memories r.memory memory is, leb-true (r.start + r.len) (memory_bytes memory) e)
+
+pub is_move : (program : Program) (agent : ℕ) (r : Range) → may_move program agent r ≡ true → IsMove program agent r
+is_move program agent r e =
+    let p = and_parts (nat_lt agent (8 * length program.queues)) (option_map_or (λ memory. nat_le (r.start + r.len) (memory_bytes memory)) (slice_get program.memories r.memory) false) e in
+    let m = in_memory program r (slice_get program.memories r.memory) refl p.1 in
+    record { known = ltb-true agent (8 * length program.queues) p.0; there = m.0; within = m.1 }
+
+-- what a table asks of it
+module _ (t : Table) (program : Program) (fill agent : ℕ) (r : Range) (F : FitsProgram t program fill) (M : IsMove program agent r) where
+  pub agent_known : agent < t.agents
+  agent_known = omega (arith, M.known, F.agents)
+
+  pub range_there : InMemory t r.memory r.start r.len
+  range_there = record { there = omega (arith, M.there, F.memories); within = omega (arith, M.within, F.sizes r.memory) }
+
+-- phases, layouts, owners and counters are as before
+pub agrees_still : (control : Control) (s r : State) → Agrees control s → ((n : ℕ) → r.phase n ≡ s.phase n) → ((n : ℕ) → r.marked n ≡ s.marked n) → ((p : ℕ) → r.layout p ≡ s.layout p) → ((p : ℕ) → r.owner p ≡ s.owner p) → ((q : ℕ) → r.counter q ≡ s.counter q) → Agrees control r
+agrees_still control s r A phase marked layout owner counter = record {
+  phase = λ n. A.phase n ∙ sym (phase n);
+  mark = λ n. A.mark n ∙ sym (marked n);
+  layout = λ p. A.layout p ∙ sym (layout p);
+  owner = λ p. A.owner p ∙ sym (owner p);
+  counter = λ q. A.counter q ∙ sym (counter q);
+}
+
+module _ (i : Inside) (u : Table) (h : Vec Event Global) (event : Event) (r : State) (K : IsKept i) (some : 0 < i.moves) (is : state_of (moved (device_in i) event) ≡ r) (agrees : Agrees i.control r) (bytes : HasBytes (arc_value i.program) (caches_of u) r) (phase : (n : ℕ) → r.phase n ≡ (state_of (device_in i)).phase n) (loaded : (n : ℕ) → r.loaded n ≡ (state_of (device_in i)).loaded n) (host : (n : ℕ) → r.host n ≡ (state_of (device_in i)).host n) (memory start len : ℕ) (keeps : Keeps i.table u) (cuts : i.table.cuts_left ≤ u.cuts_left + missing i.table memory start len) (stores : u.stores_left ≡ i.table.stores_left) (items : h.items ≡ i.history.items ++ event ∷ []) (longer : vec_len h ≡ vec_len i.history + 1) (capacity : vec_capacity h ≡ vec_capacity i.history) where
+  new_state : state_of (device_in (record i { table = u; history = h; moves = i.moves - 1 })) ≡ r
+  new_state = ap (λ (history : List Event). state_of (record { program = arc_value i.program; fill = i.fill; history = history; moves = i.moves - 1 })) items ∙ is
+
+  pub kept_move : IsKept (record i { table = u; history = h; moves = i.moves - 1 })
+  kept_move =
+      let program = arc_value i.program in
+      let s = state_of (device_in i) in
+      record {
+        faultless = K.faultless;
+        small = K.small;
+        obeys = K.obeys;
+        view = K.view;
+        shapes = K.shapes;
+        places = K.places;
+        table = still_fits i.table u program i.fill keeps K.table;
+        state = subst (HasState program i.control u i.held.items i.reads.items) (sym new_state) (moves program i.control i.table u i.held.items i.reads.items s r K.state agrees bytes phase loaded host);
+        room = subst (λ (z : State). HasRoom program z (i.moves - 1) u.cuts_left u.stores_left (vec_len h) (vec_capacity h)) (sym new_state) (room_moved program s r i.moves i.table.cuts_left i.table.stores_left (vec_len i.history) (vec_capacity i.history) u.cuts_left u.stores_left (vec_len h) (vec_capacity h) K.room some phase (omega (arith, cuts, missing_le i.table memory start len)) stores longer capacity);
+      }

@@ -1,0 +1,45 @@
+-- A device as it is made.
+use Rattle.std.proofs.Common.{◌≡◌, ◌∙◌, ℕ, ◌+◌, ◌*◌, ◌≤◌, List, [], length, map, None, vec_len, sym, ap, subst, arith}
+use Rattle.std.specs.Arc.{arc_value}
+use Rattle.std.specs.List.{All}
+use Rattle.std.specs.Prelude.{replicate, vec_capacity}
+use Rattle.std.proofs.lemmas.List.{length-replicate}
+use Rattle.fg_base.specs.declared.event.Event.{Event}
+use Rattle.fg_caches.specs.Effects as effects
+use Rattle.fg_caches.specs.Lines.{Bytes}
+use Rattle.fg_caches.specs.Tables.{caches_of}
+use Rattle.fg_control.specs.Controls.{Agrees}
+use Rattle.fg_device.proofs.Starting.{none_at, opens_state, opens_room}
+use Rattle.fg_device.specs.Code.Kept.{device_in, IsKept}
+use Rattle.fg_device.specs.Code.Loads.{held_at}
+use Rattle.fg_device.specs.Code.Opened.{opened_memory, room_of}
+use Rattle.fg_device.specs.Code.Parts.{HasState, HasRoom, node_count}
+use Rattle.fg_device.specs.Code.Tables.{FitsProgram}
+use Rattle.fg_device.specs.declared.device.Device.TheInside.{Inside}
+use Rattle.fg_steps.specs.Devices.{opening, state_of, fresh}
+use Rattle.fg_steps.specs.States.{State, opened}
+use Rattle.fg_subs.specs.Entries.{entries_of}
+use Rattle.fg_subs.specs.FirstFault.{first_fault}
+use Rattle.fg_subs.specs.Obeys.{EntryObeys, IsSmall}
+use Rattle.fg_subs.specs.Rules.{shapes_of}
+use Rattle.fg_subs.specs.declared.rule.Rule.{Rule}
+use Rattle.fg_view.specs.Views.{view_of}
+
+module _ (i : Inside) (count : ℕ) (history : i.history.items ≡ []) (opens : state_of (fresh (arc_value i.program) i.fill i.moves) ≡ opened (opening (arc_value i.program) i.fill)) where
+  state_is : state_of (device_in i) ≡ opened (opening (arc_value i.program) i.fill)
+  state_is = ap (λ (h : List Event). state_of (record { program = arc_value i.program; fill = i.fill; history = h; moves = i.moves })) history ∙ opens
+
+  pub opens_kept : first_fault (arc_value i.program) ≡ None → IsSmall (arc_value i.program) → ((rule : Rule) → All (EntryObeys rule (arc_value i.program)) (entries_of (arc_value i.program))) → i.control.view ≡ view_of (arc_value i.program) → ((main : Bytes) → Agrees i.control (opened main)) → count ≡ node_count (arc_value i.program) → i.shapes ≡ shapes_of (arc_value i.program) → FitsProgram i.table (arc_value i.program) i.fill → caches_of i.table ≡ effects.opened (map (opened_memory i.fill) (arc_value i.program).memories) → i.table.cuts_left ≡ 2 * i.moves → i.table.stores_left ≡ count → i.held.items ≡ replicate count None → i.reads.items ≡ map (room_of (view_of (arc_value i.program))) (arc_value i.program).readbacks → (2 * count + i.moves) + vec_len i.history ≤ vec_capacity i.history → IsKept i
+  opens_kept faultless small obeys view agrees many shapes fits bytes cuts stores held reads room =
+      let program = arc_value i.program in
+      record {
+        faultless = faultless;
+        small = small;
+        obeys = obeys;
+        view = view;
+        shapes = shapes;
+        places = ap length held ∙ length-replicate count None ∙ many;
+        table = fits;
+        state = subst (HasState program i.control i.table i.held.items i.reads.items) (sym state_is) (opens_state program i.fill i.control i.table i.held.items i.reads.items (agrees (opening program i.fill)) bytes (λ n. ap (λ list. held_at list n) held ∙ none_at count n) reads);
+        room = subst (λ (s : State). HasRoom program s i.moves i.table.cuts_left i.table.stores_left (vec_len i.history) (vec_capacity i.history)) (sym state_is) (opens_room program i.fill i.moves i.table.cuts_left i.table.stores_left (vec_len i.history) (vec_capacity i.history) cuts (stores ∙ many) (omega (arith, room, many)));
+      }

@@ -1,0 +1,137 @@
+-- The operation of a command runs on what the command loads.
+use Rattle.std.proofs.Common.{◌≡◌, inl, inr, ℕ, zero, suc, ◌+◌, ◌<◌, ◌≤◌, Bool, true, false, List, [], ◌∷◌, ◌++◌, length, map, get_or, replicate, Some, None, refl, sym, ap, ◌∙◌, subst, arith}
+use Rattle.std.specs.List.{All, filter, list_all, range_with_len}
+use Rattle.std.specs.Prelude.{nat_lt, if◌then◌else◌}
+use Rattle.fg_caches.specs.Lines.{seen}
+use Rattle.std.proofs.lemmas.Bool.{and_parts, ltb-true}
+use Rattle.std.proofs.lemmas.List.{get_or-map, get_or_append_left, length-map, length-append}
+use Rattle.std.proofs.lemmas.List.FromFn.{length-map-range_with_len}
+use Rattle.std.proofs.Math.Seq.{get_or-append_seam}
+use Rattle.fg_base.specs.Operands.{sources_of, destination_of, operands_of, mapped}
+use Rattle.fg_base.specs.Shapes.{bytes_of, shape_at}
+use Rattle.fg_base.specs.Wholes.{is_whole}
+use Rattle.fg_base.specs.declared.op.Op.{Op}
+use Rattle.fg_base.specs.declared.shape.Shape.{Shape}
+use Rattle.fg_base.specs.declared.shape.Shape.TheVariants.{Buffer}
+use Rattle.fg_checker.specs.Apart.{op_at}
+use Rattle.fg_device.specs.Code.Loads.{store_size, IsRunnable}
+use Rattle.fg_hb.specs.Edges.{is_host, node_at}
+use Rattle.fg_steps.proofs.Cases.{not_sync, not_host, store_changes}
+use Rattle.fg_steps.proofs.Formed.{Formed, At, of_change}
+use Rattle.fg_steps.proofs.Operands.{old_of, command_loads, command_stores}
+use Rattle.fg_steps.proofs.Places.{IsOp, WhatAt, what_at}
+use Rattle.fg_steps.specs.Agents.{agent_of}
+use Rattle.fg_steps.specs.Outputs.{no_old}
+use Rattle.fg_steps.specs.Ready.{is_command, kind_at, is_spoilt}
+use Rattle.fg_steps.specs.States.{State, junk_at}
+use Rattle.fg_steps.specs.Steps.{store_of, sight, taken}
+use Rattle.fg_subs.specs.Entries.{entries_of}
+use Rattle.fg_subs.specs.Obeys.{EntryObeys}
+use Rattle.fg_subs.specs.Rules.{shapes_of}
+use Rattle.fg_subs.specs.declared.program.Program.{Program}
+use Rattle.fg_subs.specs.declared.rule.Rule.{Rule}
+use Rattle.fg_view.specs.AccessKinds.{loads}
+use Rattle.fg_view.specs.Effects.{access}
+use Rattle.fg_view.specs.ShapedView.{Has}
+use Rattle.fg_view.specs.Views.{View, view_of, accesses_of, loads_of, no_piece, piece_at}
+use Rattle.fg_view.specs.declared.access.Access.{Access}
+use Rattle.fg_view.specs.declared.access.AccessKind.TheVariants.{Load}
+use Rattle.fg_view.specs.declared.access.Agent.TheVariants.{Host}
+
+some_same : {X : Type 0} {a b : X} → Some a ≡ Some b → a ≡ b
+some_same e = cc
+
+all_below : (n : ℕ) (xs : List ℕ) → list_all (λ x. nat_lt x n) xs ≡ true → All (λ x. x < n) xs
+all_below n [] e k d lt = absurd (omega (arith, lt))
+all_below n (x ∷ xs) e zero d lt = ltb-true x n (and_parts _ _ e).0
+all_below n (x ∷ xs) e (suc k) d lt = all_below n xs (and_parts _ _ e).1 k d (omega (arith, lt))
+
+-- each load is as long as its piece
+pub taken_long : (V : View) (s : State) (n : ℕ) (junk : List ℕ) (a : Access) → length (taken V s n junk a) ≡ bytes_of (piece_at V a.piece).shape
+taken_long V s n junk a = by_test (is_spoilt V s n a)
+  where
+    size : ℕ
+    size = bytes_of (piece_at V a.piece).shape
+
+    by_test : (b : Bool) → length (if b then map (junk_at junk) (range_with_len 0 (bytes_of (piece_at V a.piece).shape)) else sight V s a) ≡ bytes_of (piece_at V a.piece).shape
+    by_test true = length-map-range_with_len (junk_at junk) 0 (bytes_of (piece_at V a.piece).shape)
+    by_test false = length-map-range_with_len (λ k. seen (s.line (agent_of a.kind) (piece_at V a.piece).memory ((piece_at V a.piece).offset + k)) (s.main (piece_at V a.piece).memory ((piece_at V a.piece).offset + k))) 0 (bytes_of (piece_at V a.piece).shape)
+
+module _ (program : Program) (obeys : (rule : Rule) → All (EntryObeys rule program) (entries_of program)) (n : ℕ) (lt : n < length (view_of program).nodes) (cl : is_command (kind_at (view_of program) n) ≡ true) (op : Op ℕ) (at : op_at program n ≡ Some op) where
+  abbrev V : View
+  V = view_of program
+
+  abbrev shapes : List Shape
+  shapes = shapes_of program
+
+  is_op : (q : ℕ) × IsOp (shapes_of program) (node_at (view_of program).nodes n) (accesses_of (view_of program) n) (op_at program n) q op
+  is_op = go (what_at program obeys n lt)
+    where
+      go : WhatAt program n → (q : ℕ) × IsOp (shapes_of program) (node_at (view_of program).nodes n) (accesses_of (view_of program) n) (op_at program n) q op
+      go (inl c) = (c.0, subst (λ o. IsOp (shapes_of program) (node_at (view_of program).nodes n) (accesses_of (view_of program) n) (op_at program n) c.0 o) (some_same (sym c.2.found ∙ at)) c.2)
+      go (inr (inl s)) = absurd (not_sync (kind_at (view_of program) n) cl s.kind)
+      go (inr (inr r)) = absurd (not_host (kind_at (view_of program) n) cl (ap (λ x. is_host x.kind) r.1.node))
+
+  operands : All (λ p. p < length (shapes_of program)) (operands_of op)
+  operands = all_below (length (shapes_of program)) (operands_of op) is_op.1.known
+
+  shape_is : (p : ℕ) → p < length (shapes_of program) → shape_at (shapes_of program) p ≡ (piece_at (view_of program) p).shape
+  shape_is p inside = get_or-map (λ piece. piece.shape) program.pieces p no_piece (Buffer 0) (omega (arith, inside, length-map program.pieces (λ piece. piece.shape)))
+
+  -- the loads are of the first operands
+  pieces : map (λ a. a.piece) (loads_of (view_of program) n) ≡ sources_of op ++ old_of op (is_whole (mapped (shape_at (shapes_of program)) op))
+  pieces = ap (λ list. map (λ a. a.piece) (filter (λ a. loads a.kind) list)) is_op.1.accesses ∙ command_loads (shapes_of program) is_op.0 op
+
+  abbrev olds : List ℕ
+  olds = old_of op (is_whole (mapped (shape_at (shapes_of program)) op))
+
+  record Olds (xs : List ℕ) : Type 0 where
+    few : length (sources_of op ++ xs) ≤ length (operands_of op)
+    alike : (k : ℕ) → k < length (sources_of op ++ xs) → get_or (sources_of op ++ xs) k 0 ≡ get_or (operands_of op) k 0
+
+  olds_are : (whole : Bool) → Olds (old_of op whole)
+  olds_are true = record {
+    few = omega (arith, length-append (sources_of op) [], length-append (sources_of op) (destination_of op ∷ []));
+    alike = λ k low. let inside : k < length (sources_of op) = omega (arith, low, length-append (sources_of op) []) in get_or_append_left (sources_of op) [] 0 k inside ∙ sym (get_or_append_left (sources_of op) (destination_of op ∷ []) 0 k inside);
+  }
+  olds_are false = record { few = omega arith; alike = λ k low. refl }
+
+  abbrev is_loaded : List (List ℕ) → Type 0
+  is_loaded loaded = (k : ℕ) → k < length loaded → length (get_or loaded k []) ≡ bytes_of (shape_at (shapes_of program) (get_or (operands_of op) k 0))
+
+  -- it runs on what it takes
+  pub loads_run : (s : State) (junk : List ℕ) → IsRunnable (shapes_of program) op (map (taken (view_of program) s n junk) (loads_of (view_of program) n))
+  loads_run s junk =
+      let list = loads_of (view_of program) n in
+      let f = taken (view_of program) s n junk in
+      let O = olds_are (is_whole (mapped (shape_at (shapes_of program)) op)) in
+      let count : length list ≡ length (sources_of op ++ olds) = sym (length-map list (λ a. a.piece)) ∙ ap length pieces in
+      let many : length (map f list) ≡ length list = length-map list f in
+      record {
+        operands = operands;
+        fitting = is_op.1.fit;
+        sources = omega (arith, many, count, length-append (sources_of op) olds);
+        few = omega (arith, many, count, O.few);
+        sized = λ k low.
+            let inside : k < length list = omega (arith, low, many) in
+            let p = get_or (operands_of op) k 0 in
+            let piece : (get_or list k (access 0 (Load Host None))).piece ≡ p = sym (get_or-map (λ a. a.piece) list k (access 0 (Load Host None)) 0 inside) ∙ ap (λ l. get_or l k 0) pieces ∙ O.alike k (omega (arith, inside, count)) in
+            let within : p < length (shapes_of program) = operands k 0 (omega (arith, inside, count, O.few)) in
+            ap length (get_or-map f list k (access 0 (Load Host None)) [] inside)
+            ∙ taken_long (view_of program) s n junk (get_or list k (access 0 (Load Host None)))
+            ∙ ap (λ z. bytes_of (piece_at (view_of program) z).shape) piece ∙ ap bytes_of (sym (shape_is p within));
+      }
+
+  -- the room of what it stores
+  pub stores_to : Formed (view_of program) → (store_of (view_of program) n).piece ≡ destination_of op
+  stores_to F =
+      let c = command_stores (shapes_of program) is_op.0 op in
+      let has : Has (view_of program) n c.0 = subst (λ list. At list c.0) (sym is_op.1.accesses) c.1 in
+      ap (λ a. a.piece) (sym (of_change (view_of program) F n c.0 has (store_changes c.0.kind c.2.store))) ∙ c.2.piece
+
+  pub room_is : Formed (view_of program) → replicate (store_size (view_of program) n) 0 ≡ no_old (shapes_of program) op
+  room_is F =
+      let dst = destination_of op in
+      let last : get_or (operands_of op) (length (sources_of op)) dst ≡ dst = get_or-append_seam (sources_of op) dst [] dst in
+      let within : dst < length (shapes_of program) = subst (λ z. z < length (shapes_of program)) last (operands (length (sources_of op)) dst (omega (arith, length-append (sources_of op) (dst ∷ [])))) in
+      ap (λ z. replicate (bytes_of (piece_at (view_of program) z).shape) 0) (stores_to F) ∙ ap (λ z. replicate (bytes_of z) 0) (sym (shape_is dst within))

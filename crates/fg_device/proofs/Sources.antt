@@ -1,0 +1,105 @@
+-- The sources of an operation among the bytes that were loaded.
+use Rattle.std.proofs.Common.{◌≡◌, ◌≢◌, ℕ, ◌+◌, ◌<◌, ◌≤◌, ◌++◌, List, [], ◌∷◌, length, map, take, get_or, false, Option, refl, sym, ap, ◌∙◌, subst, ⊎_elim, arith}
+use Rattle.std.specs.Prelude.{slice_index, slice_index_or}
+use Rattle.std.proofs.lemmas.Bool.{cases_lt}
+use Rattle.std.proofs.lemmas.List.{get_or-map, get_or-take, get_or_past, get_or_append_left, length-append, length-map, length-take-le}
+use Rattle.std.proofs.Math.Seq.{get_or-append_seam, take-append_seam}
+use Rattle.fg_base.specs.Operands.{sources_of, destination_of, operands_of, mapped}
+use Rattle.fg_base.specs.Shapes.{bytes_of, shape_at}
+use Rattle.fg_base.specs.declared.op.Op.{Op}
+use Rattle.fg_base.specs.declared.op.Op.TheVariants.{FillBuffer, ClearImage, CopyBuffer, CopyImage, BufferToImage, ImageToBuffer, Ramp, Map, Combine, Select, Convert, Box3, Halve, Histogram, Draw}
+use Rattle.fg_base.specs.declared.op.Rect.{Rect}
+use Rattle.fg_base.specs.declared.shape.Shape.{Shape}
+use Rattle.fg_base.specs.declared.shape.Shape.TheVariants.{Buffer}
+use Rattle.fg_device.specs.Code.Loads.{IsRunnable}
+use Rattle.fg_pixels.specs.Sources.{source_bytes, is_draw}
+
+sources_mapped : {R S : Type 0} (f : R → S) (op : Op R) → sources_of (mapped f op) ≡ map f (sources_of op)
+sources_mapped f (FillBuffer dst offset size word) = refl
+sources_mapped f (ClearImage dst value) = refl
+sources_mapped f (CopyBuffer src dst src_offset dst_offset size) = refl
+sources_mapped f (CopyImage src dst src_x src_y dst_x dst_y width height) = refl
+sources_mapped f (BufferToImage src dst offset) = refl
+sources_mapped f (ImageToBuffer src dst offset) = refl
+sources_mapped f (Ramp dst base dx dy) = refl
+sources_mapped f (Map src dst fun value) = refl
+sources_mapped f (Combine a b dst fun) = refl
+sources_mapped f (Select mask a b dst) = refl
+sources_mapped f (Convert src dst) = refl
+sources_mapped f (Box3 src dst) = refl
+sources_mapped f (Halve src dst) = refl
+sources_mapped f (Histogram src dst) = refl
+sources_mapped f (Draw dst clear rects) = refl
+
+pub destination_mapped : {R S : Type 0} (f : R → S) (op : Op R) → destination_of (mapped f op) ≡ f (destination_of op)
+destination_mapped f (FillBuffer dst offset size word) = refl
+destination_mapped f (ClearImage dst value) = refl
+destination_mapped f (CopyBuffer src dst src_offset dst_offset size) = refl
+destination_mapped f (CopyImage src dst src_x src_y dst_x dst_y width height) = refl
+destination_mapped f (BufferToImage src dst offset) = refl
+destination_mapped f (ImageToBuffer src dst offset) = refl
+destination_mapped f (Ramp dst base dx dy) = refl
+destination_mapped f (Map src dst fun value) = refl
+destination_mapped f (Combine a b dst fun) = refl
+destination_mapped f (Select mask a b dst) = refl
+destination_mapped f (Convert src dst) = refl
+destination_mapped f (Box3 src dst) = refl
+destination_mapped f (Halve src dst) = refl
+destination_mapped f (Histogram src dst) = refl
+destination_mapped f (Draw dst clear rects) = refl
+
+pub not_draw : (op : Op ℕ) → ((dst : ℕ) (clear : Option ℕ) (rects : List Rect) → op ≢ Draw dst clear rects) → is_draw op ≡ false
+not_draw (FillBuffer dst offset size word) other = refl
+not_draw (ClearImage dst value) other = refl
+not_draw (CopyBuffer src dst src_offset dst_offset size) other = refl
+not_draw (CopyImage src dst src_x src_y dst_x dst_y width height) other = refl
+not_draw (BufferToImage src dst offset) other = refl
+not_draw (ImageToBuffer src dst offset) other = refl
+not_draw (Ramp dst base dx dy) other = refl
+not_draw (Map src dst fun value) other = refl
+not_draw (Combine a b dst fun) other = refl
+not_draw (Select mask a b dst) other = refl
+not_draw (Convert src dst) other = refl
+not_draw (Box3 src dst) other = refl
+not_draw (Halve src dst) other = refl
+not_draw (Histogram src dst) other = refl
+not_draw (Draw dst clear rects) other = absurd (other dst clear rects refl)
+
+-- what a vector holds when its slice was written
+pub written_back : (count : ℕ) (new more : List ℕ) → length new ≡ count → take count (new ++ more) ≡ new
+written_back count new more is = subst (λ n. take n (new ++ more) ≡ new) is (take-append_seam new more)
+
+pub one_more : (op : Op ℕ) → length (operands_of op) ≡ length (sources_of op) + 1
+one_more op = length-append (sources_of op) (destination_of op ∷ [])
+
+-- a source that there is not has no bytes
+pub source_read : (n k : ℕ) (loaded : List (List ℕ)) → k < n → get_or (take n loaded) k [] ≡ get_or loaded k []
+source_read n k loaded lt = get_or-take n loaded k [] lt
+
+pub source_past : (n k : ℕ) (loaded : List (List ℕ)) → n ≤ length loaded → n ≤ k → get_or (take n loaded) k [] ≡ []
+source_past n k loaded le ge = get_or_past (take n loaded) k [] (omega (arith, ge, length-take-le n loaded le))
+
+module _ (shapes : List Shape) (op : Op ℕ) (loaded : List (List ℕ)) (R : IsRunnable shapes op loaded) where
+  pub source_long : (k : ℕ) (r : List ℕ) → r ≡ slice_index_or (take (length (sources_of op)) loaded) k [] → length r ≡ source_bytes (mapped (shape_at shapes) op) k
+  source_long k r is = ⊎_elim
+      (λ (lt : k < length (sources_of op)).
+      ap length (is ∙ source_read (length (sources_of op)) k loaded lt)
+      ∙ R.sized k (omega (arith, lt, R.sources))
+      ∙ ap (λ z. bytes_of (shape_at shapes z)) (get_or_append_left (sources_of op) (destination_of op ∷ []) 0 k lt)
+      ∙ sym (ap (λ xs. slice_index (map bytes_of xs) k) (sources_mapped (shape_at shapes) op)
+      ∙ get_or-map bytes_of (map (shape_at shapes) (sources_of op)) k (Buffer 0) 0 (omega (arith, lt, length-map (sources_of op) (shape_at shapes)))
+      ∙ ap bytes_of (get_or-map (shape_at shapes) (sources_of op) k 0 (Buffer 0) lt)))
+      (λ (ge : length (sources_of op) ≤ k).
+      ap length (is ∙ source_past (length (sources_of op)) k loaded R.sources ge)
+      ∙ sym (ap (λ xs. slice_index (map bytes_of xs) k) (sources_mapped (shape_at shapes) op) ∙ get_or_past (map bytes_of (map (shape_at shapes) (sources_of op))) k 0 (omega (arith, ge, length-map (map (shape_at shapes) (sources_of op)) bytes_of, length-map (sources_of op) (shape_at shapes)))))
+      (cases_lt k (length (sources_of op)))
+
+  pub destination_within : destination_of op < length shapes
+  destination_within = subst (λ z. z < length shapes) (get_or-append_seam (sources_of op) (destination_of op) [] (destination_of op)) (R.operands (length (sources_of op)) (destination_of op) (omega (arith, one_more op)))
+
+  -- the old bytes of the destination are as many as it has
+  pub old_long : length (sources_of op) < length loaded → length (get_or loaded (length (sources_of op)) []) ≡ bytes_of (shape_at shapes (destination_of op))
+  old_long lt = R.sized (length (sources_of op)) lt ∙ ap (λ z. bytes_of (shape_at shapes z)) (get_or-append_seam (sources_of op) (destination_of op) [] 0)
+
+pub destination_long : (shapes : List Shape) (op : Op ℕ) (n : ℕ) → n ≡ bytes_of (shape_at shapes (destination_of op)) → n ≡ bytes_of (destination_of (mapped (shape_at shapes) op))
+destination_long shapes op n is = is ∙ ap bytes_of (sym (destination_mapped (shape_at shapes) op))

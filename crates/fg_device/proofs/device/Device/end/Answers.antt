@@ -1,0 +1,90 @@
+use Rattle.std.proofs.Common.{◌≡◌, ◌∙◌, ℕ, List, [], ◌∷◌, length, true, Some, None, refl, sym, ap, subst}
+use Rattle.std.specs.Arc.{arc_value}
+use Rattle.std.proofs.lemmas.List.{length-set}
+use Rattle.fg_base.specs.declared.event.Event.TheVariants.{End}
+use Rattle.fg_caches.specs.Effects as effects
+use Rattle.fg_caches.specs.Tables.{caches_of}
+use Rattle.fg_checker.specs.Apart.{op_at}
+use Rattle.fg_device.proofs.Ended.{begun_in, held_there, node_there, held_is, is_no_read, held_runs, held_room, is_made, len_is, store_piece, store_agent, store_cut, phase_is, room_there}
+use Rattle.fg_device.proofs.Events as events
+use Rattle.fg_device.proofs.Fitting.{still_fits}
+use Rattle.fg_device.proofs.Keeping.{kept_event}
+use Rattle.fg_device.proofs.device.Device.end.Goals as goal
+use Rattle.fg_device.specs.Code.Kept.{device_in}
+use Rattle.fg_device.specs.Code.Parts.{HasState}
+use Rattle.fg_steps.specs.Agents.{agent_of, piece_range}
+use Rattle.fg_steps.specs.Devices.{state_of}
+use Rattle.fg_steps.specs.Ready.{is_command, kind_at}
+use Rattle.fg_steps.specs.Steps.{store_of, made, ended}
+use Rattle.fg_subs.specs.declared.program.Program.{Program}
+use Rattle.fg_view.specs.Views.{View, view_of}
+
+pub take_held-requires : goal.take_held-requires
+take_held-requires c = held_there c.self.inside c.self.invariant c.into_parts-command.result.0.node (sym c.is_begun.ensures ∙ c.if-not-is_begun.false)
+
+pub op_of-op-requires-clause-command : goal.op_of-op-requires-clause-command
+op_of-op-requires-clause-command c =
+    let n = c.into_parts-command.result.0.node in
+    let held = held_is c.self.inside c.self.invariant n (sym c.is_begun.ensures ∙ c.if-not-is_begun.false) c.in-Some.held (sym c.in-Some.is ∙ c.take_held.ensures.taken) in
+    subst (λ (p : Program). is_command (kind_at (view_of p) n) ≡ true) (sym c.deref.ensures) held.command
+
+pub made-stored-requires-clause-runs : goal.made-stored-requires-clause-runs
+made-stored-requires-clause-runs c =
+    let n = c.into_parts-command.result.0.node in
+    let at : op_at (arc_value c.self.inside.program) n ≡ Some c.op_of-op.result.now = ap (λ (p : Program). op_at p n) (sym c.deref.ensures) ∙ c.op_of-op.ensures in
+    held_runs c.self.inside c.self.invariant n (sym c.is_begun.ensures ∙ c.if-not-is_begun.false) c.in-Some.held (sym c.in-Some.is ∙ c.take_held.ensures.taken) c.op_of-op.result.now at c.deref-2.result.now c.deref-2.ensures
+
+pub made-stored-requires-clause-room : goal.made-stored-requires-clause-room
+made-stored-requires-clause-room c =
+    let n = c.into_parts-command.result.0.node in
+    let at : op_at (arc_value c.self.inside.program) n ≡ Some c.op_of-op.result.now = ap (λ (p : Program). op_at p n) (sym c.deref.ensures) ∙ c.op_of-op.ensures in
+    held_room c.self.inside c.self.invariant n (sym c.is_begun.ensures ∙ c.if-not-is_begun.false) c.in-Some.held (sym c.in-Some.is ∙ c.take_held.ensures.taken) c.op_of-op.result.now at c.deref-2.result.now c.deref-2.ensures
+
+pub store-requires-clause-piece : goal.store-requires-clause-piece
+store-requires-clause-piece c = store_piece c.self.inside c.self.invariant c.into_parts-command.result.0.node (sym c.is_begun.ensures ∙ c.if-not-is_begun.false) c.in-Some.held (sym c.in-Some.is ∙ c.take_held.ensures.taken) c.view.result.now c.view.ensures.view
+
+pub store-requires-clause-agent : goal.store-requires-clause-agent
+store-requires-clause-agent c = store_agent c.self.inside c.self.invariant c.into_parts-command.result.0.node (sym c.is_begun.ensures ∙ c.if-not-is_begun.false) c.in-Some.held (sym c.in-Some.is ∙ c.take_held.ensures.taken) c.view.result.now c.view.ensures.view
+
+pub store-requires-clause-len : goal.store-requires-clause-len
+store-requires-clause-len c =
+    let n = c.into_parts-command.result.0.node in
+    let at : op_at (arc_value c.self.inside.program) n ≡ Some c.op_of-op.result.now = ap (λ (p : Program). op_at p n) (sym c.deref.ensures) ∙ c.op_of-op.ensures in
+    len_is c.self.inside c.self.invariant n (sym c.is_begun.ensures ∙ c.if-not-is_begun.false) c.in-Some.held (sym c.in-Some.is ∙ c.take_held.ensures.taken) c.op_of-op.result.now at c.deref-2.result.now c.deref-2.ensures c.made-stored.result c.view.result.now c.view.ensures.view c.made-stored.ensures.long
+
+pub store-requires-clause-cut : goal.store-requires-clause-cut
+store-requires-clause-cut c = store_cut c.self.inside c.self.invariant c.into_parts-command.result.0.node (sym c.is_begun.ensures ∙ c.if-not-is_begun.false) c.in-Some.held (sym c.in-Some.is ∙ c.take_held.ensures.taken) c.view.result.now c.view.ensures.view
+
+pub store-requires-clause-room : goal.store-requires-clause-room
+store-requires-clause-room c = (room_there c.self.inside c.self.invariant c.into_parts-command.result.0.node (sym c.is_begun.ensures ∙ c.if-not-is_begun.false)).1
+
+pub push_reserved-requires : goal.push_reserved-requires
+push_reserved-requires c = (room_there c.self.inside c.self.invariant c.into_parts-command.result.0.node (sym c.is_begun.ensures ∙ c.if-not-is_begun.false)).0
+
+pub invariant_of-self : goal.invariant_of-self
+invariant_of-self c =
+    let i = c.self.inside in
+    let K = c.self.invariant in
+    let d = device_in i in
+    let program = arc_value i.program in
+    let V = view_of program in
+    let s = state_of d in
+    let n = c.into_parts-command.result.0.node in
+    let begun = sym c.is_begun.ensures ∙ c.if-not-is_begun.false in
+    let h = c.in-Some.held in
+    let is = sym c.in-Some.is ∙ c.take_held.ensures.taken in
+    let op = c.op_of-op.result.now in
+    let at : op_at program n ≡ Some op = ap (λ (p : Program). op_at p n) (sym c.deref.ensures) ∙ c.op_of-op.ensures in
+    let all = made program s n (i.fill ∷ []) in
+    let stored : c.made-stored.result ≡ all = is_made i K n begun h is op at c.deref-2.result.now c.deref-2.ensures c.made-stored.result c.view.result.now c.view.ensures.view c.junk_if-junk.result c.is_marked.result c.is_marked.ensures c.junk_if-junk.ensures c.made-stored.ensures.junk c.made-stored.ensures.stored in
+    let old = caches_of i.table in
+    let put : caches_of c.store.new.table ≡ effects.put (agent_of (store_of V n).kind) (piece_range V (store_of V n).piece) all old =
+    c.store.ensures.bytes
+    ∙ ap (λ (v : View). effects.put (agent_of (store_of v n).kind) (piece_range v (store_of v n).piece) c.made-stored.result old) (c.view.ensures.view ∙ K.view)
+    ∙ ap (λ (bytes : List ℕ). effects.put (agent_of (store_of V n).kind) (piece_range V (store_of V n).piece) bytes old) stored in
+    let p = c.push_reserved.ensures in
+    let r = ended V s n all in
+    kept_event i (End n) r K ((c.event_laws.ensures.nodes d n).ends (begun_in i K n begun)) c.end.new.self c.store.new.table c.take_held.new.list i.reads c.push_reserved.new.self p.items
+    c.end.ensures.view (ap length c.take_held.ensures.rest ∙ length-set i.held.items n None) (still_fits i.table c.store.new.table program i.fill c.store.ensures.keeps K.table)
+    (subst (λ held. HasState program c.end.new.self c.store.new.table held i.reads.items r) (sym c.take_held.ensures.rest) (events.ends program i.control c.end.new.self i.table c.store.new.table i.held.items i.reads.items s K.state n all K.view c.end.ensures.agrees (held_there i K n begun) (is_no_read i K n begun h is) put))
+    (events.room_ended program s i.moves i.table.cuts_left i.table.stores_left _ _ K.room n (node_there i K n begun) r c.store.new.table.cuts_left c.store.new.table.stores_left _ _ (phase_is i K n begun) (λ k. refl) c.store.ensures.cuts c.store.ensures.stores p.len p.capacity)

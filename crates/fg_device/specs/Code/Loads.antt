@@ -1,0 +1,59 @@
+-- What an operation runs on, and what a device holds of begun commands and host reads.
+use Rattle.std.specs.Prelude.{◌≡◌, ℕ, ◌<◌, ◌≤◌, List, [], length, replicate, get_or, slice_get, true, false, Option, Some, None}
+use Rattle.std.specs.List.{All}
+use Rattle.fg_base.specs.Fits.{fits}
+use Rattle.fg_base.specs.Operands.{operands_of, sources_of, mapped}
+use Rattle.fg_base.specs.Shapes.{bytes_of, shape_at}
+use Rattle.fg_base.specs.declared.op.Op.{Op}
+use Rattle.fg_base.specs.declared.shape.Shape.{Shape}
+use Rattle.fg_checker.specs.Apart.{op_at}
+use Rattle.fg_device.specs.declared.held.Held.{Held}
+use Rattle.fg_steps.specs.Ready.{is_command, kind_at, read_node}
+use Rattle.fg_steps.specs.States.{is_begun, is_done, State}
+use Rattle.fg_steps.specs.Steps.{store_of}
+use Rattle.fg_subs.specs.Rules.{shapes_of}
+use Rattle.fg_subs.specs.declared.program.Program.{Program}
+use Rattle.fg_view.specs.Views.{View, view_of, piece_at}
+
+-- the operation fits the shapes, and has been given the bytes of its sources and then, or not, the old ones of its destination
+pub record IsRunnable (shapes : List Shape) (op : Op ℕ) (loaded : List (List ℕ)) : Type 0 where
+  pub operands : All (λ p. p < length shapes) (operands_of op)
+  pub fitting : fits (mapped (shape_at shapes) op) ≡ true
+  pub sources : length (sources_of op) ≤ length loaded
+  pub few : length loaded ≤ length (operands_of op)
+  pub sized : (k : ℕ) → k < length loaded → length (get_or loaded k []) ≡ bytes_of (shape_at shapes (get_or (operands_of op) k 0))
+
+-- BEGUN COMMANDS
+
+-- how many bytes a command stores
+abbrev pub store_size : View → ℕ → ℕ
+store_size V n = bytes_of (piece_at V (store_of V n).piece).shape
+
+-- a begun command, with what the state says that it loaded, and zeros in the room of what it stores
+pub record IsHeld (program : Program) (s : State) (n : ℕ) (held : Held) : Type 0 where
+  pub begun : is_begun (s.phase n) ≡ true
+  pub command : is_command (kind_at (view_of program) n) ≡ true
+  pub loaded : held.loaded ≡ s.loaded n
+  pub room : held.room ≡ replicate (store_size (view_of program) n) 0
+  pub runs : (op : Op ℕ) → op_at program n ≡ Some op → IsRunnable (shapes_of program) op held.loaded
+
+abbrev pub Holds : Program → State → ℕ → Option Held → Type 0
+Holds program s n None = is_begun (s.phase n) ≡ false
+Holds program s n (Some held) = IsHeld program s n held
+
+abbrev pub held_at : List (Option Held) → ℕ → Option Held
+held_at list n = get_or list n None
+
+abbrev pub HoldsAll : Program → List (Option Held) → State → Type 0
+HoldsAll program list s = (n : ℕ) → Holds program s n (held_at list n)
+
+-- HOST READS
+
+-- read-back k has room for its piece, and where it is done the bytes that were read
+pub record HasRead (program : Program) (list : List (List ℕ)) (s : State) (k p : ℕ) : Type 0 where
+  pub room : length (get_or list k []) ≡ bytes_of (piece_at (view_of program) p).shape
+  pub bytes : is_done (s.phase (read_node program k)) ≡ true → get_or list k [] ≡ s.host (read_node program k)
+
+pub record HasReadAll (program : Program) (list : List (List ℕ)) (s : State) : Type 0 where
+  pub count : length list ≡ length program.readbacks
+  pub each : (k p : ℕ) → slice_get program.readbacks k ≡ Some p → HasRead program list s k p

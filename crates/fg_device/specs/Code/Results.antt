@@ -1,0 +1,18 @@
+-- What a computed command has inside.
+use Rattle.std.specs.Prelude.{◌≡◌, ℕ, List, length}
+use Rattle.fg_base.specs.Operands.{destination_of}
+use Rattle.fg_base.specs.Shapes.{bytes_of, shape_at}
+use Rattle.fg_device.specs.declared.job.Command.{Command}
+use Rattle.fg_device.specs.declared.job.Finished.TheInside.{Inside}
+use Rattle.fg_steps.specs.Outputs.{stored_by}
+
+abbrev pub command_of : Inside → Command
+command_of i = i.command
+
+-- the bytes are those of the operation for what was loaded, as many as the destination has
+pub record IsResult (c : Command) (bytes : List ℕ) : Type 0 where
+  pub stored : bytes ≡ stored_by c.shapes c.op c.loaded
+  pub long : length bytes ≡ bytes_of (shape_at c.shapes (destination_of c.op))
+
+abbrev pub IsFinished : Inside → Type 0
+IsFinished i = IsResult i.command i.bytes

@@ -1,0 +1,3 @@
+pub mod Carried
+pub mod Code
+pub mod Landings

@@ -1,0 +1,87 @@
+//! Bytes whose memory was taken before they are known.
+
+ghost use Rattle.std.specs.Prelude.{◌≡◌, ◌<◌, true, false, if◌then◌else◌, length, replicate, Some, None, IfOk};
+ghost use Rattle.fg_caches.specs.Effects.{load, read_main};
+ghost use Rattle.fg_caches.specs.Lines.{range};
+ghost use Rattle.fg_caches.specs.Tables.{InMemory, caches_of};
+
+use fg_base::{List, NoMemory};
+use fg_caches::Segments;
+use std::alloc::Global;
+use std::marker::Model;
+
+/// So many bytes.
+#[derive(Debug, Drop)]
+pub(crate) struct Buffer {
+    bytes: Vec<u8>,
+}
+
+impl Model for Buffer {
+    ghost use Rattle.std.specs.Prelude.{ℕ, List};
+
+    ghost Value = { List ℕ };
+
+    ghost view = { λ b. b.bytes.items };
+}
+
+impl Buffer {
+    pub fn new(alloc: Global, byte: u8, len: u32) -> Result<Buffer, NoMemory>
+        ensures { IfOk result (λ buffer. buffer ≡ replicate len byte) }
+    {
+        Ok(Buffer {
+            bytes: vec![in alloc; byte; len as usize]?,
+        })
+    }
+
+    pub fn as_slice(&self) -> &[u8]
+        ensures { result.now ≡ self.now }
+    {
+        self.bytes.as_slice()
+    }
+
+    /// The bytes as they are. It takes no memory.
+    pub fn into_vec(self) -> Vec<u8>
+        ensures { result.items ≡ self }
+    {
+        let Buffer { bytes } = self;
+        bytes
+    }
+
+    /// As `into_vec`.
+    pub fn into_list(self) -> List<u8>
+        ensures { result ≡ self }
+    {
+        List::from_vec(self.into_vec())
+    }
+
+    /// All bytes become one.
+    pub fn fill(&mut self, byte: u8)
+        ensures { self.new ≡ replicate (length self.old) byte }
+    {
+        self.bytes.fill(byte);
+    }
+
+    /// The bytes as the agent sees them.
+    pub fn load(&mut self, table: &Segments, agent: u32, memory: u32, start: u32)
+        requires agent { agent < table.now.agents }
+        requires within { InMemory table.now memory start (length self.old) }
+        ensures { self.new ≡ load agent (range memory start (length self.old)) (caches_of table.now) }
+    {
+        table.load(agent, memory, start, &mut self.bytes);
+    }
+
+    /// The bytes of main.
+    pub fn read_main(&mut self, table: &Segments, memory: u32, start: u32)
+        requires { InMemory table.now memory start (length self.old) }
+        ensures { self.new ≡ read_main (range memory start (length self.old)) (caches_of table.now) }
+    {
+        table.read_main(memory, start, &mut self.bytes);
+    }
+}
+
+/// The byte of all junk, where something went wrong.
+pub(crate) fn junk_if(spoilt: bool, byte: u8) -> Option<u8>
+    ensures { result ≡ (if spoilt then Some byte else None) }
+{
+    if spoilt { Some(byte) } else { None }
+}

@@ -1,0 +1,159 @@
+//! A command begins.
+
+ghost use Rattle.std.specs.Prelude.{◌≡◌, ◌<◌, [], ◌∷◌, length, map, true, false, if◌then◌else◌, IfOk, OnErr, replicate, Some};
+ghost use Rattle.fg_base.specs.Shapes.{bytes_of};
+ghost use Rattle.fg_base.specs.declared.event.Event.TheVariants as events;
+ghost use Rattle.fg_caches.specs.Effects.{load};
+ghost use Rattle.fg_caches.specs.Lines.{range};
+ghost use Rattle.fg_caches.specs.Tables.{InMemory, caches_of};
+ghost use Rattle.fg_checker.specs.Apart.{op_at};
+ghost use Rattle.fg_device.specs.Carried.{Carries};
+ghost use Rattle.fg_device.specs.Code.Loads.{store_size, IsRunnable};
+ghost use Rattle.fg_steps.specs.Devices.{state_of, view_in, did, is_ready, LoadsApart};
+ghost use Rattle.fg_steps.specs.Outputs.{no_old};
+ghost use Rattle.fg_steps.specs.Ready.{is_command, kind_at};
+ghost use Rattle.fg_steps.specs.Steps.{taken};
+ghost use Rattle.fg_subs.specs.Rules.{shapes_of};
+ghost use Rattle.fg_view.specs.ShapedView.{Has};
+ghost use Rattle.fg_view.specs.Views.{view_of, loads_of};
+
+use super::Device;
+use crate::agents::{agent_of, store_of};
+use crate::buffer::Buffer;
+use crate::held::{Held, hold};
+use crate::job::{Command, Job};
+use crate::nodes::op_of;
+use fg_base::{Event, List, NoMemory};
+use fg_caches::Segments;
+use fg_steps::event_laws;
+use fg_subs::Piece;
+use fg_view::Access;
+use std::alloc::Global;
+
+// What a Begin takes memory for: the job and what the device holds.
+#[derive(Drop)]
+struct Taken {
+    command: Command,
+    room: Buffer,
+    held: Held,
+}
+
+fn copies(alloc: Global, lists: &[List<u8>]) -> Result<List<List<u8>>, NoMemory>
+    ensures { IfOk result (λ copies. copies ≡ lists.now) }
+{
+    let mut copies = List::new(alloc);
+    for list in lists {
+        copies.push(list.copy(alloc)?)?;
+    }
+    Ok(copies)
+}
+
+// The bytes that an agent sees of a piece, or else the junk.
+fn sight(spoilt: bool, junk: Buffer, table: &Segments, agent: u32, from: Piece) -> List<u8>
+    requires len { length junk ≡ bytes_of from.shape }
+    requires agent { agent < table.now.agents }
+    requires within { InMemory table.now from.memory from.offset (bytes_of from.shape) }
+    ensures { result ≡ (if spoilt then junk else load agent (range from.memory from.offset (bytes_of from.shape)) (caches_of table.now)) }
+{
+    let mut bytes = junk;
+    if !spoilt {
+        bytes.load(table, agent, from.memory, from.offset);
+    }
+    bytes.into_list()
+}
+
+impl Device {
+    /// The event Begin: a command loads. It takes all memory that `compute` and `end` need; without it nothing has changed.
+    pub fn begin(&mut self, alloc: Global, node: u32) -> Result<Job, NoMemory>
+        requires command { is_command (kind_at (view_in self.old) node) ≡ true }
+        requires ready { is_ready self.old node ≡ true }
+        ensures event { IfOk result (λ job. self.new ≡ did self.old (events.Begin node)) }
+        ensures job { IfOk result (Carries self.new node) }
+        ensures apart { IfOk result (λ job. LoadsApart self.new node job.loaded) }
+        ensures err { OnErr result (self.new ≡ self.old) }
+    {
+        let Taken {
+            command,
+            room,
+            held,
+        } = self.taken(alloc, node)?;
+        event_laws();
+        self.control.begin(node);
+        hold(&mut self.held, node, held);
+        self.history.push_reserved(Event::Begin { node });
+        Ok(Job::new(command, room))
+    }
+
+    // All that a Begin takes memory for.
+    fn taken(&self, alloc: Global, node: u32) -> Result<Taken, NoMemory>
+        requires command { is_command (kind_at (view_in self.now) node) ≡ true }
+        requires node { node < length (view_in self.now).nodes }
+        ensures node { IfOk result (λ t. t.command.node ≡ node) }
+        ensures loaded { IfOk result (λ t. t.command.loaded ≡ map (taken (view_in self.now) (state_of self.now) node (self.now.fill ∷ [])) (loads_of (view_in self.now) node)) }
+        ensures runs { IfOk result (λ t. IsRunnable t.command.shapes t.command.op t.command.loaded) }
+        ensures op { IfOk result (λ t. op_at self.now.program node ≡ Some t.command.op) }
+        ensures shapes { IfOk result (λ t. t.command.shapes ≡ shapes_of self.now.program) }
+        ensures room { IfOk result (λ t. t.room ≡ no_old t.command.shapes t.command.op) }
+        ensures again { IfOk result (λ t. t.held.loaded ≡ t.command.loaded) }
+        ensures spare { IfOk result (λ t. t.held.room ≡ replicate (store_size (view_in self.now) node) 0) }
+    {
+        let loaded = self.loads(alloc, node)?;
+        let again = copies(alloc, &loaded)?;
+        let room = self.room(alloc, node)?;
+        let spare = self.room(alloc, node)?;
+        let op = op_of(&self.program, node).copy(alloc)?;
+        let shapes = self.shapes.copy(alloc)?;
+        Ok(Taken {
+            command: Command {
+                node,
+                op,
+                shapes,
+                loaded,
+            },
+            room,
+            held: Held {
+                loaded: again,
+                room: spare,
+            },
+        })
+    }
+
+    // Zeros, as many as the command stores.
+    fn room(&self, alloc: Global, node: u32) -> Result<Buffer, NoMemory>
+        requires command { is_command (kind_at (view_in self.now) node) ≡ true }
+        requires node { node < length (view_in self.now).nodes }
+        ensures { IfOk result (λ room. room ≡ replicate (store_size (view_in self.now) node) 0) }
+    {
+        let view = self.control.view();
+        let piece = view.piece(store_of(view, node).piece);
+        Buffer::new(alloc, 0, piece.shape.bytes() as u32)
+    }
+
+    // What the command loads, load by load.
+    fn loads(&self, alloc: Global, node: u32) -> Result<List<List<u8>>, NoMemory>
+        requires command { is_command (kind_at (view_in self.now) node) ≡ true }
+        requires node { node < length (view_in self.now).nodes }
+        ensures { IfOk result (λ loaded. loaded ≡ map (taken (view_in self.now) (state_of self.now) node (self.now.fill ∷ [])) (loads_of (view_in self.now) node)) }
+    {
+        let mut loaded = List::new(alloc);
+        for access in self.control.view().effect_at(node).accesses.as_slice() {
+            if access.kind.loads() {
+                loaded.push(self.load(alloc, node, *access)?)?;
+            }
+        }
+        Ok(loaded)
+    }
+
+    // The bytes that the agent sees, or junk.
+    fn load(&self, alloc: Global, node: u32, access: Access) -> Result<List<u8>, NoMemory>
+        requires command { is_command (kind_at (view_in self.now) node) ≡ true }
+        requires node { node < length (view_in self.now).nodes }
+        requires has { Has (view_in self.now) node access }
+        ensures { IfOk result (λ bytes. bytes ≡ taken (view_in self.now) (state_of self.now) node (self.now.fill ∷ []) access) }
+    {
+        let piece = self.control.view().piece(access.piece);
+        let junk = Buffer::new(alloc, self.fill, piece.shape.bytes() as u32)?;
+        let spoilt = self.control.is_spoilt(node, access);
+        Ok(sight(spoilt, junk, &self.table, agent_of(access.kind), piece))
+    }
+}

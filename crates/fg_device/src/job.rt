@@ -1,0 +1,113 @@
+//! A begun command on its way.
+
+ghost use Rattle.std.specs.Prelude.{◌≡◌};
+ghost use Rattle.fg_device.specs.Code.Loads.{IsRunnable};
+ghost use Rattle.fg_device.specs.Code.Results.{IsResult};
+ghost use Rattle.fg_steps.specs.Outputs.{no_old, stored_by};
+
+use crate::buffer::Buffer;
+use crate::running::stored_by;
+use fg_base::{List, Op, Shape};
+use std::marker::Model;
+use std::thread::Threads;
+
+/// A begun command: its node, its operation, the shapes of all pieces, and the bytes that it loaded, load by load.
+#[derive(Debug, Drop)]
+pub struct Command {
+    pub node: u32,
+    pub op: Op<u32>,
+    pub shapes: List<Shape>,
+    pub loaded: List<List<u8>>,
+}
+
+/// A begun command that is to be computed. It has the memory that this takes, and cannot be let go.
+pub struct Job {
+    command: Command,
+    room: Buffer,
+}
+
+impl Model for Job {
+    ghost use Rattle.fg_device.specs.declared.job.Command.{Command};
+    ghost use Rattle.fg_device.specs.Code.Jobs.{command_of, IsJob};
+
+    ghost Value = { Command };
+
+    ghost view = { command_of };
+
+    ghost invariant = { IsJob };
+}
+
+/// A command that was computed, with the bytes that it stores. It is of the device that began it, and cannot be let go.
+pub struct Finished {
+    command: Command,
+    bytes: List<u8>,
+}
+
+impl Model for Finished {
+    ghost use Rattle.fg_device.specs.declared.job.Command.{Command};
+    ghost use Rattle.fg_device.specs.Code.Results.{command_of, IsFinished};
+
+    ghost Value = { Command };
+
+    ghost view = { command_of };
+
+    ghost invariant = { IsFinished };
+}
+
+/// How an End went.
+#[derive(Clone, Copy, Debug, PartialEq, Eq)]
+pub enum Landed {
+    Done,
+    /// The node is not begun in this device, and nothing has changed.
+    NotBegun,
+}
+
+impl Job {
+    pub(crate) fn new(command: Command, room: Buffer) -> Job
+        requires runnable { IsRunnable command.shapes command.op command.loaded }
+        requires room { room ≡ no_old command.shapes command.op }
+        ensures { result ≡ command }
+    {
+        Job { command, room }
+    }
+
+    /// What is to be computed.
+    pub fn command(&self) -> &Command
+        ensures { result.now ≡ self.now }
+    {
+        &self.command
+    }
+
+    /// Runs the operation. It has no part in the device.
+    pub fn compute<R: Threads + Sync>(self, _rt: &R) -> Finished
+        ensures { result ≡ self }
+    {
+        let Job { command, room } = self;
+        let bytes = stored_by(&command.op, &command.shapes, &command.loaded, room);
+        Finished { command, bytes }
+    }
+}
+
+impl Finished {
+    /// What was computed.
+    pub fn command(&self) -> &Command
+        ensures { result.now ≡ self.now }
+    {
+        &self.command
+    }
+
+    /// The bytes that the operation stores.
+    pub fn bytes(&self) -> &[u8]
+        ensures { result.now ≡ stored_by self.now.shapes self.now.op self.now.loaded }
+    {
+        &self.bytes
+    }
+
+    pub(crate) fn into_parts(self) -> (Command, List<u8>)
+        ensures command { result.0 ≡ self }
+        ensures bytes { IsResult self result.1 }
+    {
+        let Finished { command, bytes } = self;
+        (command, bytes)
+    }
+}

@@ -1,0 +1,16 @@
+//! A device with caches, on which a wrong submission goes wrong. Each call that changes it is one event, and its state is what
+//! the events of its history make of the opening bytes.
+#![tactic(auto)]
+
+mod agents;
+mod buffer;
+mod device;
+mod held;
+mod job;
+mod nodes;
+mod opening;
+mod running;
+mod syncing;
+
+pub use device::Device;
+pub use job::{Command, Finished, Job, Landed};

@@ -1,0 +1,113 @@
+//! What a device is opened with.
+
+ghost use Rattle.std.specs.Prelude.{◌≡◌, ◌<◌, ◌≤◌, ◌+◌, ◌*◌, ◌^◌, ℕ, [], length, map, vec_len, vec_capacity, IfOk};
+ghost use Rattle.std.specs.List.{All};
+ghost use Rattle.fg_base.specs.Maxima.{max_nodes};
+ghost use Rattle.fg_base.specs.Shapes.{bytes_of};
+ghost use Rattle.fg_caches.specs.Effects.{opened};
+ghost use Rattle.fg_caches.specs.Tables.{caches_of};
+ghost use Rattle.fg_device.specs.Code.Opened.{opened_memory, room_of, piece_end, HasCuts};
+ghost use Rattle.fg_device.specs.Code.Tables.{FitsProgram};
+ghost use Rattle.fg_subs.specs.Obeys.{Obeys, IsSmall};
+ghost use Rattle.fg_subs.specs.declared.rule.Rule.{Rule};
+ghost use Rattle.fg_view.specs.Views.{piece_at};
+
+use crate::buffer::Buffer;
+use fg_base::{Event, List, NoMemory};
+use fg_caches::Segments;
+use fg_subs::{Memory, Piece, Program};
+use fg_view::View;
+use std::alloc::Global;
+
+fn opened(alloc: Global, memory: &Memory, fill: u8) -> Result<List<u8>, NoMemory>
+    ensures { IfOk result (λ bytes. bytes ≡ opened_memory fill memory.now) }
+{
+    match memory {
+        Memory::Plain { size } => Ok(Buffer::new(alloc, fill, *size)?.into_list()),
+        Memory::Import { bytes } => bytes.copy(alloc),
+    }
+}
+
+// The imports' bytes, and memories full of one byte.
+fn opening_of(alloc: Global, memories: &[Memory], fill: u8) -> Result<List<List<u8>>, NoMemory>
+    ensures { IfOk result (λ opening. opening ≡ map (opened_memory fill) memories.now) }
+{
+    let mut opening = List::new(alloc);
+    for memory in memories {
+        opening.push(opened(alloc, memory, fill)?)?;
+    }
+    Ok(opening)
+}
+
+// Both ends of each piece.
+fn cuts_of(alloc: Global, pieces: &[Piece]) -> Result<Vec<(u32, u32)>, NoMemory>
+    requires { All (λ piece. piece_end piece < 2 ^ 32) pieces.now }
+    ensures { IfOk result (λ cuts. HasCuts pieces.now (length pieces.now) cuts.items) }
+{
+    let mut cuts = Vec::new(alloc);
+    for piece in pieces {
+        cuts.push((piece.memory, piece.offset))?;
+        cuts.push((piece.memory, piece.offset + piece.shape.bytes() as u32))?;
+    }
+    Ok(cuts)
+}
+
+// As many bytes as the longest piece has.
+fn longest(pieces: &[Piece]) -> u32
+    requires { All (λ piece. bytes_of piece.shape < 2 ^ 32) pieces.now }
+    ensures { All (λ piece. bytes_of piece.shape ≤ result) pieces.now }
+{
+    let mut longest = 0;
+    for piece in pieces {
+        longest = longest.max(piece.shape.bytes() as u32);
+    }
+    longest
+}
+
+/// The table of a program: its memories as they are opened, cut at the ends of all pieces, with room for so many cache moves and
+/// stores.
+pub(crate) fn table_of(
+    alloc: Global,
+    program: &Program,
+    fill: u8,
+    moves: u32,
+    stores: u32,
+) -> Result<Segments, NoMemory>
+    requires small { IsSmall program.now }
+    requires obeys { (rule : Rule) → Obeys rule program.now }
+    requires stores { stores ≤ max_nodes }
+    ensures fits { IfOk result (λ table. FitsProgram table program.now fill) }
+    ensures opened { IfOk result (λ table. caches_of table ≡ opened (map (opened_memory fill) program.now.memories)) }
+    ensures cuts { IfOk result (λ table. table.cuts_left ≡ 2 * moves) }
+    ensures stores { IfOk result (λ table. table.stores_left ≡ stores) }
+{
+    let opening = opening_of(alloc, &program.memories, fill)?;
+    let cuts = cuts_of(alloc, &program.pieces)?;
+    let junk = Buffer::new(alloc, fill, longest(&program.pieces))?.into_list();
+    let agents = 8 * program.queues.len() as u32;
+    Segments::new(alloc, agents, opening, junk, &cuts, moves, stores)
+}
+
+/// Room for the pieces that are read back.
+pub(crate) fn rooms(alloc: Global, view: &View, readbacks: &[u32]) -> Result<Vec<Buffer>, NoMemory>
+    requires there { All (λ p. p < length view.now.pieces) readbacks.now }
+    requires small { (p : ℕ) → p < length view.now.pieces → bytes_of (piece_at view.now p).shape < 2 ^ 32 }
+    ensures { IfOk result (λ rooms. rooms.items ≡ map (room_of view.now) readbacks.now) }
+{
+    let mut rooms = Vec::new(alloc);
+    for piece in readbacks {
+        let len = view.piece(*piece).shape.bytes() as u32;
+        rooms.push(Buffer::new(alloc, 0, len)?)?;
+    }
+    Ok(rooms)
+}
+
+/// No event, and room for so many.
+pub(crate) fn history(alloc: Global, count: usize) -> Result<Vec<Event>, NoMemory>
+    ensures items { IfOk result (λ history. history.items ≡ []) }
+    ensures room { IfOk result (λ history. count + vec_len history ≤ vec_capacity history) }
+{
+    let mut history = Vec::new(alloc);
+    history.reserve(count)?;
+    Ok(history)
+}

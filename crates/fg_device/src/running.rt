@@ -1,0 +1,74 @@
+//! What a command stores, by what it loaded.
+
+ghost use Rattle.std.specs.Prelude.{◌≡◌, ◌≤◌, [], length, take, slice_index_or};
+ghost use Rattle.fg_base.specs.Applied.{applied};
+ghost use Rattle.fg_base.specs.Operands.{sources_of, destination_of};
+ghost use Rattle.fg_base.specs.Shapes.{bytes_of, shape_at};
+ghost use Rattle.fg_device.specs.Code.Loads.{IsRunnable};
+ghost use Rattle.fg_steps.specs.Outputs.{no_old, stored_by};
+
+use crate::buffer::Buffer;
+use fg_base::{List, Op, Shape};
+use fg_draw::draw;
+use fg_pixels::apply;
+
+// How many sources an operation has.
+#[tactic(auto, using(crate::proofs::Sources::one_more))]
+fn source_count(op: &Op<u32>) -> usize
+    ensures { result ≡ length (sources_of op.now) }
+{
+    op.touch_count() as usize - 1
+}
+
+// The bytes of a source; none where the operation has no such source.
+#[tactic(auto, using(crate::proofs::Sources::source_read, crate::proofs::Sources::source_past))]
+fn source<'a>(op: &Op<u32>, loaded: &'a [List<u8>], k: usize) -> &'a [u8]
+    requires { length (sources_of op.now) ≤ length loaded.now }
+    ensures { result.now ≡ slice_index_or (take (length (sources_of op.now)) loaded.now) k [] }
+{
+    if k < source_count(op) {
+        &loaded[k]
+    } else {
+        &[]
+    }
+}
+
+// What the operation leaves in `out`, which holds the destination's old bytes.
+fn run(op: &Op<u32>, shapes: &[Shape], loaded: &[List<u8>], out: &mut [u8])
+    requires runnable { IsRunnable shapes.now op.now loaded.now }
+    requires out { length out.old ≡ bytes_of (shape_at shapes.now (destination_of op.now)) }
+    ensures { out.new ≡ applied shapes.now op.now (take (length (sources_of op.now)) loaded.now) out.old }
+{
+    if let Op::Draw { dst, clear, rects } = op {
+        draw(shapes[*dst as usize], *clear, rects, out)
+    } else {
+        apply(
+            op,
+            shapes,
+            source(op, loaded, 0),
+            source(op, loaded, 1),
+            source(op, loaded, 2),
+            out,
+        )
+    }
+}
+
+/// What a command stores. The room holds zeros, and takes the old bytes where these were loaded.
+pub(crate) fn stored_by(
+    op: &Op<u32>,
+    shapes: &[Shape],
+    loaded: &[List<u8>],
+    room: Buffer,
+) -> List<u8>
+    requires runnable { IsRunnable shapes.now op.now loaded.now }
+    requires room { room ≡ no_old shapes.now op.now }
+    ensures stored { result ≡ stored_by shapes.now op.now loaded.now }
+    ensures long { length result ≡ bytes_of (shape_at shapes.now (destination_of op.now)) }
+{
+    let mut out = room.into_vec();
+    if let Some(old) = loaded.get(source_count(op)) {
+        out.copy_from_slice(old);
+    }
+    run(op, shapes, loaded, &mut out);
+    List::from_vec(out)
+}
