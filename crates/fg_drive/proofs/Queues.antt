@@ -1,0 +1,87 @@
+-- Which queues nodes are of, and that a run does not stand still.
+use Rattle.std.proofs.Common.{◌≡◌, ℕ, ◌+◌, ◌-◌, ◌<◌, ◌≤◌, true, length, get_or, slice_get, Some, None, refl, sym, ap, ◌∙◌, subst, ⊎_elim, arith}
+use Rattle.std.proofs.lemmas.Bool.{false≢true}
+use Rattle.std.proofs.lemmas.List.{get_or-map, length-map}
+use Rattle.std.proofs.lemmas.Option.{slice_get-get_or}
+use Rattle.fg_checker.specs.Sound.{IsSound}
+use Rattle.fg_hb.specs.Edges.{node_at, is_host}
+use Rattle.fg_hb.specs.Nodes.{entry_node, item_node, no_node}
+use Rattle.fg_steps.specs.Devices.{Device, state_of, view_in, is_ready, NoneReady, IsComplete, NoneBegun}
+use Rattle.fg_steps.specs.Ready.{kind_at, read_node}
+use Rattle.fg_steps.specs.Runs.{Runs}
+use Rattle.fg_steps.proofs.Control.{ready_within}
+use Rattle.fg_subs.specs.Entries.{Entry, OfWait, OfItem, OfSignal, OfHost, entries_of, queue_of, first_node, ByQueue}
+use Rattle.fg_subs.specs.declared.program.Item.{Item}
+use Rattle.fg_subs.specs.declared.program.Item.TheVariants.{Command, Global, BufferBarrier, ImageBarrier, Release, Acquire}
+use Rattle.fg_subs.specs.declared.program.Program.{Program}
+use Rattle.fg_view.specs.Views.{view_of}
+
+item_queue : (q : ℕ) (item : Item) → (item_node q item).queue ≡ q
+item_queue q (Command op) = refl
+item_queue q (Global masks) = refl
+item_queue q (BufferBarrier piece masks) = refl
+item_queue q (ImageBarrier piece layouts masks) = refl
+item_queue q (Release transfer) = refl
+item_queue q (Acquire transfer) = refl
+
+not_host : (q : ℕ) (item : Item) → is_host (item_node q item).kind ≡ true → ⊥
+not_host q (Command op) h = false≢true h
+not_host q (Global masks) h = false≢true h
+not_host q (BufferBarrier piece masks) h = false≢true h
+not_host q (ImageBarrier piece layouts masks) h = false≢true h
+not_host q (Release transfer) h = false≢true h
+not_host q (Acquire transfer) h = false≢true h
+
+host_queue : (queues : ℕ) (entry : Entry) → is_host (entry_node queues entry).kind ≡ true → queue_of entry ≡ None
+host_queue queues (OfWait q wait) h = absurd (false≢true h)
+host_queue queues (OfItem q item) h = absurd (not_host q item h)
+host_queue queues (OfSignal q signal) h = absurd (false≢true h)
+host_queue queues (OfHost piece) h = refl
+
+pub record IsRead (program : Program) (n first : ℕ) : Type 0 where
+  pub from : first ≤ n
+  pub there : n - first < length program.readbacks
+  pub read : read_node program (n - first) ≡ n
+
+module _ (program : Program) (queued : ByQueue program) where
+  entry_low : (n : ℕ) (entry : Entry) → slice_get (entries_of program) n ≡ Some entry → (entry_node (length program.queues) entry).queue ≤ length program.queues
+  entry_low n (OfWait q wait) is = omega (arith, (queued.queued n q (OfWait q wait) is refl).0)
+  entry_low n (OfItem q item) is = omega (arith, item_queue q item, (queued.queued n q (OfItem q item) is refl).0)
+  entry_low n (OfSignal q signal) is = omega (arith, (queued.queued n q (OfSignal q signal) is refl).0)
+  entry_low n (OfHost piece) is = omega arith
+
+  module _ (n : ℕ) (lt : n < length (view_of program).nodes) where
+    there : n < length (entries_of program)
+    there = subst (λ count. n < count) (length-map (entries_of program) (entry_node (length program.queues))) lt
+
+    stands : slice_get (entries_of program) n ≡ Some (get_or (entries_of program) n (OfHost 0))
+    stands = slice_get-get_or (entries_of program) n (OfHost 0) there
+
+    node_is : node_at (view_of program).nodes n ≡ entry_node (length program.queues) (get_or (entries_of program) n (OfHost 0))
+    node_is = get_or-map (entry_node (length program.queues)) (entries_of program) n (OfHost 0) no_node there
+
+    pub queue_low : (node_at (view_of program).nodes n).queue ≤ length program.queues
+    queue_low = subst (λ node. node.queue ≤ length program.queues) (sym node_is) (entry_low n (get_or (entries_of program) n (OfHost 0)) stands)
+
+    read_from : is_host (kind_at (view_of program) n) ≡ true → first_node program (length program.queues) ≤ n
+    read_from host = queued.hosts n (get_or (entries_of program) n (OfHost 0)) stands (host_queue (length program.queues) (get_or (entries_of program) n (OfHost 0)) (ap (λ node. is_host node.kind) (sym node_is) ∙ host))
+
+    -- the number of its read-back, by that of the first host read
+    pub read_at : (first : ℕ) → first ≡ first_node program (length program.queues) → is_host (kind_at (view_of program) n) ≡ true → IsRead program n first
+    read_at first is host =
+        let from = read_from host in
+        record {
+          from = omega (arith, from, is);
+          there = omega (arith, from, is, there, queued.count);
+          read = omega (arith, from, is);
+        }
+
+-- where no queue has a ready node, all is done
+pub all_done : (d : Device) → Runs d → IsSound d.program → ByQueue d.program → NoneBegun d → ((queue : ℕ) → queue < length d.program.queues + 1 → NoneReady d queue) → IsComplete d
+all_done d runs sound queued idle quiet = ⊎_elim (λ all. all) (λ goes. absurd (stuck goes.0 goes.1)) (runs.next sound idle)
+  where
+    stuck : (n : ℕ) → is_ready d n ≡ true → ⊥
+    stuck n ready =
+        let inside = ready_within (view_in d) (state_of d) n ready in
+        let low = queue_low d.program queued n inside in
+        false≢true (sym (quiet (node_at (view_in d).nodes n).queue (omega (arith, low)) n inside refl) ∙ ready)

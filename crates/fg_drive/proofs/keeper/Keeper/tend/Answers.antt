@@ -1,0 +1,10 @@
+use Rattle.std.proofs.Common.{sym, subst}
+use Rattle.fg_drive.proofs.Ranges.{of_program, calm_move}
+use Rattle.fg_drive.proofs.keeper.Keeper.tend.Goals as goal
+use Rattle.fg_drive.specs.Code.Keepers.{Calm}
+use Rattle.fg_steps.specs.Devices.{Device}
+
+pub returns-clause-calm : goal.returns-clause-calm
+returns-clause-calm c =
+    let d = c.args.device.now in
+    subst (λ (x : Device). Calm d x) (sym c.make.ensures) (calm_move d c.in-Some.event (of_program c.args.self.now d.program c.in-Some.event c.requires.keeps c.in-Some.ensures.inside))

@@ -1,0 +1,10 @@
+use Rattle.std.proofs.Common.{◌≡◌, ◌+◌}
+use Rattle.fg_drive.proofs.run.finish.Given as goal
+use Rattle.fg_drive.specs.Code.Keepers.{Advanced, Calm}
+
+abbrev pub invariant-loop-move : goal.invariant-loop-move
+invariant-loop-move l = record {
+  advanced : Advanced l.initial.device l.device l.initial.keeper l.keeper;
+  calm : Calm l.initial.device l.device;
+  made : l.device.moves + l._move ≡ l.initial.device.moves;
+}

@@ -1,0 +1,26 @@
+use Rattle.std.proofs.Common.{◌<◌, sym, subst, arith}
+use Rattle.fg_checker.specs.Sound.{IsSound}
+use Rattle.fg_drive.proofs.Advancing.{unmoved, joined, keeps_on}
+use Rattle.fg_drive.proofs.run.run_all.Goals as goal
+use Rattle.fg_steps.specs.Rounds.{to_do}
+
+pub loop-node-init : goal.loop-node-init
+loop-node-init g c = record { advanced = unmoved c.args.device.now c.args.keeper.now; idle = c.requires.idle }
+
+pub next_node-requires-clause-sound : goal.next_node-requires-clause-sound
+next_node-requires-clause-sound g c = subst IsSound (sym c.loop-node.invariant.advanced.went.program) c.requires.sound
+
+pub run_node-requires-clause-keeps : goal.run_node-requires-clause-keeps
+run_node-requires-clause-keeps g c κs within = keeps_on c.args.device.now c.loop-node.device c.args.keeper.now c.loop-node.keeper c.loop-node.invariant.advanced c.requires.keeps
+
+pub loop-node-smaller : goal.loop-node-smaller
+loop-node-smaller g c = let less : to_do c.run_node.new.device < to_do c.loop-node.device = omega (arith, c.in_ok-run_node.ensures.round.less) in less
+
+pub loop-node-preserved : goal.loop-node-preserved
+loop-node-preserved g c = record {
+  advanced = joined c.args.device.now c.loop-node.device c.run_node.new.device c.args.keeper.now c.loop-node.keeper c.run_node.new.keeper c.loop-node.invariant.advanced c.run_node.ensures.advanced;
+  idle = c.in_ok-run_node.ensures.round.idle;
+}
+
+pub returns-in_err-run_node-clause-advanced : goal.returns-in_err-run_node-clause-advanced
+returns-in_err-run_node-clause-advanced g c = joined c.args.device.now c.loop-node.device c.run_node.new.device c.args.keeper.now c.loop-node.keeper c.run_node.new.keeper c.loop-node.invariant.advanced c.run_node.ensures.advanced

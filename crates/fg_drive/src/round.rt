@@ -1,0 +1,117 @@
+//! One node after another.
+
+ghost use Rattle.std.specs.Prelude.{◌≡◌, ◌<◌, length, true, IfSome, IfNone, OnOk};
+ghost use Rattle.fg_checker.specs.Sound.{IsSound};
+ghost use Rattle.fg_drive.specs.Code.Keepers.{Advanced, Keeps};
+ghost use Rattle.fg_hb.specs.Edges.{is_host, is_sync};
+ghost use Rattle.fg_steps.specs.Devices.{is_ready, IsComplete, NoneBegun};
+ghost use Rattle.fg_steps.specs.Ready.{is_command, read_node};
+ghost use Rattle.fg_steps.specs.Rounds.{MayGo, Round};
+
+use crate::keeper::Keeper;
+use fg_base::NoMemory;
+use fg_device::{Device, Landed};
+use fg_hb::Kind;
+use fg_steps::device_laws;
+use std::alloc::Global;
+use std::thread::Threads;
+
+/// The least ready node of the first queue that has one; host reads come after all queues. None where all is done.
+pub(crate) fn next_node(device: &Device) -> Option<u32>
+    requires idle { NoneBegun device.now }
+    requires sound { IsSound device.now.program }
+    ensures some { IfSome result (λ node. is_ready device.now node ≡ true) }
+    ensures none { IfNone result (IsComplete device.now) }
+{
+    device_laws();
+    let queues = device.program().program().queues.len() as u32;
+    for queue in 0..queues + 1 {
+        if let Some(node) = device.pick(queue) {
+            return Some(node);
+        }
+    }
+    None
+}
+
+// A command begins, is computed and ends.
+fn run_command<R: Threads + Sync>(
+    rt: &R,
+    alloc: Global,
+    device: &mut Device,
+    keeper: &mut Keeper,
+    node: u32,
+) -> Result<(), NoMemory>
+    requires keeps { Keeps keeper.old device.old.program }
+    requires idle { NoneBegun device.old }
+    requires may { MayGo is_command device.old node }
+    ensures advanced { Advanced device.old device.new keeper.old keeper.new }
+    ensures round { OnOk result (Round device.old device.new) }
+{
+    keeper.tend(device);
+    let job = device.begin(alloc, node)?;
+    let done = job.compute(rt);
+    keeper.tend(device);
+    match device.end(done) {
+        Landed::Done => Ok(()),
+        Landed::NotBegun => unreachable!(),
+    }
+}
+
+// A barrier, wait or signal takes effect.
+fn run_sync(device: &mut Device, keeper: &mut Keeper, node: u32)
+    requires keeps { Keeps keeper.old device.old.program }
+    requires idle { NoneBegun device.old }
+    requires may { MayGo is_sync device.old node }
+    ensures advanced { Advanced device.old device.new keeper.old keeper.new }
+    ensures round { Round device.old device.new }
+{
+    keeper.tend(device);
+    device.sync(node);
+}
+
+// The number of the read-back of a host read.
+fn readback_of(device: &Device, node: u32) -> u32
+    requires { MayGo is_host device.now node }
+    ensures there { result < length device.now.program.readbacks }
+    ensures read { read_node device.now.program result ≡ node }
+{
+    let program = device.program();
+    let queues = program.program().queues.len() as u32;
+    let first = program.first_node(queues);
+    node - first
+}
+
+// The host reads.
+fn run_host(device: &mut Device, keeper: &mut Keeper, node: u32)
+    requires keeps { Keeps keeper.old device.old.program }
+    requires idle { NoneBegun device.old }
+    requires may { MayGo is_host device.old node }
+    ensures advanced { Advanced device.old device.new keeper.old keeper.new }
+    ensures round { Round device.old device.new }
+{
+    keeper.tend(device);
+    let readback = readback_of(device, node);
+    device.host(readback);
+}
+
+/// All events of a ready node, each after a cache move.
+pub(crate) fn run_node<R: Threads + Sync>(
+    rt: &R,
+    alloc: Global,
+    device: &mut Device,
+    keeper: &mut Keeper,
+    node: u32,
+) -> Result<(), NoMemory>
+    requires keeps { Keeps keeper.old device.old.program }
+    requires idle { NoneBegun device.old }
+    requires ready { is_ready device.old node ≡ true }
+    ensures advanced { Advanced device.old device.new keeper.old keeper.new }
+    ensures round { OnOk result (Round device.old device.new) }
+{
+    match device.kind(node) {
+        Kind::Command => run_command(rt, alloc, device, keeper, node)?,
+        Kind::Host => run_host(device, keeper, node),
+        Kind::Barrier | Kind::Wait { .. } | Kind::Signal { .. } => run_sync(device, keeper, node),
+    }
+    Ok(())
+}
