@@ -1,0 +1,6 @@
+pub mod Code
+pub mod Masks
+pub mod Turns
+pub mod Under
+pub mod Unions
+pub mod Waits
