@@ -12,16 +12,37 @@ const SHAPES: [Shape; 2] = [
     },
 ];
 
-// The operation is over these shapes, fits them and touches them so.
-fn touches(rt: &impl Abort, op: &Op<u32>, wants: &[(u32, Role, bool)]) {
-    assert!(rt; op_within(op, 2), "{op:?}");
-    assert!(rt; op_fits(op, &SHAPES), "{op:?}");
-    assert_eq!(rt; op.touch_count() as usize, wants.len(), "{op:?}");
-    for k in 0..op.touch_count() {
-        let (what, role, whole) = wants[k as usize];
-        assert_eq!(rt; op.touch(k, &SHAPES), Touch { what, role, whole }, "{op:?}");
+// Whether the operation is over these shapes, fits them and touches them so.
+fn touches(op: &Op<u32>, wants: &[Touch]) -> bool {
+    if !op_within(op, 2) {
+        return false;
     }
+    if !op_fits(op, &SHAPES) {
+        return false;
+    }
+    if op.touch_count() as usize != wants.len() {
+        return false;
+    }
+    for k in 0..op.touch_count() {
+        if op.touch(k, &SHAPES) != wants[k as usize] {
+            return false;
+        }
+    }
+    true
 }
+
+const UPLOADS: [Touch; 2] = [
+    Touch {
+        what: 0,
+        role: Role::CopyRead,
+        whole: false,
+    },
+    Touch {
+        what: 1,
+        role: Role::CopyWrite,
+        whole: true,
+    },
+];
 
 fn uploading(rt: &impl Abort) {
     let op = Op::BufferToImage {
@@ -29,11 +50,8 @@ fn uploading(rt: &impl Abort) {
         dst: 1,
         offset: 0,
     };
-    let (read, write) = (Role::CopyRead, Role::CopyWrite);
-    touches(rt, &op, &[(0, read, false), (1, write, true)]);
-    assert!(rt; op.touches(0));
-    assert!(rt; !op_in_place(&op));
-    assert!(rt; op_runs(&op, Family::Transfer));
+    assert!(rt; touches(&op, &UPLOADS));
+    assert!(rt; op.touches(0) && !op_in_place(&op) && op_runs(&op, Family::Transfer));
 }
 
 // A draw over what the image holds.
@@ -53,12 +71,17 @@ fn draw(alloc: Global) -> Result<Op<u32>, NoMemory> {
     })
 }
 
+const DRAWN: [Touch; 1] = [Touch {
+    what: 1,
+    role: Role::Attachment { load: true },
+    whole: false,
+}];
+
 fn drawing(rt: &impl Abort, alloc: Global) -> Result<(), NoMemory> {
     let op = draw(alloc)?.copy(alloc)?;
-    touches(rt, &op, &[(1, Role::Attachment { load: true }, false)]);
-    assert_eq!(rt; op.rect_count(), 1);
+    assert!(rt; touches(&op, &DRAWN) && op.rect_count() == 1);
     let named = op.mapped(alloc, |n: u32| Ok(n == 1))?;
-    assert_eq!(rt; named.rect_count(), 1);
+    assert!(rt; named.rect_count() == 1);
     Ok(())
 }
 

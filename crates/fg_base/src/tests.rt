@@ -13,67 +13,73 @@ fn calls(alloc: Global, list: &[u32]) -> Result<List<u32>, AllocError> {
     Ok(List::from_vec(list.to_vec(alloc)?))
 }
 
-fn names(rt: &impl Abort) {
-    let table: [(&[u8], bool); 12] = [
-        (b"", false),
-        (b"a", true),
-        (b"abcdefghijklmnopqrstuvwxyz_-.019", true),
-        (b"abcdefghijklmnopqrstuvwxyz_-.0192", false),
-        (b"Az", true),
-        (b"_", true),
-        (b"-", true),
-        (b".", true),
-        (b"7", true),
-        (b"a b", false),
-        (b"a/b", false),
-        (b"a\xc3\xa4", false),
-    ];
-    for (bytes, is_name) in table {
-        match Name::read(bytes) {
-            Some(name) => {
-                assert!(rt; is_name, "{bytes:?}");
-                assert_eq!(rt; name.as_bytes(), bytes);
-                assert_eq!(rt; name.as_str().as_bytes(), bytes);
-                assert!(rt; name == name);
-            }
-            None => assert!(rt; !is_name, "{bytes:?}"),
-        }
+// Texts, and whether they are names.
+const NAMES: [(&str, bool); 12] = [
+    ("", false),
+    ("a", true),
+    ("abcdefghijklmnopqrstuvwxyz_-.019", true),
+    ("abcdefghijklmnopqrstuvwxyz_-.0192", false),
+    ("Az", true),
+    ("_", true),
+    ("-", true),
+    (".", true),
+    ("7", true),
+    ("a b", false),
+    ("a/b", false),
+    ("a\u{e4}", false),
+];
+
+// Whether a text is a name, and reads as itself.
+fn is_name(text: &str) -> bool {
+    match Name::read(text.as_bytes()) {
+        Some(name) => name.as_bytes() == text.as_bytes() && name.as_str() == text && name == name,
+        None => false,
     }
 }
 
-fn lists(rt: &impl Abort, alloc: Global) -> Result<(), NoMemory> {
+fn names(rt: &impl Abort) {
+    for (text, wanted) in &NAMES {
+        assert!(rt; is_name(text) == *wanted, "{text}");
+    }
+}
+
+// The numbers 1 to 5, after 9 has taken the place of the second.
+fn changed(alloc: Global) -> Result<List<u32>, NoMemory> {
     let mut list = List::from_slice(alloc, &[1, 2])?;
     list.push(3)?;
     list.extend_from_slice(&[4, 5])?;
-    assert_eq!(rt; list.len(), 5);
-    assert!(rt; !list.is_empty());
-    list.set(1, 9);
-    assert_eq!(rt; list[1], 9);
-    assert_eq!(rt; list.pop(), Some(5));
-    assert_eq!(rt;
-        list.copy(alloc)?.into_vec().as_slice(),
-        [1, 9, 3, 4].as_slice()
-    );
-    assert_eq!(rt; List::<u32>::new(alloc).pop(), None);
+    if list.len() == 5 {
+        list.set(1, 9);
+    }
+    Ok(list)
+}
+
+fn lists(rt: &impl Abort, alloc: Global) -> Result<(), NoMemory> {
+    let mut list = changed(alloc)?;
+    let last = list.pop();
+    assert!(rt; last == Some(5) && !list.is_empty());
+    let rest = list.copy(alloc)?.into_vec();
+    assert!(rt; rest.as_slice() == [1, 9, 3, 4].as_slice());
+    assert!(rt; List::<u32>::new(alloc).pop() == None);
     Ok(())
 }
 
-// What each read of four bytes gives.
-fn reads(rt: &impl Abort, source: &mut impl Source, wants: &[(Taken, &[u8])]) {
-    for (at, (want, front)) in wants.iter().enumerate() {
+// What each read of four bytes gives, and the first bytes that are there after it.
+fn reads(rt: &impl Abort, source: &mut impl Source, wants: &[(Taken, &str)]) {
+    for (want, front) in wants {
         let mut into = [0u8; 4];
         let taken = source.read(&mut into);
-        assert_eq!(rt; taken, *want, "read {at}");
-        if let Taken::Got(count) = taken {
-            assert_eq!(rt; &into[..count], *front, "read {at}");
-        }
+        assert!(rt;
+            taken == *want && into.starts_with(front.as_bytes()),
+            "{front}"
+        );
     }
 }
 
 // What each write of these four bytes does.
 fn writes(rt: &impl Abort, sink: &mut impl Sink, wants: &[Put]) {
     for (at, want) in wants.iter().enumerate() {
-        assert_eq!(rt; sink.write(b"wxyz"), *want, "write {at}");
+        assert!(rt; sink.write(b"wxyz") == *want, "write {at}");
     }
 }
 
@@ -112,60 +118,66 @@ impl Write for FailsFirst {
     }
 }
 
+const IN_MEMORY: [(Taken, &str); 6] = [
+    (Taken::Got(2), "he"),
+    (Taken::Failed, ""),
+    (Taken::Got(2), "ll"),
+    (Taken::Got(1), "o"),
+    (Taken::End, ""),
+    (Taken::End, ""),
+];
+
+const STEADY: [(Taken, &str); 3] = [
+    (Taken::Got(4), "hell"),
+    (Taken::Got(1), "o"),
+    (Taken::End, ""),
+];
+
+const FAILING: [(Taken, &str); 3] = [(Taken::Failed, ""), (Taken::Got(1), "r"), (Taken::End, "")];
+
+fn sources(rt: &impl Abort, alloc: Global) -> Result<(), NoMemory> {
+    let mut source = MemorySource::new(bytes(alloc, b"hello")?, 2, calls(alloc, &[2])?);
+    reads(rt, &mut source, &IN_MEMORY);
+    reads(
+        rt,
+        &mut SteadySource::new(bytes(alloc, b"hello")?, 9),
+        &STEADY,
+    );
+    reads(rt, &mut ReadSource::new(FailsFirst { calls: 0 }), &FAILING);
+    Ok(())
+}
+
+fn sinks(rt: &impl Abort, alloc: Global) -> Result<(), NoMemory> {
+    let mut sink = MemorySink::new(alloc, 5, 3, calls(alloc, &[2])?)?;
+    writes(rt, &mut sink, &[Put::Took(3), Put::Failed]);
+    assert!(rt; sink.bytes() == b"wxy".as_slice());
+    writes(rt, &mut sink, &[Put::Took(2), Put::Failed]);
+    assert!(rt; sink.bytes() == b"wxywx".as_slice());
+    writes(rt, &mut SteadySink::new(), &[Put::Took(4)]);
+    let wants = [Put::Failed, Put::Failed, Put::Took(4)];
+    writes(rt, &mut WriteSink::new(FailsFirst { calls: 0 }), &wants);
+    Ok(())
+}
+
+fn others(rt: &impl Abort) {
+    let gate = IdleGate::new();
+    gate.enter(0);
+    gate.leave(0);
+    assert!(rt; Limit::Input.name() == "Input");
+    let mut tap = CountTap::new();
+    for node in 0..3 {
+        assert!(rt; tap.told(&Event::Begin { node }) == Tell::More);
+    }
+    assert!(rt; tap.count() == 3);
+}
+
 #[test]
 fn each_call(rt: HostRuntime) -> Result<(), Fail> {
     let alloc = rt.alloc();
     names(&rt);
     lists(&rt, alloc)?;
-    reads(
-        &rt,
-        &mut MemorySource::new(bytes(alloc, b"hello")?, 2, calls(alloc, &[2])?),
-        &[
-            (Taken::Got(2), b"he"),
-            (Taken::Failed, b""),
-            (Taken::Got(2), b"ll"),
-            (Taken::Got(1), b"o"),
-            (Taken::End, b""),
-            (Taken::End, b""),
-        ],
-    );
-    reads(
-        &rt,
-        &mut SteadySource::new(bytes(alloc, b"hello")?, 9),
-        &[
-            (Taken::Got(4), b"hell"),
-            (Taken::Got(1), b"o"),
-            (Taken::End, b""),
-        ],
-    );
-    reads(
-        &rt,
-        &mut ReadSource::new(FailsFirst { calls: 0 }),
-        &[
-            (Taken::Failed, b""),
-            (Taken::Got(1), b"r"),
-            (Taken::End, b""),
-        ],
-    );
-    let mut sink = MemorySink::new(alloc, 5, 3, calls(alloc, &[2])?)?;
-    writes(&rt, &mut sink, &[Put::Took(3), Put::Failed]);
-    assert_eq!(rt; sink.bytes(), b"wxy".as_slice());
-    writes(&rt, &mut sink, &[Put::Took(2), Put::Failed]);
-    assert_eq!(rt; sink.bytes(), b"wxywx".as_slice());
-    writes(&rt, &mut SteadySink::new(), &[Put::Took(4)]);
-    writes(
-        &rt,
-        &mut WriteSink::new(FailsFirst { calls: 0 }),
-        &[Put::Failed, Put::Failed, Put::Took(4)],
-    );
-    let gate = IdleGate::new();
-    gate.enter(0);
-    gate.leave(0);
-    assert_eq!(rt; Limit::Input.name(), "Input");
-    let mut tap = CountTap::new();
-    for node in 0..3 {
-        assert_eq!(rt; tap.told(&Event::Begin { node }), Tell::More);
-    }
-    assert_eq!(rt; tap.count(), 3);
+    sources(&rt, alloc)?;
+    sinks(&rt, alloc)?;
+    others(&rt);
     Ok(())
 }

@@ -5,17 +5,17 @@ use fg_subs::{Batch, Item, Memory, Piece, Program, Queue, Shaped, Signal, WaitFo
 use std::alloc::Global;
 use std::test::Fail;
 
+const BUFFER: Piece = Piece {
+    shape: Shape::Buffer { size: 16 },
+    memory: 0,
+    offset: 0,
+    sharing: Sharing::Exclusive,
+};
+
 // One batch with a signal on one queue, over a buffer of 16 bytes.
-fn submitted(alloc: Global, waits: List<WaitFor>, items: List<Item>) -> Result<Shaped, NoMemory> {
+fn program(alloc: Global, waits: List<WaitFor>, items: List<Item>) -> Result<Program, NoMemory> {
     let mut memories = List::new(alloc);
     memories.push(Memory::Plain { size: 16 })?;
-    let mut pieces = List::new(alloc);
-    pieces.push(Piece {
-        shape: Shape::Buffer { size: 16 },
-        memory: 0,
-        offset: 0,
-        sharing: Sharing::Exclusive,
-    })?;
     let mut batches = List::new(alloc);
     batches.push(Batch {
         waits,
@@ -30,13 +30,16 @@ fn submitted(alloc: Global, waits: List<WaitFor>, items: List<Item>) -> Result<S
         family: Family::Graphics,
         batches,
     })?;
-    let program = Program {
+    Ok(Program {
         memories,
-        pieces,
+        pieces: List::from_slice(alloc, &[BUFFER])?,
         queues,
         readbacks: List::new(alloc),
-    };
-    shape(alloc, program).map_err(|_| NoMemory)
+    })
+}
+
+fn submitted(alloc: Global, waits: List<WaitFor>, items: List<Item>) -> Result<Shaped, NoMemory> {
+    shape(alloc, program(alloc, waits, items)?).map_err(|_| NoMemory)
 }
 
 // A batch without items, which waits for its own signal or for nothing.
@@ -85,41 +88,59 @@ fn hazard(alloc: Global, program: Shaped) -> Option<Hazard> {
     }
 }
 
+// How many nodes the order of a program has.
+fn order_length(alloc: Global, program: Shaped) -> Option<usize> {
+    match check(alloc, program) {
+        Ok(checked) => Some(checked.order().len()),
+        Err(_) => None,
+    }
+}
+
+// Whether the batch waits for its own signal, and the hazard.
+const WAITS: [(bool, Option<Hazard>); 2] = [
+    (false, None),
+    (true, Some(Hazard::Stuck { queue: 0, node: 0 })),
+];
+
 #[test]
 fn waits(rt: HostRuntime) -> Result<(), Fail> {
     let alloc = rt.alloc();
-    assert!(rt; sound(alloc, &signal_alone(alloc, false)?)?);
-    assert!(rt; !sound(alloc, &signal_alone(alloc, true)?)?);
-    let order = check(alloc, signal_alone(alloc, false)?).ok();
-    assert_eq!(rt; order.map(|checked| checked.order().len()), Some(1));
-    assert_eq!(rt;
-        hazard(alloc, signal_alone(alloc, true)?),
-        Some(Hazard::Stuck { queue: 0, node: 0 })
-    );
+    for (waiting, wanted) in &WAITS {
+        let is_sound = sound(alloc, &signal_alone(alloc, *waiting)?)?;
+        let found = hazard(alloc, signal_alone(alloc, *waiting)?);
+        assert!(rt; is_sound == wanted.is_none() && found == *wanted);
+    }
+    let length = order_length(alloc, signal_alone(alloc, false)?);
+    assert!(rt; length == Some(1));
     Ok(())
 }
+
+// The access of the barrier between two fills, and their hazard.
+const FILLS: [(Option<Accesses>, Option<Hazard>); 3] = [
+    (Some(Accesses::TRANSFER_WRITE), None),
+    (
+        None,
+        Some(Hazard::Unordered {
+            first: 0,
+            second: 1,
+        }),
+    ),
+    (
+        Some(Accesses(0)),
+        Some(Hazard::NotAvailable {
+            first: 0,
+            second: 2,
+        }),
+    ),
+];
 
 #[test]
 fn fills(rt: HostRuntime) -> Result<(), Fail> {
     let alloc = rt.alloc();
-    let whole = Some(Accesses::TRANSFER_WRITE);
-    assert!(rt; sound(alloc, &two_fills(alloc, whole)?)?);
-    assert!(rt; !sound(alloc, &two_fills(alloc, None)?)?);
-    assert_eq!(rt; hazard(alloc, two_fills(alloc, whole)?), None);
-    assert_eq!(rt;
-        hazard(alloc, two_fills(alloc, None)?),
-        Some(Hazard::Unordered {
-            first: 0,
-            second: 1
-        })
-    );
-    let late = hazard(alloc, two_fills(alloc, Some(Accesses(0)))?);
-    assert_eq!(rt;
-        late,
-        Some(Hazard::NotAvailable {
-            first: 0,
-            second: 2
-        })
-    );
+    for (barrier, wanted) in &FILLS {
+        let is_sound = sound(alloc, &two_fills(alloc, *barrier)?)?;
+        let found = hazard(alloc, two_fills(alloc, *barrier)?);
+        assert!(rt; is_sound == wanted.is_none() && found == *wanted);
+    }
     Ok(())
 }

@@ -60,67 +60,84 @@ fn nested(alloc: Global, depth: usize) -> Result<Vec<u8>, Fail> {
     Ok(bytes)
 }
 
+// Bytes, and what is read of them.
+const ANSWERS: [(&[u8], &str); 26] = [
+    (br#"{"name":"a.b-c_9","count":1}"#, "a.b-c_9 1"),
+    (br#" {"sizes":[], "count":8, "name":"a"} "#, "a 8 []"),
+    (
+        br#"{"name":"a","count":2,"sizes":[0,4294967295]}"#,
+        "a 2 [0, 4294967295]",
+    ),
+    (br#"{"name":"a","count":2,"count":3}"#, "a 3"),
+    (br#"{"name":"\u0061","count":2}"#, "a 2"),
+    (b"[]", "at "),
+    (b"null", "at "),
+    (b"{}", "at /name"),
+    (br#"{"name":"a","zz":1}"#, "at /count"),
+    (br#"{"name":"","count":2}"#, "at /name"),
+    (br#"{"name":5,"count":2}"#, "at /name"),
+    (br#"{"name":"a","count":0}"#, "at /count"),
+    (br#"{"name":"a","count":9}"#, "at /count"),
+    (br#"{"name":"a","count":"2"}"#, "at /count"),
+    (br#"{"name":"a","count":-0}"#, "at /count"),
+    (br#"{"name":"a","count":1.0}"#, "at /count"),
+    (br#"{"name":"a","count":1e0}"#, "at /count"),
+    (br#"{"name":"a","count":2,"sizes":null}"#, "at /sizes"),
+    (
+        br#"{"name":"a","count":2,"sizes":[1,-1,"x"]}"#,
+        "at /sizes/1",
+    ),
+    (
+        br#"{"name":"a","count":2,"sizes":[4294967296]}"#,
+        "at /sizes/0",
+    ),
+    (br#"{"name":"a","count":2,"zz":1,"Size":1}"#, "at /Size"),
+    (br#"{"name":"a","count":2,"":1}"#, "at /"),
+    (b"", "no JSON"),
+    (b"{\"name\":\"\xff\"}", "no JSON"),
+    (b"{} {}", "no JSON"),
+    (b"01", "no JSON"),
+];
+
 #[test]
-fn reads_and_writes(rt: HostRuntime) -> Result<(), Fail> {
+fn reads(rt: HostRuntime) -> Result<(), Fail> {
     let alloc = rt.alloc();
-    let table: [(&[u8], &str); 26] = [
-        (br#"{"name":"a.b-c_9","count":1}"#, "a.b-c_9 1"),
-        (br#" {"sizes":[], "count":8, "name":"a"} "#, "a 8 []"),
-        (
-            br#"{"name":"a","count":2,"sizes":[0,4294967295]}"#,
-            "a 2 [0, 4294967295]",
-        ),
-        (br#"{"name":"a","count":2,"count":3}"#, "a 3"),
-        (br#"{"name":"\u0061","count":2}"#, "a 2"),
-        (b"[]", "at "),
-        (b"null", "at "),
-        (b"{}", "at /name"),
-        (br#"{"name":"a","zz":1}"#, "at /count"),
-        (br#"{"name":"","count":2}"#, "at /name"),
-        (br#"{"name":5,"count":2}"#, "at /name"),
-        (br#"{"name":"a","count":0}"#, "at /count"),
-        (br#"{"name":"a","count":9}"#, "at /count"),
-        (br#"{"name":"a","count":"2"}"#, "at /count"),
-        (br#"{"name":"a","count":-0}"#, "at /count"),
-        (br#"{"name":"a","count":1.0}"#, "at /count"),
-        (br#"{"name":"a","count":1e0}"#, "at /count"),
-        (br#"{"name":"a","count":2,"sizes":null}"#, "at /sizes"),
-        (
-            br#"{"name":"a","count":2,"sizes":[1,-1,"x"]}"#,
-            "at /sizes/1",
-        ),
-        (
-            br#"{"name":"a","count":2,"sizes":[4294967296]}"#,
-            "at /sizes/0",
-        ),
-        (br#"{"name":"a","count":2,"zz":1,"Size":1}"#, "at /Size"),
-        (br#"{"name":"a","count":2,"":1}"#, "at /"),
-        (b"", "no JSON"),
-        (b"{\"name\":\"\xff\"}", "no JSON"),
-        (b"{} {}", "no JSON"),
-        (b"01", "no JSON"),
-    ];
-    for (bytes, want) in table {
-        assert_eq!(rt; answer(alloc, bytes)?.as_str(), want, "{bytes:?}");
+    for (bytes, want) in &ANSWERS {
+        let found = answer(alloc, bytes)?;
+        assert!(rt; found.as_str() == *want, "{found} is not {want}");
     }
-    assert_eq!(rt;
-        answer(alloc, nested(alloc, 127)?.as_slice())?.as_str(),
-        "at "
-    );
-    assert_eq!(rt;
-        answer(alloc, nested(alloc, 128)?.as_slice())?.as_str(),
-        "no JSON"
-    );
+    Ok(())
+}
+
+#[test]
+fn nests(rt: HostRuntime) -> Result<(), Fail> {
+    let alloc = rt.alloc();
+    let deepest = answer(alloc, nested(alloc, 127)?.as_slice())?;
+    let deeper = answer(alloc, nested(alloc, 128)?.as_slice())?;
+    assert!(rt; deepest.as_str() == "at " && deeper.as_str() == "no JSON");
+    Ok(())
+}
+
+fn written_list(alloc: Global) -> Result<List<u8>, Fail> {
     let list = List::from_slice(alloc, &[7, 0, 4294967295])?;
     <ListForm<NumberForm>>::look(&list);
-    let text = write_json::<ListForm<NumberForm>>(alloc, &list)?;
-    assert_eq!(rt; str::from_utf8(text.as_slice())?, "[7,0,4294967295]");
-    let text = <NumberForm as Writer>::write(alloc, &4294967295)?.to_string(alloc)?;
-    assert_eq!(rt; text.as_str(), "4294967295");
+    Ok(write_json::<ListForm<NumberForm>>(alloc, &list)?)
+}
+
+fn written_name(alloc: Global) -> Result<String, Fail> {
     let name = Name::read(b"a.b-c_9").ok_or("no name")?;
     NameForm::look(&name);
-    let text = <NameForm as Writer>::write(alloc, &name)?.to_string(alloc)?;
-    assert_eq!(rt; text.as_str(), "\"a.b-c_9\"");
+    Ok(<NameForm as Writer>::write(alloc, &name)?.to_string(alloc)?)
+}
+
+#[test]
+fn writes(rt: HostRuntime) -> Result<(), Fail> {
+    let alloc = rt.alloc();
+    let list = written_list(alloc)?;
+    let number = <NumberForm as Writer>::write(alloc, &4294967295)?.to_string(alloc)?;
+    let name = written_name(alloc)?;
+    assert!(rt; list.as_slice() == b"[7,0,4294967295]".as_slice());
+    assert!(rt; number.as_str() == "4294967295" && name.as_str() == "\"a.b-c_9\"");
     Ok(())
 }
 
@@ -131,6 +148,6 @@ fn members_in_byte_order(rt: HostRuntime) -> Result<(), Fail> {
     let members = with_member(alloc, members, "a", Value::from(1u32))?;
     let members = with_text(alloc, members, "b", "y")?;
     let text = Value::Object(members).to_string(alloc)?;
-    assert_eq!(rt; text.as_str(), r#"{"a":1,"b":"y"}"#);
+    assert!(rt; text.as_str() == r#"{"a":1,"b":"y"}"#);
     Ok(())
 }

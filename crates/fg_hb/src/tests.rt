@@ -1,9 +1,11 @@
+ghost use Rattle.std.specs.Prelude.{◌≡◌, length, IfOk};
+ghost use Rattle.fg_hb.specs.Nodes.{program_nodes};
+
 use super::*;
 use fg_base::{Family, List, NoMemory};
 use fg_bits::Stages;
 use fg_subs::{Batch, Program, Queue, Shaped, Signal, WaitFor, shape};
 use std::alloc::Global;
-use std::process::Abort;
 use std::test::Fail;
 
 // A batch without items: its queue, the queue and the value that it waits for, and the value that it signals. Value 0
@@ -50,8 +52,8 @@ fn batches(alloc: Global, queue: u32, rows: &[Row]) -> Result<List<Batch>, NoMem
     Ok(batches)
 }
 
-// Queues of graphics; what is refused is answered as want of memory.
-fn shaped(alloc: Global, count: u32, rows: &[Row]) -> Result<Shaped, NoMemory> {
+// Queues of graphics.
+fn program(alloc: Global, count: u32, rows: &[Row]) -> Result<Program, NoMemory> {
     let mut queues = List::new(alloc);
     for queue in 0..count {
         queues.push(Queue {
@@ -59,13 +61,17 @@ fn shaped(alloc: Global, count: u32, rows: &[Row]) -> Result<Shaped, NoMemory> {
             batches: batches(alloc, queue, rows)?,
         })?;
     }
-    let program = Program {
+    Ok(Program {
         memories: List::new(alloc),
         pieces: List::new(alloc),
         queues,
         readbacks: List::new(alloc),
-    };
-    match shape(alloc, program) {
+    })
+}
+
+// What is refused is answered as want of memory.
+fn shaped(alloc: Global, count: u32, rows: &[Row]) -> Result<Shaped, NoMemory> {
+    match shape(alloc, program(alloc, count, rows)?) {
         Ok(shaped) => Ok(shaped),
         Err(_) => Err(NoMemory),
     }
@@ -80,26 +86,38 @@ fn stuck(alloc: Global, count: u32, rows: &[Row]) -> Result<(u32, u32), NoMemory
     }
 }
 
-// The ring's nodes are, queue by queue, signal, wait, signal; and on the others wait, signal.
-fn ring(rt: &impl Abort, alloc: Global) -> Result<(), NoMemory> {
-    let shaped = shaped(alloc, 4, &RING)?;
-    let edges = direct(alloc, &shaped)?;
-    match drain_of(alloc, &shaped, &edges)? {
+// The order of all nodes, and what comes before what.
+fn settled(alloc: Global, shaped: &Shaped) -> Result<(List<u32>, Before), NoMemory>
+    ensures { IfOk result (λ found. length found.1.places ≡ length (program_nodes shaped.now)) }
+{
+    let edges = direct(alloc, shaped)?;
+    match drain_of(alloc, shaped, &edges)? {
         Drain::Stuck { .. } => Err(NoMemory),
         Drain::Whole(order) => {
-            assert!(rt; order.as_slice() == [0, 3, 4, 5, 6, 7, 8, 1, 2].as_slice());
-            let before = before_of(alloc, &shaped, &edges, &order)?;
-            assert!(rt; shaped.node_count() == 9);
-            assert!(rt; before.has(4, 8) && !before.has(1, 8));
-            Ok(())
+            let before = before_of(alloc, shaped, &edges, &order)?;
+            Ok((order, before))
         }
     }
 }
+
+// Whether a node comes before another, where both are there.
+fn comes(shaped: &Shaped, before: &Before, x: u32, y: u32) -> bool
+    requires { length before.now.places ≡ length (program_nodes shaped.now) }
+{
+    let count = shaped.node_count();
+    x < count && y < count && before.has(x, y)
+}
+
+// The ring's nodes are, queue by queue, signal, wait, signal; and on the others wait, signal.
+const RING_ORDER: [u32; 9] = [0, 3, 4, 5, 6, 7, 8, 1, 2];
 
 #[test]
 fn drains(rt: HostRuntime) -> Result<(), Fail> {
     let alloc = rt.alloc();
     assert!(&rt; stuck(alloc, 2, &CROSSED_WAITS)? == (0, 0));
-    ring(&rt, alloc)?;
+    let shaped = shaped(alloc, 4, &RING)?;
+    let (order, before) = settled(alloc, &shaped)?;
+    assert!(&rt; order.as_slice() == RING_ORDER.as_slice());
+    assert!(&rt; comes(&shaped, &before, 4, 8) && !comes(&shaped, &before, 1, 8));
     Ok(())
 }

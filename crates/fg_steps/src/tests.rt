@@ -78,12 +78,11 @@ const ACCESSES: [(AccessKind, Family, bool, Option<Family>, Layout); 7] = [
 fn pieces_after_accesses(rt: HostRuntime) {
     let mut owner = Owner::Unused;
     let mut layout = Layout::Undefined;
-    for (kind, family, foreign, left, set) in ACCESSES {
-        assert_eq!(rt; owner.is_foreign(Some(family)), foreign);
-        owner = owner.after(kind, Some(family));
-        layout = layout_after(kind, layout);
-        assert_eq!(rt; owner, Owner::Left(left));
-        assert_eq!(rt; layout, set);
+    for (kind, family, foreign, left, set) in &ACCESSES {
+        let was = owner.is_foreign(Some(*family));
+        owner = owner.after(*kind, Some(*family));
+        layout = layout_after(*kind, layout);
+        assert!(rt; was == *foreign && owner == Owner::Left(*left) && layout == *set);
     }
     assert!(rt; is_wrong(Some(Layout::General), layout));
     assert!(rt; !is_wrong(None, layout));

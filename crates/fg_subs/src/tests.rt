@@ -70,12 +70,16 @@ fn fault_of(alloc: Global, count: u32, values: &[u64]) -> Result<u8, NoMemory> {
     }
 }
 
+// The number of queues, the values of their batches, and the number of the rule.
+const FAULTS: [(u32, &[u64], u8); 3] = [(0, &[1], 1), (1, &[1, 1], 9), (4, &[1, 2], 0)];
+
 #[test]
 fn faults(rt: HostRuntime) -> Result<(), Fail> {
     let alloc = rt.alloc();
-    assert_eq!(&rt; fault_of(alloc, 0, &[1])?, 1);
-    assert_eq!(&rt; fault_of(alloc, 1, &[1, 1])?, 9);
-    assert_eq!(&rt; fault_of(alloc, 4, &[1, 2])?, 0);
+    for (count, values, number) in &FAULTS {
+        let found = fault_of(alloc, *count, values)?;
+        assert!(&rt; found == *number, "{found} of {count} queues");
+    }
     Ok(())
 }
 
@@ -95,11 +99,10 @@ fn shaped(rt: HostRuntime) -> Result<(), Fail> {
     match shape(alloc, program(alloc, 1, &[1, 2])?.copy(alloc)?) {
         Ok(shaped) => {
             crosses(&shaped);
-            assert_eq!(&rt; shaped.node_count(), 5);
-            assert!(&rt; reads_second(shaped.entry(4)));
-            assert_eq!(&rt; shaped.program().queues.len(), 1);
-            assert_eq!(&rt; shaped.first_node(1), 4);
-            assert_eq!(&rt; shaped.into_program().pieces.len(), 2);
+            assert!(&rt; shaped.node_count() == 5);
+            assert!(&rt; reads_second(shaped.entry(4)) && shaped.first_node(1) == 4);
+            assert!(&rt; shaped.program().queues.len() == 1);
+            assert!(&rt; shaped.into_program().pieces.len() == 2);
         }
         Err(_) => assert!(&rt; false),
     }

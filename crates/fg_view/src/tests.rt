@@ -58,8 +58,10 @@ fn accesses(alloc: Global) -> Result<List<NodeAccess>, NoMemory> {
 #[test]
 fn fill_and_read(rt: HostRuntime) -> Result<(), Fail> {
     let accesses = accesses(rt.alloc())?;
-    assert_eq!(&rt; accesses.len(), 2);
-    assert_eq!(&rt; (accesses[0].node, accesses[1].node), (0, 2));
-    assert!(&rt; accesses[0].access.kind.stores() && accesses[1].access.kind.loads());
+    let [stored, loaded] = accesses.as_slice() else {
+        return Err(NoMemory)?;
+    };
+    assert!(&rt; stored.node == 0 && stored.access.kind.stores());
+    assert!(&rt; loaded.node == 2 && loaded.access.kind.loads());
     Ok(())
 }
