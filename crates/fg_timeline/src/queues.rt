@@ -1,6 +1,7 @@
 //! The queues that a list of steps is cut into.
 
-ghost use Rattle.std.specs.Prelude.{◌≡◌, ◌+◌, ◌<◌, length, IfOk, OnOk};
+ghost use Rattle.std.specs.Prelude.{◌≡◌, ◌+◌, ◌<◌, ◌≤◌, length, IfOk, OnOk};
+ghost use Rattle.fg_base.specs.Maxima.{max_queues};
 ghost use Rattle.fg_timeline.specs.Batches.{cut, queues};
 ghost use Rattle.fg_timeline.specs.Code.Counts.{signals_of};
 ghost use Rattle.fg_timeline.specs.Code.Submissions.{Adds, ClosedAt};
@@ -77,12 +78,11 @@ fn batches_of(
 /// of each other queue that it needs, unless its queue waited for that step or a later one before. A signal stands after
 /// each step that a wait is for, and at the end of each queue that does something.
 pub fn batches(alloc: Global, script: &[Step], families: &[Family]) -> Result<List<Queue>, NoMemory>
-    requires { IsScript script.now (length families.now) }
+    requires few { length families.now ≤ max_queues }
+    requires script { IsScript script.now (length families.now) }
     ensures { IfOk result (λ list. list ≡ queues script.now families.now) }
 {
-    let Ok(count) = u32::try_from(families.len()) else {
-        return Err(NoMemory);
-    };
+    let count = families.len() as u32;
     let signals = signals_of(alloc, script, count)?;
     let mut queues = List::new(alloc);
     for queue in 0..count {

@@ -81,6 +81,7 @@ fn check(
 ) -> Result<(), NoMemory> {
     let script = script(alloc, rows)?;
     let fits = is_script(&script, families);
+    assert!(rt; families.len() <= 4);
     assert!(rt; fits);
     let queues = batches(alloc, &script, families)?;
     let cuts = cuts(alloc, &queues)?;
