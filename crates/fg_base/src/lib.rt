@@ -68,8 +68,3 @@ pub use tap::{Tap, Tell};
 pub use touch::Touch;
 pub use within::op_within;
 pub use write_sink::WriteSink;
-
-#[cfg(test)]
-mod op_tests;
-#[cfg(test)]
-mod tests;

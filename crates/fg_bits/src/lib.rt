@@ -21,6 +21,3 @@ pub use role::{load_access, op_stage, role_layout, role_stage, store_access};
 pub use sharing::Sharing;
 pub use stages::Stages;
 pub use support::supports;
-
-#[cfg(test)]
-mod tests;

@@ -9,6 +9,3 @@ mod judge;
 pub use checked::Checked;
 pub use checking::{CheckEnd, check, sound};
 pub use hazard::Hazard;
-
-#[cfg(test)]
-mod tests;

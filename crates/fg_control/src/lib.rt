@@ -14,6 +14,3 @@ mod spoilt;
 mod timeline;
 
 pub use control::Control;
-
-#[cfg(test)]
-mod tests;

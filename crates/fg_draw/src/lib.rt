@@ -5,6 +5,3 @@ mod attachment;
 mod mix;
 
 pub use attachment::draw;
-
-#[cfg(test)]
-mod tests;

@@ -27,6 +27,3 @@ pub use text::{NameForm, NameWord, TextForm, Word};
 pub use typed::Typed;
 pub use writer::Writer;
 pub use written::{Members, with_form, with_member, with_text};
-
-#[cfg(test)]
-mod tests;

@@ -15,8 +15,3 @@ mod write;
 
 pub use file::{FrameReadEnd, read_frame};
 pub use text::write_frame;
-
-#[cfg(test)]
-mod tests;
-#[cfg(test)]
-mod text_tests;

@@ -14,8 +14,6 @@ mod laws;
 mod placed;
 mod runs;
 mod setting;
-#[cfg(test)]
-mod tests;
 mod unit_use;
 mod uses;
 

@@ -15,6 +15,3 @@ pub use edges::{Edges, direct};
 pub use kind::Kind;
 pub use laws::before_laws;
 pub use node::Node;
-
-#[cfg(test)]
-mod tests;

@@ -6,6 +6,3 @@ mod order;
 mod reach;
 
 pub use order::ordered;
-
-#[cfg(test)]
-mod tests;

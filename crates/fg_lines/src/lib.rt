@@ -7,6 +7,3 @@ mod lines;
 
 pub use cut::cut_back;
 pub use lines::Lines;
-
-#[cfg(test)]
-mod tests;

@@ -8,8 +8,6 @@ mod ops;
 mod pictures;
 mod spare;
 mod stored;
-#[cfg(test)]
-mod tests;
 mod wanted;
 
 pub use exports::{Exports, exports_of};

@@ -19,6 +19,3 @@ pub use mix::{MixForm, MixWord};
 pub use op::OpForm;
 pub use reading::parts;
 pub use rect::RectForm;
-
-#[cfg(test)]
-mod tests;

@@ -43,6 +43,3 @@ pub use repainting::{Area, repaint};
 pub use select::select_rows;
 pub use shapes::canvas;
 pub use texels::{get, pick, put};
-
-#[cfg(test)]
-mod tests;

@@ -8,6 +8,3 @@ mod placement;
 
 pub use pairs::Pairs;
 pub use placement::{Placement, place};
-
-#[cfg(test)]
-mod tests;

@@ -6,6 +6,3 @@ mod close;
 mod rows;
 
 pub use rows::Rows;
-
-#[cfg(test)]
-mod tests;

@@ -7,6 +7,3 @@ mod program;
 mod same;
 
 pub use same::{Same, same_all};
-
-#[cfg(test)]
-mod tests;

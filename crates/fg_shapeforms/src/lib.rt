@@ -15,6 +15,3 @@ pub use hexadecimal::HexForm;
 pub use sharing::{SharingWord, read_sharing};
 pub use sides::{Sides, SidesForm};
 pub use texel::TexelWord;
-
-#[cfg(test)]
-mod tests;

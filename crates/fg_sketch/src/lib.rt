@@ -9,8 +9,3 @@ mod words;
 pub use frame::sketched_frame;
 pub use program::sketched_program;
 pub use words::SketchError;
-
-#[cfg(test)]
-mod frame_tests;
-#[cfg(test)]
-mod tests;

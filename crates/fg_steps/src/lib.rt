@@ -12,6 +12,3 @@ pub use layout::{is_wrong, layout_after};
 pub use owner::Owner;
 pub use phase::Phase;
 pub use timeline::{has_reached, raised_by};
-
-#[cfg(test)]
-mod tests;

@@ -23,14 +23,3 @@ mod wait;
 
 pub use file::{SubReadEnd, read_program};
 pub use text::write_program;
-
-#[cfg(test)]
-mod item_tests;
-#[cfg(test)]
-mod judge;
-#[cfg(test)]
-mod tests;
-#[cfg(test)]
-mod text_tests;
-#[cfg(test)]
-mod vector_tests;

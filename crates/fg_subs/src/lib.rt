@@ -23,6 +23,3 @@ pub use fg_bits::{Layout, Layouts, Masks};
 pub use laws::rule_laws;
 pub use program::{Batch, Item, Memory, Piece, Program, Queue, Signal, Transfer, WaitFor};
 pub use shaped::{ShapeEnd, Shaped, shape};
-
-#[cfg(test)]
-mod tests;

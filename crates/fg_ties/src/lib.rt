@@ -11,6 +11,3 @@ mod tie;
 pub use first::first_flaw;
 pub use laws::clash_laws;
 pub use tie::{Flaw, Untied};
-
-#[cfg(test)]
-mod tests;

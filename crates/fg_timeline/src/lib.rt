@@ -13,6 +13,3 @@ pub use laws::timeline_laws;
 pub use queues::batches;
 pub use script::is_script;
 pub use step::Step;
-
-#[cfg(test)]
-mod tests;

@@ -20,12 +20,3 @@ mod top;
 pub use ended::{Ended, Status};
 pub use rest::at_rest;
 pub use top::framec;
-
-#[cfg(test)]
-mod check_tests;
-#[cfg(test)]
-mod operation_tests;
-#[cfg(test)]
-mod place_tests;
-#[cfg(test)]
-mod tests;

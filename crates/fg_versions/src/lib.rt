@@ -5,8 +5,6 @@ mod counts;
 mod culling;
 mod kept;
 mod makers;
-#[cfg(test)]
-mod tests;
 mod versions;
 
 pub use culling::cull;

@@ -13,6 +13,3 @@ pub use access::{Access, AccessKind, Agent, Handover};
 pub use effect::{Effect, Scope};
 pub use node_access::{NodeAccess, node_accesses_of};
 pub use view::{View, view_of};
-
-#[cfg(test)]
-mod tests;

@@ -7,6 +7,3 @@ mod matching;
 
 pub use command::{Command, FrameCommand, SubmissionCommand};
 pub use line::command_of;
-
-#[cfg(test)]
-mod tests;

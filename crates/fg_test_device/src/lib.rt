@@ -1,0 +1,5 @@
+//! Tests of a running device.
+#![tactic(auto)]
+
+#[cfg(test)]
+mod control;

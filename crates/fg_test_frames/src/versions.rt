@@ -1,0 +1,39 @@
+use fg_frame::well_formed;
+use fg_sketch::{SketchError, sketched_frame};
+use fg_versions::{cull, versions_of};
+use std::alloc::Global;
+use std::test::Fail;
+
+// Frames, and how many of their passes are kept.
+const ROWS: [(&str, usize); 7] = [
+    (
+        "x:b |g w:+b fill:b:16 |g r:b w:+c map:b:c |g r:c w:+b map:c:b",
+        3,
+    ),
+    ("|g w:+b fill:b:16 |g r:b w:+c map:b:c", 0),
+    (
+        "x:c |g w:+b fill:b:16 |g r:b w:+one clear:one |g r:b w:+c map:b:c",
+        2,
+    ),
+    ("x:b |g w:+b fill:b:16 |g w:b fill:b:16 |g w:b fill:b:8", 3),
+    ("x:b |g w:+b fill:b:16 |g w:+b fill:b:16", 1),
+    ("|g w:+b fill:b:16 |g r:b effect |g w:+c fill:c:16", 2),
+    ("x:in |g w:in fill:in:4 |g r:in w:+one clear:one", 1),
+];
+
+fn kept(alloc: Global, line: &str) -> Result<usize, Fail> {
+    let frame = sketched_frame(alloc, line)?;
+    let good = well_formed(alloc, frame).map_err(|_| SketchError::Word)?;
+    let versions = versions_of(alloc, &good)?;
+    Ok(cull(alloc, &good, &versions)?.count())
+}
+
+#[test]
+fn culled(rt: HostRuntime) -> Result<(), Fail> {
+    let alloc = rt.alloc();
+    for (line, count) in &ROWS {
+        let found = kept(alloc, line)?;
+        assert!(&rt; found == *count, "{found} of {line}");
+    }
+    Ok(())
+}

@@ -1,0 +1,21 @@
+//! Tests of the crates that know no frame and no submission: numbers, names, kernels, lines, reachability, places, words.
+#![tactic(auto)]
+
+#[cfg(test)]
+mod base;
+#[cfg(test)]
+mod base_operations;
+#[cfg(test)]
+mod bits;
+#[cfg(test)]
+mod draw;
+#[cfg(test)]
+mod lines;
+#[cfg(test)]
+mod pixels;
+#[cfg(test)]
+mod place;
+#[cfg(test)]
+mod reach;
+#[cfg(test)]
+mod words;

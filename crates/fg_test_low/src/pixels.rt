@@ -1,0 +1,130 @@
+use fg_base::{Fun, Op, Shape, Texel};
+use fg_pixels::*;
+use std::process::Abort;
+
+const BYTES: Shape = Shape::Image {
+    width: 3,
+    height: 3,
+    texel: Texel::R8,
+};
+
+const WORDS: Shape = Shape::Image {
+    width: 2,
+    height: 2,
+    texel: Texel::R32,
+};
+
+const WORD: Shape = Shape::Image {
+    width: 1,
+    height: 1,
+    texel: Texel::R32,
+};
+
+#[test]
+fn map_wraps(rt: HostRuntime) {
+    let op = Op::Map {
+        src: 0,
+        dst: 1,
+        fun: Fun::Add,
+        value: 266,
+    };
+    let mut out = [0u8; 9];
+    apply(
+        &op,
+        &[BYTES, BYTES],
+        &[250, 10, 0, 1, 2, 3, 4, 5, 255],
+        &[],
+        &[],
+        &mut out,
+    );
+    assert_eq!(&rt; out, [4, 20, 10, 11, 12, 13, 14, 15, 9]);
+}
+
+#[test]
+fn means_are_rounded_down(rt: HostRuntime) {
+    let op = Op::Box3 { src: 0, dst: 1 };
+    let mut out = [0u8; 9];
+    apply(
+        &op,
+        &[BYTES, BYTES],
+        &[1, 2, 3, 4, 5, 6, 7, 8, 9],
+        &[],
+        &[],
+        &mut out,
+    );
+    assert_eq!(&rt; out, [2, 3, 3, 4, 5, 5, 6, 7, 7]);
+    let op = Op::Halve { src: 0, dst: 1 };
+    let large = [
+        255u8, 255, 255, 255, 255, 255, 255, 255, 255, 255, 255, 255, 254, 255, 255, 255,
+    ];
+    let mut mean = [0u8; 4];
+    apply(&op, &[WORDS, WORD], &large, &[], &[], &mut mean);
+    assert_eq!(&rt; mean, [254, 255, 255, 255]);
+}
+
+#[test]
+fn means_of_wide_rows(rt: HostRuntime) {
+    let op = Op::Box3 { src: 0, dst: 1 };
+    let mut row = [90u8; 4097];
+    row[4095] = 0;
+    row[4096] = 0;
+    let kept = Shape::Image {
+        width: 4096,
+        height: 1,
+        texel: Texel::R8,
+    };
+    let mut out = [0u8; 4096];
+    apply(&op, &[kept, kept], &row[..4096], &[], &[], &mut out);
+    assert_eq!(&rt; (out[0], out[4093], out[4094], out[4095]), (90, 90, 60, 30));
+    let wide = Shape::Image {
+        width: 4097,
+        height: 1,
+        texel: Texel::R8,
+    };
+    let mut out = [0u8; 4097];
+    apply(&op, &[wide, wide], &row, &[], &[], &mut out);
+    assert_eq!(&rt; (out[0], out[4094], out[4095], out[4096]), (90, 60, 30, 0));
+}
+
+#[test]
+fn rectangle_goes_across(rt: HostRuntime) {
+    let op = Op::CopyImage {
+        src: 0,
+        dst: 1,
+        src_x: 1,
+        src_y: 1,
+        dst_x: 0,
+        dst_y: 1,
+        width: 2,
+        height: 2,
+    };
+    let mut out = [0u8; 9];
+    apply(
+        &op,
+        &[BYTES, BYTES],
+        &[1, 2, 3, 4, 5, 6, 7, 8, 9],
+        &[],
+        &[],
+        &mut out,
+    );
+    assert_eq!(&rt; out, [0, 0, 0, 5, 6, 0, 8, 9, 0]);
+}
+
+#[test]
+fn texels_are_counted(rt: HostRuntime) {
+    let op = Op::Histogram { src: 0, dst: 1 };
+    let table = Shape::Buffer { size: 1024 };
+    let mut out = [9u8; 1024];
+    apply(
+        &op,
+        &[BYTES, table],
+        &[5, 5, 5, 5, 0, 5, 5, 255, 5],
+        &[],
+        &[],
+        &mut out,
+    );
+    assert_eq!(&rt;
+        (out[0], out[4], out[20], out[1020], out[1023]),
+        (1, 0, 7, 1, 0)
+    );
+}

@@ -1,0 +1,21 @@
+//! Tests of what submissions are, and of what judges them: shape, nodes, accesses, ties, hazards, steps, timelines.
+#![tactic(auto)]
+
+#[cfg(test)]
+mod checker;
+#[cfg(test)]
+mod hb;
+#[cfg(test)]
+mod same;
+#[cfg(test)]
+mod sketched;
+#[cfg(test)]
+mod steps;
+#[cfg(test)]
+mod subs;
+#[cfg(test)]
+mod ties;
+#[cfg(test)]
+mod timeline;
+#[cfg(test)]
+mod view;

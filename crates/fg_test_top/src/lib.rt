@@ -1,0 +1,11 @@
+//! Tests of the one top call over memory forms.
+#![tactic(auto)]
+
+#[cfg(test)]
+mod calls;
+#[cfg(test)]
+mod checking;
+#[cfg(test)]
+mod operations;
+#[cfg(test)]
+mod placing;
