@@ -23,6 +23,7 @@ use Rattle.fg_steps.specs.Steps.{flushed, junks, turned, agent_count, synced}
 use Rattle.fg_subs.specs.Limits.{memory_bytes}
 use Rattle.fg_subs.specs.declared.program.Program.{Program}
 use Rattle.fg_view.specs.Views.{View, view_of, piece_at, queue_at, effect_at, accesses_of}
+use Rattle.fg_view.specs.declared.effect.Effect.{Effect}
 use Rattle.fg_view.specs.declared.effect.Scope.{Scope}
 use Rattle.fg_view.specs.declared.effect.Scope.TheVariants.{Everywhere, Piece}
 use Rattle.fg_view.specs.declared.access.Access.{Access}
@@ -196,6 +197,12 @@ module _ (V : View) (s : State) (n fill : ℕ) (junk : List ℕ) (all : (k : ℕ
       by_test false = refl
 
 -- NODES
+
+-- from a node's queue and effect, as they were looked up in a view
+pub moved_by : (kind : Move) (agents : Effect → ℕ) (program : Program) (view : View) (n queue : ℕ) (effect : Effect) (c : Caches) → view ≡ view_of program → queue ≡ queue_at view n → effect ≡ effect_at view n → moved_scope kind (has_agent_at queue (agents effect)) (8 * length program.queues) program effect.scope c ≡ moved_scope kind (has_agent_at (queue_at (view_of program) n) (agents (effect_at (view_of program) n))) (8 * length program.queues) program (effect_at (view_of program) n).scope c
+moved_by kind agents program view n queue effect c is q e =
+    let by : ℕ → Effect → Caches = λ queue effect. moved_scope kind (has_agent_at queue (agents effect)) (8 * length program.queues) program effect.scope c in
+    ap₂ by (q ∙ ap (λ (v : View). queue_at v n) is) (e ∙ ap (λ (v : View). effect_at v n) is)
 
 -- what a node does in its scope is done at the places that it says
 module _ (program : Program) (queue set : ℕ) (scope : Scope) (c : Caches) (away : (g m i : ℕ) → memory_size program m ≤ i → c.line g m i ≡ Absent) (known : (m i : ℕ) → i < memory_size program m → m < length program.memories) (none : (g : ℕ) → 8 * length program.queues ≤ g → has_agent_at queue set g ≡ false) where

@@ -6,7 +6,7 @@ use Rattle.std.specs.Prelude.{vec_capacity}
 use Rattle.std.proofs.lemmas.Bool.{false≢true, and_parts, leb-true, ltb-true}
 use Rattle.std.proofs.lemmas.Option.{slice_get_within}
 use Rattle.fg_base.specs.declared.event.Event.{Event}
-use Rattle.fg_caches.specs.Lines.{Range}
+use Rattle.fg_caches.specs.Lines.{Line, Range, range}
 use Rattle.fg_caches.specs.Tables.{Table, caches_of, missing, InMemory, Keeps}
 use Rattle.fg_control.specs.Controls.{Control, Agrees}
 use Rattle.fg_device.proofs.Events.{moves, room_moved}
@@ -15,7 +15,7 @@ use Rattle.fg_device.specs.Code.Kept.{device_in, IsKept}
 use Rattle.fg_device.specs.Code.Parts.{HasState, HasRoom}
 use Rattle.fg_device.specs.Code.Tables.{memory_size, HasBytes, FitsProgram}
 use Rattle.fg_device.specs.declared.device.Device.TheInside.{Inside}
-use Rattle.fg_steps.specs.Devices.{state_of}
+use Rattle.fg_steps.specs.Devices.{Device, state_of}
 use Rattle.fg_steps.specs.Histories.{moved}
 use Rattle.fg_steps.specs.States.{State}
 use Rattle.fg_steps.specs.Steps.{may_move}
@@ -39,23 +39,32 @@ is_move program agent r e =
     let m = in_memory program r (slice_get program.memories r.memory) refl p.1 in
     record { known = ltb-true agent (8 * length program.queues) p.0; there = m.0; within = m.1 }
 
--- what a table asks of it
-module _ (t : Table) (program : Program) (fill agent : ℕ) (r : Range) (F : FitsProgram t program fill) (M : IsMove program agent r) where
-  pub agent_known : agent < t.agents
-  agent_known = omega (arith, M.known, F.agents)
+-- a move that the device may make, and what its table asks of it
+pub record IsAsked (i : Inside) (agent memory start len : ℕ) : Type 0 where
+  pub may : may_move (arc_value i.program) agent (range memory start len) ≡ true
+  pub move : IsMove (arc_value i.program) agent (range memory start len)
+  pub some : 0 < i.moves
+  pub known : agent < i.table.agents
+  pub within : InMemory i.table memory start len
+  pub room : missing i.table memory start len ≤ i.table.cuts_left
 
-  pub range_there : InMemory t r.memory r.start r.len
-  range_there = record { there = omega (arith, M.there, F.memories); within = omega (arith, M.within, F.sizes r.memory) }
+pub asked : (i : Inside) → IsKept i → (d : Device) → device_in i ≡ d → (agent memory start len : ℕ) → may_move d.program agent (range memory start len) ≡ true → 0 < d.moves → IsAsked i agent memory start len
+asked i K d same agent memory start len may some =
+    let F = K.table in
+    let here = subst (λ (d : Device). (may_move d.program agent (range memory start len) ≡ true) × (0 < d.moves)) (sym same) (may, some) in
+    let M = is_move (arc_value i.program) agent (range memory start len) here.0 in
+    record {
+      may = here.0;
+      move = M;
+      some = here.1;
+      known = omega (arith, M.known, F.agents);
+      within = record { there = omega (arith, M.there, F.memories); within = omega (arith, M.within, F.sizes memory) };
+      room = omega (arith, missing_le i.table memory start len, K.room.for_moves, here.1);
+    }
 
--- phases, layouts, owners and counters are as before
-pub agrees_still : (control : Control) (s r : State) → Agrees control s → ((n : ℕ) → r.phase n ≡ s.phase n) → ((n : ℕ) → r.marked n ≡ s.marked n) → ((p : ℕ) → r.layout p ≡ s.layout p) → ((p : ℕ) → r.owner p ≡ s.owner p) → ((q : ℕ) → r.counter q ≡ s.counter q) → Agrees control r
-agrees_still control s r A phase marked layout owner counter = record {
-  phase = λ n. A.phase n ∙ sym (phase n);
-  mark = λ n. A.mark n ∙ sym (marked n);
-  layout = λ p. A.layout p ∙ sym (layout p);
-  owner = λ p. A.owner p ∙ sym (owner p);
-  counter = λ q. A.counter q ∙ sym (counter q);
-}
+-- phases, marks, layouts, owners and counters are as before
+agrees_still : (control : Control) (s : State) (main : ℕ → ℕ → ℕ) (lines : ℕ → ℕ → ℕ → Line) → Agrees control s → Agrees control (record s { main = main; line = lines })
+agrees_still control s main lines A = record { phase = A.phase; mark = A.mark; layout = A.layout; owner = A.owner; counter = A.counter }
 
 module _ (i : Inside) (u : Table) (h : Vec Event Global) (event : Event) (r : State) (K : IsKept i) (some : 0 < i.moves) (is : state_of (moved (device_in i) event) ≡ r) (agrees : Agrees i.control r) (bytes : HasBytes (arc_value i.program) (caches_of u) r) (phase : (n : ℕ) → r.phase n ≡ (state_of (device_in i)).phase n) (loaded : (n : ℕ) → r.loaded n ≡ (state_of (device_in i)).loaded n) (host : (n : ℕ) → r.host n ≡ (state_of (device_in i)).host n) (memory start len : ℕ) (keeps : Keeps i.table u) (cuts : i.table.cuts_left ≤ u.cuts_left + missing i.table memory start len) (stores : u.stores_left ≡ i.table.stores_left) (items : h.items ≡ i.history.items ++ event ∷ []) (longer : vec_len h ≡ vec_len i.history + 1) (capacity : vec_capacity h ≡ vec_capacity i.history) where
   new_state : state_of (device_in (record i { table = u; history = h; moves = i.moves - 1 })) ≡ r
@@ -76,3 +85,10 @@ module _ (i : Inside) (u : Table) (h : Vec Event Global) (event : Event) (r : St
         state = subst (HasState program i.control u i.held.items i.reads.items) (sym new_state) (moves program i.control i.table u i.held.items i.reads.items s r K.state agrees bytes phase loaded host);
         room = subst (λ (z : State). HasRoom program z (i.moves - 1) u.cuts_left u.stores_left (vec_len h) (vec_capacity h)) (sym new_state) (room_moved program s r i.moves i.table.cuts_left i.table.stores_left (vec_len i.history) (vec_capacity i.history) u.cuts_left u.stores_left (vec_len h) (vec_capacity h) K.room some phase (omega (arith, cuts, missing_le i.table memory start len)) stores longer capacity);
       }
+
+-- main and lines alone are others
+pub kept_by : (i : Inside) (u : Table) (h : Vec Event Global) (event : Event) (main : ℕ → ℕ → ℕ) (lines : ℕ → ℕ → ℕ → Line) (agent memory start len : ℕ) → IsKept i → IsAsked i agent memory start len → (let s = state_of (device_in i) in let r : State = record s { main = main; line = lines } in state_of (moved (device_in i) event) ≡ r → HasBytes (arc_value i.program) (caches_of u) r → Keeps i.table u → i.table.cuts_left ≤ u.cuts_left + missing i.table memory start len → u.stores_left ≡ i.table.stores_left → h.items ≡ i.history.items ++ event ∷ [] → vec_len h ≡ vec_len i.history + 1 → vec_capacity h ≡ vec_capacity i.history → IsKept (record i { table = u; history = h; moves = i.moves - 1 }))
+kept_by i u h event main lines agent memory start len K A is bytes keeps cuts stores items longer capacity =
+    let s = state_of (device_in i) in
+    let after : State = record s { main = main; line = lines } in
+    kept_move i u h event after K A.some is (agrees_still i.control s main lines K.state.agrees) bytes (λ n. refl) (λ n. refl) (λ n. refl) memory start len keeps cuts stores items longer capacity
