@@ -2,6 +2,7 @@ pub mod Addresses
 pub mod Anyone
 pub mod Calls
 pub mod Changing
+pub mod Counting
 pub mod Cutting
 pub mod Drawing
 pub mod Effects

@@ -1,19 +1,18 @@
 -- A slot that no part names gets other bytes.
-use Rattle.std.proofs.Common.{◌≡◌, ◌≢◌, ℕ, ◌<◌, ◌≤◌, true, false, ◌&&◌, List, length, refl, sym, ap, ◌∙◌, ⊎_elim, arith}
+use Rattle.std.proofs.Common.{◌≡◌, ◌≢◌, ℕ, ◌<◌, ◌≤◌, true, ◌&&◌, List, length, refl, sym, ap, ◌∙◌, ⊎_elim, arith}
 use Rattle.std.specs.Prelude.{nat_lt}
-use Rattle.std.specs.List.{list_any}
-use Rattle.std.proofs.lemmas.Bool.{cases_Bool, and_parts, eqb-false, ltb-true, lt-ltb}
+use Rattle.std.proofs.lemmas.Bool.{cases_Bool, and_parts, ltb-true, lt-ltb}
 use Rattle.fg_caches.specs.declared.part.Part.{Part}
 use Rattle.fg_caches.specs.declared.cell.Cell.{Cell}
 use Rattle.fg_caches.specs.declared.cell.Cell.TheVariants as cells
 use Rattle.fg_caches.specs.declared.row.Row.{Row}
 use Rattle.fg_caches.specs.declared.segment.Segment.{Segment}
-use Rattle.fg_caches.specs.Code.Rows.{cell_names, names}
+use Rattle.fg_caches.specs.Code.Uses.{cell_uses, row_uses, uses}
 use Rattle.fg_caches.specs.Places.{line_by}
 use Rattle.fg_caches.specs.Places.{place, row_at}
 use Rattle.fg_caches.specs.Tables.{Table, size_of, address, slot_at, byte_in, line_in, caches_of}
 use Rattle.fg_caches.specs.Code.Kept.{PartFits, CellFits, RowFits, IsTiled, AreApart}
-use Rattle.fg_caches.proofs.Naming.{row_unnamed, main_other, cell_other}
+use Rattle.fg_caches.proofs.Naming.{row_unnamed, part_other, main_other, cell_other}
 use Rattle.fg_caches.proofs.Addresses.{address_inside}
 use Rattle.fg_caches.proofs.Effects.{same_Caches, main_at, main_past, line_at, line_past}
 
@@ -21,12 +20,12 @@ module _ (old new : List (List ℕ)) (slot : ℕ) (longer : length old ≤ lengt
   part_stays : (p : Part) (x : ℕ) → p.slot ≢ slot → PartFits old p x → PartFits new p x
   part_stays p x ne f = record { slot = omega (arith, f.slot, longer); from = f.from; to = omega (arith, f.to, ap length (others p.slot f.slot ne)) }
 
-  cell_stays : (cell : Cell) (x : ℕ) → cell_names slot cell ≡ false → CellFits old cell x → CellFits new cell x
+  cell_stays : (cell : Cell) (x : ℕ) → cell_uses slot cell ≡ 0 → CellFits old cell x → CellFits new cell x
   cell_stays cells.Empty x e f = tt
-  cell_stays (cells.Clean p) x e f = part_stays p x (eqb-false p.slot slot e) f
-  cell_stays (cells.Dirty p) x e f = part_stays p x (eqb-false p.slot slot e) f
+  cell_stays (cells.Clean p) x e f = part_stays p x (part_other slot p e) f
+  cell_stays (cells.Dirty p) x e f = part_stays p x (part_other slot p e) f
 
-  row_stays : (r : Row) (x : ℕ) → names slot r ≡ false → RowFits old r x → RowFits new r x
+  row_stays : (r : Row) (x : ℕ) → row_uses slot r ≡ 0 → RowFits old r x → RowFits new r x
   row_stays r x e f = record {
     lines = f.lines;
     main = part_stays r.main x (main_other slot r e) f.main;
@@ -37,13 +36,13 @@ module _ (old new : List (List ℕ)) (slot : ℕ) (longer : length old ≤ lengt
   unfolding byte_in
   byte_stays p x ne f = rw (others p.slot f.slot ne) refl
 
-  line_stays : (cell : Cell) (x : ℕ) → cell_names slot cell ≡ false → CellFits old cell x → line_in new cell x ≡ line_in old cell x
+  line_stays : (cell : Cell) (x : ℕ) → cell_uses slot cell ≡ 0 → CellFits old cell x → line_in new cell x ≡ line_in old cell x
   line_stays cells.Empty x e f = refl
-  line_stays (cells.Clean p) x e f = rw (byte_stays p x (eqb-false p.slot slot e) f) refl
-  line_stays (cells.Dirty p) x e f = rw (byte_stays p x (eqb-false p.slot slot e) f) refl
+  line_stays (cells.Clean p) x e f = rw (byte_stays p x (part_other slot p e) f) refl
+  line_stays (cells.Dirty p) x e f = rw (byte_stays p x (part_other slot p e) f) refl
 
-  module _ (total : ℕ) (segments : List Segment) (T : IsTiled total old segments) (unnamed : list_any (λ (s : Segment). names slot s.row) segments ≡ false) where
-    pub row_other : (x : ℕ) → x < total → names slot (row_at segments x) ≡ false
+  module _ (total : ℕ) (segments : List Segment) (T : IsTiled total old segments) (unnamed : uses slot segments ≡ 0) where
+    pub row_other : (x : ℕ) → x < total → row_uses slot (row_at segments x) ≡ 0
     unfolding row_at
     row_other x lt = row_unnamed slot segments unnamed (place segments x) (ltb-true (place segments x) (length segments) (T.covered x ∙ lt-ltb x total lt))
 
@@ -56,7 +55,7 @@ module _ (old new : List (List ℕ)) (slot : ℕ) (longer : length old ≤ lengt
     }
 
 -- the bytes of main and of all lines are as before
-module _ (t : Table) (slots : List (List ℕ)) (left slot : ℕ) (longer : length t.slots ≤ length slots) (others : (k : ℕ) → k < length t.slots → k ≢ slot → slot_at slots k ≡ slot_at t.slots k) (T : IsTiled t.total t.slots t.segments) (A : AreApart t.total t.memories) (few : t.agents ≤ 32) (unnamed : list_any (λ (s : Segment). names slot s.row) t.segments ≡ false) where
+module _ (t : Table) (slots : List (List ℕ)) (left slot : ℕ) (longer : length t.slots ≤ length slots) (others : (k : ℕ) → k < length t.slots → k ≢ slot → slot_at slots k ≡ slot_at t.slots k) (T : IsTiled t.total t.slots t.segments) (A : AreApart t.total t.memories) (few : t.agents ≤ 32) (unnamed : uses slot t.segments ≡ 0) where
   abbrev stored : Table
   stored = record t { slots = slots; stores_left = left }
 

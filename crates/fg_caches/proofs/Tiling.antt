@@ -11,7 +11,7 @@ use Rattle.fg_caches.specs.declared.segment.Segment.{Segment}
 use Rattle.fg_caches.specs.declared.change.Change.{Change}
 use Rattle.fg_caches.specs.declared.change.Change.TheVariants as changes
 use Rattle.fg_caches.specs.Places.{line_by}
-use Rattle.fg_caches.specs.Code.Rows.{changed, main_after, line_after, CellIn, RowIn}
+use Rattle.fg_caches.specs.Code.Rows.{changed, main_after, line_after, CellIn, ChangeIn, RowIn}
 use Rattle.fg_caches.specs.Places.{segment_at, place, row_at, cut_in}
 use Rattle.fg_caches.specs.Code.Segments.{covers, Ascending, IsLaid, within}
 use Rattle.fg_caches.specs.Code.Kept.{PartFits, CellFits, RowFits, ChangeFits, IsTiled}
@@ -46,6 +46,14 @@ same_tiled total slots old new T A covers rows kept = record {
   whole = kept total T.whole;
   fits = λ x lt. let P : Row → Type 0 = λ r. RowFits slots r x in subst P (sym (rows x)) (T.fits x lt);
 }
+
+-- a part that a change of some address brings is of a slot that is there
+pub part_there : (slots : List (List ℕ)) (change : Change) (from to : ℕ) → ChangeFits slots change from to → from < to → ChangeIn (length slots) change
+part_there slots (changes.Put p) from to f lt = (f from (omega arith) lt).slot
+part_there slots changes.WriteBack from to f lt = tt
+part_there slots changes.DropClean from to f lt = tt
+part_there slots changes.Fill from to f lt = tt
+part_there slots (changes.Junk p) from to f lt = (f from (omega arith) lt).slot
 
 main_fits : (slots : List (List ℕ)) (from to x : ℕ) (change : Change) (main : Part) (cell : Cell) → ChangeFits slots change from to → from ≤ x → x < to → PartFits slots main x → CellFits slots cell x → PartFits slots (main_after change main cell) x
 main_fits slots from to x (changes.Put p) main cell f low high m l = m

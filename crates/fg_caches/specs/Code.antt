@@ -3,3 +3,4 @@ pub mod Kept
 pub mod Opened
 pub mod Rows
 pub mod Segments
+pub mod Uses

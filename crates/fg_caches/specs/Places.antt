@@ -22,9 +22,12 @@ place (s ∷ rest) x = if nat_lt x s.end then 0 else suc (place rest x)
 unfoldable pub row_at : List Segment → ℕ → Row
 row_at segments x = (segment_at segments (place segments x)).row
 
+abbrev pub cell_at : List Cell → ℕ → Cell
+cell_at lines g = slice_index_or lines g cells.Empty
+
 -- the lines of an agent
 abbrev pub line_by : Row → ℕ → Cell
-line_by r g = slice_index_or r.lines g cells.Empty
+line_by r g = cell_at r.lines g
 
 -- a segment begins at the address, or the last one ends there
 unfoldable pub cut_in : List Segment → ℕ → Bool

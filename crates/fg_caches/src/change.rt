@@ -1,7 +1,7 @@
 //! What a call does to the segments of its range.
 
 ghost use Rattle.std.specs.Prelude.{◌≡◌};
-ghost use Rattle.fg_caches.specs.Code.Rows.{main_after, line_after, lost, part_in};
+ghost use Rattle.fg_caches.specs.Code.Rows.{main_after, line_after};
 
 use crate::cell::Cell;
 use crate::part::Part;
@@ -36,27 +36,5 @@ pub(crate) fn line_after(change: Change, main: Part, line: Cell) -> Cell
         (Change::DropClean, Cell::Clean(_)) => Cell::Empty,
         (Change::Fill, Cell::Empty) => Cell::Clean(main),
         _ => line,
-    }
-}
-
-/// The part of which fewer lie there after the change, if any.
-pub(crate) fn lost(change: Change, main: Part, line: Cell) -> Option<Part>
-    ensures { result ≡ lost change main line }
-{
-    match change {
-        Change::WriteBack => Some(main),
-        Change::Junk(_) => Some(main),
-        Change::Fill => None,
-        _ => part_of(line),
-    }
-}
-
-fn part_of(line: Cell) -> Option<Part>
-    ensures { result ≡ part_in line }
-{
-    match line {
-        Cell::Empty => None,
-        Cell::Clean(part) => Some(part),
-        Cell::Dirty(part) => Some(part),
     }
 }

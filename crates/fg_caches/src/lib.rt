@@ -4,6 +4,7 @@
 
 mod cell;
 mod change;
+mod counts;
 mod memory;
 mod opening;
 mod part;

@@ -1,8 +1,9 @@
 //! A table as it is made: one segment for each memory that has a byte.
 
-ghost use Rattle.std.specs.Prelude.{◌≡◌, ◌<◌, ◌≤◌, ◌+◌, ◌-◌, ◌==◌, ◌++◌, ◌∷◌, [], if◌then◌else◌, IfOk, length, drop, vec_len, vec_capacity};
+ghost use Rattle.std.specs.Prelude.{◌≡◌, ◌<◌, ◌≤◌, ◌+◌, ◌-◌, ◌==◌, ◌++◌, ◌∷◌, [], if◌then◌else◌, IfOk, ℕ, length, drop, replicate, vec_len, vec_capacity};
 ghost use Rattle.std.specs.List.{sum_by};
 ghost use Rattle.fg_caches.specs.Code.Opened.{IsOpened, open_segment};
+ghost use Rattle.fg_caches.specs.Code.Uses.{uses};
 
 use crate::cell::Cell;
 use crate::memory::Memory;
@@ -74,6 +75,7 @@ pub(crate) fn lay_out(
     requires segments_room { length slots.now ≤ vec_capacity segments.old + 1 }
     ensures opened { IsOpened slots.now (length slots.now - 1) result memories.new.items segments.new.items }
     ensures small { result ≤ BYTES }
+    ensures uses { (slot : ℕ) → uses slot segments.new.items ≤ 1 }
     ensures len { vec_len segments.new + 1 ≤ length slots.now }
     ensures capacity { vec_capacity segments.new ≡ vec_capacity segments.old }
 {
@@ -102,14 +104,15 @@ pub(crate) fn slots_of(
     Ok(slots)
 }
 
-/// No slot has been noted; there is room for further slots.
-pub(crate) fn marks_of(alloc: Global, count: usize, stores: u32) -> Result<Vec<bool>, NoMemory>
-    ensures length { IfOk result (λ v. length v.items ≡ count) }
+/// One use of each slot: of the junk by the table itself, and of opening bytes by their memory. There is room for further
+/// slots.
+pub(crate) fn counts_of(alloc: Global, count: usize, stores: u32) -> Result<Vec<u32>, NoMemory>
+    ensures items { IfOk result (λ v. v.items ≡ replicate count 1) }
     ensures room { IfOk result (λ v. vec_len v + stores ≤ vec_capacity v) }
 {
-    let mut marks = vec![in alloc; false; count]?;
-    marks.reserve(stores as usize)?;
-    Ok(marks)
+    let mut counts = vec![in alloc; 1; count]?;
+    counts.reserve(stores as usize)?;
+    Ok(counts)
 }
 
 /// An empty vector with room.

@@ -1,8 +1,7 @@
 //! What lies at the addresses of a segment.
 
 ghost use Rattle.std.specs.Prelude.{◌≡◌, ◌<◌, length};
-ghost use Rattle.std.specs.List.{list_any};
-ghost use Rattle.fg_caches.specs.Code.Rows.{cell_names, names, changed};
+ghost use Rattle.fg_caches.specs.Code.Rows.{changed};
 
 use crate::cell::Cell;
 use crate::change::{Change, line_after, main_after};
@@ -18,20 +17,7 @@ pub(crate) struct Row {
     pub lines: [Cell; 32],
 }
 
-fn any_names(lines: &[Cell], slot: u32) -> bool
-    ensures { result ≡ list_any (cell_names slot) lines.now }
-{
-    lines.iter().any(|cell| cell.names(slot))
-}
-
 impl Row {
-    pub(crate) fn names(&self, slot: u32) -> bool
-        ensures { result ≡ names slot self.now }
-    {
-        let in_lines = any_names(&self.lines, slot);
-        self.main.slot == slot || in_lines
-    }
-
     pub(crate) fn change(&mut self, agent: usize, change: Change)
         requires { agent < length self.old.lines }
         ensures { self.new ≡ changed agent change self.old }

@@ -2,11 +2,13 @@
 
 ghost use Rattle.std.specs.Prelude.{◌≡◌, ◌<◌, ◌≤◌, ◌+◌, ℕ, length, not, true, false, if◌then◌else◌, vec_len, vec_capacity};
 ghost use Rattle.std.specs.List.{insert};
-ghost use Rattle.fg_caches.specs.Code.Rows.{RowIn};
+ghost use Rattle.fg_caches.specs.Code.Rows.{ChangeIn, RowIn};
 ghost use Rattle.fg_caches.specs.Places.{place, row_at, cut_in, segment_at};
 ghost use Rattle.fg_caches.specs.Code.Segments.{covers, changed_in, Ascending, IsLaid};
+ghost use Rattle.fg_caches.specs.Code.Uses.{row_uses, uses, Counts};
 
-use crate::change::{Change, lost};
+use crate::change::Change;
+use crate::counts::{raise_row, recount};
 use crate::row::Row;
 
 /// Addresses that one row stands for: those from the end of the segment before it up to its own end.
@@ -50,8 +52,10 @@ fn is_edge(segments: &[Segment], at: u32, index: usize) -> bool
 }
 
 /// Cuts the segment that has the address, unless a segment begins there. Says whether it did.
-pub(crate) fn cut_at(segments: &mut Vec<Segment>, at: u32) -> bool
+pub(crate) fn cut_at(segments: &mut Vec<Segment>, counts: &mut Vec<u32>, at: u32) -> bool
     requires ascending { Ascending segments.old.items }
+    requires laid { IsLaid (length counts.old.items) segments.old.items }
+    requires counted { Counts counts.old.items (λ slot. uses slot segments.old.items) }
     requires within { cut_in segments.old.items at ≡ false → place segments.old.items at < length segments.old.items }
     requires room { cut_in segments.old.items at ≡ false → vec_len segments.old < vec_capacity segments.old }
     ensures cut { cut_in segments.old.items at ≡ not result }
@@ -60,6 +64,10 @@ pub(crate) fn cut_at(segments: &mut Vec<Segment>, at: u32) -> bool
     ensures ascending { Ascending segments.new.items }
     ensures covers { (x : ℕ) → covers segments.new.items x ≡ covers segments.old.items x }
     ensures rows { (x : ℕ) → row_at segments.new.items x ≡ row_at segments.old.items x }
+    ensures counts { length counts.new.items ≡ length counts.old.items }
+    ensures counts_len { vec_len counts.new ≡ vec_len counts.old }
+    ensures counts_capacity { vec_capacity counts.new ≡ vec_capacity counts.old }
+    ensures counted { Counts counts.new.items (λ slot. uses slot segments.new.items) }
     ensures here { cut_in segments.new.items at ≡ true }
     ensures kept { (x : ℕ) → cut_in segments.old.items x ≡ true → cut_in segments.new.items x ≡ true }
 {
@@ -68,8 +76,19 @@ pub(crate) fn cut_at(segments: &mut Vec<Segment>, at: u32) -> bool
         return false;
     }
     let row = segments[index].row;
+    count_row(counts, &row);
     insert_reserved(segments, index, Segment { end: at, row });
     true
+}
+
+fn count_row(counts: &mut Vec<u32>, row: &Row)
+    requires { RowIn (length counts.old.items) row.now }
+    ensures counted { (f : ℕ → ℕ) → Counts counts.old.items f → Counts counts.new.items (λ slot. f slot + row_uses slot row.now) }
+    ensures counts { length counts.new.items ≡ length counts.old.items }
+    ensures len { vec_len counts.new ≡ vec_len counts.old }
+    ensures capacity { vec_capacity counts.new ≡ vec_capacity counts.old }
+{
+    raise_row(counts, row);
 }
 
 fn insert_reserved(segments: &mut Vec<Segment>, index: usize, segment: Segment)
@@ -82,10 +101,10 @@ fn insert_reserved(segments: &mut Vec<Segment>, index: usize, segment: Segment)
     let _inserted = segments.insert(index, segment);
 }
 
-/// Changes the segments from number `first` on up to number `last`, and notes the slots of which fewer parts are left.
+/// Changes the segments from number `first` on up to number `last`.
 pub(crate) fn change_all(
     segments: &mut Vec<Segment>,
-    loose: &mut Vec<bool>,
+    counts: &mut Vec<u32>,
     first: usize,
     last: usize,
     agent: usize,
@@ -93,22 +112,25 @@ pub(crate) fn change_all(
 )
     requires first { first ≤ last }
     requires last { last ≤ length segments.old.items }
-    requires laid { IsLaid (length loose.old.items) segments.old.items }
+    requires laid { IsLaid (length counts.old.items) segments.old.items }
     requires agent { agent < 32 }
+    requires change { first < last → ChangeIn (length counts.old.items) change }
+    requires counted { Counts counts.old.items (λ slot. uses slot segments.old.items) }
     ensures each { (k : ℕ) → k < length segments.old.items → segment_at segments.new.items k ≡ changed_in first last agent change k (segment_at segments.old.items k) }
     ensures length { length segments.new.items ≡ length segments.old.items }
     ensures len { vec_len segments.new ≡ vec_len segments.old }
     ensures capacity { vec_capacity segments.new ≡ vec_capacity segments.old }
-    ensures marks { length loose.new.items ≡ length loose.old.items }
-    ensures marks_len { vec_len loose.new ≡ vec_len loose.old }
-    ensures marks_capacity { vec_capacity loose.new ≡ vec_capacity loose.old }
+    ensures counted { Counts counts.new.items (λ slot. uses slot segments.new.items) }
+    ensures counts { length counts.new.items ≡ length counts.old.items }
+    ensures counts_len { vec_len counts.new ≡ vec_len counts.old }
+    ensures counts_capacity { vec_capacity counts.new ≡ vec_capacity counts.old }
 {
-    change_in(segments, loose, first, last, agent, change);
+    change_in(segments, counts, first, last, agent, change);
 }
 
 fn change_in(
     segments: &mut [Segment],
-    loose: &mut [bool],
+    counts: &mut [u32],
     first: usize,
     last: usize,
     agent: usize,
@@ -116,21 +138,15 @@ fn change_in(
 )
     requires first { first ≤ last }
     requires last { last ≤ length segments.old }
-    requires laid { IsLaid (length loose.old) segments.old }
+    requires laid { IsLaid (length counts.old) segments.old }
     requires agent { agent < 32 }
-    ensures { (k : ℕ) → k < length segments.old → segment_at segments.new k ≡ changed_in first last agent change k (segment_at segments.old k) }
+    requires change { first < last → ChangeIn (length counts.old) change }
+    requires counted { Counts counts.old (λ slot. uses slot segments.old) }
+    ensures counted { Counts counts.new (λ slot. uses slot segments.new) }
+    ensures each { (k : ℕ) → k < length segments.old → segment_at segments.new k ≡ changed_in first last agent change k (segment_at segments.old k) }
 {
     for k in first..last {
-        note_lost(loose, &segments[k].row, agent, change);
+        recount(counts, &segments[k].row, agent, change);
         segments[k].row.change(agent, change);
-    }
-}
-
-fn note_lost(loose: &mut [bool], row: &Row, agent: usize, change: Change)
-    requires row { RowIn (length loose.old) row.now }
-    requires agent { agent < 32 }
-{
-    if let Some(part) = lost(change, row.main, row.lines[agent]) {
-        loose[part.slot as usize] = true;
     }
 }

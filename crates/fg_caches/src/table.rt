@@ -11,7 +11,7 @@ ghost use Rattle.fg_caches.specs.Code.Segments.{within};
 
 use crate::change::Change;
 use crate::memory::Memory;
-use crate::opening::{lay_out, marks_of, room_for, slots_of};
+use crate::opening::{counts_of, lay_out, room_for, slots_of};
 use crate::part::Part;
 use crate::runs::copy_out;
 use crate::segment::{Segment, change_all, cut_at, place_of};
@@ -30,8 +30,8 @@ pub struct Segments {
     segments: Vec<Segment>,
     // Slot 0 has the junk.
     slots: Vec<List<u8>>,
-    // Slots of which a part went away since they were last found to be in use.
-    loose: Vec<bool>,
+    // By the slot: at least as many as parts name it, and of slot 0 one more.
+    counts: Vec<u32>,
     cuts_left: u64,
     stores_left: u32,
 }
@@ -108,7 +108,7 @@ impl Segments {
     {
         let slots = slots_of(junk, opening, stores)?;
         let count = slots.len();
-        let loose = marks_of(alloc, count, stores)?;
+        let counts = counts_of(alloc, count, stores)?;
         let mut memories = room_for(alloc, count)?;
         let mut segments = room_for(alloc, count + cuts as usize)?;
         let total = lay_out(&slots, &mut memories, &mut segments);
@@ -118,7 +118,7 @@ impl Segments {
             total,
             segments,
             slots,
-            loose,
+            counts,
             cuts_left: cuts,
             stores_left: stores,
         })
@@ -164,7 +164,7 @@ impl Segments {
         ensures here { cut_in self.new.segments at ≡ true }
         ensures kept { (x : ℕ) → cut_in self.old.segments x ≡ true → cut_in self.new.segments x ≡ true }
     {
-        if cut_at(&mut self.segments, at) {
+        if cut_at(&mut self.segments, &mut self.counts, at) {
             self.cuts_left -= 1;
         }
     }
@@ -185,7 +185,7 @@ impl Segments {
         let last = place_of(&self.segments, to);
         change_all(
             &mut self.segments,
-            &mut self.loose,
+            &mut self.counts,
             first,
             last,
             agent as usize,
@@ -295,7 +295,7 @@ impl Segments {
         ensures bytes { caches_of self.new ≡ caches_of self.old }
     {
         self.stores_left -= 1;
-        store_in(&self.segments, &mut self.slots, &mut self.loose, bytes)
+        store_in(&mut self.slots, &mut self.counts, bytes)
     }
 
     /// The agent stores bytes. They are moved into the table and not copied.

@@ -12,6 +12,7 @@ use Rattle.fg_caches.specs.declared.table.Segments.TheInside.{Inside}
 use Rattle.fg_caches.specs.Places.{place, row_at, cut_in, line_by}
 use Rattle.fg_caches.specs.Tables.{Table, slot_at}
 use Rattle.fg_caches.specs.Code.Segments.{covers, Ascending}
+use Rattle.fg_caches.specs.Code.Uses.{uses, Counts}
 
 -- the part has a byte for the address
 pub record PartFits (slots : List (List ℕ)) (p : Part) (x : ℕ) : Type 0 where
@@ -60,11 +61,12 @@ pub record IsKept (d : Inside) : Type 0 where
   pub apart : AreApart d.total d.memories.items
   pub agents : d.agents ≤ 32
   pub junk : 0 < length d.slots.items
-  pub loose : length d.loose.items ≡ length d.slots.items
+  pub counts : length d.counts.items ≡ length d.slots.items
+  pub counted : Counts d.counts.items (λ slot. uses slot d.segments.items)
   pub few : length d.slots.items + d.stores_left < 2 ^ 32
   pub cuts : vec_len d.segments + d.cuts_left ≤ vec_capacity d.segments
   pub stores : vec_len d.slots + d.stores_left ≤ vec_capacity d.slots
-  pub marks : vec_len d.loose + d.stores_left ≤ vec_capacity d.loose
+  pub counts_room : vec_len d.counts + d.stores_left ≤ vec_capacity d.counts
 
 -- the agent is one of so many, if one is named
 abbrev pub Knows : ℕ → Option ℕ → Type 0

@@ -1,6 +1,5 @@
--- What a row of the table names, and what a change makes of it.
-use Rattle.std.specs.Prelude.{ℕ, Bool, false, ◌≡◌, ◌<◌, ◌==◌, ◌||◌, length, slice_set, Option, Some, None}
-use Rattle.std.specs.List.{list_any}
+-- What a row of the table has, and what a change makes of it.
+use Rattle.std.specs.Prelude.{ℕ, ◌≡◌, ◌<◌, length, slice_set, Option, Some, None}
 use Rattle.fg_caches.specs.declared.part.Part.{Part}
 use Rattle.fg_caches.specs.declared.cell.Cell.{Cell}
 use Rattle.fg_caches.specs.declared.cell.Cell.TheVariants as cells
@@ -8,14 +7,6 @@ use Rattle.fg_caches.specs.declared.change.Change.{Change}
 use Rattle.fg_caches.specs.declared.change.Change.TheVariants as changes
 use Rattle.fg_caches.specs.declared.row.Row.{Row}
 use Rattle.fg_caches.specs.Places.{line_by}
-
-abbrev pub cell_names : ℕ → Cell → Bool
-cell_names slot cells.Empty = false
-cell_names slot (cells.Clean p) = p.slot == slot
-cell_names slot (cells.Dirty p) = p.slot == slot
-
-abbrev pub names : ℕ → Row → Bool
-names slot r = (r.main.slot == slot) || list_any (cell_names slot) r.lines
 
 abbrev pub written_part : Cell → Part → Part
 written_part (cells.Dirty p) main = p
@@ -48,18 +39,6 @@ line_after _ main line = line
 abbrev pub changed : ℕ → Change → Row → Row
 changed g change r = record { main = main_after change r.main (line_by r g); lines = slice_set r.lines g (line_after change r.main (line_by r g)) }
 
-abbrev pub part_in : Cell → Option Part
-part_in cells.Empty = None
-part_in (cells.Clean p) = Some p
-part_in (cells.Dirty p) = Some p
-
--- the part of which fewer lie there after the change
-abbrev pub lost : Change → Part → Cell → Option Part
-lost changes.WriteBack main line = Some main
-lost (changes.Junk p) main line = Some main
-lost changes.Fill main line = None
-lost _ main line = part_in line
-
 abbrev pub CellIn : ℕ → Cell → Type 0
 CellIn count cells.Empty = Unit {0}
 CellIn count (cells.Clean p) = p.slot < count
@@ -70,6 +49,12 @@ pub record RowIn (count : ℕ) (r : Row) : Type 0 where
   pub lines : length r.lines ≡ 32
   pub main : r.main.slot < count
   pub cells : (g : ℕ) → g < 32 → CellIn count (line_by r g)
+
+-- a part that the change brings is of a slot below the count
+abbrev pub ChangeIn : ℕ → Change → Type 0
+ChangeIn count (changes.Put p) = p.slot < count
+ChangeIn count (changes.Junk p) = p.slot < count
+ChangeIn count _ = Unit {0}
 
 abbrev pub part_or : Part → Cell → Part
 part_or main cells.Empty = main

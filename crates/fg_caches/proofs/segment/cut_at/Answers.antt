@@ -1,8 +1,12 @@
-use Rattle.std.proofs.Common.{◌≡◌, ◌∙◌, ◌<◌, ℕ, List, length, arith, ap, sym, subst, true, false}
+use Rattle.std.proofs.Common.{◌≡◌, ◌∙◌, ◌+◌, ◌<◌, ℕ, List, length, arith, ap, sym, subst, true, false}
 use Rattle.fg_caches.specs.declared.segment.Segment.{Segment}
 use Rattle.fg_caches.specs.Places.{place, row_at, cut_in}
 use Rattle.fg_caches.specs.Code.Segments.{covers, Ascending}
 use Rattle.fg_caches.proofs.Cutting.{cut, cut_is, cut_covers, cut_rows, cut_here, cuts_kept, cut_ascends}
+use Rattle.std.specs.List.{insert}
+use Rattle.std.proofs.lemmas.List.Sums.{sum_by-insert}
+use Rattle.fg_caches.specs.Code.Uses.{row_uses, uses}
+use Rattle.fg_caches.proofs.Counting.{fewer}
 use Rattle.fg_caches.proofs.segment.cut_at.Goals as goal
 
 is : (c : goal.After-insert_reserved) → c.place_of-index.result ≡ place c.args.segments.now.items c.args.at
@@ -41,3 +45,12 @@ returns-clause-here c = let P : List Segment → Type 0 = λ xs. cut_in xs c.arg
 pub returns-clause-kept : goal.returns-clause-kept
 unfolding after
 returns-clause-kept c = let P : List Segment → Type 0 = λ xs. (x : ℕ) → cut_in c.args.segments.now.items x ≡ true → cut_in xs x ≡ true in subst P (made c) (cuts_kept c.args.segments.now.items c.args.at c.place_of-index.result (is c) (inside c))
+
+pub returns-clause-counted : goal.returns-clause-counted
+returns-clause-counted c =
+    let segments = c.args.segments.now.items in
+    let row = c.index.result.now.row in
+    let s : Segment = record { end = c.args.at; row = row } in
+    fewer c.count_row.new.counts.items (λ slot. uses slot segments + row_uses slot row) (λ slot. uses slot c.insert_reserved.new.segments.items)
+    (c.count_row.ensures.counted (λ slot. uses slot segments) c.requires.counted)
+    (λ slot. let at : uses slot c.insert_reserved.new.segments.items ≡ uses slot (insert segments c.place_of-index.result s) = ap (uses slot) c.insert_reserved.ensures.items in omega (arith, at, sum_by-insert (λ (s : Segment). row_uses slot s.row) segments c.place_of-index.result s))

@@ -1,15 +1,15 @@
-use Rattle.std.proofs.Common.{◌≡◌, ◌∙◌, ℕ, ◌<◌, List, true, length, sym, ap, subst, arith}
+use Rattle.std.proofs.Common.{◌≡◌, ◌∙◌, ℕ, ◌<◌, ◌≤◌, List, true, length, sym, ap, subst, ⊎_elim, arith}
 use Rattle.std.specs.Prelude.{if◌then◌else◌}
 use Rattle.fg_caches.specs.declared.segment.Segment.{Segment}
-use Rattle.fg_caches.specs.Code.Rows.{changed}
+use Rattle.fg_caches.specs.Code.Rows.{changed, ChangeIn}
 use Rattle.fg_caches.specs.Places.{place, row_at, cut_in}
 use Rattle.fg_caches.specs.Code.Segments.{within}
 use Rattle.fg_caches.specs.Tables.{Table}
 use Rattle.fg_caches.specs.Code.Kept.{ChangeFits}
-use Rattle.std.proofs.lemmas.Bool.{lt-ltb, ltb-true}
+use Rattle.std.proofs.lemmas.Bool.{cases_lt, lt-ltb, ltb-true}
 use Rattle.fg_caches.proofs.Placing.{place_mono}
 use Rattle.fg_caches.proofs.Changing.{changed_covers, changed_ascends, changed_cuts, changed_rows}
-use Rattle.fg_caches.proofs.Tiling.{laid, changed_tiled}
+use Rattle.fg_caches.proofs.Tiling.{laid, part_there, changed_tiled}
 use Rattle.fg_caches.proofs.table.Segments.change_between.Goals as goal
 
 first : (c : goal.After-change_all-arg-2-1) → c.place_of-first.result ≡ place c.self.inside.segments.items c.args.from
@@ -22,7 +22,18 @@ pub change_all-requires-clause-first : goal.change_all-requires-clause-first
 change_all-requires-clause-first c = omega (arith, first c, last c, place_mono c.self.inside.segments.items c.args.from c.args.to c.requires.order)
 
 pub change_all-requires-clause-laid : goal.change_all-requires-clause-laid
-change_all-requires-clause-laid c = let inv = c.self.invariant in rw inv.loose (laid c.self.inside.total c.self.inside.slots.items c.self.inside.segments.items inv.tiled)
+change_all-requires-clause-laid c = let inv = c.self.invariant in rw inv.counts (laid c.self.inside.total c.self.inside.slots.items c.self.inside.segments.items inv.tiled)
+
+pub change_all-requires-clause-change : goal.change_all-requires-clause-change
+change_all-requires-clause-change c less =
+    let i = c.self.inside in
+    let P : Table → Type 0 = λ t. ChangeFits t.slots c.args.change c.args.from c.args.to in
+    let Q : ℕ → Type 0 = λ n. ChangeIn n c.args.change in
+    let some : c.args.from < c.args.to = ⊎_elim
+    (λ (lt : c.args.from < c.args.to). lt)
+    (λ (ge : c.args.to ≤ c.args.from). absurd (omega (arith, less, first c, last c, place_mono i.segments.items c.args.to c.args.from ge)))
+    (cases_lt c.args.from c.args.to) in
+    subst Q (sym c.self.invariant.counts) (part_there i.slots.items c.args.change c.args.from c.args.to (subst P (sym c.self.view_is) c.requires.fits) some)
 
 rows : (c : goal.After-change_all) → (x : ℕ) → x < c.self.inside.total → row_at c.change_all.new.segments.items x ≡ (if within c.args.from c.args.to x then changed c.args.agent c.args.change (row_at c.self.inside.segments.items x) else row_at c.self.inside.segments.items x)
 rows c x lt =
@@ -55,11 +66,12 @@ invariant_of-self c =
       apart = inv.apart;
       agents = inv.agents;
       junk = inv.junk;
-      loose = e.marks ∙ inv.loose;
+      counts = e.counts ∙ inv.counts;
+      counted = e.counted;
       few = inv.few;
       cuts = omega (arith, inv.cuts, e.len, e.capacity);
       stores = inv.stores;
-      marks = omega (arith, inv.marks, e.marks_len, e.marks_capacity);
+      counts_room = omega (arith, inv.counts_room, e.counts_len, e.counts_capacity);
     }
 
 pub returns-clause-rows : goal.returns-clause-rows

@@ -1,22 +1,18 @@
-use Rattle.std.proofs.Common.{◌≡◌, ◌-◌, ◌<◌, false, List, length, sym, subst, arith}
-use Rattle.std.specs.List.{list_any}
-use Rattle.fg_caches.specs.declared.segment.Segment.{Segment}
-use Rattle.fg_caches.specs.Code.Rows.{names}
-use Rattle.fg_caches.specs.Code.Segments.{IsLaid}
+use Rattle.std.proofs.Common.{◌≡◌, ◌-◌, ◌<◌, length, sym, subst, arith}
+use Rattle.fg_caches.specs.Code.Uses.{uses}
 use Rattle.fg_caches.specs.Tables.{Table, caches_of, slot_at, junk_of}
 use Rattle.fg_caches.specs.Code.Kept.{view_of}
+use Rattle.fg_caches.proofs.Naming.{new_unnamed}
 use Rattle.fg_caches.proofs.Tiling.{laid}
 use Rattle.fg_caches.proofs.Storing.{stored_tiled, stored_bytes}
 use Rattle.fg_caches.proofs.table.Segments.store.Goals as goal
 
-pub store_in-requires-clause-laid : goal.store_in-requires-clause-laid
-store_in-requires-clause-laid c =
-    let i = c.self.inside in
-    let P : List Segment → Type 0 = λ xs. IsLaid (length i.slots.items) xs in
-    subst P (sym c.deref.ensures.value) (laid i.total i.slots.items i.segments.items c.self.invariant.tiled)
+-- no part names the slot that is to come
+none : (c : goal.After-store_in) → uses (length c.self.inside.slots.items) c.self.inside.segments.items ≡ 0
+none c = let i = c.self.inside in new_unnamed (length i.slots.items) i.segments.items (laid i.total i.slots.items i.segments.items c.self.invariant.tiled)
 
-unnamed : (c : goal.After-store_in) → list_any (λ (s : Segment). names c.store_in.result s.row) c.self.inside.segments.items ≡ false
-unnamed c = let P : List Segment → Type 0 = λ xs. list_any (λ (s : Segment). names c.store_in.result s.row) xs ≡ false in subst P c.deref.ensures.value c.store_in.ensures.unnamed
+unnamed : (c : goal.After-store_in) → uses c.store_in.result c.self.inside.segments.items ≡ 0
+unnamed c = c.store_in.ensures.unnamed (λ slot. uses slot c.self.inside.segments.items) c.self.invariant.counted (none c)
 
 pub invariant_of-self : goal.invariant_of-self
 invariant_of-self c =
@@ -30,11 +26,12 @@ invariant_of-self c =
       apart = inv.apart;
       agents = inv.agents;
       junk = omega (arith, inv.junk, e.longer);
-      loose = e.loose;
+      counts = e.counts;
+      counted = e.counted (λ slot. uses slot i.segments.items) inv.counted (none c);
       few = omega (arith, inv.few, e.one, room);
       cuts = inv.cuts;
       stores = omega (arith, inv.stores, e.len, e.capacity, room);
-      marks = omega (arith, inv.marks, e.marks_len, e.marks_capacity, room);
+      counts_room = omega (arith, inv.counts_room, e.counts_len, e.counts_capacity, room);
     }
 
 pub returns-clause-junk : goal.returns-clause-junk
