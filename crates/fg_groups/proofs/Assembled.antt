@@ -14,7 +14,7 @@ use Rattle.fg_groups.proofs.Growing.{shapes-length}
 use Rattle.fg_groups.proofs.InOrder.{whole, in_order, groups_rise, members_rise}
 use Rattle.fg_groups.proofs.Joined.{joined}
 use Rattle.fg_groups.proofs.Sizes.{groups-few, sizes-small}
-use Rattle.fg_groups.proofs.Sources.{units_within, sourced}
+use Rattle.fg_groups.proofs.Sources.{units_within, sourced, members_within}
 use Rattle.fg_groups.proofs.Tables.{by_unit, groups_by_unit}
 use Rattle.fg_groups.specs.Code.Buckets.{bucket}
 use Rattle.fg_groups.specs.Code.Known.{AreKnown}
@@ -92,6 +92,7 @@ is_known n commands known = record {
   queues = known.queues;
   operands = known.operands;
   units = subst (λ k. All (λ u. u.unit < k) (uses_in (grouped n commands))) shared (units_within (all_shapes n) (length (sharings_in n)) 0 commands);
+  members = members_within n commands known.queues;
   sharings = shared;
   shapes = let a = length-map n.units (λ u. is_some u.imported) in let b = shapes-length n in omega (arith, a, b);
 }

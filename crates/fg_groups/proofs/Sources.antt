@@ -1,18 +1,18 @@
 -- Each use of a group is one of the uses of its command.
 use Rattle.std.proofs.Common.{◌≡◌, ℕ, suc, ◌+◌, ◌<◌, List, [], ◌∷◌, length, get_or, Some, refl, sym, ap, ◌∙◌, subst, arith}
 use Rattle.std.specs.List.{All, range_with_len}
-use Rattle.std.specs.Prelude.{slice_get}
+use Rattle.std.specs.Prelude.{slice_get, is_some}
 use Rattle.std.proofs.lemmas.Bool.{ltb-true}
 use Rattle.std.proofs.lemmas.List.{length-map}
 use Rattle.std.proofs.lemmas.List.Elements.{All-nil, All-append, All-filter, All-weaker}
-use Rattle.std.proofs.lemmas.Option.{slice_get-get_or}
+use Rattle.std.proofs.lemmas.Option.{slice_get-get_or, slice_get_within, get_or_from_slice_get}
 use Rattle.fg_base.specs.Touches.{touches_of}
 use Rattle.fg_base.specs.declared.shape.Shape.{Shape}
 use Rattle.fg_frame.specs.Numbered.{NumberedFrame}
 use Rattle.fg_groups.proofs.InOrder.{is_of, of_operands, of_command, groups_flat}
 use Rattle.fg_groups.proofs.Lists.{each_of_flat, all_parts}
 use Rattle.fg_groups.specs.Commands.{all_shapes}
-use Rattle.fg_groups.specs.Groups.{unit_uses, all_uses, frame_joins, grouped}
+use Rattle.fg_groups.specs.Groups.{unit_uses, all_uses, imports_in, frame_joins, grouped}
 use Rattle.fg_groups.specs.Laws.{IsSourced, AreSourced}
 use Rattle.fg_groups.specs.Uses.{command_uses, uses_of}
 use Rattle.fg_groups.specs.declared.command.Command.{Command}
@@ -86,3 +86,15 @@ pub sourced : (frame : NumberedFrame) (commands : List Command) → AreSourced (
 sourced frame commands =
     of_groups (IsSourced (grouped frame commands)) frame commands
     (All-weaker (Source (all_shapes frame) (length frame.units) 0 commands) (IsSourced (grouped frame commands)) (sourced_of frame commands) (all_uses frame commands) (sources (all_shapes frame) (length frame.units) 0 commands))
+
+-- each use of a group is of a unit and on a queue that there are
+pub members_within : (frame : NumberedFrame) (commands : List Command) → All (λ command. command.queue < length frame.queues) commands → All (All (λ u. (u.unit < length (imports_in frame)) × (u.queue < length frame.queues))) (grouped frame commands).groups
+members_within frame commands known g d lt k e lk =
+    let S = sourced frame commands g d lt k e lk in
+    let within = slice_get_within commands (get_or (get_or (grouped frame commands).groups g d) k e).command S.command S.there in
+    let same = get_or_from_slice_get commands (get_or (get_or (grouped frame commands).groups g d) k e).command S.command S.command S.there in (
+      subst (λ n. (get_or (get_or (grouped frame commands).groups g d) k e).unit < n) (sym (length-map frame.units (λ u. is_some u.imported)))
+          (of_groups (λ u. u.unit < length frame.units) frame commands (units_within (all_shapes frame) (length frame.units) 0 commands) g d lt k e lk),
+      subst (λ q. q < length frame.queues) (sym (S.queue ∙ ap (λ (c : Command). c.queue) (sym same)))
+          (known (get_or (get_or (grouped frame commands).groups g d) k e).command S.command within),
+    )

@@ -103,6 +103,7 @@ pub record IsKnown (G : Grouping) : Type 0 where
   pub queues : All (λ command. command.queue < length G.families) G.commands
   pub operands : All (λ command. All (λ r. r < length G.shapes) (operands_of command.op)) G.commands
   pub units : All (λ u. u.unit < length G.imports) (uses_in G)
+  pub members : All (All (λ u. (u.unit < length G.imports) × (u.queue < length G.families))) G.groups
   pub sharings : length G.sharings ≡ length G.imports
   pub shapes : length G.imports ≤ length G.shapes
 

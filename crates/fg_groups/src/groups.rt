@@ -5,7 +5,7 @@ ghost use Rattle.std.specs.List.{All, sum_by};
 ghost use Rattle.fg_groups.specs.Code.Tabled.{IsTabled};
 ghost use Rattle.fg_groups.specs.Laws.{IsGrouped, IsKnown, IsSmall};
 ghost use Rattle.fg_groups.specs.Needs.{group_at, uses_at, numbers_in};
-ghost use Rattle.fg_groups.specs.Placed.{placed, sizes};
+ghost use Rattle.fg_groups.specs.Placed.{is_import, placed, sizes};
 
 use crate::buckets::Buckets;
 use crate::{Command, Grouping, Use, UseAt};
@@ -76,6 +76,7 @@ impl Groups {
         ensures count { result ≡ length self.now.groups }
         ensures few { result ≤ 1152 }
         ensures grouped { IsGrouped self.now }
+        ensures known { IsKnown self.now }
     {
         self.grouping.groups.len() as u32
     }
@@ -93,6 +94,7 @@ impl Groups {
         requires { g < length self.now.groups }
         ensures members { result.now ≡ group_at self.now g }
         ensures grouped { IsGrouped self.now }
+        ensures known { IsKnown self.now }
     {
         &self.grouping.groups[g as usize]
     }
@@ -124,6 +126,21 @@ impl Groups {
         ensures { slice_get self.now.sharings unit ≡ Some result }
     {
         self.grouping.sharings[unit as usize]
+    }
+
+    /// The families of the queues.
+    pub fn families(&self) -> &[Family]
+        ensures { result.now ≡ self.now.families }
+    {
+        &self.grouping.families
+    }
+
+    /// Whether a unit is an import.
+    pub fn is_import(&self, unit: u32) -> bool
+        requires { unit < length self.now.imports }
+        ensures { result ≡ is_import self.now unit }
+    {
+        self.grouping.imports[unit as usize]
     }
 
     /// The units that a command uses and that are no imports, in declared order.
