@@ -1,0 +1,39 @@
+-- What stands before the first group of a unit.
+use Rattle.std.proofs.Common.{◌≡◌, ℕ, ◌<◌, ◌==◌, true, List, [], ◌∷◌, length, refl, sym, ap, ◌∙◌, arith, if◌then◌else◌}
+use Rattle.std.specs.Prelude.{is_some}
+use Rattle.std.proofs.lemmas.Bool.{eqb-true}
+use Rattle.fg_groups.specs.Laws.{IsGrouped, IsKnown}
+use Rattle.fg_groups.specs.Needs.{group_at}
+use Rattle.fg_groups.specs.Placed.{placed}
+use Rattle.fg_groups.specs.declared.grouping.Grouping.{Grouping}
+use Rattle.fg_groups.specs.declared.unit_use.Use.{Use}
+use Rattle.fg_turns.proofs.Members.{some_use, is_used, imported, no_import}
+use Rattle.fg_turns.specs.Turns.{no_use, first, has_uses, earlier, first_kind, kind_of, turn_between, turn_of}
+use Rattle.fg_turns.specs.Under.{Heap, place_of, uses_under}
+use Rattle.fg_turns.specs.declared.turn.TurnKind.TheVariants.{Nothing}
+
+pub empty : (uses : List Use) → (length uses == 0) ≡ true → [] ≡ uses
+empty [] e = refl
+empty (u ∷ uses) e = absurd (let h = eqb-true (length (u ∷ uses)) 0 e in omega (arith, h))
+
+module _ (G : Grouping) (heap : Heap) (g : ℕ) (alone : [] ≡ earlier G g) where
+  abbrev B : List Use
+  B = group_at G g
+
+  abbrev L : List Use
+  L = uses_under G heap (place_of G (first (group_at G g)).unit)
+
+  without : turn_between (kind_of G [] L B) g [] L B ≡ turn_of G heap g
+  without = ap (λ A. turn_between (kind_of G A L B) g A L B) alone
+
+  -- an import
+  pub import_turn : IsGrouped G → IsKnown G → g < length G.groups → place_of G (first (group_at G g)).unit ≡ length (placed G) → turn_between Nothing g [] [] (group_at G g) ≡ turn_of G heap g
+  import_turn K N lt none =
+      sym (ap (λ b. turn_between (if b then Nothing else first_kind (has_uses L) (is_some (first B).layout)) g [] L B) (imported G (first B).unit (N.members g [] lt 0 no_use (some_use G g K lt)).0 (is_used G g K lt) none))
+      ∙ without
+
+  -- a unit that has a place
+  pub placed_turn : place_of G (first (group_at G g)).unit < length (placed G) → turn_between (first_kind (has_uses L) (is_some (first (group_at G g)).layout)) g [] L (group_at G g) ≡ turn_of G heap g
+  placed_turn lt =
+      sym (ap (λ b. turn_between (if b then Nothing else first_kind (has_uses L) (is_some (first B).layout)) g [] L B) (no_import G (first B).unit lt))
+      ∙ without

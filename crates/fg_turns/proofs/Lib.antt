@@ -1,0 +1,3 @@
+mod Firsts
+mod Members
+mod Worked

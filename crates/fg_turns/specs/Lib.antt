@@ -1,0 +1,5 @@
+pub mod Code
+pub mod Masks
+pub mod Turns
+pub mod Under
+pub mod Unions

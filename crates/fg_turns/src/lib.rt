@@ -1,0 +1,14 @@
+//! What stands round the groups of a unit: barriers, transfers of ownership, and barriers on bytes that units share.
+#![tactic(auto)]
+
+mod first;
+mod joint;
+mod masks;
+mod member;
+mod next;
+mod of_groups;
+mod turn;
+mod under;
+
+pub use of_groups::turns;
+pub use turn::{Turn, TurnKind};
