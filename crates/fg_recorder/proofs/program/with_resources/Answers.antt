@@ -1,0 +1,27 @@
+use Rattle.std.proofs.Common.{◌∙◌, length, ap, arith}
+use Rattle.fg_frame.specs.Numbered.{numbered}
+use Rattle.fg_place.specs.Pairs.{has}
+use Rattle.fg_recorder.proofs.Compiling.{program_is}
+use Rattle.fg_recorder.proofs.Settings.{shapes_few, sharings_count, families_few}
+use Rattle.fg_recorder.proofs.program.with_resources.Goals as goal
+use Rattle.fg_recorder.specs.Pieces.{memories}
+
+pub pieces-requires-clause-few : goal.pieces-requires-clause-few
+pieces-requires-clause-few c = omega (arith, shapes_few (numbered c.args.frame.now) c.args.groups.now c.requires.of c.requires.good)
+
+pub pieces-requires-clause-sharings : goal.pieces-requires-clause-sharings
+pieces-requires-clause-sharings c = sharings_count (numbered c.args.frame.now) c.args.groups.now c.requires.of
+
+pub readbacks-requires-clause-few : goal.readbacks-requires-clause-few
+readbacks-requires-clause-few c = omega (arith, shapes_few (numbered c.args.frame.now) c.args.groups.now c.requires.of c.requires.good)
+
+pub queues_of-requires-clause-families : goal.queues_of-requires-clause-families
+queues_of-requires-clause-families c = families_few (numbered c.args.frame.now) c.args.groups.now c.requires.of c.requires.good
+
+pub returns : goal.returns
+returns c =
+    program_is (numbered c.args.frame.now) c.args.groups.now (has c.args.ordered.now) c.args.placement.now c.in_ok-memories.memories c.in_ok-pieces.pieces c.in_ok-queues.queues c.in_ok-readbacks.readbacks
+    (c.in_ok-memories.ensures ∙ ap (memories (numbered c.args.frame.now) c.args.groups.now) c.heap.ensures)
+    c.in_ok-pieces.ensures
+    c.in_ok-queues.ensures
+    c.in_ok-readbacks.ensures

@@ -1,0 +1,7 @@
+pub mod Code
+pub mod Items
+pub mod Marks
+pub mod Pieces
+pub mod Recorded
+pub mod Script
+pub mod Wanted

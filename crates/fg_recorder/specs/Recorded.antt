@@ -1,0 +1,37 @@
+-- The submissions of a frame.
+use Rattle.std.specs.Prelude.{◌≡◌, ℕ, List, Bool}
+use Rattle.fg_frame.specs.Numbered.{NumberedFrame}
+use Rattle.fg_groups.specs.Groups.{grouping}
+use Rattle.fg_groups.specs.Placed.{sizes}
+use Rattle.fg_groups.specs.declared.grouping.Grouping.{Grouping}
+use Rattle.fg_lifetimes.specs.Ordered.{IsOrdered}
+use Rattle.fg_place.specs.Placing.{Places, IsLeast}
+use Rattle.fg_recorder.specs.Marks.{steps_of}
+use Rattle.fg_recorder.specs.Pieces.{memories, pieces, readbacks}
+use Rattle.fg_recorder.specs.Script.{script}
+use Rattle.fg_subs.specs.declared.program.Program.{Program}
+use Rattle.fg_timeline.specs.Batches.{queues}
+use Rattle.fg_turns.specs.Under.{Heap}
+
+-- where the placed units begin, with the pairs of them that may share bytes
+abbrev pub heap_with : (ℕ → ℕ → Bool) → Places → Heap
+heap_with ordered places = record { ordered = ordered; offsets = places.offsets }
+
+abbrev pub program_of : NumberedFrame → Grouping → (ℕ → ℕ → Bool) → Places → Program
+program_of frame G ordered places = record {
+  memories = memories frame G places.heap;
+  pieces = pieces G places.offsets;
+  queues = queues (steps_of (script G (heap_with ordered places))) G.families;
+  readbacks = readbacks G;
+}
+
+-- of a frame of which these passes are kept
+abbrev pub recorded : NumberedFrame → List Bool → (ℕ → ℕ → Bool) → Places → Program
+recorded frame kept ordered places = program_of frame (grouping frame kept) ordered places
+
+-- transient units that are used one after another may share memory, and each lies as low as it can
+pub record IsCompiled (frame : NumberedFrame) (kept : List Bool) (places : Places) (program : Program) : Type 0 where
+  pub ordered : ℕ → ℕ → Bool
+  pub is_ordered : IsOrdered (grouping frame kept) ordered
+  pub least : IsLeast (sizes (grouping frame kept)) ordered places
+  pub recorded : program ≡ recorded frame kept ordered places

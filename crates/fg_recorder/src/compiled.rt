@@ -1,0 +1,103 @@
+//! From a frame to its submissions.
+
+ghost use Rattle.std.specs.Prelude.{◌≡◌, length, IfOk};
+ghost use Rattle.fg_frame.specs.Numbered.{numbered};
+ghost use Rattle.fg_groups.specs.Placed.{placed};
+ghost use Rattle.fg_lifetimes.specs.Ordered.{IsOrdered};
+ghost use Rattle.fg_place.specs.Pairs.{has};
+ghost use Rattle.fg_recorder.specs.Code.Resources.{IsOf};
+ghost use Rattle.fg_recorder.specs.Code.Stages.{IsLaid};
+ghost use Rattle.fg_recorder.specs.Recorded.{IsCompiled};
+ghost use Rattle.fg_versions.specs.Culled.{AreKept};
+ghost use Rattle.fg_versions.specs.Versions.{numbers_of};
+
+use crate::program::program_of;
+use fg_base::NoMemory;
+use fg_frame::GoodFrame;
+use fg_groups::{Groups, groups_of};
+use fg_lifetimes::ordered;
+use fg_place::{Pairs, Placement, place};
+use fg_subs::Program;
+use fg_versions::{Kept, Versions, cull, versions_of};
+use std::alloc::Global;
+
+/// What a frame is compiled to, with what was decided on the way.
+#[derive(Drop)]
+pub struct Compiled {
+    pub program: Program,
+    /// The passes whose commands are submitted.
+    pub kept: Kept,
+    /// Where transient units lie in the heap.
+    pub placement: Placement,
+}
+
+// One stage after another, since a function that holds several owned values over calls that may fail is dear to prove.
+
+// The least places for these pairs, and the submissions over them.
+#[tactic(auto, using(crate::proofs::Compiling::as_many))]
+fn laid(
+    alloc: Global,
+    frame: &GoodFrame,
+    groups: &Groups,
+    ordered: &Pairs,
+) -> Result<(Placement, Program), NoMemory>
+    requires of { IsOf (numbered frame.now) groups.now }
+    requires count { ordered.now.count ≡ length (placed groups.now) }
+    requires ordered { IsOrdered groups.now (has ordered.now) }
+    ensures { IfOk result (λ made. IsLaid (numbered frame.now) groups.now made.0 made.1) }
+{
+    let placement = place(alloc, groups.sizes(), ordered)?;
+    let program = program_of(alloc, frame, groups, ordered, &placement)?;
+    Ok((placement, program))
+}
+
+fn of_groups(
+    alloc: Global,
+    frame: &GoodFrame,
+    groups: &Groups,
+) -> Result<(Placement, Program), NoMemory>
+    requires { IsOf (numbered frame.now) groups.now }
+    ensures { IfOk result (λ made. IsLaid (numbered frame.now) groups.now made.0 made.1) }
+{
+    let ordered = ordered(alloc, groups)?;
+    laid(alloc, frame, groups, &ordered)
+}
+
+#[tactic(auto, using(crate::proofs::Compiling::of_grouping))]
+fn of_kept(
+    alloc: Global,
+    frame: &GoodFrame,
+    versions: &Versions,
+    kept: &Kept,
+) -> Result<(Placement, Program), NoMemory>
+    requires versions { versions.now ≡ numbers_of (numbered frame.now) }
+    requires kept { length kept.now ≡ length (numbered frame.now).passes }
+    ensures { IfOk result (λ made. IsCompiled (numbered frame.now) kept.now made.0 made.1) }
+{
+    let groups = groups_of(alloc, frame, versions, kept)?;
+    of_groups(alloc, frame, &groups)
+}
+
+fn of_versions(alloc: Global, frame: &GoodFrame, versions: &Versions) -> Result<Compiled, NoMemory>
+    requires { versions.now ≡ numbers_of (numbered frame.now) }
+    ensures kept { IfOk result (λ c. AreKept (numbered frame.now) c.kept) }
+    ensures compiled { IfOk result (λ c. IsCompiled (numbered frame.now) c.kept c.placement c.program) }
+{
+    let kept = cull(alloc, frame, versions)?;
+    let (placement, program) = of_kept(alloc, frame, versions, &kept)?;
+    Ok(Compiled {
+        program,
+        kept,
+        placement,
+    })
+}
+
+/// The submissions of a frame: what its kept passes do, and the barriers, transfers, waits and signals that this needs. Want
+/// of memory is its one refusal.
+pub fn compile(alloc: Global, frame: &GoodFrame) -> Result<Compiled, NoMemory>
+    ensures kept { IfOk result (λ c. AreKept (numbered frame.now) c.kept) }
+    ensures compiled { IfOk result (λ c. IsCompiled (numbered frame.now) c.kept c.placement c.program) }
+{
+    let versions = versions_of(alloc, frame)?;
+    of_versions(alloc, frame, &versions)
+}

@@ -1,0 +1,217 @@
+//! What stands round the groups of a unit, as items of its queue.
+
+ghost use Rattle.std.specs.Prelude.{◌≡◌, ◌+◌, ◌-◌, ◌<◌, ◌++◌, [], ◌∷◌, length, OnOk};
+ghost use Rattle.std.specs.List.{All};
+ghost use Rattle.fg_groups.specs.Groups.{family_of};
+ghost use Rattle.fg_groups.specs.Laws.{IsGrouped, IsKnown};
+ghost use Rattle.fg_groups.specs.Needs.{group_at};
+ghost use Rattle.fg_recorder.specs.Code.Resources.{all_resources};
+ghost use Rattle.fg_recorder.specs.Code.Turned.{Stands, Enters, IsNext, entered};
+ghost use Rattle.fg_recorder.specs.Items.{both, layouts_between, barrier, transfer, init, does_turn, turn_items, items_of, release_item};
+ghost use Rattle.fg_recorder.specs.Pieces.{piece_of};
+ghost use Rattle.fg_turns.specs.Masks.{release_masks};
+ghost use Rattle.fg_turns.specs.Turns.{earlier, first, last};
+ghost use Rattle.fg_turns.specs.declared.turn.TurnKind.TheVariants as kinds;
+
+use crate::resource::Resource;
+use crate::{Mark, Marked};
+use fg_base::{Family, List, NoMemory};
+use fg_bits::{Accesses, Layout, Layouts, Masks};
+use fg_groups::{Groups, Use};
+use fg_subs::{Item, Transfer};
+use fg_turns::{Turn, TurnKind};
+
+/// The number of the piece of a resource.
+pub(crate) fn piece_of(groups: &Groups, resources: &[Resource], r: u32) -> u32
+    requires resources { resources.now ≡ all_resources groups.now }
+    requires within { r < length groups.now.shapes }
+    ensures { result ≡ piece_of groups.now r }
+{
+    resources[r as usize].piece
+}
+
+fn family_of(groups: &Groups, queue: u32) -> Family
+    requires { queue < length groups.now.families }
+    ensures { result ≡ family_of groups.now.families queue }
+{
+    groups.family(queue)
+}
+
+fn both(from: Option<Layout>, to: Option<Layout>) -> Option<Layouts>
+    ensures { result ≡ both from to }
+{
+    match (from, to) {
+        (Some(from), Some(to)) => Some(Layouts { from, to }),
+        _ => None,
+    }
+}
+
+fn layouts_between(before: &[Use], after: &[Use]) -> Option<Layouts>
+    requires before { 0 < length before.now }
+    requires after { 0 < length after.now }
+    ensures { result ≡ layouts_between before.now after.now }
+{
+    both(before[before.len() - 1].layout, after[0].layout)
+}
+
+fn barrier(piece: u32, layouts: Option<Layouts>, masks: Masks) -> Item
+    ensures { result ≡ barrier piece layouts masks }
+{
+    match layouts {
+        Some(layouts) => Item::ImageBarrier(piece, layouts, masks),
+        None => Item::BufferBarrier(piece, masks),
+    }
+}
+
+// From the last of the uses before to the first of those after, of a unit with this piece.
+fn transfer(groups: &Groups, piece: u32, before: &[Use], after: &[Use], masks: Masks) -> Transfer
+    requires before { 0 < length before.now }
+    requires after { 0 < length after.now }
+    requires from { (last before.now).queue < length groups.now.families }
+    requires to { (first after.now).queue < length groups.now.families }
+    requires piece { piece ≡ piece_of groups.now (first after.now).unit }
+    ensures { result ≡ transfer groups.now before.now after.now masks }
+{
+    Transfer {
+        piece,
+        from_family: family_of(groups, before[before.len() - 1].queue),
+        to_family: family_of(groups, after[0].queue),
+        layouts: layouts_between(before, after),
+        masks,
+    }
+}
+
+// The destination on both sides: nothing before it is made available.
+fn entered(masks: Masks) -> Masks
+    ensures { result ≡ entered masks }
+{
+    Masks {
+        src_stages: masks.dst_stages,
+        src_accesses: Accesses(0),
+        dst_stages: masks.dst_stages,
+        dst_accesses: masks.dst_accesses,
+    }
+}
+
+// From the group right before group g to it.
+fn transfer_to(groups: &Groups, resources: &[Resource], g: u32, masks: Masks) -> Transfer
+    requires resources { resources.now ≡ all_resources groups.now }
+    requires known { IsKnown groups.now }
+    requires later { 0 < g }
+    requires group { g < length groups.now.groups }
+    ensures { result ≡ transfer groups.now (group_at groups.now (g - 1)) (group_at groups.now g) masks }
+{
+    let before = groups.members(g - 1);
+    let after = groups.members(g);
+    let piece = piece_of(groups, resources, after[0].unit);
+    transfer(groups, piece, before, after, masks)
+}
+
+fn barrier_to(groups: &Groups, resources: &[Resource], g: u32, masks: Masks) -> Item
+    requires resources { resources.now ≡ all_resources groups.now }
+    requires known { IsKnown groups.now }
+    requires later { 0 < g }
+    requires group { g < length groups.now.groups }
+    ensures { result ≡ barrier (piece_of groups.now (first (group_at groups.now g)).unit) (layouts_between (group_at groups.now (g - 1)) (group_at groups.now g)) masks }
+{
+    let before = groups.members(g - 1);
+    let after = groups.members(g);
+    let piece = piece_of(groups, resources, after[0].unit);
+    barrier(piece, layouts_between(before, after), masks)
+}
+
+// Out of UNDEFINED.
+fn init(groups: &Groups, resources: &[Resource], turn: &Turn) -> Item
+    requires resources { resources.now ≡ all_resources groups.now }
+    requires known { IsKnown groups.now }
+    requires group { turn.now.group < length groups.now.groups }
+    requires enters { Enters groups.now turn.now }
+    ensures { result ≡ init groups.now (group_at groups.now turn.now.group) }
+{
+    let after = groups.members(turn.group);
+    let piece = piece_of(groups, resources, after[0].unit);
+    let layouts = both(Some(Layout::Undefined), after[0].layout);
+    barrier(piece, layouts, entered(turn.masks))
+}
+
+fn does_turn(turn: &Turn, item: Item) -> Marked
+    ensures { result ≡ does_turn turn.now item }
+{
+    Marked::Does {
+        queue: turn.queue,
+        mark: Some(Mark::Turn(turn.group)),
+        item,
+    }
+}
+
+// A barrier on all memory, and then a transition out of UNDEFINED.
+fn push_alias_init(
+    script: &mut List<Marked>,
+    groups: &Groups,
+    resources: &[Resource],
+    turn: &Turn,
+) -> Result<(), NoMemory>
+    requires resources { resources.now ≡ all_resources groups.now }
+    requires known { IsKnown groups.now }
+    requires group { turn.now.group < length groups.now.groups }
+    requires enters { Enters groups.now turn.now }
+    ensures { OnOk result (script.new ≡ script.old ++ items_of kinds.AliasInit groups.now turn.now (earlier groups.now turn.now.group) (group_at groups.now turn.now.group)) }
+{
+    script.push(Marked::Does {
+        queue: turn.queue,
+        mark: None,
+        item: Item::Global(turn.masks),
+    })?;
+    script.push(does_turn(turn, init(groups, resources, turn)))
+}
+
+/// What stands before the first member of a group.
+pub(crate) fn push_turn(
+    script: &mut List<Marked>,
+    groups: &Groups,
+    resources: &[Resource],
+    turn: &Turn,
+) -> Result<(), NoMemory>
+    requires resources { resources.now ≡ all_resources groups.now }
+    requires known { IsKnown groups.now }
+    requires stands { Stands groups.now turn.now }
+    ensures { OnOk result (script.new ≡ script.old ++ turn_items groups.now turn.now (earlier groups.now turn.now.group) (group_at groups.now turn.now.group)) }
+{
+    match turn.kind {
+        TurnKind::Nothing => Ok(()),
+        TurnKind::Barrier => {
+            let item = barrier_to(groups, resources, turn.group, turn.masks);
+            script.push(does_turn(turn, item))
+        }
+        TurnKind::Transfer => {
+            let transfer = transfer_to(groups, resources, turn.group, turn.masks);
+            script.push(does_turn(turn, Item::Acquire(transfer)))
+        }
+        TurnKind::Alias => script.push(does_turn(turn, Item::Global(turn.masks))),
+        TurnKind::Init => script.push(does_turn(turn, init(groups, resources, turn))),
+        TurnKind::AliasInit => push_alias_init(script, groups, resources, turn),
+    }
+}
+
+/// The release after group g, where the next one is of the same unit and another family.
+pub(crate) fn push_release(
+    script: &mut List<Marked>,
+    groups: &Groups,
+    resources: &[Resource],
+    g: u32,
+    masks: Masks,
+) -> Result<(), NoMemory>
+    requires resources { resources.now ≡ all_resources groups.now }
+    requires known { IsKnown groups.now }
+    requires group { g + 1 < length groups.now.groups }
+    requires few { g + 1 < 1152 }
+    requires masks { masks ≡ release_masks (group_at groups.now g) (last (group_at groups.now g)).queue }
+    ensures { OnOk result (script.new ≡ script.old ++ release_item groups.now g (group_at groups.now g) (group_at groups.now (g + 1)) ∷ []) }
+{
+    let members = groups.members(g);
+    script.push(Marked::Does {
+        queue: members[members.len() - 1].queue,
+        mark: Some(Mark::Release(g)),
+        item: Item::Release(transfer_to(groups, resources, g + 1, masks)),
+    })
+}

@@ -1,0 +1,109 @@
+//! What a queue needs of others.
+
+ghost use Rattle.std.specs.Prelude.{◌≡◌, ◌++◌, map, OnOk};
+ghost use Rattle.fg_recorder.specs.Code.Turned.{Stands};
+ghost use Rattle.fg_recorder.specs.Code.Wants.{last_number, later_number};
+ghost use Rattle.fg_recorder.specs.Wanted.{last_on, last_elsewhere, wanted_first, wanted_further};
+ghost use Rattle.fg_recorder.specs.declared.mark.Marked.TheVariants.{Needs};
+ghost use Rattle.fg_turns.specs.Turns.{earlier};
+ghost use Rattle.fg_turns.specs.Unions.{on};
+
+use crate::{Mark, Marked};
+use fg_base::{List, NoMemory};
+use fg_groups::{Groups, Use};
+use fg_turns::{Turn, TurnKind};
+
+fn later_number(found: Option<u32>, one: &Use, queue: usize) -> Option<u32>
+    ensures { result ≡ later_number queue found one.now }
+{
+    if one.queue as usize == queue {
+        Some(one.command)
+    } else {
+        found
+    }
+}
+
+// The command of the last of the uses on a queue.
+fn last_number(uses: &[Use], queue: usize) -> Option<u32>
+    ensures { result ≡ last_number (on queue uses.now) }
+{
+    let mut found = None;
+    for one in uses {
+        found = later_number(found, one, queue);
+    }
+    found
+}
+
+// Needs of `queue`: the last of the uses on queue p, if that is not the queue `than`.
+fn need_last_on(
+    script: &mut List<Marked>,
+    queue: u32,
+    than: u32,
+    uses: &[Use],
+    p: usize,
+) -> Result<(), NoMemory>
+    ensures { OnOk result (script.new ≡ script.old ++ map (Needs queue) (last_on than uses.now p)) }
+{
+    if p == than as usize {
+        return Ok(());
+    }
+    match last_number(uses, p) {
+        Some(command) => script.push(Marked::Needs {
+            queue,
+            mark: Mark::Command(command),
+        }),
+        None => Ok(()),
+    }
+}
+
+/// Needs of `queue`: the last of the uses on each queue but `than`.
+pub(crate) fn need_elsewhere(
+    script: &mut List<Marked>,
+    groups: &Groups,
+    queue: u32,
+    than: u32,
+    uses: &[Use],
+) -> Result<(), NoMemory>
+    ensures { OnOk result (script.new ≡ script.old ++ map (Needs queue) (last_elsewhere groups.now than uses.now)) }
+{
+    for p in 0..groups.families().len() {
+        need_last_on(script, queue, than, uses, p)?;
+    }
+    Ok(())
+}
+
+/// Needs of `queue` before the first member of a group.
+pub(crate) fn need_first(
+    script: &mut List<Marked>,
+    groups: &Groups,
+    queue: u32,
+    turn: &Turn,
+) -> Result<(), NoMemory>
+    requires { Stands groups.now turn.now }
+    ensures { OnOk result (script.new ≡ script.old ++ map (Needs queue) (wanted_first groups.now turn.now (earlier groups.now turn.now.group))) }
+{
+    match turn.kind {
+        TurnKind::Barrier => {
+            let before = groups.members(turn.group - 1);
+            need_elsewhere(script, groups, queue, turn.queue, before)
+        }
+        TurnKind::Transfer => script.push(Marked::Needs {
+            queue,
+            mark: Mark::Release(turn.group - 1),
+        }),
+        _ => Ok(()),
+    }
+}
+
+/// The need of `queue` before the first member of a group on it, where another queue has the turn.
+pub(crate) fn need_turn(script: &mut List<Marked>, queue: u32, turn: &Turn) -> Result<(), NoMemory>
+    ensures { OnOk result (script.new ≡ script.old ++ map (Needs queue) (wanted_further turn.now)) }
+{
+    match turn.kind {
+        TurnKind::Nothing => Ok(()),
+        _ => script.push(Marked::Needs {
+            queue,
+            mark: Mark::Turn(turn.group),
+        }),
+    }
+}

@@ -1,0 +1,40 @@
+//! What is recorded for all commands.
+
+ghost use Rattle.std.specs.Prelude.{◌≡◌, IfOk};
+ghost use Rattle.fg_groups.specs.Laws.{IsGrouped, IsKnown, IsSmall};
+ghost use Rattle.fg_recorder.specs.Code.Resources.{all_resources};
+ghost use Rattle.fg_recorder.specs.Script.{script};
+ghost use Rattle.fg_turns.specs.Turns.{turns as all_turns};
+ghost use Rattle.fg_turns.specs.Under.{Heap};
+
+use crate::Marked;
+use crate::block::push_block;
+use crate::resource::Resource;
+use fg_base::{List, NoMemory};
+use fg_groups::Groups;
+use fg_turns::Turn;
+use std::alloc::Global;
+
+/// What is recorded for the commands of a frame, one command after another.
+pub(crate) fn script(
+    alloc: Global,
+    groups: &Groups,
+    turns: &[Turn],
+    resources: &[Resource],
+) -> Result<List<Marked>, NoMemory>
+    ghost heap: { Heap }
+    requires turns { turns.now ≡ all_turns groups.now heap }
+    requires resources { resources.now ≡ all_resources groups.now }
+    ensures script { IfOk result (λ list. list ≡ script groups.now heap) }
+    ensures grouped { IsGrouped groups.now }
+    ensures known { IsKnown groups.now }
+    ensures small { IsSmall groups.now }
+{
+    let mut list = List::new(alloc);
+    for (c, command) in groups.commands().iter().enumerate() {
+        push_block(
+            alloc, &mut list, groups, turns, resources, c as u32, command,
+        )?;
+    }
+    Ok(list)
+}
