@@ -11,16 +11,17 @@ fn words_of(alloc: Global, line: &str) -> Result<Vec<String>, AllocError> {
     Ok(words)
 }
 
-const COMMANDS: [(&str, Command); 6] = [
+const COMMANDS: [(&str, Command); 7] = [
     ("run", Command::Frame(FrameCommand::Run)),
     ("-- cull", Command::Frame(FrameCommand::Cull)),
     ("place", Command::Frame(FrameCommand::Place)),
+    ("compile", Command::Frame(FrameCommand::Compile)),
     ("meaning", Command::Frame(FrameCommand::Meaning)),
     ("migrate", Command::Frame(FrameCommand::Migrate)),
     ("check", Command::Submission(SubmissionCommand::Check)),
 ];
 
-const NO_COMMANDS: [&str; 6] = [
+const NO_COMMANDS: [&str; 7] = [
     "",
     "Run",
     "run run",

@@ -2,11 +2,11 @@
 
 ghost use Rattle.std.specs.Prelude.{◌<◌};
 
-use fg_top::{Ended, Status, at_rest, framec};
 use fg_base::{
     CountTap, IdleGate, List, MemorySink, MemorySource, Put, Sink, Source, SteadySink,
     SteadySource, Taken, Tap,
 };
+use fg_top::{Ended, Status, at_rest, framec};
 use std::alloc::{AllocError, Global};
 use std::process::Abort;
 use std::sync::Wait;
@@ -27,7 +27,7 @@ fn words_of(alloc: Global, line: &str) -> Result<Vec<String>, AllocError> {
     Ok(words)
 }
 
-fn bytes_of(alloc: Global, text: &str) -> Result<List<u8>, AllocError> {
+pub(crate) fn bytes_of(alloc: Global, text: &str) -> Result<List<u8>, AllocError> {
     Ok(List::from_vec(text.as_bytes().to_vec(alloc)?))
 }
 
@@ -40,7 +40,7 @@ fn spaces(alloc: Global, count: usize) -> Result<List<u8>, AllocError> {
 }
 
 // The status of a call with one tap that stays.
-fn status_of<R: Threads + Wait + Sync, I: Source, O: Sink>(
+pub(crate) fn status_of<R: Threads + Wait + Sync, I: Source, O: Sink>(
     rt: &R,
     alloc: Global,
     line: &str,
@@ -82,8 +82,8 @@ pub(crate) fn gives(
     let mut source = SteadySource::new(bytes_of(alloc, file)?, 7);
     let mut sink = MemorySink::new(alloc, 5000, 13, List::new(alloc))?;
     let status = status_of(rt, alloc, line, &mut source, &mut sink)?;
-    assert_eq!(rt; status, Some(wanted), "status of {line} on {file}");
-    assert_eq!(rt; sink.bytes(), text.as_bytes(), "text of {line} on {file}");
+    assert!(rt; status == Some(wanted), "status of {line} on {file}");
+    assert!(rt; sink.bytes() == text.as_bytes(), "text of {line} on {file}");
     Ok(())
 }
 
@@ -434,7 +434,7 @@ fn failing_ends(rt: HostRuntime) -> Result<(), Fail> {
 fn end_asked_once(rt: HostRuntime) -> Result<(), Fail> {
     let alloc = rt.alloc();
     let mut source = ends(&rt, alloc, (100, 5), (10, 99), Status::Done, FILL_TEXT)?;
-    assert_eq!(rt; source.read(&mut [0u8]), Taken::Failed);
+    assert!(rt; source.read(&mut [0u8]) == Taken::Failed);
     Ok(())
 }
 
@@ -445,7 +445,7 @@ fn each_read_fails(rt: HostRuntime) -> Result<(), Fail> {
     for k in 1..41 {
         let mut source = ends(&rt, alloc, (1, k), (10, 99), Status::ReadFault, "")?;
         let mut byte = [0u8];
-        assert_eq!(rt; source.read(&mut byte), Taken::Got(1));
+        assert!(rt; source.read(&mut byte) == Taken::Got(1));
         let rest = FILL.get(k as usize - 1..).unwrap_or("");
         assert!(rt; rest.as_bytes().starts_with(&byte), "byte {k}");
     }
@@ -475,8 +475,8 @@ fn is_offered(
         lengths: Vec::new(alloc),
     };
     let status = status_of(rt, alloc, line, &mut source, &mut offers)?;
-    assert_eq!(rt; status, Some(wanted));
-    assert_eq!(rt; offers.lengths.as_slice(), lengths);
+    assert!(rt; status == Some(wanted));
+    assert!(rt; offers.lengths.as_slice() == lengths);
     Ok(())
 }
 
@@ -486,7 +486,7 @@ fn whole_rest_at_each_write(rt: HostRuntime) -> Result<(), Fail> {
     let alloc = rt.alloc();
     let mut source = SteadySource::new(bytes_of(alloc, FILL)?, 1);
     let status = status_of(&rt, alloc, "run", &mut source, &mut SteadySink::new())?;
-    assert_eq!(rt; status, Some(Status::Done));
+    assert!(rt; status == Some(Status::Done));
     is_offered(&rt, alloc, "run run", Status::Words, &[6, 2])?;
     let lengths = [61, 57, 53, 49, 45, 41, 37, 33, 29, 25, 21, 17, 13, 9, 5, 1];
     is_offered(&rt, alloc, "run", Status::Done, &lengths)

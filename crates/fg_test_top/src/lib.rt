@@ -6,6 +6,8 @@ mod calls;
 #[cfg(test)]
 mod checking;
 #[cfg(test)]
+mod compiling;
+#[cfg(test)]
 mod operations;
 #[cfg(test)]
 mod placing;

@@ -1,7 +1,7 @@
 //! Frames of every operation, run and meant.
 
-use fg_top::Status;
 use crate::calls::gives;
+use fg_top::Status;
 use std::test::Fail;
 
 // A frame, the text of its exports, and what `run` prints before them.

@@ -1,7 +1,7 @@
 //! Where transient resources lie.
 
-use fg_top::Status;
 use crate::calls::gives;
+use fg_top::Status;
 use std::test::Fail;
 
 // Frames, and the lines of `place`.

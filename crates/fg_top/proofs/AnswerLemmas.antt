@@ -1,16 +1,22 @@
 -- What a call answers to a frame, and where it has no answer.
-use Rattle.std.proofs.Common.{◌≡◌, ℕ, List, [], ◌∷◌, ◌++◌, None, Ok, Err, ap, ◌∙◌, inl, inr}
+use Rattle.std.proofs.Common.{◌≡◌, ℕ, Bool, List, [], ◌∷◌, ◌++◌, None, Ok, Err, ap, ◌∙◌, inl, inr}
 use Rattle.std.proofs.KnownBytes.{Keeps-refl}
 use Rattle.std.specs.Prelude.{◌⊎◌, IfOk, Result}
 use Rattle.std.specs.declared.option.Option.{Option}
 use Rattle.fg_frame.specs.FirstFault.{first_fault}
+use Rattle.fg_frame.specs.Numbered.{numbered}
 use Rattle.fg_frame.specs.declared.frame.Frame.{Frame}
 use Rattle.fg_framefile.specs.Files.{frame_of, frame_text}
-use Rattle.fg_top.specs.Answers.{MigratesFrame, AnswersLeft, IsAnswered}
+use Rattle.fg_place.specs.Placing.{Places}
+use Rattle.fg_recorder.specs.Recorded.{IsCompiled}
+use Rattle.fg_subfile.specs.Files.{program_text}
+use Rattle.fg_subs.specs.declared.program.Program.{Program}
+use Rattle.fg_top.specs.Answers.{MigratesFrame, CompilesFrame, AnswersLeft, IsAnswered}
 use Rattle.fg_top.specs.Outcomes.{EndsAs}
 use Rattle.fg_top.specs.declared.answer.Answer.{Answer}
 use Rattle.fg_top.specs.declared.ended.Status.{Status}
 use Rattle.fg_top.specs.declared.ended.Status.TheVariants.{Done, Rejected, Refused, Words, ReadFault, WriteFault, NoMemory}
+use Rattle.fg_versions.specs.Culled.{AreKept}
 use Rattle.fg_words.specs.declared.command.Command.{Command}
 
 abbrev done : List ℕ → Answer
@@ -20,6 +26,16 @@ pub migrated : (frame : Frame) (text whole : List ℕ) → text ≡ frame_text f
 migrated frame text whole is again good ended = record {
   whole = ap done (ended ∙ ap (λ (t : List ℕ). t ++ 10 ∷ []) is);
   again = rw (← is) (again good);
+}
+
+pub compiled : (frame : Frame) (kept : List Bool) (places : Places) (program : Program) (text whole : List ℕ) → AreKept (numbered frame) kept → IsCompiled (numbered frame) kept places program → text ≡ program_text program → whole ≡ text ++ 10 ∷ [] → CompilesFrame frame (record { status = Done; text = whole })
+compiled frame kept places program text whole are is written ended = record {
+  kept = kept;
+  are_kept = are;
+  places = places;
+  program = program;
+  compiled = is;
+  whole = ap done (ended ∙ ap (λ (t : List ℕ). t ++ 10 ∷ []) written);
 }
 
 pub answered : (command : Command) (left old new : Option (List ℕ)) (answer : Answer) (status : Status) → AnswersLeft command left answer → EndsAs answer.status answer.text old new status → IsAnswered command left old new status

@@ -13,6 +13,7 @@ use Rattle.fg_lifetimes.specs.Ordered.{IsOrdered}
 use Rattle.fg_place.specs.Placing.{Places, IsLeast}
 use Rattle.fg_checker.specs.Sound.{IsSound}
 use Rattle.fg_checker.specs.Verdicts.{Unsound}
+use Rattle.fg_recorder.specs.Recorded.{IsCompiled}
 use Rattle.fg_report.specs.Faults.{frame_fault_text, sub_fault_text}
 use Rattle.fg_report.specs.Hazards.{check_text, hazard_text}
 use Rattle.fg_report.specs.PlaceLines.{place_text}
@@ -20,6 +21,7 @@ use Rattle.fg_report.specs.KeptLines.{run_text, cull_text}
 use Rattle.fg_top.specs.Files.{frame_file, program_file}
 use Rattle.fg_top.specs.Outcomes.{Tells, EndsAs}
 use Rattle.fg_top.specs.Texts.{AreExported}
+use Rattle.fg_subfile.specs.Files.{program_text}
 use Rattle.fg_subs.specs.Faults as subs
 use Rattle.fg_subs.specs.Entries.{entries_of}
 use Rattle.fg_subs.specs.declared.fault.SubFault.{SubFault}
@@ -32,7 +34,7 @@ use Rattle.fg_checker.specs.declared.hazard.Hazard.{Hazard}
 use Rattle.fg_words.specs.declared.command.Command.{Command}
 use Rattle.fg_words.specs.declared.command.Command.TheVariants as reads
 use Rattle.fg_words.specs.declared.command.FrameCommand.{FrameCommand}
-use Rattle.fg_words.specs.declared.command.FrameCommand.TheVariants.{Run, Cull, Place, Meaning, Migrate}
+use Rattle.fg_words.specs.declared.command.FrameCommand.TheVariants.{Run, Cull, Place, Compile, Meaning, Migrate}
 use Rattle.fg_words.specs.declared.command.SubmissionCommand.{SubmissionCommand}
 use Rattle.fg_words.specs.declared.command.SubmissionCommand.TheVariants.{Check}
 
@@ -88,6 +90,15 @@ pub record PlacesFrame (frame : Frame) (answer : Answer) : Type 0 where
   pub least : IsLeast (sizes (grouping (numbered frame) kept)) ordered places
   pub whole : answer ≡ record { status = Done; text = place_text frame (grouping (numbered frame) kept) places }
 
+-- the canonical text of the submissions that the kept passes need, and a line feed
+pub record CompilesFrame (frame : Frame) (answer : Answer) : Type 0 where
+  pub kept : List Bool
+  pub are_kept : AreKept (numbered frame) kept
+  pub places : Places
+  pub program : Program
+  pub compiled : IsCompiled (numbered frame) kept places program
+  pub whole : answer ≡ record { status = Done; text = program_text program ++ codes "\n" }
+
 -- the canonical text and a line feed; from the text the frame is read again
 pub record MigratesFrame (frame : Frame) (answer : Answer) : Type 0 where
   pub whole : answer ≡ record { status = Done; text = frame_text frame ++ codes "\n" }
@@ -98,6 +109,7 @@ abbrev pub AnswersFrame : FrameCommand → Frame → Answer → Type 0
 AnswersFrame Run frame answer = RunsFrame frame answer
 AnswersFrame Cull frame answer = CullsFrame frame answer
 AnswersFrame Place frame answer = PlacesFrame frame answer
+AnswersFrame Compile frame answer = CompilesFrame frame answer
 AnswersFrame Meaning frame answer = MeansFrame frame answer
 AnswersFrame Migrate frame answer = MigratesFrame frame answer
 

@@ -7,6 +7,7 @@ ghost use Rattle.fg_top.specs.Code.Steps.{HasText};
 ghost use Rattle.fg_top.specs.Files.{frame_file};
 
 use crate::answer::{Answer, refusal};
+use crate::compile::compile_frame;
 use crate::cull::cull_frame;
 use crate::meaning::mean_frame;
 use crate::migrate::migrate_frame;
@@ -42,6 +43,7 @@ fn answer_frame(alloc: Global, asked: FrameCommand, good: &GoodFrame) -> Result<
         FrameCommand::Run => run_frame(alloc, good),
         FrameCommand::Cull => cull_frame(alloc, good),
         FrameCommand::Place => place_frame(alloc, good),
+        FrameCommand::Compile => compile_frame(alloc, good),
         FrameCommand::Meaning => mean_frame(alloc, good),
         FrameCommand::Migrate => migrate_frame(alloc, good),
     }

@@ -2,11 +2,13 @@
 #![tactic(auto)]
 
 mod answer;
+mod compile;
 mod cull;
 mod ended;
 mod exports;
 mod files;
 mod frames;
+mod groups;
 mod intake;
 mod meaning;
 mod migrate;

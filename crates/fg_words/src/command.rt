@@ -22,6 +22,8 @@ pub enum FrameCommand {
     Cull,
     /// Prints where its transient resources lie in shared memory.
     Place,
+    /// Prints the submissions that it needs.
+    Compile,
     /// Prints its exports from its sequential meaning.
     Meaning,
     /// Prints its canonical text.
@@ -44,6 +46,7 @@ impl Command {
             "run" => Some(Command::Frame(FrameCommand::Run)),
             "cull" => Some(Command::Frame(FrameCommand::Cull)),
             "place" => Some(Command::Frame(FrameCommand::Place)),
+            "compile" => Some(Command::Frame(FrameCommand::Compile)),
             "meaning" => Some(Command::Frame(FrameCommand::Meaning)),
             "migrate" => Some(Command::Frame(FrameCommand::Migrate)),
             "check" => Some(Command::Submission(SubmissionCommand::Check)),

@@ -1,0 +1,5 @@
+use Rattle.fg_top.proofs.PlaceLemmas.{placed_frame}
+use Rattle.fg_top.proofs.place.place_answer.Goals as goal
+
+pub returns-clause-frame : goal.returns-clause-frame
+returns-clause-frame c = placed_frame c.args.good.now c.args.groups.now c.in_ok-place_lines.field-0 c.requires c.in_ok-place_lines.ensures

@@ -1,0 +1,29 @@
+-- What the stages of a command on a good frame come to, one after another.
+use Rattle.std.specs.Prelude.{◌≡◌, ℕ, List, Bool}
+use Rattle.fg_frame.specs.Numbered.{NumberedFrame}
+use Rattle.fg_frame.specs.declared.frame.Frame.{Frame}
+use Rattle.fg_groups.specs.Groups.{grouping}
+use Rattle.fg_groups.specs.Placed.{sizes}
+use Rattle.fg_groups.specs.declared.grouping.Grouping.{Grouping}
+use Rattle.fg_lifetimes.specs.Ordered.{IsOrdered}
+use Rattle.fg_place.specs.Placing.{Places, IsLeast}
+use Rattle.fg_report.specs.PlaceLines.{place_text}
+use Rattle.fg_versions.specs.Culled.{AreKept}
+
+-- the groups of the passes that are kept
+pub record AreGrouped (frame : NumberedFrame) (G : Grouping) : Type 0 where
+  pub kept : List Bool
+  pub are_kept : AreKept frame kept
+  pub groups : G ≡ grouping frame kept
+
+-- the least places of the transient units, where units that are ordered may share memory
+pub record ArePlaced (G : Grouping) (places : Places) : Type 0 where
+  pub ordered : ℕ → ℕ → Bool
+  pub is_ordered : IsOrdered G ordered
+  pub least : IsLeast (sizes G) ordered places
+
+-- the lines of such places
+pub record ArePlaceLines (frame : Frame) (G : Grouping) (text : List ℕ) : Type 0 where
+  pub places : Places
+  pub are_placed : ArePlaced G places
+  pub lines : text ≡ place_text frame G places
