@@ -1,47 +1,53 @@
-use fg_base::{Leg, NoMemory};
-use fg_frame::{FrameEnd, FrameFault, well_formed};
+use crate::sketched::good;
+use fg_base::Leg;
+use fg_frame::{Frame, FrameEnd, FrameFault, GoodFrame, well_formed};
 use fg_sketch::sketched_frame;
-use std::alloc::Global;
+use std::alloc::{AllocError, Global};
 use std::process::Abort;
 use std::test::Fail;
 
-// The fault as it is printed.
-fn shown(alloc: Global, fault: &FrameFault) -> Result<String, Fail> {
-    let mut text = format!(in alloc; "F{}", fault.number)?;
-    if let Some(limit) = fault.limit {
-        text.push_str(" ")?;
-        text.push_str(limit.name())?;
-    }
-    text.push_str(" $")?;
-    for leg in fault.place.as_slice() {
-        match leg {
-            Leg::Member(bytes) => {
-                text.push_str(".")?;
-                text.push_str(std::str::from_utf8(bytes.as_slice()).unwrap_or("?"))?;
-            }
-            Leg::Position(at) => {
-                let entry = format!(in alloc; "[{at}]")?;
-                text.push_str(entry.as_str())?;
-            }
+fn add_leg(alloc: Global, text: &mut Vec<u8>, leg: &Leg) -> Result<(), AllocError> {
+    match leg {
+        Leg::Member(name) => {
+            text.push(b'.')?;
+            text.extend_from_slice(name.as_slice())?;
         }
+        Leg::Position(at) => text.extend_from_slice(format!(in alloc; "[{at}]")?.as_bytes())?,
+    }
+    Ok(())
+}
+
+// The number of the rule, and the name of the limit.
+fn rule(alloc: Global, fault: &FrameFault) -> Result<String, AllocError> {
+    match fault.limit {
+        Some(limit) => format!(in alloc; "F{} {} $", fault.number, limit.name()),
+        None => format!(in alloc; "F{} $", fault.number),
+    }
+}
+
+// The fault as it is printed.
+fn shown(alloc: Global, fault: &FrameFault) -> Result<Vec<u8>, AllocError> {
+    let mut text = Vec::from_slice(alloc, rule(alloc, fault)?.as_bytes())?;
+    for leg in fault.place.as_slice() {
+        add_leg(alloc, &mut text, leg)?;
     }
     Ok(text)
 }
 
-// The first fault of the frame of a line; nothing for a good one.
-fn fault_of(alloc: Global, line: &str) -> Result<String, Fail> {
-    let frame = sketched_frame(alloc, line)?;
-    match well_formed(alloc, frame.copy(alloc)?) {
-        Ok(_) => Ok(String::new(alloc)),
+// The first fault of a frame; nothing for a good one.
+fn fault_of(alloc: Global, frame: Frame) -> Result<Vec<u8>, AllocError> {
+    match well_formed(alloc, frame) {
+        Ok(_) => Ok(Vec::new(alloc)),
         Err(FrameEnd::Refused(fault, _)) => shown(alloc, &fault),
-        Err(FrameEnd::NoMemory(_)) => Err(NoMemory)?,
+        Err(FrameEnd::NoMemory(_)) => Vec::from_slice(alloc, b"no memory"),
     }
 }
 
 fn judge(rt: &impl Abort, alloc: Global, rows: &[(&str, &str)]) -> Result<(), Fail> {
     for (line, want) in rows {
-        let found = fault_of(alloc, line)?;
-        assert!(rt; found.as_str() == *want, "{line}: {found}");
+        let frame = sketched_frame(alloc, line)?.copy(alloc)?;
+        let found = fault_of(alloc, frame)?;
+        assert!(rt; found.as_slice() == want.as_bytes(), "{line}");
     }
     Ok(())
 }
@@ -188,18 +194,17 @@ fn faults(rt: HostRuntime) -> Result<(), Fail> {
     judge(&rt, alloc, &FITTED)
 }
 
-// The counts and exports of a good frame speak of units.
+// What the counts and exports of a good frame are.
+fn numbered(rt: &impl Abort, good: &GoodFrame) {
+    assert!(rt; good.queue_count() == 2 && good.pass_count() == 2);
+    assert!(rt; good.unit_count() == 6);
+    assert!(rt; good.exports() == [4u32, 2, 3].as_slice());
+}
+
 #[test]
 fn units(rt: HostRuntime) -> Result<(), Fail> {
-    let alloc = rt.alloc();
     let line =
         "x:one x:im |t w:+b fill:b:16 |g r:in r:b w:+im w:+one clear:im/1 clear:im/0 map:im/1:one";
-    let Ok(good) = well_formed(alloc, sketched_frame(alloc, line)?) else {
-        return Err(NoMemory)?;
-    };
-    assert!(&rt; good.queue_count() == 2);
-    assert!(&rt; good.pass_count() == 2);
-    assert!(&rt; good.unit_count() == 6);
-    assert!(&rt; good.exports() == [4u32, 2, 3].as_slice());
+    numbered(&rt, &good(rt.alloc(), line)?);
     Ok(())
 }

@@ -10,4 +10,6 @@ mod lifetimes;
 #[cfg(test)]
 mod meaning;
 #[cfg(test)]
+mod sketched;
+#[cfg(test)]
 mod versions;

@@ -1,6 +1,6 @@
-use fg_frame::{GoodFrame, well_formed};
+use crate::sketched::good;
+use fg_frame::GoodFrame;
 use fg_meaning::{exports_of, meaning};
-use fg_sketch::{SketchError, sketched_frame};
 use std::alloc::Global;
 use std::process::Abort;
 use std::test::Fail;
@@ -11,41 +11,39 @@ const FRAME: &str =
     "x:im/1 x:in x:b |g r:in w:+b fill:b:16 copy:in:b:4 |g r:b w:+c w:in map:b:c fill:in:4 |g r:c w:+im/1 in:c:im/1 draw:im/1:1";
 
 // The bytes of b, c, the two layers of im, one and in.
-const WANTED: [&str; 6] = [
-    "Some([1, 1, 1, 1, 7, 0, 0, 0, 7, 0, 0, 0, 7, 0, 0, 0])",
-    "Some([2, 1, 1, 1, 8, 0, 0, 0, 8, 0, 0, 0, 8, 0, 0, 0])",
-    "None",
-    "Some([1, 0, 0, 0, 8, 0, 0, 0, 8, 0, 0, 0, 8, 0, 0, 0])",
-    "None",
-    "Some([7, 0, 0, 0])",
+const WANTED: [Option<&[u8]>; 6] = [
+    Some(&[1, 1, 1, 1, 7, 0, 0, 0, 7, 0, 0, 0, 7, 0, 0, 0]),
+    Some(&[2, 1, 1, 1, 8, 0, 0, 0, 8, 0, 0, 0, 8, 0, 0, 0]),
+    None,
+    Some(&[1, 0, 0, 0, 8, 0, 0, 0, 8, 0, 0, 0, 8, 0, 0, 0]),
+    None,
+    Some(&[7, 0, 0, 0]),
 ];
 
 fn compare(rt: &impl Abort, alloc: Global, good: &GoodFrame) -> Result<(), Fail> {
     let pictures = meaning(alloc, good)?;
-    assert_eq!(rt; good.unit_count(), 6);
+    assert!(rt; good.unit_count() == 6);
     for unit in 0..6 {
-        let found = format!(in alloc; "{:?}", pictures.get(unit))?;
-        assert_eq!(rt; found.as_str(), WANTED[unit as usize], "{unit}");
+        assert!(rt; pictures.get(unit) == WANTED[unit as usize], "{unit}");
     }
     Ok(())
 }
 
 // The exported units hold what they hold among all pictures, and the others nothing.
-const HELD: [&str; 6] = [
-    "[1, 1, 1, 1, 7, 0, 0, 0, 7, 0, 0, 0, 7, 0, 0, 0]",
-    "[]",
-    "[]",
-    "[1, 0, 0, 0, 8, 0, 0, 0, 8, 0, 0, 0, 8, 0, 0, 0]",
-    "[]",
-    "[7, 0, 0, 0]",
+const HELD: [&[u8]; 6] = [
+    &[1, 1, 1, 1, 7, 0, 0, 0, 7, 0, 0, 0, 7, 0, 0, 0],
+    &[],
+    &[],
+    &[1, 0, 0, 0, 8, 0, 0, 0, 8, 0, 0, 0, 8, 0, 0, 0],
+    &[],
+    &[7, 0, 0, 0],
 ];
 
 fn compare_exports(rt: &impl Abort, alloc: Global, good: &GoodFrame) -> Result<(), Fail> {
     let exports = exports_of(alloc, good)?;
-    assert_eq!(rt; good.unit_count(), 6);
+    assert!(rt; good.unit_count() == 6);
     for unit in 0..6 {
-        let found = format!(in alloc; "{:?}", exports.get(unit))?;
-        assert_eq!(rt; found.as_str(), HELD[unit as usize], "{unit}");
+        assert!(rt; exports.get(unit) == HELD[unit as usize], "{unit}");
     }
     Ok(())
 }
@@ -53,7 +51,7 @@ fn compare_exports(rt: &impl Abort, alloc: Global, good: &GoodFrame) -> Result<(
 #[test]
 fn pictures(rt: HostRuntime) -> Result<(), Fail> {
     let alloc = rt.alloc();
-    let good = well_formed(alloc, sketched_frame(alloc, FRAME)?).map_err(|_| SketchError::Word)?;
+    let good = good(alloc, FRAME)?;
     compare(&rt, alloc, &good)?;
     compare_exports(&rt, alloc, &good)
 }

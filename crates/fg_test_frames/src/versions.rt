@@ -1,5 +1,6 @@
-use fg_frame::well_formed;
-use fg_sketch::{SketchError, sketched_frame};
+use crate::sketched::good;
+use fg_base::NoMemory;
+use fg_frame::GoodFrame;
 use fg_versions::{cull, versions_of};
 use std::alloc::Global;
 use std::test::Fail;
@@ -21,19 +22,17 @@ const ROWS: [(&str, usize); 7] = [
     ("x:in |g w:in fill:in:4 |g r:in w:+one clear:one", 1),
 ];
 
-fn kept(alloc: Global, line: &str) -> Result<usize, Fail> {
-    let frame = sketched_frame(alloc, line)?;
-    let good = well_formed(alloc, frame).map_err(|_| SketchError::Word)?;
-    let versions = versions_of(alloc, &good)?;
-    Ok(cull(alloc, &good, &versions)?.count())
+fn kept(alloc: Global, frame: &GoodFrame) -> Result<usize, NoMemory> {
+    let versions = versions_of(alloc, frame)?;
+    Ok(cull(alloc, frame, &versions)?.count())
 }
 
 #[test]
 fn culled(rt: HostRuntime) -> Result<(), Fail> {
     let alloc = rt.alloc();
     for (line, count) in &ROWS {
-        let found = kept(alloc, line)?;
-        assert!(&rt; found == *count, "{found} of {line}");
+        let found = kept(alloc, &good(alloc, line)?)?;
+        assert!(&rt; found == *count, "{line}");
     }
     Ok(())
 }

@@ -15,16 +15,16 @@ fn texts(rt: HostRuntime) -> Result<(), Fail> {
     text.hex_lines(&[0x01, 0xfe, 0x9a])?;
     text.hex_lines(&[0xb0; 33])?;
     text.hex_lines(&[7; 32])?;
-    assert_eq!(&rt;
-        text.as_slice(),
-        b"kept 0 of 18446744073709551615\n\
+    assert!(&rt;
+        text.as_slice()
+            == b"kept 0 of 18446744073709551615\n\
           01fe9a\n\
           b0b0b0b0b0b0b0b0b0b0b0b0b0b0b0b0b0b0b0b0b0b0b0b0b0b0b0b0b0b0b0b0\n\
           b0\n\
           0707070707070707070707070707070707070707070707070707070707070707\n"
-            .as_slice()
+                .as_slice()
     );
     cut_back(&mut text, 4);
-    assert_eq!(&rt; text.as_slice(), b"kept".as_slice());
+    assert!(&rt; text.as_slice() == b"kept".as_slice());
     Ok(())
 }

@@ -37,7 +37,7 @@ fn map_wraps(rt: HostRuntime) {
         &[],
         &mut out,
     );
-    assert_eq!(&rt; out, [4, 20, 10, 11, 12, 13, 14, 15, 9]);
+    assert!(&rt; out == [4, 20, 10, 11, 12, 13, 14, 15, 9]);
 }
 
 #[test]
@@ -52,14 +52,14 @@ fn means_are_rounded_down(rt: HostRuntime) {
         &[],
         &mut out,
     );
-    assert_eq!(&rt; out, [2, 3, 3, 4, 5, 5, 6, 7, 7]);
+    assert!(&rt; out == [2, 3, 3, 4, 5, 5, 6, 7, 7]);
     let op = Op::Halve { src: 0, dst: 1 };
     let large = [
         255u8, 255, 255, 255, 255, 255, 255, 255, 255, 255, 255, 255, 254, 255, 255, 255,
     ];
     let mut mean = [0u8; 4];
     apply(&op, &[WORDS, WORD], &large, &[], &[], &mut mean);
-    assert_eq!(&rt; mean, [254, 255, 255, 255]);
+    assert!(&rt; mean == [254, 255, 255, 255]);
 }
 
 #[test]
@@ -75,7 +75,7 @@ fn means_of_wide_rows(rt: HostRuntime) {
     };
     let mut out = [0u8; 4096];
     apply(&op, &[kept, kept], &row[..4096], &[], &[], &mut out);
-    assert_eq!(&rt; (out[0], out[4093], out[4094], out[4095]), (90, 90, 60, 30));
+    assert!(&rt; (out[0], out[4093], out[4094], out[4095]) == (90, 90, 60, 30));
     let wide = Shape::Image {
         width: 4097,
         height: 1,
@@ -83,7 +83,7 @@ fn means_of_wide_rows(rt: HostRuntime) {
     };
     let mut out = [0u8; 4097];
     apply(&op, &[wide, wide], &row, &[], &[], &mut out);
-    assert_eq!(&rt; (out[0], out[4094], out[4095], out[4096]), (90, 60, 30, 0));
+    assert!(&rt; (out[0], out[4094], out[4095], out[4096]) == (90, 60, 30, 0));
 }
 
 #[test]
@@ -107,7 +107,7 @@ fn rectangle_goes_across(rt: HostRuntime) {
         &[],
         &mut out,
     );
-    assert_eq!(&rt; out, [0, 0, 0, 5, 6, 0, 8, 9, 0]);
+    assert!(&rt; out == [0, 0, 0, 5, 6, 0, 8, 9, 0]);
 }
 
 #[test]
@@ -123,8 +123,5 @@ fn texels_are_counted(rt: HostRuntime) {
         &[],
         &mut out,
     );
-    assert_eq!(&rt;
-        (out[0], out[4], out[20], out[1020], out[1023]),
-        (1, 0, 7, 1, 0)
-    );
+    assert!(&rt; (out[0], out[4], out[20], out[1020], out[1023]) == (1, 0, 7, 1, 0));
 }

@@ -1,8 +1,19 @@
-use fg_sketch::*;
-use fg_subs::shape;
+//! Programs for these tests, each sketched by a line of words.
+
+use fg_sketch::{SketchError, sketched_program};
+use fg_subs::{Shaped, shape};
+use std::alloc::Global;
 use std::test::Fail;
 
-const SKETCHES: [(&str, bool); 3] = [
+/// The shaped program of a line. One that is refused is no sketch.
+pub fn shaped(alloc: Global, line: &str) -> Result<Shaped, SketchError> {
+    match shape(alloc, sketched_program(alloc, line)?) {
+        Ok(shaped) => Ok(shaped),
+        Err(_) => Err(SketchError::Word),
+    }
+}
+
+const SKETCHES: [(&str, bool); 4] = [
     (
         "plain:16 buffer:16:0:0 read:0 ; graphics fill:0:16 signal:1",
         true,
@@ -12,15 +23,14 @@ const SKETCHES: [(&str, bool); 3] = [
         "plain:512 image:2:2:r32:0:0 buffer:16:0:256 ; graphics turn:0:UNDEFINED>GENERAL:COMPUTE_SHADER,>COMPUTE_SHADER,SHADER_STORAGE_WRITE ramp:0",
         true,
     ),
+    ("plain:x", false),
 ];
 
 #[test]
 fn programs(rt: HostRuntime) -> Result<(), Fail> {
     let alloc = rt.alloc();
     for (line, good) in &SKETCHES {
-        let program = sketched_program(alloc, line)?;
-        assert!(&rt; shape(alloc, program).is_ok() == *good, "{line}");
+        assert!(&rt; shaped(alloc, line).is_ok() == *good, "{line}");
     }
-    assert!(&rt; sketched_program(alloc, "plain:x").is_err());
     Ok(())
 }

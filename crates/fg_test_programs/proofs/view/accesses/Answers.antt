@@ -6,7 +6,7 @@ use Rattle.fg_test_programs.proofs.view.accesses.Goals as goal
 
 pub node_accesses_of-requires : goal.node_accesses_of-requires
 node_accesses_of-requires c = λ n among.
-    let nodes = program_nodes c.in_ok-shaped.shaped in
+    let nodes = program_nodes c.args.shaped.now in
     let view = c.in_ok-view.view in
     let least : IsLeast nodes c.in-Whole.order = subst (Answers nodes) c.in-Whole.is c.in_ok-order.ensures in
     subst (λ k. n < k) (sym (c.in_ok-view.ensures.shaped.effects ∙ ap (λ v. length v.nodes) c.in_ok-view.ensures.view))
