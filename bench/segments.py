@@ -1,0 +1,89 @@
+#!/usr/bin/env python3
+"""Times the calls of the table of caches against a copy of the same bytes, in the built program fg_measure.
+
+    bench/segments.py [--runs 5] [--program PROGRAM]
+
+First on a whole image of 1920 by 1080 texels of four bytes (8,294,400 bytes), which is one segment, then on ranges between
+two of 512 random places at which the table is cut. The program does a call as often as its words say. The time of a call is
+the processor time of the user in a run with so many calls, less that of a run with none, divided by their number: the median
+of several runs, all calls in turn. What a call does besides is taken off: of `put` the time in which the buffer that it
+takes is made and let go, of a write-back of fresh lines that of `put`. To make a buffer takes about as long as the copy, a
+hundred times what these two may take: on a machine that does other work their rows are noise, and can be below 0. For each
+call one line: microseconds, the same as part of the copy, and the most that it may be on a whole image. The status is 1
+where one is more.
+"""
+
+import argparse
+import os
+import statistics
+import subprocess
+import sys
+from pathlib import Path
+
+TOP = Path(__file__).resolve().parent.parent
+PROGRAM = TOP / "crates/fg_measure/out/fg_measure"
+
+# How often each is done. A table has room for 20,000 stores.
+TIMES = {"copy": 400, "load": 400, "make": 2_000, "put": 2_000, "put-write": 2_000, "write": 200_000, "fill": 200_000}
+RANDOM_TIMES = {"copy": 1_500, "load": 1_500, "make": 2_000, "put": 2_000, "put-write": 2_000, "write": 20_000, "fill": 20_000}
+
+# Each large buffer comes fresh from the system, and goes back to it: else `make` would fill the same bytes again and again,
+# which a cache holds, and `put`, whose buffers live longer, others each time.
+FRESH = {"MALLOC_MMAP_THRESHOLD_": "65536", "GLIBC_TUNABLES": "glibc.malloc.mmap_threshold=65536"}
+
+# What is printed, the word that is timed, the word whose time is taken off, and the most that it may be of a copy.
+ROWS = [
+    ("copy", "copy", None, None),
+    ("load", "load", None, 1.2),
+    ("put", "put", "make", 0.01),
+    ("write-back of fresh lines", "put-write", "put", 0.01),
+    ("write-back of clean lines", "write", None, 0.01),
+    ("drop and fill", "fill", None, 0.01),
+]
+
+
+def once(program, word, times):
+    """Processor time of the user in seconds."""
+    child = subprocess.Popen([program, word, str(times)], stdin=subprocess.DEVNULL, stdout=subprocess.DEVNULL, env={**os.environ, **FRESH})
+    _, status, usage = os.wait4(child.pid, 0)
+    child.returncode = os.waitstatus_to_exitcode(status)
+    if child.returncode != 0:
+        sys.exit(f"{program} {word} {times} ended with status {child.returncode}")
+    return usage.ru_utime
+
+
+def measured(program, prefix, times, runs):
+    """Microseconds of one call of each word."""
+    found = {word: [] for word in times}
+    for _ in range(runs):
+        for word, count in times.items():
+            idle = once(program, prefix + word, 0)
+            found[word].append((once(program, prefix + word, count) - idle) / count * 1e6)
+    return {word: statistics.median(all) for word, all in found.items()}
+
+
+def shown(title, took, bounded):
+    """Prints the rows, and tells whether one is over its bound."""
+    over = False
+    print(f"{title:28} {'µs':>10} {'of copy':>9} {'at most':>8}")
+    for name, word, less, most in ROWS:
+        one = took[word] - (took[less] if less else 0)
+        ratio = one / took["copy"]
+        bound = f"{most:8.2f}" if bounded and most else ""
+        print(f"{name:28} {one:10.2f} {ratio:9.4f} {bound}", flush=True)
+        over = over or bool(bounded and most and ratio > most)
+    return over
+
+
+def main():
+    parser = argparse.ArgumentParser(description=__doc__, formatter_class=argparse.RawDescriptionHelpFormatter)
+    parser.add_argument("--runs", type=int, default=5)
+    parser.add_argument("--program", default=str(PROGRAM))
+    options = parser.parse_args()
+    over = shown("whole image", measured(options.program, "", TIMES, options.runs), True)
+    shown("random ranges", measured(options.program, "random-", RANDOM_TIMES, options.runs), False)
+    sys.exit(1 if over else 0)
+
+
+if __name__ == "__main__":
+    main()

@@ -1,0 +1,5 @@
+use Rattle.fg_measure.specs.Code.Tables.{HoldsImage}
+use Rattle.fg_measure.proofs.repeat.use_first.Given as goal
+
+abbrev pub invariant-loop-k : goal.invariant-loop-k
+invariant-loop-k l = HoldsImage l.table

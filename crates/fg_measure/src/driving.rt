@@ -1,0 +1,48 @@
+//! The device of a submission.
+
+ghost use Rattle.std.specs.Prelude.{IfOk};
+ghost use Rattle.fg_checker.specs.Sound.{IsSound};
+ghost use Rattle.fg_steps.specs.Devices.{NoneBegun};
+
+use crate::stopped::Stopped;
+use fg_checker::{Checked, check};
+use fg_device::Device;
+use fg_drive::drive;
+use fg_subfile::read_program;
+use fg_subs::shape;
+use std::alloc::Global;
+use std::thread::Threads;
+
+fn checked(alloc: Global, bytes: &[u8]) -> Result<Checked, Stopped> {
+    let Ok(program) = read_program(alloc, bytes) else {
+        return Err(Stopped);
+    };
+    let Ok(shaped) = shape(alloc, program) else {
+        return Err(Stopped);
+    };
+    match check(alloc, shaped) {
+        Ok(checked) => Ok(checked),
+        Err(_) => Err(Stopped),
+    }
+}
+
+/// A device of a sound submission that has done nothing.
+#[tactic(auto, using(fg_drive::proofs::Calming::fresh_idle))]
+pub fn device_of(alloc: Global, bytes: &[u8]) -> Result<Device, Stopped>
+    ensures idle { IfOk result NoneBegun }
+    ensures sound { IfOk result (λ device. IsSound device.program) }
+{
+    let checked = checked(alloc, bytes)?;
+    Ok(Device::new(alloc, &checked, 0, 0)?)
+}
+
+/// Drives it to its end.
+pub fn driven<R: Threads + Sync>(rt: &R, alloc: Global, bytes: &[u8]) -> Result<(), Stopped> {
+    let mut device = device_of(alloc, bytes)?;
+    drive(rt, alloc, &mut device, None)?;
+    if device.complete() {
+        Ok(())
+    } else {
+        Err(Stopped)
+    }
+}

@@ -1,0 +1,60 @@
+//! A call is done again and again.
+
+ghost use Rattle.std.specs.Prelude.{◌≡◌, length, OnOk};
+ghost use Rattle.fg_measure.specs.Code.Tables.{image, HoldsImage};
+
+use crate::call::{Call, act, put, write_back};
+use crate::ranges::{PLACES, Ranges};
+use crate::stopped::Stopped;
+use crate::table::{picture, table};
+use fg_caches::Segments;
+use std::alloc::Global;
+
+// As many stores as a table may have.
+const STORES: u32 = 20_000;
+
+// So many stores are made first, by two agents in turn.
+const BEFORE: u32 = 32;
+
+// Lines of both agents, dirty ones and clean ones.
+fn use_first(alloc: Global, table: &mut Segments, ranges: &mut Ranges) -> Result<(), Stopped>
+    requires holds { HoldsImage table.old }
+    ensures holds { OnOk result (HoldsImage table.new) }
+{
+    for k in 0..BEFORE {
+        let range = ranges.next();
+        put(alloc, table, k % 2, range)?;
+        if k % 4 < 2 {
+            write_back(table, k % 2, range)?;
+        }
+    }
+    Ok(())
+}
+
+fn sum(bytes: &[u8]) -> u64 {
+    let mut sum = 0u64;
+    for byte in bytes {
+        sum = sum.wrapping_add(u64::from(*byte));
+    }
+    sum
+}
+
+/// Does a call so many times, each on the next range. The answer is a sum of the bytes that were loaded.
+pub fn repeat(alloc: Global, call: Call, times: u32) -> Result<u64, Stopped> {
+    let mut ranges = Ranges::new(call.random);
+    let mut table = table(alloc, if call.random { PLACES } else { 0 }, STORES)?;
+    use_first(alloc, &mut table, &mut ranges)?;
+    let from = picture(alloc)?;
+    let mut out = picture(alloc)?.into_vec();
+    for _time in 0..times {
+        act(
+            alloc,
+            call.action,
+            &mut table,
+            &from,
+            ranges.next(),
+            &mut out,
+        )?;
+    }
+    Ok(sum(&out))
+}

@@ -1,0 +1,63 @@
+//! The table that is measured, and buffers.
+
+ghost use Rattle.std.specs.Prelude.{◌≡◌, ◌≤◌, ◌∷◌, [], length, IfOk};
+ghost use Rattle.std.specs.List.{All};
+ghost use Rattle.fg_base.specs.Maxima.{max_nodes};
+ghost use Rattle.fg_measure.specs.Code.Tables.{image, HoldsImage};
+
+use crate::ranges::{IMAGE, place};
+use fg_base::{List, NoMemory};
+use fg_caches::Segments;
+use std::alloc::Global;
+
+const AGENTS: u32 = 2;
+
+// Room for cuts that no call needs, since ranges end where the table is cut.
+const SPARE: u32 = 2;
+
+/// A buffer of zeros.
+pub fn zeros(alloc: Global, len: u32) -> Result<List<u8>, NoMemory>
+    ensures { IfOk result (λ bytes. length bytes ≡ len) }
+{
+    Ok(List::from_vec(vec![in alloc; 0u8; len as usize]?))
+}
+
+/// An image whose bytes differ from place to place.
+pub fn picture(alloc: Global) -> Result<List<u8>, NoMemory>
+    ensures { IfOk result (λ bytes. length bytes ≡ image) }
+{
+    let mut bytes = vec![in alloc; 0u8; IMAGE as usize]?;
+    for (k, byte) in bytes.iter_mut().enumerate() {
+        *byte = (k % 251) as u8;
+    }
+    Ok(List::from_vec(bytes))
+}
+
+fn cuts(alloc: Global, count: u32) -> Result<Vec<(u32, u32)>, NoMemory>
+    ensures { IfOk result (λ cuts. All (λ c. (c.0 ≡ 0) × (c.1 ≤ image)) cuts.items) }
+{
+    let mut cuts = Vec::new(alloc);
+    for k in 0..count {
+        cuts.push((0, place(k)))?;
+    }
+    Ok(cuts)
+}
+
+fn one(alloc: Global, bytes: List<u8>) -> Result<List<List<u8>>, NoMemory>
+    ensures { IfOk result (λ opening. opening ≡ bytes ∷ []) }
+{
+    let mut opening = List::new(alloc);
+    opening.push(bytes)?;
+    Ok(opening)
+}
+
+/// A memory with a picture before two agents without lines, cut at so many places, with room for so many stores.
+pub fn table(alloc: Global, places: u32, stores: u32) -> Result<Segments, NoMemory>
+    requires stores { stores ≤ max_nodes }
+    ensures holds { IfOk result HoldsImage }
+{
+    let opening = one(alloc, picture(alloc)?)?;
+    let cuts = cuts(alloc, places)?;
+    let junk = List::new(alloc);
+    Segments::new(alloc, AGENTS, opening, junk, &cuts, SPARE, stores)
+}
