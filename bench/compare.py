@@ -3,8 +3,8 @@
 
     bench/compare.py OTHER [--ours PROGRAM] [--runs 5] [--case NAME ..]
 
-First whole commands: `run`, `meaning`, `cull` and `place` of the deferred frame of examples/frames/, `cull` of nearly 16 MiB of
-imports and of 256 passes that read and change each of 256 buffers, `place` of a frame of 256 passes none of which is culled (the
+First whole commands: `run`, `meaning`, `cull`, `place` and `compile` of the deferred frame of examples/frames/, `cull` of nearly 16 MiB of
+imports and of 256 passes that read and change each of 256 buffers, `place` and `compile` of a frame of 256 passes none of which is culled (the
 other program makes it, by its word `gen`, and each pass is given a side effect; one that has no such word is left out), and
 `check` of submissions with as many nodes as there can be:
 barriers alone; fills of one buffer with a full barrier between each two; one fill and its many readers; fills of many
@@ -197,11 +197,12 @@ def written(folder, name, value):
 def commands(folder, other):
     """Name, word and file."""
     deferred = TOP / "examples/frames/deferred.json"
-    for word in ("run", "meaning", "cull", "place"):
+    for word in ("run", "meaning", "cull", "place", "compile"):
         yield f"{word} deferred", word, deferred
     made = generated(other)
     if made:
-        yield "place 256 passes", "place", written(folder, "made.json", made)
+        for word in ("place", "compile"):
+            yield f"{word} 256 passes", word, written(folder, "made.json", made)
     yield "cull 16 MiB", "cull", written(folder, "large.json", large())
     yield "cull 256 passes", "cull", written(folder, "wide.json", wide())
     for name, program in submissions():

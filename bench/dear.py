@@ -21,10 +21,17 @@ TOP = Path(__file__).resolve().parent.parent
 LINE = re.compile(r"checked (.+), \d+ of \d+")
 
 
+def unbuilt(folder, names):
+    """What a copy does not need."""
+    return [name for name in names if name == ".git" or (Path(folder).name == "out" and name != "rlib")]
+
+
 def copied(room, crate):
-    """A copy of the sources in which the crate has another name, so that nothing is taken from what earlier checks kept of it."""
+    """A copy in which the crate has another name, so that nothing is taken from what earlier checks kept of it. The libraries
+    that are built go with it."""
     top = Path(room) / "copy"
-    shutil.copytree(TOP, top, symlinks=True, ignore=shutil.ignore_patterns("out", ".git"))
+    shutil.copytree(TOP, top, symlinks=True, ignore=unbuilt)
+    shutil.rmtree(top / "crates" / crate / "out", ignore_errors=True)
     folder = (top / "crates" / crate).rename(top / "crates" / f"timed_{crate}")
     for path in [top / "crates.txt", *folder.rglob("*.rt"), *folder.rglob("*.antt")]:
         text = path.read_text(encoding="utf-8")

@@ -66,10 +66,14 @@ def reached(edges, start):
     return found
 
 
+def is_for_tests(crate):
+    return crate == "fg_sketch" or crate.startswith("fg_test_")
+
+
 def crate_lines():
     """The crates of the repository that each of them stands on, without those for tests."""
     lines = [line.split(":") for line in (TOP / "crates.txt").read_text(encoding="utf-8").splitlines() if ":" in line and not line.startswith("#")]
-    names = [name.split()[0] for name, _ in lines if name.split()[0] not in TESTS]
+    names = [name.split()[0] for name, _ in lines if not is_for_tests(name.split()[0])]
     return {name.split()[0]: [dep for dep in deps.split() if dep in names] for name, deps in lines if name.split()[0] in names}
 
 
@@ -79,10 +83,6 @@ GROUPS = [
     ("green", "files", {"fg_forms", "fg_opforms", "fg_shapeforms", "fg_framefile", "fg_subfile"}),
     ("amber", "the program", {"fg_words", "fg_lines", "fg_report", "fg_top", "framec"}),
 ]
-
-# On these crates others stand by their tests alone.
-TESTS = {"fg_sketch"}
-
 
 def fill_of(crate):
     return next((fill for fill, _, crates in GROUPS if crate in crates), "plain")
