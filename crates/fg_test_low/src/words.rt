@@ -21,7 +21,7 @@ const COMMANDS: [(&str, Command); 7] = [
     ("check", Command::Submission(SubmissionCommand::Check)),
 ];
 
-const NO_COMMANDS: [&str; 7] = [
+const NO_COMMANDS: [&str; 6] = [
     "",
     "Run",
     "run run",
