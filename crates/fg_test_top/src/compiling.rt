@@ -9,9 +9,11 @@ use std::sync::Wait;
 use std::test::Fail;
 use std::thread::Threads;
 
-const ONE_FILL: &str = r#"{"format":1,"queues":[{"name":"g","family":"graphics"}],"resources":[{"name":"b","buffer":16}],"passes":[{"name":"p","queue":"g","writes":[{"new":"b"}],"ops":[{"op":"fill_buffer","dst":"b","offset":0,"size":16,"word":7}]}],"exports":["b"]}"#;
+const ONE_FILL: &str =
+    r#"{"format":1,"queues":[{"name":"g","family":"graphics"}],"resources":[{"name":"b","buffer":16}],"passes":[{"name":"p","queue":"g","writes":[{"new":"b"}],"ops":[{"op":"fill_buffer","dst":"b","offset":0,"size":16,"word":7}]}],"exports":["b"]}"#;
 
-const ONE_FILL_TEXT: &str = r#"{"format":2,"memories":[{"size":16},{"size":16}],"pieces":[{"buffer":16,"memory":0,"offset":0},{"buffer":16,"memory":1,"offset":0}],"queues":[{"batches":[{"items":[{"dst":0,"item":"command","offset":0,"op":"fill_buffer","size":16,"word":7},{"dst_access":"TRANSFER_READ","dst_stage":"COPY","item":"buffer","piece":0,"src_access":"TRANSFER_WRITE","src_stage":"CLEAR"},{"dst":1,"dst_offset":0,"item":"command","op":"copy_buffer","size":16,"src":0,"src_offset":0},{"dst_access":"HOST_READ","dst_stage":"HOST","item":"buffer","piece":1,"src_access":"TRANSFER_WRITE","src_stage":"COPY"}],"signal":{"stage":"ALL_COMMANDS","value":1},"waits":[]}],"family":"graphics"}],"readbacks":[1]}
+const ONE_FILL_TEXT: &str =
+    r#"{"format":2,"memories":[{"size":16},{"size":16}],"pieces":[{"buffer":16,"memory":0,"offset":0},{"buffer":16,"memory":1,"offset":0}],"queues":[{"batches":[{"items":[{"dst":0,"item":"command","offset":0,"op":"fill_buffer","size":16,"word":7},{"dst_access":"TRANSFER_READ","dst_stage":"COPY","item":"buffer","piece":0,"src_access":"TRANSFER_WRITE","src_stage":"CLEAR"},{"dst":1,"dst_offset":0,"item":"command","op":"copy_buffer","size":16,"src":0,"src_offset":0},{"dst_access":"HOST_READ","dst_stage":"HOST","item":"buffer","piece":1,"src_access":"TRANSFER_WRITE","src_stage":"COPY"}],"signal":{"stage":"ALL_COMMANDS","value":1},"waits":[]}],"family":"graphics"}],"readbacks":[1]}
 "#;
 
 // Frames, and what is said of their submissions.
@@ -63,7 +65,14 @@ fn text_of(
 
 #[test]
 fn compiles(rt: HostRuntime) -> Result<(), Fail> {
-    gives(&rt, rt.alloc(), "compile", ONE_FILL, Status::Done, ONE_FILL_TEXT)
+    gives(
+        &rt,
+        rt.alloc(),
+        "compile",
+        ONE_FILL,
+        Status::Done,
+        ONE_FILL_TEXT,
+    )
 }
 
 #[test]
