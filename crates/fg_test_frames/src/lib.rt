@@ -10,6 +10,8 @@ mod lifetimes;
 #[cfg(test)]
 mod meaning;
 #[cfg(test)]
+mod turns;
+#[cfg(test)]
 mod sketched;
 #[cfg(test)]
 mod versions;
