@@ -1,4 +1,5 @@
 pub mod Clashes
+pub mod Code
 pub mod Faults
 pub mod FirstFault
 pub mod Good

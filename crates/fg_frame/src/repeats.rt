@@ -5,6 +5,7 @@ ghost use Rattle.std.specs.List.{list_any};
 ghost use Rattle.std.specs.Str.{bytes_eq};
 ghost use Rattle.fg_base.specs.Walks.{first_in};
 ghost use Rattle.fg_frame.specs.Clashes.{clash, first_clash};
+ghost use Rattle.fg_frame.specs.Code.Entries.{repeated_entry};
 ghost use Rattle.fg_frame.specs.Repeats.{repeats_at, first_repeat, repeats_in, repeated};
 ghost use Rattle.fg_frame.specs.Units.{numbering, layers_of};
 
@@ -176,6 +177,48 @@ fn repeats_in_passes(
     Ok(None)
 }
 
+fn repeated_queue(alloc: Global, frame: &Frame) -> Result<Option<usize>, NoMemory>
+    ensures { IfOk result (λ place. place ≡ first_repeat (map (λ q. q.name) frame.now.queues)) }
+{
+    let names = queue_names(alloc, frame)?;
+    first_repeat(alloc, &names)
+}
+
+fn repeated_in_passes(alloc: Global, frame: &Frame) -> Result<Option<Place>, NoMemory>
+    ensures { IfOk result (λ place. place ≡ first_in (repeats_in (map (λ p. p.name) frame.now.passes)) 0 frame.now.passes) }
+{
+    let names = pass_names(alloc, frame)?;
+    repeats_in_passes(alloc, &names, &frame.passes)
+}
+
+fn repeated_entry(alloc: Global, frame: &Frame) -> Result<Option<Place>, NoMemory>
+    ensures { IfOk result (λ place. place ≡ repeated_entry frame.now) }
+{
+    if let Some(place) = repeated_in_passes(alloc, frame)? {
+        return Ok(Some(place));
+    }
+    match first_clash(alloc, &frame.exports)? {
+        Some(i) => Ok(Some(Place::Export(i))),
+        None => Ok(None),
+    }
+}
+
+// The table, where the names and entries that are looked at after it stand once.
+fn unless_repeated(
+    alloc: Global,
+    frame: &Frame,
+    table: Table,
+) -> Result<Result<Table, Place>, NoMemory>
+    ensures none { IfOk result (λ found. IfOk found (λ same. repeated_entry frame.now ≡ None)) }
+    ensures table { IfOk result (λ found. IfOk found (λ same. same ≡ table)) }
+    ensures repeat { IfOk result (λ found. IfErr found (λ place. repeated_entry frame.now ≡ Some place)) }
+{
+    match repeated_entry(alloc, frame)? {
+        Some(place) => Ok(Err(place)),
+        None => Ok(Ok(table)),
+    }
+}
+
 /// The table of a frame's names, or the first name that stands twice, or entry that names a unit twice.
 pub(crate) fn table_of(alloc: Global, frame: &Frame) -> Result<Result<Table, Place>, NoMemory>
     requires { layers_of frame.now.resources ≤ 256 }
@@ -183,19 +226,11 @@ pub(crate) fn table_of(alloc: Global, frame: &Frame) -> Result<Result<Table, Pla
     ensures table { IfOk result (λ found. IfOk found (λ table. table ≡ numbering frame.now)) }
     ensures repeat { IfOk result (λ found. IfErr found (λ place. repeated frame.now ≡ Some place)) }
 {
-    if let Some(i) = first_repeat(alloc, &queue_names(alloc, frame)?)? {
+    if let Some(i) = repeated_queue(alloc, frame)? {
         return Ok(Err(Place::Queue(i)));
     }
-    let table = match Table::new(alloc, frame)? {
-        Ok(table) => table,
-        Err(i) => return Ok(Err(Place::Resource(i))),
-    };
-    let names = pass_names(alloc, frame)?;
-    if let Some(place) = repeats_in_passes(alloc, &names, &frame.passes)? {
-        return Ok(Err(place));
-    }
-    match first_clash(alloc, &frame.exports)? {
-        Some(i) => Ok(Err(Place::Export(i))),
-        None => Ok(Ok(table)),
+    match Table::new(alloc, frame)? {
+        Ok(table) => unless_repeated(alloc, frame, table),
+        Err(i) => Ok(Err(Place::Resource(i))),
     }
 }
