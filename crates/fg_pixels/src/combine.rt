@@ -32,6 +32,17 @@ fn combine_by(grid: Grid, fun: Fun, a: &[u8], b: &[u8], first: u32, count: u32, 
     );
 }
 
+#[inline(always)]
+fn combine_each(grid: Grid, fun: Fun, a: &[u8], b: &[u8], first: u32, count: u32, out: &mut [u8])
+    requires a { HasRows grid grid.height a.now }
+    requires b { HasRows grid grid.height b.now }
+    requires out { HasRows grid count out.old }
+    requires rows { first + count ≤ grid.height }
+    ensures { out.new ≡ band grid.texel grid.width first count (λ x y. fun_of grid.texel fun (picture grid a.now x y) (picture grid b.now x y)) }
+{
+    by_function!(combine_by(grid, fun, a, b, first, count, out))
+}
+
 /// Rows of `combine`, from row `first` on.
 pub fn combine_rows(
     grid: Grid,
@@ -48,5 +59,5 @@ pub fn combine_rows(
     requires rows { first + count ≤ grid.height }
     ensures { out.new ≡ band grid.texel grid.width first count (λ x y. fun_of grid.texel fun (picture grid a.now x y) (picture grid b.now x y)) }
 {
-    by_function!(combine_by(grid, fun, a, b, first, count, out))
+    by_texel!(combine_each(grid, fun, a, b, first, count, out))
 }

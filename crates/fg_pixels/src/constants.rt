@@ -11,20 +11,20 @@ macro_rules! by_texel {
     }};
 }
 
-/// The call, with a constant in the place of `fun` too.
+/// The call, with a constant in the place of `fun`.
 macro_rules! by_function {
     ($call:ident($grid:expr, $fun:expr, $($rest:expr),*)) => {
         match $fun {
-            Fun::Add => by_texel!($call($grid, Fun::Add, $($rest),*)),
-            Fun::Sub => by_texel!($call($grid, Fun::Sub, $($rest),*)),
-            Fun::Mul => by_texel!($call($grid, Fun::Mul, $($rest),*)),
-            Fun::And => by_texel!($call($grid, Fun::And, $($rest),*)),
-            Fun::Or => by_texel!($call($grid, Fun::Or, $($rest),*)),
-            Fun::Xor => by_texel!($call($grid, Fun::Xor, $($rest),*)),
-            Fun::Min => by_texel!($call($grid, Fun::Min, $($rest),*)),
-            Fun::Max => by_texel!($call($grid, Fun::Max, $($rest),*)),
-            Fun::Shl => by_texel!($call($grid, Fun::Shl, $($rest),*)),
-            Fun::Shr => by_texel!($call($grid, Fun::Shr, $($rest),*)),
+            Fun::Add => $call($grid, Fun::Add, $($rest),*),
+            Fun::Sub => $call($grid, Fun::Sub, $($rest),*),
+            Fun::Mul => $call($grid, Fun::Mul, $($rest),*),
+            Fun::And => $call($grid, Fun::And, $($rest),*),
+            Fun::Or => $call($grid, Fun::Or, $($rest),*),
+            Fun::Xor => $call($grid, Fun::Xor, $($rest),*),
+            Fun::Min => $call($grid, Fun::Min, $($rest),*),
+            Fun::Max => $call($grid, Fun::Max, $($rest),*),
+            Fun::Shl => $call($grid, Fun::Shl, $($rest),*),
+            Fun::Shr => $call($grid, Fun::Shr, $($rest),*),
         }
     };
 }

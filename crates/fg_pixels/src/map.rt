@@ -6,7 +6,7 @@ ghost use Rattle.fg_base.specs.Texels.{modulus, picture, band};
 ghost use Rattle.fg_base.specs.declared.shape.Texel.TheVariants.{R8};
 ghost use Rattle.fg_pixels.specs.Bands.{HasRows};
 
-use crate::constants::{by_function, by_texel};
+use crate::constants::by_function;
 use crate::function::{cut, fun_at};
 use crate::painting::paint;
 use crate::texels::pick;
@@ -33,6 +33,16 @@ fn map_by(grid: Grid, fun: Fun, value: u32, src: &[u8], first: u32, count: u32, 
     );
 }
 
+#[inline(always)]
+fn map_each(grid: Grid, fun: Fun, value: u32, src: &[u8], first: u32, count: u32, out: &mut [u8])
+    requires src { HasRows grid grid.height src.now }
+    requires out { HasRows grid count out.old }
+    requires rows { first + count ≤ grid.height }
+    ensures { out.new ≡ band grid.texel grid.width first count (λ x y. fun_of grid.texel fun (picture grid src.now x y) (value % modulus grid.texel)) }
+{
+    by_function!(map_by(grid, fun, value, src, first, count, out))
+}
+
 // Apart, so that the compiler knows that the constant is a byte, and works on bytes.
 #[inline(never)]
 fn map_bytes(grid: Grid, fun: Fun, value: u8, src: &[u8], first: u32, count: u32, out: &mut [u8])
@@ -42,7 +52,12 @@ fn map_bytes(grid: Grid, fun: Fun, value: u8, src: &[u8], first: u32, count: u32
     requires rows { first + count ≤ grid.height }
     ensures { out.new ≡ band grid.texel grid.width first count (λ x y. fun_of grid.texel fun (picture grid src.now x y) value) }
 {
-    by_function!(map_by(grid, fun, u32::from(value), src, first, count, out))
+    let grid = Grid {
+        width: grid.width,
+        height: grid.height,
+        texel: Texel::R8,
+    };
+    map_each(grid, fun, u32::from(value), src, first, count, out);
 }
 
 /// Rows of `map`, from row `first` on.
@@ -62,6 +77,13 @@ pub fn map_rows(
 {
     match grid.texel {
         Texel::R8 => map_bytes(grid, fun, (value % 256) as u8, src, first, count, out),
-        Texel::R32 => by_function!(map_by(grid, fun, value, src, first, count, out)),
+        Texel::R32 => {
+            let grid = Grid {
+                width: grid.width,
+                height: grid.height,
+                texel: Texel::R32,
+            };
+            map_each(grid, fun, value, src, first, count, out);
+        }
     }
 }

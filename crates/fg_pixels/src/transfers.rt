@@ -21,7 +21,7 @@ pub(crate) fn fill_buffer(to: Shape, offset: u32, size: u32, word: u32, out: &mu
 }
 
 /// Offsets of the source and the destination, and the number of bytes.
-#[derive(Clone, Copy, Debug, PartialEq, Eq)]
+#[derive(Clone, Copy)]
 pub(crate) struct Range {
     pub from: u32,
     pub to: u32,
