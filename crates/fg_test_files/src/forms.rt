@@ -1,9 +1,8 @@
-use fg_base::{Leg, List, Name, Path};
+use crate::answers::{json, text, told};
+use fg_base::{List, Name};
 use fg_forms::*;
 use serde_json::{Map, Value};
-use std::alloc::Global;
-use std::fmt::Write;
-use std::str;
+use std::alloc::{AllocError, Global};
 use std::test::Fail;
 
 #[derive(Drop)]
@@ -22,36 +21,91 @@ fn read_sample(alloc: Global, at: &Place<'_>, value: &Value) -> Result<Sample, R
     Ok(Sample { name, count, sizes })
 }
 
-fn show_sample(alloc: Global, sample: Sample) -> Result<String, Fail> {
-    let mut text = format!(in alloc; "{} {}", sample.name.as_str(), sample.count)?;
-    if let Some(sizes) = sample.sizes {
-        write!(text, " {:?}", sizes.as_slice())?;
+impl Sample {
+    fn is(&self, name: &str, count: u32, sizes: Option<&[u32]>) -> bool {
+        let found = match &self.sizes {
+            Some(list) => Some(list.as_slice()),
+            None => None,
+        };
+        self.name.as_str() == name && self.count == count && found == sizes
     }
-    Ok(text)
 }
 
-fn show_path(alloc: Global, path: Path) -> Result<String, Fail> {
-    let mut text = String::from_str(alloc, "at ")?;
-    for leg in path.as_slice() {
-        match leg {
-            Leg::Member(name) => write!(text, "/{}", str::from_utf8(name.as_slice())?)?,
-            Leg::Position(at) => write!(text, "/{at}")?,
-        }
+// Texts, and the name, the count and the sizes that are read.
+const SAMPLES: [(&str, &str, u32, Option<&[u32]>); 5] = [
+    (r#"{"name":"a.b-c_9","count":1}"#, "a.b-c_9", 1, None),
+    (
+        r#" {"sizes":[], "count":8, "name":"a"} "#,
+        "a",
+        8,
+        Some(&[]),
+    ),
+    (
+        r#"{"name":"a","count":2,"sizes":[0,4294967295]}"#,
+        "a",
+        2,
+        Some(&[0, 4294967295]),
+    ),
+    (r#"{"name":"a","count":2,"count":3}"#, "a", 3, None),
+    (r#"{"name":"\u0061","count":2}"#, "a", 2, None),
+];
+
+fn good(alloc: Global, json: &Value) -> Result<Sample, Fail> {
+    match read_sample(alloc, &Place::Top, json) {
+        Ok(sample) => Ok(sample),
+        Err(_) => Err(Fail::new("no sample")),
     }
-    Ok(text)
 }
 
-// What is read of the bytes, or where the first fault is.
-fn answer(alloc: Global, bytes: &[u8]) -> Result<String, Fail> {
-    match read_json(alloc, bytes) {
-        Ok(value) => match read_sample(alloc, &Place::Top, &value) {
-            Ok(sample) => show_sample(alloc, sample),
-            Err(ReadEnd::Refused(path)) => show_path(alloc, path),
-            Err(ReadEnd::NoMemory) => Ok(String::from_str(alloc, "no memory")?),
-        },
-        Err(JsonEnd::NotJson) => Ok(String::from_str(alloc, "no JSON")?),
-        Err(JsonEnd::NoMemory) => Ok(String::from_str(alloc, "no memory")?),
+#[test]
+fn reads(rt: HostRuntime) -> Result<(), Fail> {
+    let alloc = rt.alloc();
+    for (line, name, count, sizes) in &SAMPLES {
+        let sample = good(alloc, &json(alloc, line)?)?;
+        assert!(rt; sample.is(name, *count, *sizes), "{line}");
     }
+    Ok(())
+}
+
+// Texts, and the place where each is refused.
+const REFUSED: [(&str, &str); 17] = [
+    ("[]", "$"),
+    ("null", "$"),
+    ("{}", "$.name"),
+    (r#"{"name":"a","zz":1}"#, "$.count"),
+    (r#"{"name":"","count":2}"#, "$.name"),
+    (r#"{"name":5,"count":2}"#, "$.name"),
+    (r#"{"name":"a","count":0}"#, "$.count"),
+    (r#"{"name":"a","count":9}"#, "$.count"),
+    (r#"{"name":"a","count":"2"}"#, "$.count"),
+    (r#"{"name":"a","count":-0}"#, "$.count"),
+    (r#"{"name":"a","count":1.0}"#, "$.count"),
+    (r#"{"name":"a","count":1e0}"#, "$.count"),
+    (r#"{"name":"a","count":2,"sizes":null}"#, "$.sizes"),
+    (r#"{"name":"a","count":2,"sizes":[1,-1,"x"]}"#, "$.sizes[1]"),
+    (
+        r#"{"name":"a","count":2,"sizes":[4294967296]}"#,
+        "$.sizes[0]",
+    ),
+    (r#"{"name":"a","count":2,"zz":1,"Size":1}"#, "$.Size"),
+    (r#"{"name":"a","count":2,"":1}"#, "$."),
+];
+
+fn first_fault(alloc: Global, json: &Value) -> Result<Vec<u8>, AllocError> {
+    match read_sample(alloc, &Place::Top, json) {
+        Err(ReadEnd::Refused(path)) => told(alloc, "", &path),
+        _ => Vec::from_slice(alloc, b"no fault"),
+    }
+}
+
+#[test]
+fn refuses(rt: HostRuntime) -> Result<(), Fail> {
+    let alloc = rt.alloc();
+    for (line, path) in &REFUSED {
+        let found = first_fault(alloc, &json(alloc, line)?)?;
+        assert!(rt; found.as_slice() == path.as_bytes(), "{line}");
+    }
+    Ok(())
 }
 
 fn nested(alloc: Global, depth: usize) -> Result<Vec<u8>, Fail> {
@@ -60,61 +114,20 @@ fn nested(alloc: Global, depth: usize) -> Result<Vec<u8>, Fail> {
     Ok(bytes)
 }
 
-// Bytes, and what is read of them.
-const ANSWERS: [(&[u8], &str); 26] = [
-    (br#"{"name":"a.b-c_9","count":1}"#, "a.b-c_9 1"),
-    (br#" {"sizes":[], "count":8, "name":"a"} "#, "a 8 []"),
-    (
-        br#"{"name":"a","count":2,"sizes":[0,4294967295]}"#,
-        "a 2 [0, 4294967295]",
-    ),
-    (br#"{"name":"a","count":2,"count":3}"#, "a 3"),
-    (br#"{"name":"\u0061","count":2}"#, "a 2"),
-    (b"[]", "at "),
-    (b"null", "at "),
-    (b"{}", "at /name"),
-    (br#"{"name":"a","zz":1}"#, "at /count"),
-    (br#"{"name":"","count":2}"#, "at /name"),
-    (br#"{"name":5,"count":2}"#, "at /name"),
-    (br#"{"name":"a","count":0}"#, "at /count"),
-    (br#"{"name":"a","count":9}"#, "at /count"),
-    (br#"{"name":"a","count":"2"}"#, "at /count"),
-    (br#"{"name":"a","count":-0}"#, "at /count"),
-    (br#"{"name":"a","count":1.0}"#, "at /count"),
-    (br#"{"name":"a","count":1e0}"#, "at /count"),
-    (br#"{"name":"a","count":2,"sizes":null}"#, "at /sizes"),
-    (
-        br#"{"name":"a","count":2,"sizes":[1,-1,"x"]}"#,
-        "at /sizes/1",
-    ),
-    (
-        br#"{"name":"a","count":2,"sizes":[4294967296]}"#,
-        "at /sizes/0",
-    ),
-    (br#"{"name":"a","count":2,"zz":1,"Size":1}"#, "at /Size"),
-    (br#"{"name":"a","count":2,"":1}"#, "at /"),
-    (b"", "no JSON"),
-    (b"{\"name\":\"\xff\"}", "no JSON"),
-    (b"{} {}", "no JSON"),
-    (b"01", "no JSON"),
-];
+const NO_JSON: [&[u8]; 4] = [b"", b"{\"name\":\"\xff\"}", b"{} {}", b"01"];
 
-#[test]
-fn reads(rt: HostRuntime) -> Result<(), Fail> {
-    let alloc = rt.alloc();
-    for (bytes, want) in &ANSWERS {
-        let found = answer(alloc, bytes)?;
-        assert!(rt; found.as_str() == *want, "{found} is not {want}");
-    }
-    Ok(())
+fn is_json(alloc: Global, bytes: &[u8]) -> bool {
+    read_json(alloc, bytes).is_ok()
 }
 
 #[test]
 fn nests(rt: HostRuntime) -> Result<(), Fail> {
     let alloc = rt.alloc();
-    let deepest = answer(alloc, nested(alloc, 127)?.as_slice())?;
-    let deeper = answer(alloc, nested(alloc, 128)?.as_slice())?;
-    assert!(rt; deepest.as_str() == "at " && deeper.as_str() == "no JSON");
+    for bytes in &NO_JSON {
+        assert!(rt; !is_json(alloc, bytes), "{bytes:?}");
+    }
+    assert!(rt; is_json(alloc, nested(alloc, 127)?.as_slice()));
+    assert!(rt; !is_json(alloc, nested(alloc, 128)?.as_slice()));
     Ok(())
 }
 
@@ -124,20 +137,22 @@ fn written_list(alloc: Global) -> Result<List<u8>, Fail> {
     Ok(write_json::<ListForm<NumberForm>>(alloc, &list)?)
 }
 
+fn written_number(alloc: Global) -> Result<String, Fail> {
+    text::<NumberForm>(alloc, &4294967295)
+}
+
 fn written_name(alloc: Global) -> Result<String, Fail> {
     let name = Name::read(b"a.b-c_9").ok_or("no name")?;
     NameForm::look(&name);
-    Ok(<NameForm as Writer>::write(alloc, &name)?.to_string(alloc)?)
+    text::<NameForm>(alloc, &name)
 }
 
 #[test]
 fn writes(rt: HostRuntime) -> Result<(), Fail> {
     let alloc = rt.alloc();
-    let list = written_list(alloc)?;
-    let number = <NumberForm as Writer>::write(alloc, &4294967295)?.to_string(alloc)?;
-    let name = written_name(alloc)?;
-    assert!(rt; list.as_slice() == b"[7,0,4294967295]".as_slice());
-    assert!(rt; number.as_str() == "4294967295" && name.as_str() == "\"a.b-c_9\"");
+    assert!(rt; written_list(alloc)?.as_slice() == b"[7,0,4294967295]".as_slice());
+    assert!(rt; written_number(alloc)?.as_str() == "4294967295");
+    assert!(rt; written_name(alloc)?.as_str() == "\"a.b-c_9\"");
     Ok(())
 }
 

@@ -1,7 +1,6 @@
 //! Files that differ from a good one in one piece, each with the place of its first fault, by hand from the format.
 
-use fg_base::{Leg, Path};
-use fg_frame::FrameFault;
+use crate::answers::fault;
 use fg_framefile::{FrameReadEnd, read_frame};
 use std::alloc::{AllocError, Global};
 use std::process::Abort;
@@ -12,42 +11,16 @@ const FILE: &str =
     r#"{"format":2,"queues":[{"name":"g","family":"graphics"}],"resources":[{"name":"b","buffer":4,"import":"00fFA07e"},{"name":"im","image":[2,3],"texel":"r8","layers":8,"sharing":"concurrent"}],"passes":[{"name":"p","queue":"g","reads":["b","im/7"],"writes":[{"new":"im/0"}],"ops":[{"op":"draw","dst":"im/0","clear":1,"rects":[{"x":0,"y":0,"width":1,"height":1,"mix":"xor","value":5}]}],"side_effect":true}],"exports":["im"]}"#;
 
 // What the file is with another piece in the place of one of its pieces: `frame`, or the number and place of the fault.
-fn judge(alloc: Global, piece: &str, other: &str) -> Result<String, AllocError> {
+fn judge(alloc: Global, piece: &str, other: &str) -> Result<Vec<u8>, AllocError> {
     judge_bytes(alloc, FILE.replace(alloc, piece, other)?.as_bytes())
 }
 
-fn judge_bytes(alloc: Global, bytes: &[u8]) -> Result<String, AllocError> {
+fn judge_bytes(alloc: Global, bytes: &[u8]) -> Result<Vec<u8>, AllocError> {
     match read_frame(alloc, bytes) {
-        Ok(_) => String::from_str(alloc, "frame"),
-        Err(FrameReadEnd::NoMemory) => String::from_str(alloc, "no memory"),
-        Err(FrameReadEnd::Refused(fault)) => told(alloc, &fault),
+        Ok(_) => Vec::from_slice(alloc, b"frame"),
+        Err(FrameReadEnd::NoMemory) => Vec::from_slice(alloc, b"no memory"),
+        Err(FrameReadEnd::Refused(found)) => fault(alloc, 'F', found.number, &found.place),
     }
-}
-
-fn told(alloc: Global, fault: &FrameFault) -> Result<String, AllocError> {
-    let path = written(alloc, &fault.place)?;
-    format!(in alloc; "F{} {}", fault.number, path.as_str())
-}
-
-// Each byte of a member that is not printable ASCII stands as `?`.
-fn written(alloc: Global, path: &Path) -> Result<String, AllocError> {
-    let mut text = String::from_str(alloc, "$")?;
-    for leg in path.as_slice() {
-        match leg {
-            Leg::Member(name) => {
-                text.push('.')?;
-                for byte in name.as_slice() {
-                    text.push(if (32..127).contains(byte) {
-                        *byte as char
-                    } else {
-                        '?'
-                    })?;
-                }
-            }
-            Leg::Position(at) => text.push_str(format!(in alloc; "[{at}]")?.as_str())?,
-        }
-    }
-    Ok(text)
 }
 
 // Whole files.
@@ -86,10 +59,10 @@ const FILES: [(&str, &str); 19] = [
 fn whole_files(rt: HostRuntime) -> Result<(), Fail> {
     let alloc = rt.alloc();
     let no_text = judge_bytes(alloc, b"{\"format\":\"\xff\"}")?;
-    assert!(rt; no_text.as_str() == "F1 $");
+    assert!(rt; no_text.as_slice() == b"F1 $".as_slice());
     for (file, answer) in &FILES {
         let found = judge_bytes(alloc, file.as_bytes())?;
-        assert!(rt; found.as_str() == *answer, "{file}: {found}");
+        assert!(rt; found.as_slice() == answer.as_bytes(), "{file}");
     }
     Ok(())
 }
@@ -318,7 +291,7 @@ const OPS: [Row; 14] = [
 fn all(rt: &impl Abort, alloc: Global, rows: &[Row]) -> Result<(), Fail> {
     for (piece, other, answer) in rows {
         let found = judge(alloc, piece, other)?;
-        assert!(rt; found.as_str() == *answer, "{piece} to {other}: {found}");
+        assert!(rt; found.as_slice() == answer.as_bytes(), "{piece} to {other}");
     }
     Ok(())
 }

@@ -1,7 +1,7 @@
 //! Operations over names, by texts written out by hand.
 
-use fg_base::{Leg, Path};
-use fg_forms::{NameForm, Place, ReadEnd, Reader, Typed, Writer};
+use crate::answers::{json, text, told};
+use fg_forms::{NameForm, Place, ReadEnd, Reader, Typed};
 use fg_opforms::OpForm;
 use serde_json::Value;
 use std::alloc::{AllocError, Global};
@@ -109,53 +109,36 @@ const REFUSED: [(&str, &str); 12] = [
     ),
 ];
 
-fn again(alloc: Global, text: &str) -> Result<String, Fail> {
-    let json = Value::from_str(alloc, text)?;
-    let op = OpForm::<NameForm>::read(alloc, &Place::Top, &json)?;
+// The text that is written of the operation that is read.
+fn again(alloc: Global, json: &Value) -> Result<String, Fail> {
+    let op = OpForm::<NameForm>::read(alloc, &Place::Top, json)?;
     OpForm::<NameForm>::look(&op);
-    let written = OpForm::<NameForm>::write(alloc, &op)?;
-    Ok(written.to_string(alloc)?)
-}
-
-fn first_fault(alloc: Global, text: &str) -> Result<Path, Fail> {
-    let json = Value::from_str(alloc, text)?;
-    match OpForm::<NameForm>::read(alloc, &Place::Top, &json) {
-        Err(ReadEnd::Refused(found)) => Ok(found),
-        _ => Err(Fail::new("no fault")),
-    }
+    text::<OpForm<NameForm>>(alloc, &op)
 }
 
 #[test]
 fn each_operation_is_read_and_written(rt: HostRuntime) -> Result<(), Fail> {
     let alloc = rt.alloc();
-    for (text, canonical) in &READ_AND_WRITTEN {
-        let written = again(alloc, text)?;
+    for (line, canonical) in &READ_AND_WRITTEN {
+        let written = again(alloc, &json(alloc, line)?)?;
         assert!(rt; written.as_str() == *canonical, "{canonical}");
     }
     Ok(())
 }
 
+fn first_fault(alloc: Global, json: &Value) -> Result<Vec<u8>, AllocError> {
+    match OpForm::<NameForm>::read(alloc, &Place::Top, json) {
+        Err(ReadEnd::Refused(path)) => told(alloc, "", &path),
+        _ => Vec::from_slice(alloc, b"no fault"),
+    }
+}
+
 #[test]
 fn the_first_fault_is_told(rt: HostRuntime) -> Result<(), Fail> {
     let alloc = rt.alloc();
-    for (text, path) in &REFUSED {
-        let found = first_fault(alloc, text)?;
-        let written = written_path(alloc, &found)?;
-        assert!(rt; written.as_slice() == path.as_bytes(), "at {path}");
+    for (line, path) in &REFUSED {
+        let found = first_fault(alloc, &json(alloc, line)?)?;
+        assert!(rt; found.as_slice() == path.as_bytes(), "at {path}");
     }
     Ok(())
-}
-
-fn written_path(alloc: Global, path: &Path) -> Result<Vec<u8>, AllocError> {
-    let mut text = Vec::from_slice(alloc, b"$")?;
-    for leg in path.as_slice() {
-        match leg {
-            Leg::Member(name) => {
-                text.push(b'.')?;
-                text.extend_from_slice(name.as_slice())?;
-            }
-            Leg::Position(at) => text.extend_from_slice(format!(in alloc; "[{at}]")?.as_bytes())?,
-        }
-    }
-    Ok(text)
 }

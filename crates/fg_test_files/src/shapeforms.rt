@@ -1,6 +1,7 @@
+use crate::answers::{json, text};
 use fg_base::{Family, List, Shape, Texel};
 use fg_bits::Sharing;
-use fg_forms::{Place, Reader, TextForm, Typed, Writer};
+use fg_forms::{Place, ReadEnd, Reader, TextForm, Typed};
 use fg_shapeforms::{Body, FamilyWord, HexForm, SharingWord, TexelWord, read_body, read_sharing};
 use serde_json::Value;
 use std::alloc::Global;
@@ -42,49 +43,51 @@ const BODIES: [(&str, Body, Sharing, Body, Sharing); 2] = [
     ),
 ];
 
-fn found<const FORMAT: u32>(alloc: Global, text: &str) -> Result<(Body, Sharing), Fail> {
-    let json = Value::from_str(alloc, text)?;
-    let body = read_body::<FORMAT>(alloc, &Place::Top, &json)?;
-    let sharing = read_sharing::<FORMAT>(alloc, &Place::Top, &json)?;
+fn found<const FORMAT: u32>(alloc: Global, json: &Value) -> Result<(Body, Sharing), ReadEnd> {
+    let body = read_body::<FORMAT>(alloc, &Place::Top, json)?;
+    let sharing = read_sharing::<FORMAT>(alloc, &Place::Top, json)?;
     Ok((body, sharing))
 }
 
 #[test]
 fn bodies_in_both_formats(rt: HostRuntime) -> Result<(), Fail> {
     let alloc = rt.alloc();
-    for (text, first, shared_first, second, shared_second) in &BODIES {
+    for (line, first, shared_first, second, shared_second) in &BODIES {
+        let json = json(alloc, line)?;
         assert!(&rt;
-            found::<1>(alloc, text)? == (*first, *shared_first),
-            "{text}"
+            found::<1>(alloc, &json)? == (*first, *shared_first),
+            "{line}"
         );
         assert!(&rt;
-            found::<2>(alloc, text)? == (*second, *shared_second),
-            "{text}"
+            found::<2>(alloc, &json)? == (*second, *shared_second),
+            "{line}"
         );
     }
     Ok(())
 }
 
-// The bytes of a text of hexadecimal digits, and the text that is written of them.
-fn bytes(alloc: Global, text: &str) -> Result<(List<u8>, String), Fail> {
-    let json = Value::from_str(alloc, text)?;
-    let bytes = HexForm::read(alloc, &Place::Top, &json)?;
-    HexForm::look(&bytes);
-    let text = HexForm::write(alloc, &bytes)?.to_string(alloc)?;
-    Ok((bytes, text))
+// The bytes that are read of a text of hexadecimal digits.
+fn bytes(alloc: Global, json: &Value) -> Result<List<u8>, ReadEnd> {
+    HexForm::read(alloc, &Place::Top, json)
+}
+
+fn digits(alloc: Global, bytes: &List<u8>) -> Result<String, Fail> {
+    HexForm::look(bytes);
+    text::<HexForm>(alloc, bytes)
 }
 
 #[test]
 fn bytes_and_words(rt: HostRuntime) -> Result<(), Fail> {
     let alloc = rt.alloc();
-    let (bytes, text) = bytes(alloc, r#""00fFA07e""#)?;
+    let bytes = bytes(alloc, &json(alloc, r#""00fFA07e""#)?)?;
     assert!(&rt; bytes.as_slice() == [0u8, 255, 160, 126].as_slice());
-    assert!(&rt; text.as_str() == r#""00ffa07e""#);
-    let text = <TextForm<FamilyWord>>::write(alloc, &Family::Transfer)?.to_string(alloc)?;
-    assert!(&rt; text.as_str() == r#""transfer""#);
-    let text = <TextForm<TexelWord>>::write(alloc, &Texel::R32)?.to_string(alloc)?;
-    assert!(&rt; text.as_str() == r#""r32""#);
-    let text = <TextForm<SharingWord>>::write(alloc, &Sharing::Concurrent)?.to_string(alloc)?;
-    assert!(&rt; text.as_str() == r#""concurrent""#);
+    assert!(&rt; digits(alloc, &bytes)?.as_str() == r#""00ffa07e""#);
+    assert!(&rt;
+        text::<TextForm<FamilyWord>>(alloc, &Family::Transfer)?.as_str() == r#""transfer""#
+    );
+    assert!(&rt; text::<TextForm<TexelWord>>(alloc, &Texel::R32)?.as_str() == r#""r32""#);
+    assert!(&rt;
+        text::<TextForm<SharingWord>>(alloc, &Sharing::Concurrent)?.as_str() == r#""concurrent""#
+    );
     Ok(())
 }

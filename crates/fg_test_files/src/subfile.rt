@@ -45,10 +45,10 @@ const FILES: [(&str, &str); 18] = [
 fn whole_files(rt: HostRuntime) -> Result<(), Fail> {
     let alloc = rt.alloc();
     let no_text = judge_bytes(alloc, b"{\"format\":\"\xff\"}")?;
-    assert!(rt; no_text.as_str() == "G10 $");
+    assert!(rt; no_text.as_slice() == b"G10 $".as_slice());
     for (file, answer) in &FILES {
         let found = judge_bytes(alloc, file.as_bytes())?;
-        assert!(rt; found.as_str() == *answer, "{file}: {found}");
+        assert!(rt; found.as_slice() == answer.as_bytes(), "{file}");
     }
     Ok(())
 }

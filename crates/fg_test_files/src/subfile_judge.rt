@@ -1,8 +1,8 @@
-//! What reading says of a file, as the tests compare it.
+//! What reading says of a submission file, as the tests compare it.
 
-use fg_base::{Leg, Path};
+use crate::answers::fault;
 use fg_subfile::{SubReadEnd, read_program};
-use fg_subs::{Program, ShapeEnd, SubFault, shape};
+use fg_subs::{Program, ShapeEnd, shape};
 use std::alloc::{AllocError, Global};
 use std::process::Abort;
 use std::test::Fail;
@@ -11,67 +11,41 @@ use std::test::Fail;
 pub type Row = (&'static str, &'static str, &'static str);
 
 /// `program`, or the number and place of the fault.
-pub fn judge_bytes(alloc: Global, bytes: &[u8]) -> Result<String, AllocError> {
+pub fn judge_bytes(alloc: Global, bytes: &[u8]) -> Result<Vec<u8>, AllocError> {
     match read_program(alloc, bytes) {
-        Ok(_) => String::from_str(alloc, "program"),
-        Err(SubReadEnd::NoMemory) => String::from_str(alloc, "no memory"),
-        Err(SubReadEnd::Refused(fault)) => told(alloc, &fault),
+        Ok(_) => Vec::from_slice(alloc, b"program"),
+        Err(SubReadEnd::NoMemory) => Vec::from_slice(alloc, b"no memory"),
+        Err(SubReadEnd::Refused(found)) => fault(alloc, 'G', found.number, &found.place),
     }
 }
 
 /// What the file is with another piece in the place of one of its pieces.
-pub fn judge(alloc: Global, file: &str, piece: &str, other: &str) -> Result<String, AllocError> {
+pub fn judge(alloc: Global, file: &str, piece: &str, other: &str) -> Result<Vec<u8>, AllocError> {
     judge_bytes(alloc, file.replace(alloc, piece, other)?.as_bytes())
 }
 
 /// The rules on programs, too: `shaped`, or the number and place of the fault.
-pub fn judge_shape(alloc: Global, bytes: &[u8]) -> Result<String, AllocError> {
+pub fn judge_shape(alloc: Global, bytes: &[u8]) -> Result<Vec<u8>, AllocError> {
     match read_program(alloc, bytes) {
         Ok(program) => judge_program(alloc, program),
-        Err(SubReadEnd::NoMemory) => String::from_str(alloc, "no memory"),
-        Err(SubReadEnd::Refused(fault)) => told(alloc, &fault),
+        Err(SubReadEnd::NoMemory) => Vec::from_slice(alloc, b"no memory"),
+        Err(SubReadEnd::Refused(found)) => fault(alloc, 'G', found.number, &found.place),
     }
 }
 
-fn judge_program(alloc: Global, program: Program) -> Result<String, AllocError> {
+fn judge_program(alloc: Global, program: Program) -> Result<Vec<u8>, AllocError> {
     match shape(alloc, program) {
-        Ok(_) => String::from_str(alloc, "shaped"),
-        Err(ShapeEnd::NoMemory(_)) => String::from_str(alloc, "no memory"),
-        Err(ShapeEnd::Refused(fault, _)) => told(alloc, &fault),
+        Ok(_) => Vec::from_slice(alloc, b"shaped"),
+        Err(ShapeEnd::NoMemory(_)) => Vec::from_slice(alloc, b"no memory"),
+        Err(ShapeEnd::Refused(found, _)) => fault(alloc, 'G', found.number, &found.place),
     }
-}
-
-fn told(alloc: Global, fault: &SubFault) -> Result<String, AllocError> {
-    let path = written(alloc, &fault.place)?;
-    format!(in alloc; "G{} {}", fault.number, path.as_str())
-}
-
-// Each byte of a member that is not printable ASCII stands as `?`.
-fn written(alloc: Global, path: &Path) -> Result<String, AllocError> {
-    let mut text = String::from_str(alloc, "$")?;
-    for leg in path.as_slice() {
-        match leg {
-            Leg::Member(name) => {
-                text.push('.')?;
-                for byte in name.as_slice() {
-                    text.push(if (32..127).contains(byte) {
-                        *byte as char
-                    } else {
-                        '?'
-                    })?;
-                }
-            }
-            Leg::Position(at) => text.push_str(format!(in alloc; "[{at}]")?.as_str())?,
-        }
-    }
-    Ok(text)
 }
 
 /// Each row over a file.
 pub fn all(rt: &impl Abort, alloc: Global, file: &str, rows: &[Row]) -> Result<(), Fail> {
     for (piece, other, answer) in rows {
         let found = judge(alloc, file, piece, other)?;
-        assert!(rt; found.as_str() == *answer, "{piece} to {other}: {found}");
+        assert!(rt; found.as_slice() == answer.as_bytes(), "{piece} to {other}");
     }
     Ok(())
 }

@@ -20,7 +20,7 @@ const TEXTS: [(&str, &str); 2] = [
 #[test]
 fn canonical_texts(rt: HostRuntime) -> Result<(), Fail> {
     let alloc = rt.alloc();
-    assert!(rt; judge_shape(alloc, ONE_FILL.as_bytes())?.as_str() == "shaped");
+    assert!(rt; judge_shape(alloc, ONE_FILL.as_bytes())?.as_slice() == b"shaped".as_slice());
     for (file, canonical) in &TEXTS {
         let Ok(program) = read_program(alloc, file.as_bytes()) else {
             return Err(Fail::new("no program"));
@@ -37,7 +37,7 @@ fn no_prefix_is_a_file(rt: HostRuntime) -> Result<(), Fail> {
     let bytes = ONE_FILL.as_bytes();
     for length in 0..bytes.len() {
         let found = judge_bytes(alloc, &bytes[..length])?;
-        assert!(rt; found.as_str() == "G10 $", "{length}: {found}");
+        assert!(rt; found.as_slice() == b"G10 $".as_slice(), "{length}");
     }
     Ok(())
 }
