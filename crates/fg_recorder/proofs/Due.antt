@@ -21,6 +21,7 @@ use Rattle.fg_recorder.proofs.Membership.{IsMember, IsUsed, member_of, contained
 use Rattle.fg_recorder.specs.Items.{layouts_between, barrier, transfer, init, does_turn, items_of, turn_items, release_item}
 use Rattle.fg_recorder.specs.Pieces.{piece_of}
 use Rattle.fg_recorder.specs.Script.{is_command, use_needs, use_turns, is_released, use_releases, host_barrier, groups_used, does_command, block}
+use Rattle.fg_recorder.specs.Standing.{beside, IsRecorded}
 use Rattle.fg_recorder.specs.Wanted.{last_command, last_on, last_elsewhere, wanted_by, wanted_first, is_there, wanted_further, wanted_release}
 use Rattle.fg_recorder.specs.declared.mark.Mark.{Mark}
 use Rattle.fg_recorder.specs.declared.mark.Mark.TheVariants.{Command, Turn as OfTurn, Release}
@@ -42,18 +43,6 @@ abbrev pub home : Grouping → Mark → ℕ
 home G (Command c) = queue_of G c
 home G (OfTurn g) = (first (group_at G g)).queue
 home G (Release g) = (last (group_at G g)).queue
-
--- the command that it stands beside
-abbrev pub beside : Grouping → Mark → ℕ
-beside G (Command c) = c
-beside G (OfTurn g) = (first (group_at G g)).command
-beside G (Release g) = (last (group_at G g)).command
-
--- there is an item with the mark
-abbrev pub IsRecorded : Grouping → Heap → Mark → Type 0
-IsRecorded G heap (Command c) = c < length G.commands
-IsRecorded G heap (OfTurn g) = (g < length G.groups) × (is_there (turn_of G heap g).kind ≡ true)
-IsRecorded G heap (Release g) = (g < length G.groups) × (is_released G heap g ≡ true)
 
 -- queue q can need it before command c, or right after it
 pub record IsDue (G : Grouping) (heap : Heap) (c q : ℕ) (mark : Mark) : Type 0 where

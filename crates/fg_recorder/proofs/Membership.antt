@@ -93,7 +93,7 @@ module _ (G : Grouping) (L : IsGrouped G) where
   pub member_queue : (g : ℕ) (u : Use) → IsMember G g u → queue_of G u.command ≡ u.queue
   member_queue g u M = let S = source g u M in ap (λ o. option_map_or (λ (command : Command). command.queue) o 0) S.there ∙ sym S.queue
 
-  unit_of : (g : ℕ) (u : Use) (M : IsMember G g u) → u.unit ≡ (L.in_order.one g [] M.group).0
+  pub unit_of : (g : ℕ) (u : Use) (M : IsMember G g u) → u.unit ≡ (L.in_order.one g [] M.group).0
   unit_of g u M = subst (λ (w : Use). w.unit ≡ (L.in_order.one g [] M.group).0) M.is ((L.in_order.one g [] M.group).1 M.entry no_use M.low)
 
   -- TWO MEMBERS

@@ -13,7 +13,9 @@ use Rattle.fg_groups.specs.Laws.{IsGrouped, IsKnown}
 use Rattle.fg_groups.specs.Needs.{group_at}
 use Rattle.fg_groups.specs.declared.command.Command as commands
 use Rattle.fg_groups.specs.declared.grouping.Grouping.{Grouping}
-use Rattle.fg_recorder.proofs.Due.{home, beside, IsRecorded, Fits, block_fits}
+use Rattle.fg_recorder.proofs.Entries.{entry_append}
+use Rattle.fg_recorder.proofs.Due.{home, Fits, block_fits}
+use Rattle.fg_recorder.specs.Standing.{beside, IsRecorded}
 use Rattle.fg_recorder.proofs.Membership.{first_member, last_member, command_below}
 use Rattle.fg_recorder.proofs.Standing.{Stands, stands}
 use Rattle.fg_recorder.specs.Marks.{same, has_mark, step_of, unmarked, steps_of}
@@ -30,22 +32,6 @@ use Rattle.fg_turns.specs.Turns.{first, last}
 use Rattle.fg_turns.specs.Under.{Heap}
 
 -- WHERE IN THE LIST
-
--- an entry of two lists is one of the first, or one of the second
-entry_append : {X : Type 0} (xs ys : List X) (i : ℕ) (x : X) → slice_get (xs ++ ys) i ≡ Some x → ((i < length xs) × (slice_get xs i ≡ Some x)) ⊎ ((length xs ≤ i) × (slice_get ys (i - length xs) ≡ Some x))
-entry_append xs ys i x e = ⊎_elim (λ lt. inl (lt, low lt)) (λ ge. inr (ge, high ge)) (cases_lt i (length xs))
-  where
-    within : i < length (xs ++ ys)
-    within = slice_get_within (xs ++ ys) i x e
-
-    at : get_or (xs ++ ys) i x ≡ x
-    at = get_or_from_slice_get (xs ++ ys) i x x e
-
-    low : i < length xs → slice_get xs i ≡ Some x
-    low lt = slice_get-get_or xs i x lt ∙ ap (λ z. Some z) (sym (get_or_append_left xs ys x i lt) ∙ at)
-
-    high : length xs ≤ i → slice_get ys (i - length xs) ≡ Some x
-    high ge = slice_get-get_or ys (i - length xs) x (omega (arith, within, length-append xs ys, ge)) ∙ ap (λ z. Some z) (sym (get_or-append_right xs ys (length xs) i x refl ge) ∙ at)
 
 -- an item with the mark on this queue, below place w
 pub record IsDone (list : List Marked) (w q : ℕ) (mark : Mark) : Type 0 where
@@ -136,7 +122,7 @@ module _ (G : Grouping) (heap : Heap) (L : IsGrouped G) (known : All (λ command
   pub entry : (w : ℕ) (x : Marked) → slice_get (script G heap) w ≡ Some x → IsEntry G heap (script G heap) w x
   entry w x e = entries 0 G.commands [] (λ k command is. let number : 0 + k ≡ k = omega arith in ap (slice_get G.commands) number ∙ is) (λ t other lt is q mark S. absurd (omega (arith, lt))) w x (omega arith) e
 
-  beside_below : (mark : Mark) → IsRecorded G heap mark → beside G mark < length G.commands
+  pub beside_below : (mark : Mark) → IsRecorded G heap mark → beside G mark < length G.commands
   beside_below (Command c) r = r
   beside_below (Turn g) r = command_below G L g (first (group_at G g)) (first_member G L g r.0)
   beside_below (Release g) r = command_below G L g (last (group_at G g)) (last_member G L g r.0)
@@ -178,13 +164,13 @@ same_itself (Turn g) = eq-eqb g g refl
 same_itself (Release g) = eq-eqb g g refl
 
 -- the step with a mark, not after the place
-record IsStep (list : List Marked) (mark : Mark) (place : ℕ) : Type 0 where
+pub record IsStep (list : List Marked) (mark : Mark) (place : ℕ) : Type 0 where
   pub low : step_of list mark ≤ place
   pub queue : ℕ
   pub item : Item
   pub is : slice_get list (step_of list mark) ≡ Some (Does queue (Some mark) item)
 
-first_step : (list : List Marked) (mark : Mark) (place q : ℕ) (item : Item) → slice_get list place ≡ Some (Does q (Some mark) item) → IsStep list mark place
+pub first_step : (list : List Marked) (mark : Mark) (place q : ℕ) (item : Item) → slice_get list place ≡ Some (Does q (Some mark) item) → IsStep list mark place
 first_step list mark place q item is = at (get_or list (step_of list mark) x) refl
   where
     x : Marked

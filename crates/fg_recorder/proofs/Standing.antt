@@ -10,7 +10,8 @@ use Rattle.fg_groups.specs.Laws.{IsGrouped}
 use Rattle.fg_groups.specs.Needs.{group_at, queue_of}
 use Rattle.fg_groups.specs.declared.command.Command as commands
 use Rattle.fg_groups.specs.declared.grouping.Grouping.{Grouping}
-use Rattle.fg_recorder.proofs.Due.{home, beside, IsRecorded}
+use Rattle.fg_recorder.proofs.Due.{home}
+use Rattle.fg_recorder.specs.Standing.{beside, IsRecorded}
 use Rattle.fg_recorder.proofs.Contained.{contains_head, contains_tail, contains_part}
 use Rattle.fg_recorder.proofs.Membership.{first_member, last_member, is_used}
 use Rattle.fg_recorder.specs.Items.{layouts_between, barrier, transfer, init, does_turn, items_of, turn_items, release_item}

@@ -4,4 +4,5 @@ pub mod Marks
 pub mod Pieces
 pub mod Recorded
 pub mod Script
+pub mod Standing
 pub mod Wanted

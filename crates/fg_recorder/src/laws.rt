@@ -6,15 +6,18 @@ ghost use Rattle.fg_frame.specs.Numbered.{NumberedFrame};
 ghost use Rattle.fg_groups.specs.Groups.{grouping};
 ghost use Rattle.fg_recorder.specs.Marks.{steps_of};
 ghost use Rattle.fg_recorder.specs.Script.{script};
+ghost use Rattle.fg_recorder.specs.Standing.{IsStanding};
 ghost use Rattle.fg_timeline.specs.Steps.{IsScript};
 ghost use Rattle.fg_turns.specs.Under.{Heap};
 
 use fg_groups::group_laws;
 
-/// What is recorded of a good frame can be cut into queues: each need is for an earlier item of another queue. And a step of it
-/// is told by 32 bits. It does nothing.
+/// What is recorded of a good frame can be cut into queues: each need is for an earlier item of another queue. Each command, turn
+/// and release stands once, in the order of the commands beside it, with what it needs before it. And a step is told by 32 bits.
+/// It does nothing.
 pub fn script_laws()
     ensures in_turn { (frame : NumberedFrame) (kept : List Bool) (heap : Heap) → IsGood frame → IsScript (steps_of (script (grouping frame kept) heap)) (length frame.queues) }
+    ensures standing { (frame : NumberedFrame) (kept : List Bool) (heap : Heap) → IsStanding (grouping frame kept) heap }
     ensures few { (frame : NumberedFrame) (kept : List Bool) (heap : Heap) → IsGood frame → length (script (grouping frame kept) heap) < 4294967296 }
 {
     group_laws();
