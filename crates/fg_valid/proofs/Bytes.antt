@@ -1,11 +1,9 @@
 -- How many bytes all memories of a compiled program have together.
-use Rattle.std.proofs.Common.{◌≡◌, ◌≢◌, ℕ, zero, suc, ◌+◌, ◌*◌, ◌<◌, ◌≤◌, ◌==◌, ◌&&◌, ◌||◌, nat_le, not, Bool, true, false, List, [], ◌∷◌, ◌++◌, length, map, get_or, if◌then◌else◌, refl, sym, ap, ◌∙◌, subst, arith}
-use Rattle.std.specs.List.{All, AllPairs, filter, sum_by, range_with_len}
+use Rattle.std.proofs.Common.{◌≡◌, ◌≢◌, ℕ, zero, suc, ◌+◌, ◌<◌, ◌≤◌, ◌&&◌, ◌||◌, not, Bool, true, false, List, [], ◌∷◌, length, map, if◌then◌else◌, refl, ap, ◌∙◌, arith}
+use Rattle.std.specs.List.{AllPairs, filter, sum_by, range_with_len}
 use Rattle.std.proofs.lemmas.Bool.{lt-leb}
-use Rattle.std.proofs.lemmas.List.{length-append, length-map, get_or-map}
 use Rattle.std.proofs.lemmas.List.Sums.{sum_by-cons, sum_by-append}
 use Rattle.fg_base.specs.Shapes.{shape_at, bytes_of}
-use Rattle.fg_base.specs.declared.shape.Shape.{Shape}
 use Rattle.fg_base.specs.declared.shape.Shape.TheVariants.{Buffer}
 use Rattle.fg_frame.specs.Good.{IsGood, shapes_in}
 use Rattle.fg_frame.specs.Numbered.{NumberedFrame}
@@ -18,12 +16,11 @@ use Rattle.fg_groups.specs.declared.grouping.Grouping.{Grouping}
 use Rattle.fg_place.specs.Placing.{Places, IsLeast}
 use Rattle.fg_recorder.specs.Pieces.{resources, is_readback, has_memory, imported, own_memory, memories}
 use Rattle.fg_subs.specs.Limits.{memory_bytes}
-use Rattle.fg_subs.specs.declared.program.Memory.{Memory}
 use Rattle.fg_subs.specs.declared.program.Memory.TheVariants.{Plain}
 use Rattle.fg_valid.proofs.Commands.{units_count, shapes_count}
 use Rattle.fg_valid.proofs.Heaps.{heap_few}
 use Rattle.fg_valid.proofs.Pieces.{imports_count, own_size}
-use Rattle.fg_valid.proofs.Sums.{sum_below, below_le, below_both, sum_mapped, sum_le, sum_filtered, sum_range, sum_entries, sum_once}
+use Rattle.fg_valid.proofs.Sums.{sum_below, below_le, below_both, sum_mapped, sum_filtered, sum_range, sum_entries, sum_once}
 
 below_split : (f : ℕ → ℕ) (m n : ℕ) → sum_below f (m + n) ≡ sum_below f m + sum_below (λ k. f (m + k)) n
 below_split f m zero = let e : sum_below f (m + 0) ≡ sum_below f m = (let z : m + 0 ≡ m = omega arith in ap (sum_below f) z) in omega (arith, e)
@@ -66,9 +63,6 @@ module _ (frame : NumberedFrame) (kept : List Bool) (good : IsGood frame) where
       go : (b : Bool) → (if b then bytes r else 0) ≤ bytes r
       go true = omega arith
       go false = omega arith
-
-  units_bytes : ℕ
-  units_bytes = sum_by (λ (u : Unit). bytes_of u.shape) frame.units
 
   all_bytes : sum_below bytes (length G.shapes) ≡ sum_by bytes_of (shapes_in frame) + sum_by bytes_of (map (readback_shape frame) frame.exports)
   all_bytes = sum_entries bytes_of G.shapes (Buffer 0) ∙ sum_by-append bytes_of (shapes_in frame) (map (readback_shape frame) frame.exports)

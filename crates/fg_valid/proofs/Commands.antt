@@ -1,41 +1,30 @@
 -- The commands of a good frame: each runs on its queue, fits the shapes, stores to no source, and uses what it names.
-use Rattle.std.proofs.Common.{◌≡◌, ◌≢◌, ⊎_elim, ℕ, zero, suc, ◌+◌, ◌<◌, ◌≤◌, ◌==◌, ◌&&◌, ◌||◌, ◌++◌, nat_lt, nat_le, not, Bool, true, false, List, [], ◌∷◌, length, take, map, get_or, slice_get, if◌then◌else◌, Option, Some, None, IfSome, refl, sym, ap, ap₂, ◌∙◌, subst, eq-eqb, eqb-true, ne_eqb, get_or-append-add, arith}
-use Rattle.std.specs.List.{All, Contains, list_any, list_all, sum_by}
-use Rattle.std.proofs.lemmas.Bool.{cases_lt, cases_Bool, and_from, lt-ltb, le-leb, or_left, or_right, leb-true, and_parts, not_from_false}
-use Rattle.std.proofs.lemmas.Bool.Decides.{eqb_tells}
-use Rattle.std.proofs.lemmas.List.{get_or_append_left, get_or_default, get_or-map, length-append, length-map}
-use Rattle.std.proofs.lemmas.List.Elements.{All-nil, All-append, All-map, All-head, All-tail, All-contains, Contains-append_left, Contains-append_right}
-use Rattle.std.proofs.lemmas.List.Folds.{list_any_at, list_any-append}
-use Rattle.std.proofs.lemmas.List.Sums.{sum_by-cons, sum_by-append}
+use Rattle.std.proofs.Common.{◌≡◌, ℕ, suc, ◌+◌, ◌<◌, ◌≤◌, ◌==◌, ◌&&◌, ◌||◌, nat_le, Bool, true, false, List, [], ◌∷◌, length, map, get_or, if◌then◌else◌, IfSome, refl, sym, ap, ap₂, ◌∙◌, subst, ne_eqb, get_or-append-add, arith}
+use Rattle.std.specs.List.{All}
+use Rattle.std.proofs.lemmas.Bool.{and_from, le-leb, and_parts}
+use Rattle.std.proofs.lemmas.List.{get_or_append_left, get_or-map, length-append, length-map}
+use Rattle.std.proofs.lemmas.List.Elements.{All-nil, All-append, All-map, All-head, All-tail}
 use Rattle.std.proofs.lemmas.Option.{slice_get-get_or}
-use Rattle.fg_base.proofs.Booleans.{clash}
 use Rattle.fg_base.proofs.Lists.{one}
-use Rattle.fg_base.specs.Bounds.{sides_allowed, size_allowed}
+use Rattle.fg_base.specs.Bounds.{size_allowed}
 use Rattle.fg_base.specs.Fits.{fits, is_aligned}
 use Rattle.fg_base.specs.InPlace.{in_place}
-use Rattle.fg_base.specs.Operands.{sources_of, destination_of, operands_of, mapped, rect_count}
+use Rattle.fg_base.specs.Operands.{destination_of, operands_of, mapped}
 use Rattle.fg_base.specs.Runs.{runs}
-use Rattle.fg_base.specs.Shapes.{shape_at, bytes_of, is_buffer, is_image, has_bytes}
-use Rattle.fg_base.specs.Touches.{source_touch, destination_touch, touches_of}
+use Rattle.fg_base.specs.Shapes.{shape_at, bytes_of, is_image, has_bytes}
 use Rattle.fg_base.specs.declared.op.Op.{Op}
 use Rattle.fg_base.specs.declared.shape.Family.{Family}
 use Rattle.fg_base.specs.declared.shape.Family.TheVariants.{Graphics}
 use Rattle.fg_base.specs.declared.shape.Shape.{Shape}
 use Rattle.fg_base.specs.declared.shape.Shape.TheVariants.{Buffer, Image}
-use Rattle.fg_base.specs.declared.touch.Touch.{Touch}
-use Rattle.fg_frame.specs.Good.{IsGood, IsGoodOp, IsGoodPass, shapes_in}
-use Rattle.fg_frame.specs.Numbered.{NumberedFrame, IsWithin}
+use Rattle.fg_frame.specs.Good.{IsGood, IsGoodOp, shapes_in}
+use Rattle.fg_frame.specs.Numbered.{NumberedFrame}
 use Rattle.fg_frame.specs.Units.{Unit}
 use Rattle.fg_frame.specs.declared.numbered.NumberedPass.{NumberedPass}
-use Rattle.fg_groups.specs.Commands.{on_queue, pass_commands, kept_commands, copy_out, export_queue, export_command, export_commands, commands, all_shapes, readback_shape}
+use Rattle.fg_groups.specs.Commands.{on_queue, pass_commands, kept_commands, copy_out, export_queue, export_command, export_commands, readback_shape}
 use Rattle.fg_groups.specs.Groups.{family_of, grouping}
-use Rattle.fg_groups.specs.Laws.{IsFound, IsGrouped}
-use Rattle.fg_groups.specs.Needs.{group_at, group_of, has_unit, is_touched, uses_in}
-use Rattle.fg_groups.specs.Uses.{is_first_named, use_of, uses_from, command_uses, uses_of}
 use Rattle.fg_groups.specs.declared.command.Command.{Command}
 use Rattle.fg_groups.specs.declared.grouping.Grouping.{Grouping}
-use Rattle.fg_groups.specs.declared.unit_use.Use.{Use}
-use Rattle.fg_recorder.specs.Pieces.{has_piece}
 use Rattle.fg_valid.proofs.Ops.{mapped_same}
 use Rattle.fg_valid.proofs.Uses.{Runs}
 

@@ -1,10 +1,10 @@
 -- How much is recorded: of each command a few barriers, and of each item a few nodes.
-use Rattle.std.proofs.Common.{◌≡◌, ◌≢◌, ◌⊎◌, inl, inr, ⊎_elim, ℕ, zero, suc, ◌+◌, ◌*◌, ◌<◌, ◌≤◌, ◌==◌, ◌&&◌, ◌++◌, nat_lt, not, max, Bool, true, false, List, [], ◌∷◌, length, map, get_or, slice_get, if◌then◌else◌, Option, Some, None, refl, sym, ap, ◌∙◌, subst, eqb-true, eq-eqb, arith}
+use Rattle.std.proofs.Common.{◌≡◌, ◌≢◌, ◌⊎◌, inl, inr, ℕ, zero, suc, ◌+◌, ◌*◌, ◌<◌, ◌≤◌, ◌==◌, ◌&&◌, ◌++◌, Bool, true, false, List, [], ◌∷◌, length, map, slice_get, if◌then◌else◌, Option, Some, None, refl, sym, ap, ◌∙◌, subst, eqb-true, arith}
 use Rattle.std.proofs.Math.Nat.{mul-le-mul_left}
-use Rattle.std.specs.List.{All, flat_map, filter, count_by, sum_by, range_with_len}
+use Rattle.std.specs.List.{flat_map, filter, count_by, sum_by, range_with_len}
 use Rattle.std.specs.Option.{option_map_or}
 use Rattle.std.specs.Prelude.{is_some}
-use Rattle.std.proofs.lemmas.Bool.{le-ltb, ltb-false}
+use Rattle.std.proofs.lemmas.Bool.{le-ltb}
 use Rattle.std.proofs.lemmas.Bool.Decides.{eqb_tells}
 use Rattle.std.proofs.lemmas.List.{length-append, length-map}
 use Rattle.std.proofs.lemmas.List.Sums.{sum_by-cons, sum_by-append, length-filter}
@@ -23,7 +23,7 @@ use Rattle.fg_groups.specs.declared.command.Command.{Command}
 use Rattle.fg_groups.specs.declared.grouping.Grouping.{Grouping}
 use Rattle.fg_groups.specs.declared.unit_use.Use.{Use}
 use Rattle.fg_groups.specs.declared.unit_use.UseAt.{UseAt}
-use Rattle.fg_recorder.specs.Items.{both, barrier, layouts_between, transfer, init, does_turn, items_of, turn_items, release_item}
+use Rattle.fg_recorder.specs.Items.{both, barrier, layouts_between, transfer, init, items_of, turn_items, release_item}
 use Rattle.fg_recorder.specs.Marks.{unmarked, steps_of}
 use Rattle.fg_recorder.specs.Pieces.{piece_of}
 use Rattle.fg_recorder.specs.Script.{is_command, use_needs, use_turns, is_released, use_releases, host_barrier, groups_used, does_command, block, blocks, script}
@@ -34,7 +34,6 @@ use Rattle.fg_recorder.specs.declared.mark.Marked.TheVariants.{Does, Needs}
 use Rattle.fg_subs.specs.declared.program.Item as subs
 use Rattle.fg_subs.specs.declared.program.Item.TheVariants as item
 use Rattle.fg_subs.specs.declared.program.Transfer as transfers
-use Rattle.fg_timeline.specs.Below.{all_below}
 use Rattle.fg_timeline.specs.Parts.{Part, Waits, Does as Has, Signals, when, wait_for, signal_after, waits_at, step_parts, parts_at}
 use Rattle.fg_timeline.specs.Places.{step_places, queue_places, places, place}
 use Rattle.fg_timeline.specs.Signals.{has_signal}
@@ -48,7 +47,7 @@ use Rattle.fg_turns.specs.Under.{Heap}
 use Rattle.fg_turns.specs.declared.turn.Turn.{Turn}
 use Rattle.fg_turns.specs.declared.turn.TurnKind.{TurnKind}
 use Rattle.fg_turns.specs.declared.turn.TurnKind.TheVariants as kinds
-use Rattle.fg_valid.proofs.Sums.{sum_below, below_le, but_one, others, spread, at_one, length_all, sum_all, sum_mapped, sum_range, sum_got, counted_once}
+use Rattle.fg_valid.proofs.Sums.{sum_below, below_le, but_one, others, spread, at_one, length_all, sum_mapped, sum_range, sum_got, counted_once}
 
 -- USES OF COMMANDS
 

@@ -24,7 +24,7 @@
 --   OnQueue   barriers           a use's stage is one of its queue's family, and masks are of uses on one queue
 --   Runs      commands           an operation's queue runs it, and any queue runs the copy of an export
 --   Timeline  waits, signals     values count the signals of a queue from 1 on
-use Rattle.std.proofs.Common.{◌≡◌, ℕ, zero, suc, ◌+◌, ◌<◌, ◌≤◌, nat_lt, nat_le, not, Bool, true, false, List, [], ◌∷◌, length, take, get_or, slice_get, if◌then◌else◌, Option, Some, None, IfSome, refl, sym, ap, ap₂, ◌∙◌, subst, arith}
+use Rattle.std.proofs.Common.{◌≡◌, ℕ, suc, ◌+◌, ◌≤◌, nat_le, not, Bool, true, List, [], ◌∷◌, length, take, slice_get, if◌then◌else◌, Option, Some, None, IfSome, refl, ap, ◌∙◌, subst, arith}
 use Rattle.std.specs.List.{All, position, position_or_len, sum_by}
 use Rattle.std.specs.Option.{option_or, option_map}
 use Rattle.std.proofs.lemmas.Bool.{le-leb, le-ltb, and_from}
@@ -39,11 +39,10 @@ use Rattle.fg_base.specs.declared.limit.Limit.TheVariants as limits
 use Rattle.fg_subs.specs.Entries.{entries_of}
 use Rattle.fg_subs.specs.FirstFault.{rule_broken, form_broken, use_broken, rules_broken, first_broken, first_fault}
 use Rattle.fg_subs.specs.Limits.{over, memory_bytes, all_bytes, rects_over, count_broken, size_broken, limit_broken}
-use Rattle.fg_subs.specs.Obeys.{BatchObeys, BatchAt, Obeys, IsSmall}
+use Rattle.fg_subs.specs.Obeys.{BatchObeys, Obeys, IsSmall}
 use Rattle.fg_subs.specs.Paths.{told}
 use Rattle.fg_subs.specs.Rules.{piece_obeys, wait_obeys, item_obeys, signal_obeys, readback_obeys, signal_place, batch_place, next_place, queue_place, broken_at, shapes_of}
 use Rattle.fg_subs.specs.Timelines.{highest}
-use Rattle.fg_subs.specs.declared.place.Place.{Place}
 use Rattle.fg_subs.specs.declared.place.Place.TheVariants as at
 use Rattle.fg_subs.specs.declared.program.Batch.{Batch}
 use Rattle.fg_subs.specs.declared.program.Memory.{Memory}

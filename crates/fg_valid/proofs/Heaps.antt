@@ -1,11 +1,10 @@
 -- A heap of least places is no longer than its resources, each with a granule.
 use Rattle.std.proofs.Common.{◌≡◌, ◌≢◌, ◌⊎◌, inl, inr, ⊎_elim, ℕ, zero, suc, ◌+◌, ◌*◌, ◌/◌, ◌%◌, ◌<◌, ◌≤◌, ◌==◌, ◌&&◌, ◌||◌, nat_lt, not, Bool, true, false, List, [], ◌∷◌, length, if◌then◌else◌, refl, sym, ap, ◌∙◌, subst, eq-eqb, eqb-true, arith}
 use Rattle.std.specs.List.{sum_by}
-use Rattle.std.proofs.lemmas.Bool.{ltb-true, ltb-false, lt-ltb, le-ltb, and_parts, and_from, and_left, and_right, or_left, or_right, or_from, ne_eqb, cases_lt}
+use Rattle.std.proofs.lemmas.Bool.{ltb-true, lt-ltb, le-ltb, and_parts, and_from, and_left, and_right, or_left, or_right}
 use Rattle.std.proofs.lemmas.Bool.Decides.{eqb_tells}
 use Rattle.std.proofs.lemmas.List.Sums.{sum_by-cons}
-use Rattle.fg_place.specs.Placing.{Places, number_at, may_alias, overlap, goes_first, collides, IsFree, IsLow, IsGreatestEnd, IsLeast}
-use Rattle.fg_base.proofs.Booleans.{clash}
+use Rattle.fg_place.specs.Placing.{Places, number_at, may_alias, overlap, goes_first, IsFree, IsLeast}
 use Rattle.fg_valid.proofs.Sums.{sum_below, at_one, below_le, below_both, below_hit, sum_entries}
 
 -- THE ORDER OF PLACING

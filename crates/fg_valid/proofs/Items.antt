@@ -1,8 +1,8 @@
 -- Which items obey every rule.
-use Rattle.std.proofs.Common.{◌≡◌, ◌<◌, ◌==◌, ◌&&◌, ℕ, Bool, true, false, List, length, nat_lt, not, slice_get, Option, Some, None, IfSome, refl, sym, ap, ◌∙◌, subst, eq-eqb, arith}
+use Rattle.std.proofs.Common.{◌≡◌, ◌==◌, ◌&&◌, ℕ, Bool, true, false, List, length, not, slice_get, Option, Some, None, refl, sym, ap, ◌∙◌, subst, eq-eqb}
 use Rattle.std.specs.Option.{option_map_or}
 use Rattle.std.specs.Prelude.{is_some}
-use Rattle.std.proofs.lemmas.Bool.{and_from, lt-ltb, not_from_false}
+use Rattle.std.proofs.lemmas.Bool.{and_from, lt-ltb}
 use Rattle.std.proofs.lemmas.Option.{slice_get_within}
 use Rattle.fg_base.proofs.Booleans.{clash}
 use Rattle.fg_base.specs.Shapes.{is_buffer, is_image}
@@ -13,7 +13,6 @@ use Rattle.fg_base.specs.declared.shape.Shape.TheVariants.{Buffer, Image}
 use Rattle.fg_bits.specs.Families.{family_number}
 use Rattle.fg_bits.specs.Layouts.{is_undefined}
 use Rattle.fg_bits.specs.declared.layout.Layout.{Layout}
-use Rattle.fg_bits.specs.declared.layout.Layout.TheVariants.{Undefined}
 use Rattle.fg_bits.specs.declared.layout.Layouts.{Layouts}
 use Rattle.fg_bits.specs.declared.masks.Masks.{Masks}
 use Rattle.fg_recorder.specs.Items.{both, barrier}

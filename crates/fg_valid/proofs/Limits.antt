@@ -1,15 +1,12 @@
 -- The limits: how many nodes, rectangles and bytes a compiled program has.
-use Rattle.std.proofs.Common.{◌≡◌, ◌≢◌, ⊎_elim, ℕ, zero, suc, ◌+◌, ◌-◌, ◌*◌, ◌<◌, ◌≤◌, ◌==◌, ◌&&◌, ◌||◌, ◌++◌, nat_lt, nat_le, not, Bool, true, false, List, [], ◌∷◌, length, map, get_or, slice_get, if◌then◌else◌, Option, Some, None, Result, Ok, Err, refl, sym, ap, ap₂, ◌∙◌, subst, arith}
-use Rattle.std.specs.List.{All, AllPairs, flat_map, filter, sum_by, range_with_len}
-use Rattle.std.specs.Prelude.{is_some}
-use Rattle.std.proofs.lemmas.Bool.{le-ltb, leb-true, cases_lt}
-use Rattle.std.proofs.lemmas.List.{length-append, length-map, get_or-map}
-use Rattle.std.proofs.lemmas.List.Elements.{All-nil, All-append, All-map, All-head, All-tail}
-use Rattle.std.proofs.lemmas.List.Sums.{sum_by-cons, sum_by-append, sum_by-le}
-use Rattle.fg_base.specs.Maxima.{max_nodes, max_rects, max_memory_bytes}
-use Rattle.fg_base.specs.Operands.{mapped, rect_count}
+use Rattle.std.proofs.Common.{◌≡◌, ℕ, zero, suc, ◌+◌, ◌-◌, ◌*◌, ◌<◌, ◌≤◌, ◌++◌, Bool, true, false, List, [], ◌∷◌, length, map, if◌then◌else◌, Option, Some, None, Result, Ok, Err, refl, ap, ◌∙◌, arith}
+use Rattle.std.specs.List.{sum_by, range_with_len}
+use Rattle.std.proofs.lemmas.Bool.{le-ltb}
+use Rattle.std.proofs.lemmas.List.Sums.{sum_by-cons, sum_by-append}
+use Rattle.fg_base.specs.Maxima.{max_rects}
+use Rattle.fg_base.specs.Operands.{rect_count}
 use Rattle.fg_base.specs.Rooms.{go_on, spend_in, not_lasting, take_size, first_over}
-use Rattle.fg_base.specs.Shapes.{shape_at, bytes_of}
+use Rattle.fg_base.specs.Shapes.{shape_at}
 use Rattle.fg_base.specs.declared.op.Op.{Op}
 use Rattle.fg_base.specs.declared.shape.Family.{Family}
 use Rattle.fg_base.specs.declared.shape.Shape.{Shape}
@@ -17,7 +14,7 @@ use Rattle.fg_base.specs.declared.shape.Shape.TheVariants.{Buffer, Image}
 use Rattle.fg_frame.specs.Good.{IsGood, shapes_in}
 use Rattle.fg_frame.specs.Numbered.{NumberedFrame}
 use Rattle.fg_frame.specs.declared.numbered.NumberedPass.{NumberedPass}
-use Rattle.fg_groups.specs.Commands.{on_queue, pass_commands, kept_commands, copy_out, export_queue, export_command, export_commands, commands, all_shapes, readback_shape}
+use Rattle.fg_groups.specs.Commands.{on_queue, pass_commands, kept_commands, copy_out, export_command, export_commands}
 use Rattle.fg_groups.specs.Groups.{grouping}
 use Rattle.fg_groups.specs.Laws.{IsSmall}
 use Rattle.fg_groups.specs.declared.command.Command.{Command}
@@ -26,7 +23,6 @@ use Rattle.fg_recorder.specs.Marks.{steps_of}
 use Rattle.fg_recorder.specs.Pieces.{piece_of}
 use Rattle.fg_recorder.specs.Script.{script}
 use Rattle.fg_subs.specs.Limits.{rects_of, spend_item, spend_batch, spend_queue, rects_over}
-use Rattle.fg_subs.specs.declared.place.Place.{Place}
 use Rattle.fg_subs.specs.declared.place.Place.TheVariants as at
 use Rattle.fg_subs.specs.declared.program.Batch.{Batch}
 use Rattle.fg_subs.specs.declared.program.Item as subs
@@ -41,9 +37,9 @@ use Rattle.fg_timeline.specs.Signals.{has_signal}
 use Rattle.fg_timeline.specs.Steps.{queue_at, IsScript}
 use Rattle.fg_timeline.specs.declared.step.Step.{Step}
 use Rattle.fg_turns.specs.Under.{Heap}
-use Rattle.fg_valid.proofs.Counts.{AreLight, weight, own, is_host, script_few, weight_at, steps_weigh, of_one, places_few}
+use Rattle.fg_valid.proofs.Counts.{AreLight, own, is_host, script_few, weight_at, steps_weigh, of_one, places_few}
 use Rattle.fg_valid.proofs.Ops.{rects_mapped}
-use Rattle.fg_valid.proofs.Sums.{sum_below, at_one, spread, sum_all, sum_range, sum_le}
+use Rattle.fg_valid.proofs.Sums.{sum_below, at_one, spread, sum_all, sum_range}
 
 -- SPENDING
 

@@ -1,5 +1,5 @@
 -- The masks round groups: each side has a stage, supports its accesses, and has stages of the queue's family alone.
-use Rattle.std.proofs.Common.{◌≡◌, ℕ, ◌-◌, ◌<◌, ◌==◌, ◌&&◌, not, Bool, true, false, List, [], ◌∷◌, length, get_or, if◌then◌else◌, bit_or, refl, sym, ap, ◌∙◌, subst, eq-eqb, eqb-true, arith}
+use Rattle.std.proofs.Common.{◌≡◌, ℕ, ◌-◌, ◌<◌, ◌==◌, not, Bool, true, false, List, length, if◌then◌else◌, bit_or, refl, sym, ap, ◌∙◌, subst, eq-eqb, eqb-true, arith}
 use Rattle.std.specs.List.{All}
 use Rattle.std.proofs.lemmas.Bool.{and_from}
 use Rattle.fg_base.proofs.Booleans.{clash}

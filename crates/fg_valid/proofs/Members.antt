@@ -1,21 +1,18 @@
 -- The uses of groups: each is fit, and what they do on one queue together is fit.
-use Rattle.std.proofs.Common.{◌≡◌, ◌≢◌, ⊎_elim, ℕ, zero, suc, ◌-◌, ◌<◌, ◌≤◌, ◌==◌, ◌&&◌, ◌||◌, not, Bool, true, false, List, [], ◌∷◌, length, get_or, if◌then◌else◌, bit_or, refl, sym, ap, ◌∙◌, subst, eq-eqb, eqb-true, arith}
-use Rattle.std.specs.List.{All, Contains, filter, flat_map, list_any, range_with_len}
-use Rattle.std.specs.Prelude.{slice_index_or}
-use Rattle.std.proofs.lemmas.Bool.{cases_lt, cases_Bool, false≢true, and_from, or_parts, or_left, not_from_false}
+use Rattle.std.proofs.Common.{◌≡◌, ⊎_elim, ℕ, zero, suc, ◌-◌, ◌<◌, ◌≤◌, ◌==◌, ◌||◌, not, Bool, true, false, List, [], ◌∷◌, length, get_or, if◌then◌else◌, refl, sym, ap, ◌∙◌, subst, eq-eqb, eqb-true, arith}
+use Rattle.std.specs.List.{All, Contains, filter}
+use Rattle.std.proofs.lemmas.Bool.{cases_lt}
 use Rattle.std.proofs.lemmas.List.{get_or_past}
-use Rattle.std.proofs.lemmas.List.Elements.{All-nil, All-filter, All-weaker, All-contains, filter_passes, Contains-get_or}
+use Rattle.std.proofs.lemmas.List.Elements.{All-nil, All-filter, All-contains, filter_passes}
 use Rattle.std.proofs.lemmas.List.Folds.{list_any_at, Any-from_list_any}
 use Rattle.fg_base.proofs.Booleans.{clash}
 use Rattle.fg_base.proofs.Lists.{each_of}
-use Rattle.fg_base.specs.declared.shape.Family.{Family}
 use Rattle.fg_bits.specs.Families.{family_number, on_family}
-use Rattle.fg_bits.specs.Sets.{union_over}
 use Rattle.fg_bits.specs.Sharings.{is_shared}
 use Rattle.fg_bits.specs.Stages.{expand}
 use Rattle.fg_bits.specs.Support.{supported, supports}
 use Rattle.fg_groups.specs.Groups.{family_of, same_family, sharing_of, shares}
-use Rattle.fg_groups.specs.Laws.{OfOne, AreTogether, IsGrouped}
+use Rattle.fg_groups.specs.Laws.{IsGrouped}
 use Rattle.fg_groups.specs.Needs.{group_at, is_of, goes_on, has_unit, one_unit}
 use Rattle.fg_groups.specs.Placed.{unit_at}
 use Rattle.fg_groups.specs.declared.grouping.Grouping.{Grouping}

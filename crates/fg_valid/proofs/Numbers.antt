@@ -1,5 +1,5 @@
 -- The numbers of pieces and memories: those that pass a test are numbered one after another.
-use Rattle.std.proofs.Common.{◌≡◌, ◌≢◌, ℕ, zero, suc, ◌+◌, ◌-◌, ◌<◌, ◌≤◌, nat_le, ⊎_elim, Bool, true, false, List, [], ◌∷◌, length, get_or, slice_get, if◌then◌else◌, Some, None, refl, sym, ap, ◌∙◌, subst, arith}
+use Rattle.std.proofs.Common.{◌≡◌, ℕ, zero, suc, ◌+◌, ◌<◌, ◌≤◌, nat_le, ⊎_elim, Bool, true, false, List, ◌∷◌, length, get_or, slice_get, if◌then◌else◌, Some, refl, sym, ap, ◌∙◌, subst, arith}
 use Rattle.std.specs.List.{All, count_by, filter, range_with_len}
 use Rattle.std.proofs.lemmas.Bool.{cases_lt, lt-leb}
 use Rattle.std.proofs.lemmas.List.FromFn.{length-range_with_len, get_or-range_with_len}

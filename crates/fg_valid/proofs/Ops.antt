@@ -1,5 +1,5 @@
 -- Operations on other numbers for the same operands.
-use Rattle.std.proofs.Common.{◌≡◌, ◌<◌, ◌==◌, ◌||◌, ◌++◌, ℕ, suc, Bool, true, false, List, [], ◌∷◌, length, get_or, map, refl, sym, ap, ap₂, ◌∙◌, subst, eq-eqb, eqb-true, arith}
+use Rattle.std.proofs.Common.{◌≡◌, ◌==◌, ◌++◌, ℕ, false, List, [], ◌∷◌, map, refl, sym, ap, ap₂, ◌∙◌, eq-eqb, eqb-true, arith}
 use Rattle.std.specs.List.{All, list_any}
 use Rattle.std.proofs.lemmas.Bool.{false_from_ne_true, or_parts, or_from}
 use Rattle.std.proofs.lemmas.List.{map-append}

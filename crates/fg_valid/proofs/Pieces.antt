@@ -1,18 +1,18 @@
 -- The pieces of a compiled program: each has the shape of what it is of, and lies in its memory.
-use Rattle.std.proofs.Common.{◌≡◌, ⊎_elim, ℕ, zero, suc, ◌+◌, ◌-◌, ◌<◌, ◌≤◌, ◌%◌, ◌==◌, ◌&&◌, ◌||◌, nat_lt, nat_le, not, Bool, true, false, List, [], ◌∷◌, length, map, get_or, slice_get, if◌then◌else◌, Option, Some, None, IfSome, is_some, refl, sym, ap, ap₂, ◌∙◌, subst, eq-eqb, eqb-true, arith}
+use Rattle.std.proofs.Common.{◌≡◌, ⊎_elim, ℕ, suc, ◌+◌, ◌-◌, ◌<◌, ◌≤◌, ◌%◌, ◌==◌, ◌&&◌, ◌||◌, nat_le, not, Bool, true, false, List, length, map, get_or, slice_get, if◌then◌else◌, Option, Some, None, is_some, refl, sym, ap, ◌∙◌, subst, eq-eqb, eqb-true, arith}
 use Rattle.std.specs.List.{All, filter, count_by, range_with_len, position_or_len}
 use Rattle.std.specs.Option.{option_map, option_map_or, option_and_then}
-use Rattle.std.proofs.lemmas.Bool.{cases_lt, cases_Bool, and_from, and_parts, lt-ltb, le-leb, leb-true, leb-false, or_left, or_right, or_parts}
+use Rattle.std.proofs.lemmas.Bool.{cases_lt, and_from, and_parts, lt-ltb, le-leb, leb-true, leb-false, or_left}
 use Rattle.std.proofs.lemmas.List.{length-map, get_or-map, get_or-append_right}
 use Rattle.std.proofs.lemmas.List.Elements.{All-map, All-append}
 use Rattle.std.proofs.lemmas.List.Sums.{fails_before_first, passes_at_first}
-use Rattle.std.proofs.lemmas.Option.{slice_get-map, slice_get-get_or, slice_get_past, slice_get_within, get_or_from_slice_get}
+use Rattle.std.proofs.lemmas.Option.{slice_get-map, slice_get_within, get_or_from_slice_get}
 use Rattle.fg_base.proofs.Booleans.{clash}
 use Rattle.fg_base.proofs.Lists.{entry_of}
 use Rattle.fg_base.specs.Bounds.{sides_allowed, size_allowed}
 use Rattle.fg_base.specs.Shapes.{shape_at, bytes_of, is_buffer}
 use Rattle.fg_base.specs.declared.shape.Shape.{Shape}
-use Rattle.fg_base.specs.declared.shape.Shape.TheVariants.{Buffer, Image}
+use Rattle.fg_base.specs.declared.shape.Shape.TheVariants.{Buffer}
 use Rattle.fg_frame.specs.Good.{IsGood, shapes_in}
 use Rattle.fg_frame.specs.Numbered.{NumberedFrame}
 use Rattle.fg_frame.specs.Units.{Unit}
@@ -25,17 +25,16 @@ use Rattle.fg_groups.specs.declared.grouping.Grouping.{Grouping}
 use Rattle.fg_place.specs.Placing.{Places, number_at, IsLeast}
 use Rattle.fg_recorder.specs.Pieces.{resources, is_readback, has_piece, has_memory, piece_of, memory_of, offset_of, piece, pieces, imported, own_memory, memories, readbacks}
 use Rattle.fg_subs.specs.Limits.{memory_bytes}
-use Rattle.fg_subs.specs.Ranges.{lies_in, piece_in_range, is_so}
-use Rattle.fg_subs.specs.Numbers as numbers
+use Rattle.fg_subs.specs.Ranges.{lies_in}
 use Rattle.fg_subs.specs.Rules.{piece_obeys, readback_obeys}
 use Rattle.fg_subs.specs.declared.program.Memory.{Memory}
-use Rattle.fg_subs.specs.declared.program.Memory.TheVariants.{Plain, Import}
+use Rattle.fg_subs.specs.declared.program.Memory.TheVariants.{Plain}
 use Rattle.fg_subs.specs.declared.program.Piece.{Piece}
 use Rattle.fg_subs.specs.declared.rule.Rule.{Rule}
 use Rattle.fg_subs.specs.declared.rule.Rule.TheVariants as rules
 use Rattle.fg_turns.specs.Under.{place_of}
-use Rattle.fg_valid.proofs.Commands.{units_count, shapes_count, unit_shape, export_shape}
-use Rattle.fg_valid.proofs.Items.{HasShape, there, so}
+use Rattle.fg_valid.proofs.Commands.{units_count, shapes_count, unit_shape}
+use Rattle.fg_valid.proofs.Items.{HasShape}
 use Rattle.fg_valid.proofs.Numbers.{counted, kept_numbers}
 
 -- the shapes of pieces

@@ -1,37 +1,33 @@
 -- Each item of what is recorded obeys every rule: it is a command, what stands before or after a group, or a barrier for the host.
-use Rattle.std.proofs.Common.{◌≡◌, ⊎_elim, ℕ, zero, suc, ◌+◌, ◌-◌, ◌<◌, ◌≤◌, ◌==◌, ◌&&◌, ◌++◌, nat_lt, nat_le, not, Bool, true, false, List, [], ◌∷◌, length, map, get_or, slice_get, if◌then◌else◌, Option, Some, None, IfSome, refl, sym, ap, ap₂, ◌∙◌, subst, eqb-true, arith}
+use Rattle.std.proofs.Common.{◌≡◌, ℕ, zero, suc, ◌+◌, ◌-◌, ◌<◌, ◌≤◌, ◌==◌, ◌&&◌, ◌++◌, nat_lt, not, Bool, true, false, List, [], ◌∷◌, length, map, get_or, if◌then◌else◌, Option, Some, None, IfSome, refl, sym, ap, ◌∙◌, subst, arith}
 use Rattle.std.specs.List.{All, flat_map, filter, list_all}
 use Rattle.std.specs.Prelude.{is_some}
-use Rattle.std.proofs.lemmas.Bool.{and_from, and_parts, lt-ltb, le-leb, or_left, cases_lt}
+use Rattle.std.proofs.lemmas.Bool.{and_from, and_parts, lt-ltb, le-leb}
 use Rattle.std.proofs.Math.Seq.{get_or-append_seam}
 use Rattle.std.proofs.lemmas.List.{get_or_append_left, length-append}
-use Rattle.std.proofs.lemmas.List.Elements.{All-nil, All-append, All-map, All-filter, All-weaker}
+use Rattle.std.proofs.lemmas.List.Elements.{All-nil, All-append, All-map, All-filter}
 use Rattle.std.proofs.lemmas.List.Sums.{list_all-from_AllPass}
 use Rattle.std.proofs.lemmas.Option.{slice_get_within, get_or_from_slice_get}
-use Rattle.fg_base.proofs.Booleans.{clash}
 use Rattle.fg_base.proofs.Lists.{one, each_of}
 use Rattle.fg_base.specs.Fits.{fits}
 use Rattle.fg_base.specs.InPlace.{in_place}
 use Rattle.fg_base.specs.Operands.{sources_of, destination_of, operands_of, mapped}
 use Rattle.fg_base.specs.Runs.{runs}
 use Rattle.fg_base.specs.Shapes.{shape_at}
-use Rattle.fg_base.specs.declared.op.Op.{Op}
-use Rattle.fg_base.specs.declared.shape.Family.{Family}
 use Rattle.fg_base.specs.declared.shape.Shape.{Shape}
 use Rattle.fg_base.specs.declared.shape.Shape.TheVariants.{Buffer}
-use Rattle.fg_bits.specs.Families.{family_number}
 use Rattle.fg_bits.specs.Sharings.{is_shared}
 use Rattle.fg_frame.specs.Good.{IsGood}
 use Rattle.fg_frame.specs.Numbered.{NumberedFrame}
 use Rattle.fg_groups.specs.Groups.{family_of, sharing_of, shares, grouping}
-use Rattle.fg_groups.specs.Laws.{IsFound, IsGrouped, IsKnown}
+use Rattle.fg_groups.specs.Laws.{IsGrouped, IsKnown}
 use Rattle.fg_groups.specs.Needs.{group_at, goes_on, uses_in, use_at, uses_at}
 use Rattle.fg_groups.specs.Placed.{is_import}
 use Rattle.fg_groups.specs.declared.command.Command.{Command}
 use Rattle.fg_groups.specs.declared.grouping.Grouping.{Grouping}
 use Rattle.fg_groups.specs.declared.unit_use.Use.{Use}
 use Rattle.fg_groups.specs.declared.unit_use.UseAt.{UseAt}
-use Rattle.fg_recorder.specs.Items.{turn_items, release_item, transfer}
+use Rattle.fg_recorder.specs.Items.{turn_items, release_item}
 use Rattle.fg_recorder.specs.Pieces.{has_piece, is_readback, piece_of}
 use Rattle.fg_recorder.specs.Script.{is_command, use_needs, use_turns, is_released, use_releases, host_barrier, groups_used, does_command, block, blocks, script}
 use Rattle.fg_recorder.specs.Wanted.{wanted_release}
@@ -39,19 +35,18 @@ use Rattle.fg_recorder.specs.declared.mark.Mark.{Mark}
 use Rattle.fg_recorder.specs.declared.mark.Marked.{Marked}
 use Rattle.fg_recorder.specs.declared.mark.Marked.TheVariants.{Does, Needs}
 use Rattle.fg_subs.specs.Ranges.{has_operands, op_in_range}
-use Rattle.fg_subs.specs.declared.program.Item.{Item}
 use Rattle.fg_subs.specs.declared.program.Item.TheVariants as item
 use Rattle.fg_turns.specs.Masks.{host_masks}
-use Rattle.fg_turns.specs.Turns.{no_use, first, last, has_uses, earlier, next_kind, first_kind, kind_of, turn_of, is_transfer}
+use Rattle.fg_turns.specs.Turns.{no_use, first, last, has_uses, earlier, first_kind, turn_of, is_transfer}
 use Rattle.fg_turns.specs.Under.{Heap, place_of, uses_under}
 use Rattle.fg_turns.specs.declared.turn.TurnKind.{TurnKind}
 use Rattle.fg_turns.specs.declared.turn.TurnKind.TheVariants.{Nothing, Barrier, Transfer, Alias, Init, AliasInit}
 use Rattle.fg_valid.proofs.Commands.{all_run, all_fit, none_in_place, exports_into}
-use Rattle.fg_valid.proofs.Items.{ObeysAll, HasShape, buffer_obeys, command_obeys}
+use Rattle.fg_valid.proofs.Items.{HasShape, buffer_obeys, command_obeys}
 use Rattle.fg_valid.proofs.Masks.{host_good}
 use Rattle.fg_valid.proofs.Members.{group_fit, under_fit, some_use, next_within, next_unit, family_kept}
 use Rattle.fg_valid.proofs.Numbers.{apart}
-use Rattle.fg_valid.proofs.Ops.{destination_mapped, runs_mapped, mapped_twice, mapped_same, operands_mapped, not_in_place}
+use Rattle.fg_valid.proofs.Ops.{runs_mapped, mapped_twice, mapped_same, operands_mapped, not_in_place}
 use Rattle.fg_valid.proofs.Pieces.{piece_shapes, shaped, buffers_read, imports_count}
 use Rattle.fg_valid.proofs.Touched.{operand_piece, member_piece}
 use Rattle.fg_valid.proofs.Turns.{MarkedObeys, AreAfter, release_right, turn_right}
@@ -151,12 +146,6 @@ module _ (frame : NumberedFrame) (kept : List Bool) (good : IsGood frame) (L : I
       (needs_right q (wanted_release G (group_at G g)))
       (one Right (release_item G g (group_at G g) (group_at G (suc g))) (released (and_parts (is_command c (last (group_at G g))) (is_released G heap g) own).1)))
     where
-      A : List Use
-      A = group_at G g
-
-      B : List Use
-      B = group_at G (suc g)
-
       released : is_released G heap g ≡ true → Right (release_item G g (group_at G g) (group_at G (suc g)))
       released e =
           let parts = and_parts (goes_on G g) (is_transfer (turn_of G heap (suc g)).kind) e in

@@ -1,8 +1,8 @@
 -- From steps to batches: waits, items and signals obey every rule where the items of the steps do.
-use Rattle.std.proofs.Common.{◌≡◌, ⊎_elim, ℕ, zero, suc, ◌+◌, ◌-◌, ◌<◌, ◌≤◌, ◌==◌, ◌&&◌, ◌||◌, ◌++◌, nat_lt, nat_le, not, max, Bool, true, false, List, [], ◌∷◌, length, take, map, slice_get, if◌then◌else◌, Option, Some, None, IfSome, refl, sym, ap, ap₂, ◌∙◌, subst, eq-eqb, eqb-true, arith}
+use Rattle.std.proofs.Common.{◌≡◌, ℕ, zero, suc, ◌+◌, ◌-◌, ◌<◌, ◌≤◌, ◌==◌, ◌||◌, ◌++◌, not, max, Bool, true, false, List, [], ◌∷◌, length, take, slice_get, if◌then◌else◌, Option, Some, None, IfSome, refl, sym, ap, ◌∙◌, subst, eqb-true, arith}
 use Rattle.std.specs.List.{All}
 use Rattle.std.specs.Option.{option_map_or}
-use Rattle.std.proofs.lemmas.Bool.{lt-ltb, le-leb, and_parts, and_left}
+use Rattle.std.proofs.lemmas.Bool.{lt-ltb, le-leb, and_left}
 use Rattle.std.proofs.lemmas.List.Elements.{All-nil, All-cons, All-head, All-tail, All-append}
 use Rattle.std.proofs.lemmas.Option.{IfSome_then}
 use Rattle.fg_base.proofs.Lists.{entry_of, one}
@@ -22,7 +22,7 @@ use Rattle.fg_subs.specs.declared.rule.Rule.{Rule}
 use Rattle.fg_subs.specs.declared.rule.Rule.TheVariants as rules
 use Rattle.fg_timeline.specs.Batches.{batch, item_before, before, cut, queues_from, queues}
 use Rattle.fg_timeline.specs.Below.{count_below, all_below}
-use Rattle.fg_timeline.specs.Laws.{IsFor, AreFor, AreRising}
+use Rattle.fg_timeline.specs.Laws.{AreFor, AreRising}
 use Rattle.fg_timeline.specs.Parts.{Part, Waits, Does, Signals, when, wait_for, signal_after, waits_at, step_parts, parts_at, parts}
 use Rattle.fg_timeline.specs.Signals.{is_awaited, is_last, has_signal, value_at}
 use Rattle.fg_timeline.specs.Steps.{queue_of, queue_at, is_item, has_item}
@@ -256,9 +256,6 @@ module _ (script : List Step) (count q : ℕ) where
         go p lt false e = All-nil Right
         go p lt true e = one Right (Waits (wait_for script count q i p)) (λ rule. wait_right rule count family p (value_at script count (latest script q p i - 1)) lt some)
           where
-            F : IsFor script count q i p
-            F = for q i p low lt has e
-
             some : 1 ≤ value_at script count (latest script q p i - 1)
             some =
                 let reached = (for q i p low lt has e).latest in

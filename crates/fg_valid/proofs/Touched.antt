@@ -1,10 +1,9 @@
 -- What a command names has a piece: a buffer of an export has one always, and a unit that is named is used.
-use Rattle.std.proofs.Common.{◌≡◌, ⊎_elim, ℕ, zero, suc, ◌+◌, ◌<◌, ◌≤◌, ◌==◌, ◌&&◌, ◌||◌, ◌++◌, nat_lt, nat_le, not, Bool, true, false, List, [], ◌∷◌, length, map, get_or, slice_get, if◌then◌else◌, Option, Some, refl, sym, ap, ap₂, ◌∙◌, subst, eq-eqb, eqb-true, arith}
-use Rattle.std.specs.List.{All, Contains, list_any}
-use Rattle.std.proofs.lemmas.Bool.{cases_lt, and_from, lt-ltb, le-leb, or_left, or_right, or_parts, or_from, not_from_false}
+use Rattle.std.proofs.Common.{◌≡◌, ⊎_elim, ℕ, zero, suc, ◌<◌, ◌≤◌, ◌==◌, ◌||◌, ◌++◌, nat_lt, not, Bool, true, false, List, [], ◌∷◌, length, map, get_or, if◌then◌else◌, refl, sym, ap, ◌∙◌, subst, eq-eqb, eqb-true, arith}
+use Rattle.std.specs.List.{Contains, list_any}
+use Rattle.std.proofs.lemmas.Bool.{cases_lt, and_from, lt-ltb, le-leb, or_left, or_right, or_from}
 use Rattle.std.proofs.lemmas.List.Elements.{All-contains, Contains-append_left, Contains-append_right}
 use Rattle.std.proofs.lemmas.List.Folds.{list_any_at, list_any-append}
-use Rattle.std.proofs.lemmas.Option.{slice_get-get_or}
 use Rattle.fg_base.proofs.Booleans.{clash}
 use Rattle.fg_base.specs.Operands.{sources_of, destination_of, operands_of}
 use Rattle.fg_base.specs.Touches.{source_touch, destination_touch, touches_of}
@@ -38,12 +37,6 @@ named_used : (shapes : List Shape) (units c q k : ℕ) (named : List ℕ) (touch
 named_used shapes units c q k named [] r lt new e = absurd (clash e)
 named_used shapes units c q k named (touch ∷ touches) r lt new e = go (touch.what == r) refl (λ more none. named_used shapes units c q (suc k) (named ++ touch.what ∷ []) touches r lt none more)
   where
-    here : List Use
-    here = if is_first_named units named touch.what then use_of shapes c q k touch ∷ [] else []
-
-    rest : List Use
-    rest = uses_from shapes units c q (suc k) (named ++ touch.what ∷ []) touches
-
     go : (b : Bool) → (touch.what == r) ≡ b → (list_any (names r) touches ≡ true → list_any (λ unit. unit == r) (named ++ touch.what ∷ []) ≡ false → IsUsed r (uses_from shapes units c q (suc k) (named ++ touch.what ∷ []) touches)) → IsUsed r (uses_from shapes units c q k named (touch ∷ touches))
     go true is later =
         let U = first_of shapes units c q k named touch r lt new (eqb-true touch.what r is) in
@@ -94,9 +87,6 @@ module _ (G : Grouping) (L : IsGrouped G) (K : IsKnown G) where
   pub operand_piece : (c : ℕ) (d : Command) → c < length G.commands → (k e : ℕ) → k < length (operands_of (get_or G.commands c d).op) → has_piece G (get_or (operands_of (get_or G.commands c d).op) k e) ≡ true
   operand_piece c d lt k e lk = ⊎_elim unit buffer (cases_lt r (length G.imports))
     where
-      command : Command
-      command = get_or G.commands c d
-
       r : ℕ
       r = get_or (operands_of (get_or G.commands c d).op) k e
 

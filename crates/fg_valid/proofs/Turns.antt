@@ -1,35 +1,31 @@
 -- What stands round groups obeys every rule.
-use Rattle.std.proofs.Common.{◌≡◌, ⊎_elim, ℕ, zero, suc, ◌-◌, ◌<◌, ◌==◌, ◌&&◌, ◌||◌, ◌++◌, not, Bool, true, false, List, [], ◌∷◌, length, map, get_or, if◌then◌else◌, Option, Some, None, refl, sym, ap, ◌∙◌, subst, arith}
+use Rattle.std.proofs.Common.{◌≡◌, ℕ, ◌-◌, ◌<◌, ◌==◌, Bool, true, false, List, [], ◌∷◌, length, if◌then◌else◌, Some, None, refl, sym, ap, ◌∙◌, subst, arith}
 use Rattle.std.specs.List.{All}
 use Rattle.std.specs.Prelude.{is_some}
 use Rattle.std.proofs.lemmas.Bool.{or_parts}
 use Rattle.std.proofs.lemmas.List.Elements.{All-nil, All-append}
 use Rattle.fg_base.proofs.Booleans.{clash}
 use Rattle.fg_base.proofs.Lists.{one}
-use Rattle.fg_base.specs.Shapes.{is_image, shape_at}
+use Rattle.fg_base.specs.Shapes.{shape_at}
 use Rattle.fg_base.specs.declared.shape.Family.{Family}
 use Rattle.fg_base.specs.declared.shape.Shape.{Shape}
 use Rattle.fg_bits.specs.Families.{family_number}
 use Rattle.fg_bits.specs.Sharings.{is_shared}
-use Rattle.fg_bits.specs.declared.layout.Layout.{Layout}
 use Rattle.fg_bits.specs.declared.layout.Layout.TheVariants.{Undefined}
 use Rattle.fg_groups.specs.Groups.{family_of, same_family, sharing_of, shares}
 use Rattle.fg_groups.specs.Placed.{is_import}
 use Rattle.fg_groups.specs.declared.grouping.Grouping.{Grouping}
 use Rattle.fg_groups.specs.declared.unit_use.Use.{Use}
-use Rattle.fg_recorder.specs.Items.{both, layouts_between, barrier, transfer, init, does_turn, items_of, turn_items, release_item}
+use Rattle.fg_recorder.specs.Items.{layouts_between, barrier, transfer, init, does_turn, items_of, turn_items}
 use Rattle.fg_recorder.specs.Pieces.{piece_of}
 use Rattle.fg_recorder.specs.declared.mark.Marked.{Marked}
 use Rattle.fg_recorder.specs.declared.mark.Marked.TheVariants.{Does, Needs}
-use Rattle.fg_subs.specs.Ranges.{layouts_stand, layouts_defined}
-use Rattle.fg_subs.specs.declared.program.Item.{Item}
 use Rattle.fg_subs.specs.declared.program.Item.TheVariants as item
 use Rattle.fg_turns.specs.Masks.{barrier_masks, release_masks, entry_masks}
-use Rattle.fg_turns.specs.Turns.{no_use, first, last, has_uses, next_kind, first_kind, kind_of, turn_between}
-use Rattle.fg_turns.specs.declared.turn.Turn.{Turn}
+use Rattle.fg_turns.specs.Turns.{no_use, first, last, has_uses, first_kind, kind_of, turn_between}
 use Rattle.fg_turns.specs.declared.turn.TurnKind.{TurnKind}
 use Rattle.fg_turns.specs.declared.turn.TurnKind.TheVariants.{Nothing, Barrier, Transfer as Handover, Alias, Init, AliasInit}
-use Rattle.fg_valid.proofs.Items.{ObeysAll, HasShape, IsHalf, global_obeys, barrier_obeys, stand, defined, release_obeys, acquire_obeys}
+use Rattle.fg_valid.proofs.Items.{ObeysAll, HasShape, global_obeys, barrier_obeys, stand, defined, release_obeys, acquire_obeys}
 use Rattle.fg_valid.proofs.Masks.{AreGood, barrier_good, entry_good, release_good}
 use Rattle.fg_valid.proofs.Uses.{IsLaidOut, FitsIn}
 

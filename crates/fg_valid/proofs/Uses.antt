@@ -1,11 +1,11 @@
 -- What holds of each use of a command: its stage is one of the queue's family and supports its accesses, and an image is in a
 -- known layout.
-use Rattle.std.proofs.Common.{◌≡◌, ◌<◌, ◌==◌, ◌++◌, nat_lt, not, ℕ, suc, Bool, true, false, List, [], ◌∷◌, map, length, get_or, slice_get, if◌then◌else◌, Option, Some, None, IfSome, refl, sym, ap, ◌∙◌, subst, arith}
-use Rattle.std.specs.List.{All, list_any}
+use Rattle.std.proofs.Common.{◌≡◌, ◌==◌, ◌++◌, ℕ, suc, Bool, true, false, List, [], ◌∷◌, map, length, get_or, if◌then◌else◌, Option, IfSome, refl, sym, subst, arith}
+use Rattle.std.specs.List.{All}
 use Rattle.std.specs.Prelude.{is_some, is_none}
-use Rattle.std.proofs.lemmas.List.Elements.{All-nil, All-cons, All-head, All-tail, All-append, All-map}
+use Rattle.std.proofs.lemmas.List.Elements.{All-nil, All-head, All-tail, All-append, All-map}
 use Rattle.fg_base.proofs.Lists.{entry_of, one}
-use Rattle.fg_base.specs.Operands.{sources_of, destination_of}
+use Rattle.fg_base.specs.Operands.{sources_of}
 use Rattle.fg_base.specs.Runs.{runs, has_kernels, is_graphics}
 use Rattle.fg_base.specs.Shapes.{is_image, shape_at}
 use Rattle.fg_base.specs.Touches.{kernel_role, source_role, destination_role, source_touch, destination_touch, touches_of}

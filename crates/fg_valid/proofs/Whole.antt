@@ -1,16 +1,12 @@
 -- A compiled program obeys each rule, and goes over no limit.
-use Rattle.std.proofs.Common.{◌≡◌, ◌≢◌, ⊎_elim, ℕ, zero, suc, ◌+◌, ◌<◌, ◌≤◌, ◌==◌, nat_le, Bool, true, false, List, [], ◌∷◌, ◌++◌, length, take, map, get_or, slice_get, if◌then◌else◌, Option, Some, None, IfSome, refl, sym, ap, ◌∙◌, subst, arith}
-use Rattle.std.specs.List.{All, AllPairs, filter, range_with_len}
-use Rattle.std.specs.Option.{option_map}
-use Rattle.std.proofs.lemmas.Bool.{lt-leb}
+use Rattle.std.proofs.Common.{◌≡◌, ◌≢◌, ℕ, zero, suc, ◌<◌, ◌≤◌, Bool, true, List, [], ◌∷◌, length, take, map, slice_get, Some, None, IfSome, refl, sym, ap, ◌∙◌, subst, arith}
+use Rattle.std.specs.List.{All, AllPairs, filter}
 use Rattle.std.proofs.lemmas.List.{length-append, length-map}
 use Rattle.std.proofs.lemmas.List.Elements.{All-map}
-use Rattle.std.proofs.lemmas.List.Sums.{length-filter}
-use Rattle.std.proofs.lemmas.Option.{slice_get-map, slice_get_within, get_or_from_slice_get}
+use Rattle.std.proofs.lemmas.Option.{slice_get_within, get_or_from_slice_get}
 use Rattle.fg_base.proofs.Lists.{entry_of}
 use Rattle.fg_base.specs.Bounds.{sides_allowed, size_allowed}
 use Rattle.fg_base.specs.Shapes.{shape_at}
-use Rattle.fg_base.specs.declared.shape.Family.{Family}
 use Rattle.fg_base.specs.declared.shape.Family.TheVariants.{Graphics}
 use Rattle.fg_base.specs.declared.shape.Shape.{Shape}
 use Rattle.fg_base.specs.declared.shape.Shape.TheVariants.{Buffer}
@@ -22,16 +18,15 @@ use Rattle.fg_groups.specs.Placed.{sizes}
 use Rattle.fg_groups.specs.declared.grouping.Grouping.{Grouping}
 use Rattle.fg_place.specs.Placing.{Places, IsLeast}
 use Rattle.fg_recorder.specs.Marks.{unmarked, steps_of}
-use Rattle.fg_recorder.specs.Pieces.{resources, is_readback, has_piece, has_memory, piece_of, piece, pieces, imported, own_memory, memories, readbacks}
-use Rattle.fg_recorder.specs.Recorded.{heap_with, program_of, recorded, IsCompiled}
+use Rattle.fg_recorder.specs.Pieces.{resources, is_readback, has_piece, has_memory, piece_of, piece, imported, own_memory, memories, readbacks}
+use Rattle.fg_recorder.specs.Recorded.{heap_with, program_of}
 use Rattle.fg_recorder.specs.Script.{script}
 use Rattle.fg_recorder.specs.declared.mark.Marked.{Marked}
 use Rattle.fg_recorder.specs.declared.mark.Marked.TheVariants.{Does, Needs}
 use Rattle.fg_subs.specs.Entries.{OfHost, entries_of}
 use Rattle.fg_subs.specs.FirstFault.{first_fault}
-use Rattle.fg_subs.specs.Limits.{memory_bytes, all_bytes, rects_over}
 use Rattle.fg_subs.specs.Obeys.{BatchObeys, BatchAt, Obeys, IsSmall}
-use Rattle.fg_subs.specs.Rules.{item_obeys, wait_obeys, signal_obeys, shapes_of}
+use Rattle.fg_subs.specs.Rules.{item_obeys, wait_obeys, signal_obeys}
 use Rattle.fg_subs.specs.Timelines.{highest}
 use Rattle.fg_subs.specs.declared.program.Batch.{Batch}
 use Rattle.fg_subs.specs.declared.program.Item as subs
@@ -39,7 +34,7 @@ use Rattle.fg_subs.specs.declared.program.Piece.{Piece}
 use Rattle.fg_subs.specs.declared.program.Program.{Program}
 use Rattle.fg_subs.specs.declared.program.Queue.{Queue}
 use Rattle.fg_subs.specs.declared.rule.Rule.{Rule}
-use Rattle.fg_timeline.specs.Batches.{queues, cut}
+use Rattle.fg_timeline.specs.Batches.{cut}
 use Rattle.fg_timeline.specs.Laws.{AreParts, AreOfFamilies, AreFor, AreRising}
 use Rattle.fg_timeline.specs.Parts.{parts}
 use Rattle.fg_timeline.specs.Places as spots
@@ -54,7 +49,7 @@ use Rattle.fg_valid.proofs.Limits.{all_rects, nodes_few}
 use Rattle.fg_valid.proofs.Numbers.{kept_numbers, kept_few, kept_late}
 use Rattle.fg_valid.proofs.Pieces.{piece_shapes, all_sizes, all_sides, imports_count, pieces_obey, readbacks_obey}
 use Rattle.fg_valid.proofs.Recorded.{script_right}
-use Rattle.fg_valid.proofs.Timelines.{IsCut, cut_queue, BatchIsRight, batch_right}
+use Rattle.fg_valid.proofs.Timelines.{IsCut, cut_queue, batch_right}
 use Rattle.fg_valid.proofs.Turns.{MarkedObeys}
 
 -- an item of the steps is one that is recorded
@@ -85,9 +80,6 @@ module _ (frame : NumberedFrame) (kept : List Bool) (good : IsGood frame) (L : g
 
   abbrev program : Program
   program = program_of frame G ordered places
-
-  shapes : List Shape
-  shapes = piece_shapes G places.offsets
 
   items_right : (i q : ℕ) (it : subs.Item) → slice_get list i ≡ Some (steps.Item q it) → (rule : Rule) → item_obeys rule (piece_shapes G places.offsets) (family_of G.families q) it ≡ true
   items_right i q it = recorded_item marked marked i q it (λ p x. (rule : Rule) → item_obeys rule (piece_shapes G places.offsets) (family_of G.families p) x ≡ true)

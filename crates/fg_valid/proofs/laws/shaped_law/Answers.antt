@@ -1,4 +1,4 @@
-use Rattle.std.proofs.Common.{◌≡◌, length, Option, None, sym, subst}
+use Rattle.std.proofs.Common.{◌≡◌, length, None, sym, subst}
 use Rattle.fg_groups.specs.Groups.{grouping}
 use Rattle.fg_recorder.specs.Marks.{steps_of}
 use Rattle.fg_recorder.specs.Recorded.{heap_with}
