@@ -10,7 +10,6 @@ use Rattle.fg_hb.specs.declared.kind.Kind.TheVariants.{Command, Barrier, Wait, S
 use Rattle.fg_stated.specs.PieceStates.{owner_after}
 use Rattle.fg_view.specs.AccessKinds.{changes, is_discard, loads, sets_layout, sets_owner, stores, transfers, wanted}
 use Rattle.fg_view.specs.declared.access.AccessKind.{AccessKind}
-use Rattle.fg_view.specs.declared.access.AccessKind.TheVariants as access_kinds
 use Rattle.fg_view.specs.declared.access.AccessKind.TheVariants.{Load, Store, Transition, Discard, Release, Acquire}
 
 -- NODES

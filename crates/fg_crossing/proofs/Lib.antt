@@ -17,3 +17,4 @@ pub mod Sorts
 pub mod Soundness
 pub mod Transfers
 pub mod Tying
+pub mod Worked
