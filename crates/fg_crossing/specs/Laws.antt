@@ -1,0 +1,28 @@
+-- Laws of recorded programs.
+use Rattle.std.specs.Prelude.{ℕ, List, length}
+use Rattle.fg_checker.specs.Sound.{Sound}
+use Rattle.fg_crossing.specs.Crossings.{Later, IsFull}
+use Rattle.fg_crossing.specs.Facts.{Facts}
+use Rattle.fg_crossing.specs.Levels.{Leveled, by_level}
+use Rattle.fg_crossing.specs.Nodes.{Nodes, Places}
+use Rattle.fg_crossing.specs.Plans.{Plan, Reach}
+use Rattle.fg_hb.specs.Orders.{IsLeast, IsStuck, Order}
+use Rattle.fg_hb.specs.declared.node.Node.{Node}
+use Rattle.fg_view.specs.ShapedView.{ShapedView}
+use Rattle.fg_view.specs.Views.{View}
+
+-- what one command needs of another comes later than it, on one queue or over a signal and a wait
+abbrev pub Crosses : Plan → View → Nodes → Type 0
+Crosses F V N = IsFull V → Places F V N → (c d : ℕ) → Reach F c d → Later V.nodes (N.command c) (N.command d)
+
+-- what has the facts of a plan is sound in its least order
+abbrev pub MakesSound : Plan → View → Nodes → Type 0
+MakesSound F V N = ShapedView V → Facts F V N → (order : List ℕ) → IsLeast V.nodes order → Sound V order
+
+-- nodes by their levels are in order
+abbrev pub HasOrder : List Node → (ℕ → ℕ) → Type 0
+HasOrder nodes level = Leveled nodes level → Order nodes (by_level level (length nodes))
+
+-- and their queues get through
+abbrev pub IsNeverStuck : List Node → (ℕ → ℕ) → Type 0
+IsNeverStuck nodes level = Leveled nodes level → (q n : ℕ) → IsStuck nodes q n → ⊥

@@ -1,0 +1,12 @@
+pub mod Aliases
+pub mod Crossings
+pub mod Facts
+pub mod Kinds
+pub mod Laws
+pub mod Levels
+pub mod Local
+pub mod Masks
+pub mod Nodes
+pub mod Plans
+pub mod Spots
+pub mod States

@@ -1,0 +1,25 @@
+//! Laws of recorded programs.
+
+ghost use Rattle.std.specs.Prelude.{ℕ, List};
+ghost use Rattle.fg_crossing.specs.Laws.{Crosses, MakesSound, HasOrder, IsNeverStuck};
+ghost use Rattle.fg_crossing.specs.Nodes.{Nodes};
+ghost use Rattle.fg_crossing.specs.Plans.{Plan};
+ghost use Rattle.fg_hb.specs.declared.node.Node.{Node};
+ghost use Rattle.fg_view.specs.Views.{View};
+
+use fg_hb::before_laws;
+
+/// What one command needs of another comes later than it, on one queue or over a signal and a wait (`crosses`). A view that has
+/// the facts of a plan, each about one group, is sound in its least order (`sound`). It does nothing.
+pub fn crossing_laws()
+    ensures crosses { (F : Plan) (V : View) (N : Nodes) → Crosses F V N }
+    ensures sound { (F : Plan) (V : View) (N : Nodes) → MakesSound F V N }
+{
+    before_laws();
+}
+
+/// Nodes with levels that no edge lowers have an order (`order`), so the queues get through (`never_stuck`). It does nothing.
+pub fn leveled_laws()
+    ensures order { (nodes : List Node) (level : ℕ → ℕ) → HasOrder nodes level }
+    ensures never_stuck { (nodes : List Node) (level : ℕ → ℕ) → IsNeverStuck nodes level }
+{}
