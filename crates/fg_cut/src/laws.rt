@@ -13,11 +13,11 @@ use fg_crossing::leveled_laws;
 use fg_timeline::timeline_laws;
 
 /// Of a program whose queues are cut from steps: each wait, item, signal and host read stands at its number (`stand`), there is
-/// no other node (`all`), and host reads come last (`reads`). Signals and waits are of all commands (`full`), and commands wait
-/// for those waits and are waited for by those signals (`opens`). On one queue an item stands after those of earlier steps
-/// (`sooner`), and a signal and a wait lead to it from each item that its queue needs (`crossed`). No edge goes back by steps
-/// (`steps`, `leveled`), so there is an order of the nodes that takes them step by step (`order`), and no queue is ever stuck
-/// (`never_stuck`). It does nothing.
+/// no other node (`all`), and host reads come last (`reads`). Signals and waits are of all commands (`full`), and commands and
+/// barriers wait for those waits and are waited for by those signals (`opens`). On one queue an item stands after those of
+/// earlier steps (`sooner`), and a signal and a wait lead to it from each item that its queue needs (`crossed`). No edge goes
+/// back by steps (`steps`, `leveled`), so there is an order of the nodes that takes them step by step (`order`), and no queue
+/// is ever stuck (`never_stuck`). It does nothing.
 pub fn cut_laws()
     ensures stand { OfCut AllStand }
     ensures all { OfCut AreThese }
