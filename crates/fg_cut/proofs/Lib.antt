@@ -1,0 +1,8 @@
+mod Crossing
+mod Full
+mod Leveled
+mod Opens
+mod Ordering
+mod Sorts
+mod Standing
+mod Worked

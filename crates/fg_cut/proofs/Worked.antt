@@ -1,0 +1,53 @@
+-- A worked row: two queues, the second of which begins first and waits late.
+use Rattle.std.proofs.Common.{◌≡◌, true, false, List, [], ◌∷◌, map, refl}
+use Rattle.fg_base.specs.declared.shape.Family.{Family}
+use Rattle.fg_base.specs.declared.shape.Family.TheVariants.{Graphics, Compute}
+use Rattle.fg_crossing.specs.Levels.{by_level}
+use Rattle.fg_cut.specs.Levels.{level_of}
+use Rattle.fg_cut.specs.Standing.{IsCut, read_number}
+use Rattle.fg_hb.specs.Edges.{edge}
+use Rattle.fg_hb.specs.Nodes.{program_nodes}
+use Rattle.fg_hb.specs.declared.kind.Kind.TheVariants.{Barrier, Wait, Signal, Host}
+use Rattle.fg_subs.specs.declared.program.Item as subs
+use Rattle.fg_subs.specs.declared.program.Item.TheVariants.{Global}
+use Rattle.fg_subs.specs.declared.program.Program.{Program}
+use Rattle.fg_timeline.specs.Batches.{queues}
+use Rattle.fg_timeline.specs.Places.{wait_number, item_number, signal_number}
+use Rattle.fg_timeline.specs.declared.step.Step.{Step}
+use Rattle.fg_timeline.specs.declared.step.Step.TheVariants.{Item, Need}
+
+abbrev x : subs.Item
+x = Global (record { src_stages = record { 0 = 0 }; src_accesses = record { 0 = 0 }; dst_stages = record { 0 = 0 }; dst_accesses = record { 0 = 0 } })
+
+abbrev script : List Step
+script = Item 1 x ∷ Item 0 x ∷ Item 0 x ∷ Need 1 1 ∷ Item 1 x ∷ Item 0 x ∷ []
+
+abbrev families : List Family
+families = Graphics ∷ Compute ∷ []
+
+abbrev program : Program
+program = record { memories = []; pieces = []; queues = queues script families; readbacks = 0 ∷ [] }
+
+is_cut : IsCut program script families
+is_cut = refl
+
+-- queue 0 is signalled after the item that queue 1 waits for, and at its end
+kinds : map (λ node. node.kind) (program_nodes program) ≡ Barrier ∷ Signal 1 ∷ Barrier ∷ Barrier ∷ Signal 2 ∷ Barrier ∷ Wait 0 1 ∷ Barrier ∷ Signal 1 ∷ Host ∷ []
+kinds = refl
+
+numbers : signal_number script 2 0 1 ∷ wait_number script 2 1 4 0 ∷ item_number script 2 1 4 ∷ item_number script 2 0 5 ∷ read_number script 2 0 ∷ [] ≡ 1 ∷ 6 ∷ 7 ∷ 3 ∷ 9 ∷ []
+numbers = refl
+
+crosses : edge (program_nodes program) 1 6 ≡ true
+crosses = refl
+
+-- queue 0 goes on without queue 1
+free : edge (program_nodes program) 7 3 ≡ false
+free = refl
+
+levels : map (level_of script 2) (0 ∷ 1 ∷ 2 ∷ 3 ∷ 4 ∷ 5 ∷ 6 ∷ 7 ∷ 8 ∷ 9 ∷ []) ≡ 1 ∷ 1 ∷ 2 ∷ 5 ∷ 5 ∷ 0 ∷ 4 ∷ 4 ∷ 4 ∷ 6 ∷ []
+levels = refl
+
+-- step by step, and not queue by queue
+in_order : by_level (level_of script 2) 10 ≡ 5 ∷ 0 ∷ 1 ∷ 2 ∷ 6 ∷ 7 ∷ 8 ∷ 3 ∷ 4 ∷ 9 ∷ []
+in_order = refl
