@@ -1,7 +1,7 @@
 //! Laws of recorded programs.
 
 ghost use Rattle.std.specs.Prelude.{ℕ, List};
-ghost use Rattle.fg_crossing.specs.Laws.{Crosses, MakesSound, HasOrder, IsNeverStuck};
+ghost use Rattle.fg_crossing.specs.Laws.{Crosses, MakesSound, LowerFirst, HasOrder, IsNeverStuck};
 ghost use Rattle.fg_crossing.specs.Nodes.{Nodes};
 ghost use Rattle.fg_crossing.specs.Plans.{Plan};
 ghost use Rattle.fg_hb.specs.declared.node.Node.{Node};
@@ -18,8 +18,10 @@ pub fn crossing_laws()
     before_laws();
 }
 
-/// Nodes with levels that no edge lowers have an order (`order`), so the queues get through (`never_stuck`). It does nothing.
+/// Numbers by their levels stand lower levels first (`lower_first`). Nodes with levels that no edge lowers are so in order
+/// (`order`), and the queues get through (`never_stuck`). It does nothing.
 pub fn leveled_laws()
+    ensures lower_first { (level : ℕ → ℕ) (count : ℕ) → LowerFirst level count }
     ensures order { (nodes : List Node) (level : ℕ → ℕ) → HasOrder nodes level }
     ensures never_stuck { (nodes : List Node) (level : ℕ → ℕ) → IsNeverStuck nodes level }
 {}
