@@ -11,11 +11,11 @@ use Rattle.fg_hb.specs.declared.node.Node.{Node}
 use Rattle.fg_view.specs.ShapedView.{ShapedView}
 use Rattle.fg_view.specs.Views.{View}
 
--- what one command needs of another comes later than it, on one queue or over a signal and a wait
+-- a command comes later than what it needs, on one queue or over a signal and a wait, where signals and waits are of all commands
 abbrev pub Crosses : Plan → View → Nodes → Type 0
 Crosses F V N = IsFull V → Places F V N → (c d : ℕ) → Reach F c d → Later V.nodes (N.command c) (N.command d)
 
--- what has the facts of a plan is sound in its least order
+-- a shaped view that has the facts of a plan is sound in its least order
 abbrev pub MakesSound : Plan → View → Nodes → Type 0
 MakesSound F V N = ShapedView V → Facts F V N → (order : List ℕ) → IsLeast V.nodes order → Sound V order
 
