@@ -1,12 +1,11 @@
 -- Of a program that is cut from what is recorded, the commands stand in an order by steps as they are declared.
-use Rattle.std.proofs.Common.{◌≡◌, inl, ℕ, ◌<◌, ◌==◌, List, length, map, Option, Some, None, option_and_then, true, false, refl, sym, ap, ◌∙◌, subst, eq-eqb}
-use Rattle.std.specs.List.{filter_map}
+use Rattle.std.proofs.Common.{◌≡◌, inl, ℕ, ◌<◌, List, length, Some, None, true, false, refl, sym, ap, ◌∙◌, eq-eqb}
 use Rattle.std.specs.Option.{option_map_or}
-use Rattle.std.specs.Prelude.{slice_get}
+use Rattle.std.specs.Prelude.{slice_get, option_and_then}
 use Rattle.std.proofs.lemmas.Option.{slice_get_within}
 use Rattle.fg_base.specs.Operands.{mapped}
 use Rattle.fg_base.specs.declared.op.Op.{Op}
-use Rattle.fg_checker.specs.Apart.{op_in, op_at, op_of}
+use Rattle.fg_checker.specs.Apart.{op_in, op_at}
 use Rattle.fg_cut.specs.Levels.{IsByStep}
 use Rattle.fg_cut.specs.Standing.{StandsFor, read_number, AllStand, IsOneOf, as_wait, as_item, as_signal, as_read, AreThese}
 use Rattle.fg_declared.proofs.Listed.{nothing}
@@ -16,15 +15,13 @@ use Rattle.fg_faithful.specs.Declared.{ops_in, declared_ops}
 use Rattle.fg_groups.specs.declared.command.Command as commands
 use Rattle.fg_groups.specs.declared.grouping.Grouping.{Grouping}
 use Rattle.fg_hb.specs.Nodes.{program_nodes}
-use Rattle.fg_hb.specs.Orders.{Among}
 use Rattle.fg_recorder.specs.Marks.{steps_of}
 use Rattle.fg_recorder.specs.Pieces.{piece_of}
 use Rattle.fg_recorder.specs.Script.{script}
 use Rattle.fg_recorder.specs.Standing.{step, IsStanding}
 use Rattle.fg_recorder.specs.declared.mark.Mark.TheVariants.{Command}
 use Rattle.fg_subs.specs.Entries.{Entry, OfWait, OfItem, OfSignal, OfHost, entries_of}
-use Rattle.fg_subs.specs.declared.program.Item as subs
-use Rattle.fg_subs.specs.declared.program.Item.TheVariants as item
+use Rattle.fg_subs.specs.declared.program.Item.TheVariants as items
 use Rattle.fg_subs.specs.declared.program.Program.{Program}
 use Rattle.fg_timeline.specs.Parts.{wait_for, signal_after}
 use Rattle.fg_timeline.specs.Places.{wait_number, item_number, signal_number}
@@ -53,14 +50,14 @@ module _ (P : Program) (G : Grouping) (heap : Heap) (count : ℕ) (S : IsStandin
 
   -- EACH COMMAND
 
-  step_there : (c : ℕ) (command : commands.Command) → slice_get G.commands c ≡ Some command → slice_get recorded (step G heap (Command c)) ≡ Some (steps.Item command.queue (item.Command (op_done command)))
-  step_there c command e = step_of_done (script G heap) (step G heap (Command c)) command.queue (Some (Command c)) (item.Command (op_done command)) (S.each_command c command e)
+  step_there : (c : ℕ) (command : commands.Command) → slice_get G.commands c ≡ Some command → slice_get recorded (step G heap (Command c)) ≡ Some (steps.Item command.queue (items.Command (op_done command)))
+  step_there c command e = step_of_done (script G heap) (step G heap (Command c)) command.queue (Some (Command c)) (items.Command (op_done command)) (S.each_command c command e)
 
   is_there : (c : ℕ) (command : commands.Command) → slice_get G.commands c ≡ Some command → has_item recorded command.queue (step G heap (Command c)) ≡ true
   is_there c command e = ap (λ o. option_map_or (is_item command.queue) o false) (step_there c command e) ∙ eq-eqb command.queue command.queue refl
 
-  stands : (c : ℕ) (command : commands.Command) → slice_get G.commands c ≡ Some command → StandsFor P (number c command) (OfItem command.queue (item.Command (op_done command)))
-  stands c command e = T.item command.queue (step G heap (Command c)) (item.Command (op_done command)) (K.items (step G heap (Command c)) command.queue (is_there c command e)) (step_there c command e)
+  stands : (c : ℕ) (command : commands.Command) → slice_get G.commands c ≡ Some command → StandsFor P (number c command) (OfItem command.queue (items.Command (op_done command)))
+  stands c command e = T.item command.queue (step G heap (Command c)) (items.Command (op_done command)) (K.items (step G heap (Command c)) command.queue (is_there c command e)) (step_there c command e)
 
   -- AND NOTHING ELSE
 
@@ -77,7 +74,7 @@ module _ (P : Program) (G : Grouping) (heap : Heap) (count : ℕ) (S : IsStandin
 
       go : IsOneOf P recorded count n → IsNumber number G.commands n
       go (as_wait q i p lq lp h w is) = absurd (other_entry P n (wait_number recorded count q i p) (OfWait q (wait_for recorded count q i p)) op is (T.wait q i p lq lp h w) refl does)
-      go (as_item q i item lq e is) = of_item q i is (command_at G heap S q i item op e (sym (op_stands P n (item_number recorded count q i) (OfItem q item) is (T.item q i item lq e)) ∙ does))
+      go (as_item q i item lq e is) = of_item q i is (command_at G heap S i q item op e (sym (op_stands P n (item_number recorded count q i) (OfItem q item) is (T.item q i item lq e)) ∙ does))
       go (as_signal q i lq s is) = absurd (other_entry P n (signal_number recorded count q i) (OfSignal q (signal_after recorded count i)) op is (T.signal q i lq s) refl does)
       go (as_read k piece e is) = absurd (other_entry P n (read_number recorded count k) (OfHost piece) op is (T.read k piece e) refl does)
 
@@ -87,7 +84,7 @@ module _ (P : Program) (G : Grouping) (heap : Heap) (count : ℕ) (S : IsStandin
   commands_declared order by = in_their_order (op_at P) op_done number order G.commands (record {
     once = by.order.once;
     there = λ c command e. by.order.all (number c command) (stands c command e).within;
-    gives = λ c command e. op_stands P (number c command) (number c command) (OfItem command.queue (item.Command (op_done command))) refl (stands c command e);
+    gives = λ c command e. op_stands P (number c command) (number c command) (OfItem command.queue (items.Command (op_done command))) refl (stands c command e);
     rise = λ c d x z e g lt. by.items x.queue z.queue (step G heap (Command c)) (step G heap (Command d)) (is_there c x e) (is_there d z g) (S.in_order (Command c) (Command d) (slice_get_within G.commands c x e) (slice_get_within G.commands d z g) (inl lt));
     only = λ n op a does. of_command n op (by.order.only n a) does;
   })

@@ -1,6 +1,6 @@
 -- What stands at the steps of a list with marks, and which of it are commands.
-use Rattle.std.proofs.Common.{◌≡◌, ◌⊎◌, inl, inr, ℕ, suc, ◌<◌, ◌≤◌, List, length, get_or, Option, Some, None, option_map, refl, sym, ap, ap₂, ◌∙◌, subst, arith}
-use Rattle.std.specs.Prelude.{slice_get}
+use Rattle.std.proofs.Common.{◌≡◌, ◌⊎◌, inl, inr, ℕ, ◌<◌, ◌≤◌, List, length, get_or, Option, Some, None, option_map, refl, sym, ap, ap₂, ◌∙◌, arith}
+use Rattle.std.specs.Prelude.{slice_get, option_and_then}
 use Rattle.std.proofs.lemmas.Option.{slice_get-map, slice_get_cases}
 use Rattle.fg_base.specs.declared.op.Op.{Op}
 use Rattle.fg_checker.specs.Apart.{op_of}
@@ -10,13 +10,12 @@ use Rattle.fg_groups.specs.declared.command.Command as commands
 use Rattle.fg_groups.specs.declared.grouping.Grouping.{Grouping}
 use Rattle.fg_recorder.specs.Marks.{unmarked, steps_of}
 use Rattle.fg_recorder.specs.Script.{script}
-use Rattle.fg_recorder.specs.Standing.{step, turn_item, IsRecorded, IsKnown, by_mark, by_alias, by_copy, IsStanding, StandsAt}
+use Rattle.fg_recorder.specs.Standing.{step, IsRecorded, IsKnown, by_mark, by_alias, by_copy, IsStanding, StandsAt}
 use Rattle.fg_recorder.specs.declared.mark.Mark.{Mark}
 use Rattle.fg_recorder.specs.declared.mark.Mark.TheVariants.{Command, Turn as OfTurn, Release}
 use Rattle.fg_recorder.specs.declared.mark.Marked.{Marked}
 use Rattle.fg_recorder.specs.declared.mark.Marked.TheVariants.{Does, Needs}
 use Rattle.fg_subs.specs.declared.program.Item as subs
-use Rattle.fg_timeline.specs.declared.step.Step.{Step}
 use Rattle.fg_timeline.specs.declared.step.Step.TheVariants as steps
 use Rattle.fg_turns.specs.Under.{Heap}
 
@@ -56,8 +55,10 @@ done_at script i q item e = go (slice_get script i) refl (sym (slice_get-map (un
 same_queue : {q r : ℕ} {of other : Option Mark} {item it : subs.Item} → Some (Does q of item) ≡ Some (Does r other it) → q ≡ r
 same_queue e = cc
 
-same_item : {q r : ℕ} {of other : Option Mark} {item it : subs.Item} → Some (Does q of item) ≡ Some (Does r other it) → item ≡ it
-same_item e = cc
+-- the operation that is done
+abbrev done : Marked → Option (Op ℕ)
+done (Does q of item) = op_of item
+done (Needs q of) = None
 
 -- step i is that of a command, and on its queue
 pub record IsCommand (G : Grouping) (heap : Heap) (i q : ℕ) : Type 0 where
@@ -82,8 +83,8 @@ module _ (G : Grouping) (heap : Heap) (S : IsStanding G heap) where
         step_is = is;
         queue_is = same_queue (sym at ∙ ap (slice_get (script G heap)) is ∙ S.each_command c C.0 C.1);
       }
-  marked i q of item op at does (OfTurn g) known is = absurd (quiet item op (ap op_of (same_item (sym at ∙ ap (slice_get (script G heap)) is ∙ S.each_turn g known)) ∙ turn_quiet G heap g) does)
-  marked i q of item op at does (Release g) known is = absurd (quiet item op (ap op_of (same_item (sym at ∙ ap (slice_get (script G heap)) is ∙ S.each_release g known))) does)
+  marked i q of item op at does (OfTurn g) known is = absurd (quiet item op (ap (option_and_then done) (sym at ∙ ap (slice_get (script G heap)) is ∙ S.each_turn g known) ∙ turn_quiet G heap g) does)
+  marked i q of item op at does (Release g) known is = absurd (quiet item op (ap (option_and_then done) (sym at ∙ ap (slice_get (script G heap)) is ∙ S.each_release g known)) does)
 
   pub command_at : (i q : ℕ) (item : subs.Item) (op : Op ℕ) → slice_get (steps_of (script G heap)) i ≡ Some (steps.Item q item) → op_of item ≡ Some op → IsCommand G heap i q
   command_at i q item op e does = go (S.only i q D.mark item D.there)
