@@ -10,7 +10,7 @@ use Rattle.fg_cut.specs.Levels.{IsByStep}
 use Rattle.fg_cut.specs.Standing.{StandsFor, read_number, AllStand, IsOneOf, as_wait, as_item, as_signal, as_read, AreThese}
 use Rattle.fg_declared.proofs.Listed.{nothing}
 use Rattle.fg_declared.proofs.Marked.{step_of_done, IsCommand, command_at}
-use Rattle.fg_declared.proofs.Numbers.{IsNumber, AreThere, in_their_order}
+use Rattle.fg_declared.proofs.Numbers.{IsNumber, in_their_order}
 use Rattle.fg_faithful.specs.Declared.{ops_in, declared_ops}
 use Rattle.fg_groups.specs.declared.command.Command as commands
 use Rattle.fg_groups.specs.declared.grouping.Grouping.{Grouping}
@@ -20,7 +20,7 @@ use Rattle.fg_recorder.specs.Pieces.{piece_of}
 use Rattle.fg_recorder.specs.Script.{script}
 use Rattle.fg_recorder.specs.Standing.{step, IsStanding}
 use Rattle.fg_recorder.specs.declared.mark.Mark.TheVariants.{Command}
-use Rattle.fg_subs.specs.Entries.{Entry, OfWait, OfItem, OfSignal, OfHost, entries_of}
+use Rattle.fg_subs.specs.Entries.{Entry, OfWait, OfItem, OfSignal, OfHost}
 use Rattle.fg_subs.specs.declared.program.Item.TheVariants as items
 use Rattle.fg_subs.specs.declared.program.Program.{Program}
 use Rattle.fg_timeline.specs.Parts.{wait_for, signal_after}
