@@ -4,6 +4,7 @@ use Rattle.fg_cut.specs.Laws.{OfCut, OfScript, HasOrder}
 use Rattle.fg_cut.specs.Standing.{IsCut, AllStand, AreThese}
 use Rattle.fg_declared.proofs.Commands.{commands_declared}
 use Rattle.fg_declared.specs.Laws.{HasDeclaredOrder}
+use Rattle.fg_frame.specs.Good.{IsGood}
 use Rattle.fg_frame.specs.Numbered.{NumberedFrame}
 use Rattle.fg_groups.specs.Groups.{grouping}
 use Rattle.fg_place.specs.Placing.{Places}
@@ -15,9 +16,8 @@ use Rattle.fg_subs.specs.declared.program.Program.{Program}
 use Rattle.fg_timeline.specs.Steps.{IsScript}
 use Rattle.fg_turns.specs.Under.{Heap}
 
--- of each program that is cut from steps
 module _ (stand : OfCut AllStand) (all : OfCut AreThese) (has_order : OfScript HasOrder) where
-  -- of one that is cut from what is recorded
+  -- of a program that is cut from what is recorded
   recorded_order : (frame : NumberedFrame) (kept : List Bool) (heap : Heap) (P : Program) → IsStanding (grouping frame kept) heap → IsScript (steps_of (script (grouping frame kept) heap)) (length frame.queues) → IsCut P (steps_of (script (grouping frame kept) heap)) frame.queues → HasDeclaredOrder frame kept P
   recorded_order frame kept heap P S K cut =
       let G = grouping frame kept in
@@ -29,5 +29,6 @@ module _ (stand : OfCut AllStand) (all : OfCut AreThese) (has_order : OfScript H
         },
       )
 
-  pub compiled_order : (frame : NumberedFrame) (kept : List Bool) (places : Places) (P : Program) (compiled : IsCompiled frame kept places P) → IsStanding (grouping frame kept) (heap_with compiled.ordered places) → IsScript (steps_of (script (grouping frame kept) (heap_with compiled.ordered places))) (length frame.queues) → HasDeclaredOrder frame kept P
-  compiled_order frame kept places P compiled S K = recorded_order frame kept (heap_with compiled.ordered places) P S K (ap (λ (p : Program). p.queues) compiled.recorded)
+  module _ (in_turn : (frame : NumberedFrame) (kept : List Bool) (heap : Heap) → IsGood frame → IsScript (steps_of (script (grouping frame kept) heap)) (length frame.queues)) (standing : (frame : NumberedFrame) (kept : List Bool) (heap : Heap) → IsStanding (grouping frame kept) heap) where
+    pub compiled_order : (frame : NumberedFrame) (kept : List Bool) (places : Places) (P : Program) → IsGood frame → IsCompiled frame kept places P → HasDeclaredOrder frame kept P
+    compiled_order frame kept places P good compiled = let heap = heap_with compiled.ordered places in recorded_order frame kept heap P (standing frame kept heap) (in_turn frame kept heap good) (ap (λ (p : Program). p.queues) compiled.recorded)
