@@ -54,12 +54,6 @@ one_of_all (first ∷ rest) (suc m) memory e = omega (arith, one_of_all rest m m
 pub memory_small : (program : Program) → IsSmall program → (m : ℕ) → m < length program.memories → memory_bytes (get_or program.memories m (Plain 0)) ≤ 805306368
 memory_small program S m lt = omega (arith, S.bytes, one_of_all program.memories m (get_or program.memories m (Plain 0)) (slice_get-get_or program.memories m (Plain 0) lt))
 
--- a memory as it is read
-pub read_size : (program : Program) → IsSmall program → (m : ℕ) → m < length program.memories → (memory : Memory) → memory ≡ get_or program.memories m memory → (memory_bytes memory < 2 ^ 32) × (memory_bytes memory ≡ memory_size program m)
-read_size program S m lt memory is =
-    let read : memory ≡ get_or program.memories m (Plain 0) = get_or_read program.memories m memory lt is (Plain 0) in
-    (omega (arith, ap memory_bytes read, memory_small program S m lt), ap memory_bytes read ∙ sym (ap (λ o. option_map_or memory_bytes o 0) (slice_get-get_or program.memories m (Plain 0) lt)))
-
 -- NODES
 
 pub within_shapes : (program : Program) (p : ℕ) → nat_lt p (length (shapes_of program)) ≡ true → p < length program.pieces
