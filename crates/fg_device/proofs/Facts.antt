@@ -1,15 +1,14 @@
 -- What a program that breaks no rule says of its pieces, its memories and its nodes.
-use Rattle.std.proofs.Common.{◌≡◌, ℕ, zero, suc, ◌+◌, ◌%◌, ◌^◌, ◌==◌, ◌<◌, ◌≤◌, nat_le, nat_lt, true, List, [], ◌∷◌, length, map, get_or, slice_get, Some, sym, ap, ◌∙◌, subst, ⊎_elim, arith}
+use Rattle.std.proofs.Common.{◌≡◌, ℕ, zero, suc, ◌+◌, ◌%◌, ◌==◌, ◌<◌, ◌≤◌, nat_le, nat_lt, true, List, [], ◌∷◌, length, map, get_or, slice_get, Some, sym, ap, subst, ⊎_elim, arith}
 use Rattle.std.specs.List.{All}
 use Rattle.std.specs.Option.{option_map_or}
 use Rattle.std.proofs.lemmas.Bool.{and_parts, cases_lt, leb-true, ltb-true}
-use Rattle.std.proofs.lemmas.List.{get_or-map, get_or_past, get_or_read, length-map}
+use Rattle.std.proofs.lemmas.List.{get_or-map, get_or_past, length-map}
 use Rattle.std.proofs.lemmas.Option.{slice_get-get_or}
 use Rattle.fg_base.specs.Maxima.{max_size}
 use Rattle.fg_base.specs.Shapes.{bytes_of}
 use Rattle.fg_device.specs.Code.Opened.{piece_in}
 use Rattle.fg_device.specs.Code.Syncs.{IsThere}
-use Rattle.fg_device.specs.Code.Tables.{memory_size}
 use Rattle.fg_device.proofs.Starting.{Lies}
 use Rattle.fg_steps.specs.Agents.{piece_range}
 use Rattle.fg_subs.specs.Entries.{Entry, OfWait, OfItem, OfSignal, OfHost, entries_of}

@@ -1,5 +1,5 @@
 -- What a barrier, wait or signal does to the table is what it does in the state.
-use Rattle.std.proofs.Common.{◌≡◌, ◌≢◌, ℕ, zero, suc, ◌+◌, ◌-◌, ◌*◌, ◌/◌, ◌%◌, ◌^◌, ◌<◌, ◌≤◌, ◌==◌, ◌&&◌, nat_lt, Bool, true, false, List, [], ◌∷◌, length, get_or, if◌then◌else◌, refl, sym, ap, ap₂, ◌∙◌, ⊎_elim, lt-ltb, eq-eqb, ne_eqb, arith}
+use Rattle.std.proofs.Common.{◌≡◌, ◌≢◌, ℕ, zero, suc, ◌-◌, ◌*◌, ◌/◌, ◌%◌, ◌^◌, ◌<◌, ◌≤◌, ◌==◌, ◌&&◌, nat_lt, Bool, true, false, List, [], ◌∷◌, length, get_or, if◌then◌else◌, refl, sym, ap, ap₂, ◌∙◌, ⊎_elim, lt-ltb, eq-eqb, ne_eqb, arith}
 use mathlib.Core.Path.{fun_ext}
 use Rattle.std.specs.Prelude.{slice_index}
 use Rattle.std.proofs.lemmas.Bool.{cases_eq, cases_lt, le-ltb}
@@ -7,7 +7,7 @@ use Rattle.fg_bits.specs.Sets.{meets}
 use Rattle.fg_caches.specs.Effects.{Caches, overwrite}
 use Rattle.fg_caches.specs.Lines.{Line, written, cleaned, dropped}
 use Rattle.fg_device.specs.Code.Syncs.{has_agent_at, moved_line, moved_one, moved_agents, moved_by, junked, synced_caches}
-use Rattle.fg_device.specs.Code.Tables.{memory_size, HasBytes}
+use Rattle.fg_device.specs.Code.Tables.{HasBytes}
 use Rattle.fg_device.specs.declared.syncing.Move.{Move}
 use Rattle.fg_device.specs.declared.syncing.Move.TheVariants.{WriteBack, DropClean}
 use Rattle.fg_device.proofs.Junk.{one_junk}

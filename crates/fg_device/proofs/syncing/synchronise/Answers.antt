@@ -1,6 +1,6 @@
 use Rattle.std.proofs.Common.{◌≡◌, ◌∙◌, ◌<◌, ℕ, List, length, sym, ap, ap₂, subst}
 use Rattle.fg_caches.specs.Effects.{Caches}
-use Rattle.fg_caches.specs.Tables.{caches_of, junk_of}
+use Rattle.fg_caches.specs.Tables.{caches_of}
 use Rattle.fg_device.proofs.Fitting.{stays_on, still_has}
 use Rattle.fg_device.proofs.syncing.synchronise.Goals as goal
 use Rattle.fg_device.specs.Code.Syncs.{IsThere, moved_by, junked}
@@ -30,16 +30,17 @@ turn-requires c = record {
 
 pub move_by-requires-2 : goal.move_by-requires-2
 move_by-requires-2 c =
-    let first = move_by-requires c in
+    let seen = sym c.view-view.ensures.view in
+    let n = c.args.node in
     let V = c.view-view.result.now in
     let one = c.move_by.ensures.stays.keeps in
     let two = c.turn.ensures.stays.keeps in
     record {
-      agents = two.agents ∙ one.agents ∙ first.agents;
-      cut = still_has c.move_by.new.table c.turn.new.table V two (still_has c.args.table.now c.move_by.new.table V one first.cut);
-      node = first.node;
-      effects = first.effects;
-      scope = first.scope;
+      agents = two.agents ∙ one.agents ∙ c.requires.agents ∙ ap agent_count seen;
+      cut = still_has c.move_by.new.table c.turn.new.table V two (still_has c.args.table.now c.move_by.new.table V one (subst (HasCut c.args.table.now) seen c.requires.cut));
+      node = subst (λ (v : View). n < length v.nodes) seen c.requires.node;
+      effects = subst (λ (v : View). length v.effects ≡ length v.nodes) seen c.view-view.ensures.shaped.effects;
+      scope = subst (λ (v : View). IsThere v (effect_at v n).scope) seen c.requires.scope;
     }
 
 pub returns-clause-bytes : goal.returns-clause-bytes

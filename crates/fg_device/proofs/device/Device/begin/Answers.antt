@@ -1,5 +1,4 @@
-use Rattle.std.proofs.Common.{◌≡◌, ◌∙◌, ℕ, List, Some, sym, ap, subst}
-use Rattle.fg_base.specs.declared.event.Event.TheVariants.{Begin}
+use Rattle.std.proofs.Common.{◌∙◌, ℕ, List, Some, sym, ap, subst}
 use Rattle.fg_checker.specs.Apart.{op_at}
 use Rattle.fg_device.proofs.Keeping.{ready_inside}
 use Rattle.fg_device.proofs.device.Device.begin.Goals as goal
