@@ -4,17 +4,17 @@
     bench/dear.py CRATE [--test] [--most 25]
 
 Checks the crate from nothing with one job, on a copy of the repository, and takes the time between the lines that `rt check
---progress` prints as each proof ends. So a function's time is that of its proof with the lemmas that no earlier one read. The
-time is that of the clock: on a machine that does other things too, compare the rows with each other alone.
+--progress` prints as each proof ends. So a function's time is that of its proof with the lemmas that no earlier one read. It is
+processor time of the check's processes, so what else the machine does changes it little.
 """
 
 import argparse
+import os
 import re
 import shutil
 import subprocess
 import sys
 import tempfile
-import time
 from pathlib import Path
 
 TOP = Path(__file__).resolve().parent.parent
@@ -39,13 +39,28 @@ def copied(room, crate):
     return folder
 
 
+def spent(session):
+    """Processor seconds of the processes of a session, and of those that they have waited for."""
+    ticks = 0
+    for path in Path("/proc").glob("[0-9]*/stat"):
+        try:
+            text = path.read_text(encoding="utf-8")
+        except OSError:
+            continue
+        # After the name in parentheses: state, parent, group, session, and from the twelfth on the four times.
+        fields = text.rpartition(")")[2].split()
+        if int(fields[3]) == session:
+            ticks += sum(int(field) for field in fields[11:15])
+    return ticks / os.sysconf("SC_CLK_TCK")
+
+
 def timed(folder, flags):
     """Seconds and name of each proof."""
-    child = subprocess.Popen(["rt", "check", "--jobs", "1", "--progress", *flags], cwd=folder, stdout=subprocess.PIPE, stderr=subprocess.STDOUT, text=True)
+    child = subprocess.Popen(["rt", "check", "--jobs", "1", "--progress", *flags], cwd=folder, stdout=subprocess.PIPE, stderr=subprocess.STDOUT, text=True, start_new_session=True)
     last, found, tail = None, [], []
     for line in child.stdout:
         tail = [*tail[-19:], line]
-        now = time.monotonic()
+        now = spent(child.pid)
         ended = LINE.search(line)
         if ended and last is not None:
             found.append((now - last, ended.group(1).removeprefix("timed_")))

@@ -7,10 +7,12 @@ First on a whole image of 1920 by 1080 texels of four bytes (8,294,400 bytes), w
 two of 512 random places at which the table is cut. The program does a call as often as its words say. The time of a call is
 the processor time of the user in a run with so many calls, less that of a run with none, divided by their number: the median
 of several runs, all calls in turn. What a call does besides is taken off: of `put` the time in which the buffer that it
-takes is made and let go, of a write-back of fresh lines that of `put`. To make a buffer takes about as long as the copy, a
-hundred times what these two may take: on a machine that does other work their rows are noise, and can be below 0. For each
-call one line: microseconds, the same as part of the copy, and the most that it may be on a whole image. The status is 1
-where one is more.
+takes is made and let go, of a write-back of fresh lines that of `put`. To make a buffer of an image takes about as long as
+the copy, a hundred times what these two may take, so on images their rows are noise, and can be below 0. They are bounded on
+pieces of 256 bytes instead: the program makes 20,000 buffers, then puts them all, and a run that makes the buffers and lets
+them go is taken off. A put touches no byte of what it stores, so its time is that on an image, but for giving back the buffer
+whose place it takes. For each call one line: microseconds, the same as part of the copy of an image, and the most that it
+may be. The status is 1 where one is more.
 """
 
 import argparse
@@ -35,10 +37,19 @@ FRESH = {"MALLOC_MMAP_THRESHOLD_": "65536", "GLIBC_TUNABLES": "glibc.malloc.mmap
 ROWS = [
     ("copy", "copy", None, None),
     ("load", "load", None, 1.2),
-    ("put", "put", "make", 0.01),
-    ("write-back of fresh lines", "put-write", "put", 0.01),
+    ("put", "put", "make", None),
+    ("write-back of fresh lines", "put-write", "put", None),
     ("write-back of clean lines", "write", None, 0.01),
     ("drop and fill", "fill", None, 0.01),
+]
+
+# On pieces of 256 bytes: so many rounds, each with so many buffers.
+ROUNDS = 50
+BUFFERS = 20_000
+SMALL = ("small-make", "small-put", "small-put-write")
+SMALL_ROWS = [
+    ("put, buffers made before", "small-put", "small-make", 0.01),
+    ("write-back of fresh lines", "small-put-write", "small-put", 0.01),
 ]
 
 
@@ -62,15 +73,15 @@ def measured(program, prefix, times, runs):
     return {word: statistics.median(all) for word, all in found.items()}
 
 
-def shown(title, took, bounded):
+def shown(title, rows, took, copy, bounded=True):
     """Prints the rows, and tells whether one is over its bound."""
     over = False
     print(f"{title:28} {'µs':>10} {'of copy':>9} {'at most':>8}")
-    for name, word, less, most in ROWS:
+    for name, word, less, most in rows:
         one = took[word] - (took[less] if less else 0)
-        ratio = one / took["copy"]
+        ratio = one / copy
         bound = f"{most:8.2f}" if bounded and most else ""
-        print(f"{name:28} {one:10.2f} {ratio:9.4f} {bound}", flush=True)
+        print(f"{name:28} {one:10.2f} {ratio:9.5f} {bound}", flush=True)
         over = over or bool(bounded and most and ratio > most)
     return over
 
@@ -80,8 +91,13 @@ def main():
     parser.add_argument("--runs", type=int, default=5)
     parser.add_argument("--program", default=str(PROGRAM))
     options = parser.parse_args()
-    over = shown("whole image", measured(options.program, "", TIMES, options.runs), True)
-    shown("random ranges", measured(options.program, "random-", RANDOM_TIMES, options.runs), False)
+    whole = measured(options.program, "", TIMES, options.runs)
+    over = shown("whole image", ROWS, whole, whole["copy"])
+    rounds = measured(options.program, "", dict.fromkeys(SMALL, ROUNDS), options.runs)
+    small = {word: took / BUFFERS for word, took in rounds.items()}
+    over = shown("256 bytes", SMALL_ROWS, small, whole["copy"]) or over
+    random = measured(options.program, "random-", RANDOM_TIMES, options.runs)
+    shown("random ranges", ROWS, random, random["copy"], bounded=False)
     sys.exit(1 if over else 0)
 
 

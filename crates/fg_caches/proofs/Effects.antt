@@ -3,7 +3,7 @@ use Rattle.std.proofs.Common.{◌≡◌, ◌≢◌, ℕ, ◌+◌, ◌-◌, ◌<�
 use Rattle.std.specs.Prelude.{nat_le, nat_lt, ◌==◌, if◌then◌else◌, slice_index}
 use Rattle.std.proofs.Math.Path.{fun_ext}
 use Rattle.std.proofs.lemmas.List.{set-get_or}
-use Rattle.std.proofs.lemmas.Bool.{cases_Bool, leb-true, false≢true, lt-ltb, ltb-true, eq-eqb, eqb-true, and_parts, and_from}
+use Rattle.std.proofs.lemmas.Bool.{cases_Bool, leb-true, false≢true, lt-ltb, ltb-true, eq-eqb, eqb-true, ne_eqb, cases_eq, and_parts, and_right, and_from}
 use Rattle.fg_caches.specs.declared.part.Part.{Part}
 use Rattle.fg_caches.specs.declared.cell.Cell.{Cell}
 use Rattle.fg_caches.specs.declared.cell.Cell.TheVariants as cells
@@ -140,6 +140,51 @@ module _ (old : Table) (segments : List Segment) (left agent memory start size :
 
     pub changed_bytes : caches_of new ≡ effect agent memory start size main line (caches_of old)
     changed_bytes = same_Caches (caches_of new).main (effect agent memory start size main line (caches_of old)).main (caches_of new).line (effect agent memory start size main line (caches_of old)).line main_same line_same
+
+-- a change of all lines of an agent
+module _ (old : Table) (segments : List Segment) (left agent : ℕ) (change : Change) (known : agent < old.agents) (lines : (m i : ℕ) → i < size_of old m → agent < length (row_at old.segments (address old m i)).lines) (rows : (m i : ℕ) → i < size_of old m → row_at segments (address old m i) ≡ changed agent change (row_at old.segments (address old m i))) (main : Line → ℕ → ℕ) (line : Line → Line) (mains : (x : ℕ) (p : Part) (cell : Cell) → byte_in old.slots (main_after change p cell) x ≡ main (line_in old.slots cell x) (byte_in old.slots p x)) (cells : (x : ℕ) (p : Part) (cell : Cell) → line_in old.slots (line_after change p cell) x ≡ line (line_in old.slots cell x)) (none_main : main Absent 0 ≡ 0) (none_line : line Absent ≡ Absent) where
+  all_main : (m i : ℕ) → (caches_of (recut old segments left)).main m i ≡ main ((caches_of old).line agent m i) ((caches_of old).main m i)
+  all_main m i = ⊎_elim
+      (λ (v : nat_lt i (size_of old m) ≡ true).
+      let lt = ltb-true i (size_of old m) v in
+      let x = address old m i in
+      let r = row_at old.segments x in
+      rw (at_main old segments left m i lt, rows m i lt, main_at old m i lt, line_at old agent m i known lt) (mains x r.main (line_by r agent)))
+      (λ (v : nat_lt i (size_of old m) ≡ false).
+      rw (past_main old segments left m i v, main_past old m i v, line_past old agent m i (and_right (nat_lt agent old.agents) (nat_lt i (size_of old m)) v)) (sym none_main))
+      (cases_Bool (nat_lt i (size_of old m)))
+
+  own_line : (m i : ℕ) → (caches_of (recut old segments left)).line agent m i ≡ line ((caches_of old).line agent m i)
+  own_line m i = ⊎_elim
+      (λ (v : nat_lt i (size_of old m) ≡ true).
+      let lt = ltb-true i (size_of old m) v in
+      let x = address old m i in
+      let r = row_at old.segments x in
+      rw (at_line old segments left agent m i known lt, rows m i lt, changed_here agent change r (lines m i lt), line_at old agent m i known lt) (cells x r.main (line_by r agent)))
+      (λ (v : nat_lt i (size_of old m) ≡ false).
+      let past = and_right (nat_lt agent old.agents) (nat_lt i (size_of old m)) v in
+      rw (past_line old segments left agent m i past, line_past old agent m i past) (sym none_line))
+      (cases_Bool (nat_lt i (size_of old m)))
+
+  other_line : (g m i : ℕ) → g ≢ agent → (caches_of (recut old segments left)).line g m i ≡ (caches_of old).line g m i
+  other_line g m i ne = ⊎_elim
+      (λ (v : (nat_lt g old.agents && nat_lt i (size_of old m)) ≡ true).
+      let p = and_parts (nat_lt g old.agents) (nat_lt i (size_of old m)) v in
+      let here = ltb-true g old.agents p.0 in
+      let lt = ltb-true i (size_of old m) p.1 in
+      let r = row_at old.segments (address old m i) in
+      rw (at_line old segments left g m i here lt, rows m i lt, changed_other agent g change r ne) (sym (line_at old g m i here lt)))
+      (λ v. past_line old segments left g m i v ∙ sym (line_past old g m i v))
+      (cases_Bool (nat_lt g old.agents && nat_lt i (size_of old m)))
+
+  all_lines : (g m i : ℕ) → (caches_of (recut old segments left)).line g m i ≡ (if g == agent then line ((caches_of old).line g m i) else (caches_of old).line g m i)
+  all_lines g m i = ⊎_elim
+      (λ (e : g ≡ agent). let P : ℕ → Type 0 = λ n. (caches_of (recut old segments left)).line n m i ≡ line ((caches_of old).line n m i) in rw (eq-eqb g agent e) (subst P (sym e) (own_line m i)))
+      (λ (ne : g ≢ agent). rw (ne_eqb g agent ne) (other_line g m i ne))
+      (cases_eq g agent)
+
+  pub changed_everywhere : (let new : Caches = record { main = λ m i. main ((caches_of old).line agent m i) ((caches_of old).main m i); line = λ g m i. if g == agent then line ((caches_of old).line g m i) else (caches_of old).line g m i } in caches_of (recut old segments left) ≡ new)
+  changed_everywhere = same_Caches (caches_of (recut old segments left)).main (λ m i. main ((caches_of old).line agent m i) ((caches_of old).main m i)) (caches_of (recut old segments left)).line (λ g m i. if g == agent then line ((caches_of old).line g m i) else (caches_of old).line g m i) all_main all_lines
 
 -- the changes that bring no part
 module _ (slots : List (List ℕ)) (x : ℕ) (p : Part) where

@@ -52,6 +52,14 @@ fill agent range c = record { main = c.main; line = filled_from agent range c.ma
 abbrev pub drop_clean : ℕ → Range → Caches → Caches
 drop_clean agent range c = record { main = c.main; line = dropped_in agent range c.line }
 
+-- wherever the agent has them, its dirty lines go to main and become clean ..
+abbrev pub write_back_all : ℕ → Caches → Caches
+write_back_all agent c = record { main = λ m i. written (c.line agent m i) (c.main m i); line = λ g m i. if g == agent then cleaned (c.line g m i) else c.line g m i }
+
+-- .. or its clean lines go away
+abbrev pub drop_clean_all : ℕ → Caches → Caches
+drop_clean_all agent c = record { main = c.main; line = λ g m i. if g == agent then dropped (c.line g m i) else c.line g m i }
+
 abbrev pub overwrite : Range → List ℕ → Caches → Caches
 overwrite range bytes c = record { main = overwrote range bytes c.main; line = c.line }
 

@@ -1,7 +1,8 @@
 //! What a call does to the segments of its range.
 
-ghost use Rattle.std.specs.Prelude.{◌≡◌};
+ghost use Rattle.std.specs.Prelude.{◌≡◌, true};
 ghost use Rattle.fg_caches.specs.Code.Rows.{main_after, line_after};
+ghost use Rattle.fg_caches.specs.declared.part.Part.{Part};
 
 use crate::cell::Cell;
 use crate::part::Part;
@@ -36,5 +37,17 @@ pub(crate) fn line_after(change: Change, main: Part, line: Cell) -> Cell
         (Change::DropClean, Cell::Clean(_)) => Cell::Empty,
         (Change::Fill, Cell::Empty) => Cell::Clean(main),
         _ => line,
+    }
+}
+
+/// Whether the change moves lines of another kind than the agent has.
+pub(crate) fn leaves(change: Change, line: Cell) -> bool
+    ensures main { result ≡ true → (main : Part) → main_after change main line ≡ main }
+    ensures line { result ≡ true → (main : Part) → line_after change main line ≡ line }
+{
+    match (change, line) {
+        (Change::WriteBack, Cell::Empty | Cell::Clean(_)) => true,
+        (Change::DropClean, Cell::Empty | Cell::Dirty(_)) => true,
+        _ => false,
     }
 }

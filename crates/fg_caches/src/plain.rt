@@ -24,15 +24,28 @@ impl Plain {
     pub(crate) fn make(&mut self, step: Step, base: usize)
         requires { base < 1000 }
     {
-        let first = base + step.start as usize;
-        for k in 0..step.len {
-            let at = first + k as usize;
-            let line = self.line_index(step.agent, at);
-            if at < self.main.len() && line < self.lines.len() {
-                let (main, byte) = made(step, k, self.main[at], self.lines[line]);
-                self.main[at] = main;
-                self.lines[line] = byte;
+        match step.call {
+            Call::WriteBackAll | Call::DropCleanAll => {
+                for at in 0..self.main.len() {
+                    self.make_at(step, 0, at);
+                }
             }
+            _ => {
+                let first = base + step.start as usize;
+                for k in 0..step.len {
+                    self.make_at(step, k, first + k as usize);
+                }
+            }
+        }
+    }
+
+    // At place k of its range, which is byte `at`.
+    fn make_at(&mut self, step: Step, k: u32, at: usize) {
+        let line = self.line_index(step.agent, at);
+        if at < self.main.len() && line < self.lines.len() {
+            let (main, byte) = made(step, k, self.main[at], self.lines[line]);
+            self.main[at] = main;
+            self.lines[line] = byte;
         }
     }
 
@@ -62,9 +75,9 @@ impl Plain {
 fn made(step: Step, k: u32, main: u8, line: Byte) -> (u8, Byte) {
     match (step.call, line) {
         (Call::Put, _) => (main, Byte::Dirty(step.byte(k))),
-        (Call::WriteBack, Byte::Dirty(byte)) => (byte, Byte::Clean(byte)),
+        (Call::WriteBack | Call::WriteBackAll, Byte::Dirty(byte)) => (byte, Byte::Clean(byte)),
         (Call::Fill, Byte::Absent) => (main, Byte::Clean(main)),
-        (Call::DropClean, Byte::Clean(_)) => (main, Byte::Absent),
+        (Call::DropClean | Call::DropCleanAll, Byte::Clean(_)) => (main, Byte::Absent),
         (Call::Junk, _) => ((k % 251) as u8, line),
         _ => (main, line),
     }

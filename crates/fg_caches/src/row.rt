@@ -1,10 +1,10 @@
 //! What lies at the addresses of a segment.
 
-ghost use Rattle.std.specs.Prelude.{◌≡◌, ◌<◌, length};
+ghost use Rattle.std.specs.Prelude.{◌≡◌, ◌<◌, length, true};
 ghost use Rattle.fg_caches.specs.Code.Rows.{changed};
 
 use crate::cell::Cell;
-use crate::change::{Change, line_after, main_after};
+use crate::change::{Change, leaves, line_after, main_after};
 use crate::part::Part;
 
 /// As many agents as a table may have.
@@ -18,6 +18,14 @@ pub(crate) struct Row {
 }
 
 impl Row {
+    /// Whether the change is one of moves and the agent has no lines for it.
+    pub(crate) fn is_left(&self, agent: usize, change: Change) -> bool
+        requires { agent < length self.now.lines }
+        ensures { result ≡ true → changed agent change self.now ≡ self.now }
+    {
+        leaves(change, self.lines[agent])
+    }
+
     pub(crate) fn change(&mut self, agent: usize, change: Change)
         requires { agent < length self.old.lines }
         ensures { self.new ≡ changed agent change self.old }

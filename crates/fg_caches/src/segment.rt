@@ -1,10 +1,10 @@
 //! Segments in the order of their addresses.
 
-ghost use Rattle.std.specs.Prelude.{◌≡◌, ◌<◌, ◌≤◌, ◌+◌, ℕ, length, not, true, false, if◌then◌else◌, vec_len, vec_capacity};
+ghost use Rattle.std.specs.Prelude.{◌≡◌, ◌<◌, ◌≤◌, ◌+◌, ℕ, length, not, true, false, if◌then◌else◌, slice_set, vec_len, vec_capacity};
 ghost use Rattle.std.specs.List.{insert};
 ghost use Rattle.fg_caches.specs.Code.Rows.{ChangeIn, RowIn};
 ghost use Rattle.fg_caches.specs.Places.{place, row_at, cut_in, segment_at};
-ghost use Rattle.fg_caches.specs.Code.Segments.{covers, changed_in, Ascending, IsLaid};
+ghost use Rattle.fg_caches.specs.Code.Segments.{covers, changed_segment, changed_in, Ascending, IsLaid};
 ghost use Rattle.fg_caches.specs.Code.Uses.{row_uses, uses, Counts};
 
 use crate::change::Change;
@@ -146,7 +146,22 @@ fn change_in(
     ensures each { (k : ℕ) → k < length segments.old → segment_at segments.new k ≡ changed_in first last agent change k (segment_at segments.old k) }
 {
     for k in first..last {
-        recount(counts, &segments[k].row, agent, change);
-        segments[k].row.change(agent, change);
+        change_at(segments, counts, k, agent, change);
     }
+}
+
+fn change_at(segments: &mut [Segment], counts: &mut [u32], k: usize, agent: usize, change: Change)
+    requires there { k < length segments.old }
+    requires row { RowIn (length counts.old) (segment_at segments.old k).row }
+    requires agent { agent < 32 }
+    requires change { ChangeIn (length counts.old) change }
+    requires counted { Counts counts.old (λ slot. uses slot segments.old) }
+    ensures items { segments.new ≡ slice_set segments.old k (changed_segment agent change (segment_at segments.old k)) }
+    ensures counted { Counts counts.new (λ slot. uses slot segments.new) }
+{
+    if segments[k].row.is_left(agent, change) {
+        return;
+    }
+    recount(counts, &segments[k].row, agent, change);
+    segments[k].row.change(agent, change);
 }

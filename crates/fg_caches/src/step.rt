@@ -12,6 +12,8 @@ pub(crate) enum Call {
     Fill,
     DropClean,
     Junk,
+    WriteBackAll,
+    DropCleanAll,
 }
 
 /// A call and its range.
@@ -81,6 +83,27 @@ impl Step {
         let call = match self.call {
             Call::DropClean => Call::Junk,
             _ => Call::Put,
+        };
+        Step {
+            call,
+            agent: self.agent,
+            memory: self.memory,
+            start: self.start,
+            len: self.len,
+        }
+    }
+
+    /// A write-back or drop of all lines of the agent, in the place of one of a range.
+    pub(crate) fn everywhere(self) -> Step
+        ensures agent { result.agent ≡ self.agent }
+        ensures memory { result.memory ≡ self.memory }
+        ensures start { result.start ≡ self.start }
+        ensures len { result.len ≡ self.len }
+    {
+        let call = match self.call {
+            Call::WriteBack => Call::WriteBackAll,
+            Call::DropClean => Call::DropCleanAll,
+            call => call,
         };
         Step {
             call,

@@ -140,6 +140,13 @@ impl Segments {
         }
     }
 
+    /// How many agents there are.
+    pub fn agents(&self) -> u32
+        ensures { result ≡ self.now.agents }
+    {
+        self.agents
+    }
+
     /// How many more cuts there is room for.
     pub fn cuts_left(&self) -> u64
         ensures { result ≡ self.now.cuts_left }
@@ -222,6 +229,43 @@ impl Segments {
         self.cut(from);
         self.cut(to);
         self.change_between(from, to, agent, change);
+    }
+
+    // Changes what lies at all addresses.
+    fn change_everywhere(&mut self, agent: u32, change: Change)
+        requires agent { agent < 32 }
+        requires fits { ChangeFits self.old.slots change 0 self.old.total }
+        ensures same { self.new ≡ record self.old { segments = self.new.segments } }
+        ensures cuts { (x : ℕ) → cut_in self.old.segments x ≡ true → cut_in self.new.segments x ≡ true }
+        ensures lines { (m i : ℕ) → i < size_of self.old m → agent < length (row_at self.old.segments (address self.old m i)).lines }
+        ensures rows { (m i : ℕ) → i < size_of self.old m → row_at self.new.segments (address self.old m i) ≡ changed agent change (row_at self.old.segments (address self.old m i)) }
+    {
+        let total = self.total;
+        self.change_between(0, total, agent, change);
+    }
+
+    /// Wherever the agent has dirty lines, they go to main and become clean. It is one walk over the table.
+    pub fn write_back_all(&mut self, agent: u32)
+        requires { agent < self.old.agents }
+        ensures bytes { caches_of self.new ≡ effects.write_back_all agent (caches_of self.old) }
+        ensures keeps { Keeps self.old self.new }
+        ensures cuts { self.new.cuts_left ≡ self.old.cuts_left }
+        ensures stores { self.new.stores_left ≡ self.old.stores_left }
+    {
+        let _agents = self.agents;
+        self.change_everywhere(agent, Change::WriteBack);
+    }
+
+    /// Wherever the agent has clean lines, they go away.
+    pub fn drop_clean_all(&mut self, agent: u32)
+        requires { agent < self.old.agents }
+        ensures bytes { caches_of self.new ≡ effects.drop_clean_all agent (caches_of self.old) }
+        ensures keeps { Keeps self.old self.new }
+        ensures cuts { self.new.cuts_left ≡ self.old.cuts_left }
+        ensures stores { self.new.stores_left ≡ self.old.stores_left }
+    {
+        let _agents = self.agents;
+        self.change_everywhere(agent, Change::DropClean);
     }
 
     /// Dirty lines of the agent go to main and become clean.

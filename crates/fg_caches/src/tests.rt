@@ -45,6 +45,8 @@ fn make(alloc: Global, table: &mut Segments, step: Step) -> Result<(), NoMemory>
         Call::Fill => table.fill(step.agent, step.memory, step.start, step.len),
         Call::DropClean => table.drop_clean(step.agent, step.memory, step.start, step.len),
         Call::Junk => table.junk(step.memory, step.start, step.len),
+        Call::WriteBackAll => table.write_back_all(step.agent),
+        Call::DropCleanAll => table.drop_clean_all(step.agent),
     }
     Ok(())
 }
@@ -104,6 +106,16 @@ fn drawn(tender: &mut Tender) -> Step
     }
 }
 
+// The next move, or one of all lines of its agent.
+fn moved(tender: &mut Tender, all: bool) -> Step
+    ensures agent { result.agent < AGENTS }
+    ensures memory { result.memory < 2 }
+    ensures within { result.start + result.len ≤ (if result.memory == 0 then LARGE else SMALL) }
+{
+    let step = drawn(tender);
+    if all { step.everywhere() } else { step }
+}
+
 // A step on the table and on the bytes, and whether they show the same then.
 fn both(
     alloc: Global,
@@ -132,7 +144,7 @@ fn both(
     Ok(same_all(table, plain, &mut large, &mut small))
 }
 
-// A store and a move, again and again.
+// A store and a move, again and again; each eighth move is of all lines of its agent.
 fn rounds(
     rt: &impl Abort,
     alloc: Global,
@@ -149,10 +161,10 @@ fn rounds(
 {
     let mut stores = Tender::new(1);
     let mut moves = Tender::new(2);
-    for _k in 0..EVENTS {
+    for k in 0..EVENTS {
         let store = drawn(&mut stores).storing();
         assert!(rt; both(alloc, table, plain, store)?);
-        let step = drawn(&mut moves);
+        let step = moved(&mut moves, k % 8 == 0);
         assert!(rt; both(alloc, table, plain, step)?);
     }
     Ok(())

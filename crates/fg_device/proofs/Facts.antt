@@ -1,15 +1,14 @@
 -- What a program that breaks no rule says of its pieces, its memories and its nodes.
-use Rattle.std.proofs.Common.{◌≡◌, ℕ, zero, suc, ◌+◌, ◌%◌, ◌^◌, ◌==◌, ◌<◌, ◌≤◌, nat_le, nat_lt, true, List, [], ◌∷◌, length, map, get_or, slice_get, Some, sym, ap, ◌∙◌, subst, ⊎_elim, arith}
+use Rattle.std.proofs.Common.{◌≡◌, ℕ, zero, suc, ◌+◌, ◌%◌, ◌==◌, ◌<◌, ◌≤◌, nat_le, nat_lt, true, List, [], ◌∷◌, length, map, get_or, slice_get, Some, sym, ap, subst, ⊎_elim, arith}
 use Rattle.std.specs.List.{All}
 use Rattle.std.specs.Option.{option_map_or}
 use Rattle.std.proofs.lemmas.Bool.{and_parts, cases_lt, leb-true, ltb-true}
-use Rattle.std.proofs.lemmas.List.{get_or-map, get_or_past, get_or_read, length-map}
+use Rattle.std.proofs.lemmas.List.{get_or-map, get_or_past, length-map}
 use Rattle.std.proofs.lemmas.Option.{slice_get-get_or}
 use Rattle.fg_base.specs.Maxima.{max_size}
 use Rattle.fg_base.specs.Shapes.{bytes_of}
 use Rattle.fg_device.specs.Code.Opened.{piece_in}
 use Rattle.fg_device.specs.Code.Syncs.{IsThere}
-use Rattle.fg_device.specs.Code.Tables.{memory_size}
 use Rattle.fg_device.proofs.Starting.{Lies}
 use Rattle.fg_steps.specs.Agents.{piece_range}
 use Rattle.fg_subs.specs.Entries.{Entry, OfWait, OfItem, OfSignal, OfHost, entries_of}
@@ -53,12 +52,6 @@ one_of_all (first ∷ rest) (suc m) memory e = omega (arith, one_of_all rest m m
 -- no memory is larger than all of them may be together
 pub memory_small : (program : Program) → IsSmall program → (m : ℕ) → m < length program.memories → memory_bytes (get_or program.memories m (Plain 0)) ≤ 805306368
 memory_small program S m lt = omega (arith, S.bytes, one_of_all program.memories m (get_or program.memories m (Plain 0)) (slice_get-get_or program.memories m (Plain 0) lt))
-
--- a memory as it is read
-pub read_size : (program : Program) → IsSmall program → (m : ℕ) → m < length program.memories → (memory : Memory) → memory ≡ get_or program.memories m memory → (memory_bytes memory < 2 ^ 32) × (memory_bytes memory ≡ memory_size program m)
-read_size program S m lt memory is =
-    let read : memory ≡ get_or program.memories m (Plain 0) = get_or_read program.memories m memory lt is (Plain 0) in
-    (omega (arith, ap memory_bytes read, memory_small program S m lt), ap memory_bytes read ∙ sym (ap (λ o. option_map_or memory_bytes o 0) (slice_get-get_or program.memories m (Plain 0) lt)))
 
 -- NODES
 

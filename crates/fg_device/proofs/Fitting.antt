@@ -1,15 +1,12 @@
 -- The table stays that of the program, and its pieces and memories stay cut out.
 use Rattle.std.proofs.Common.{◌≡◌, ℕ, ◌+◌, ◌<◌, ◌≤◌, Bool, true, false, length, if◌then◌else◌, refl, sym, ap, ◌∙◌, subst, arith}
 use Rattle.std.specs.Prelude.{List, slice_index}
-use Rattle.std.specs.Prelude.{nat_lt, ◌&&◌}
-use Rattle.std.proofs.lemmas.Bool.{le-ltb}
-use Rattle.fg_caches.specs.Lines.{Line, Absent, Range}
-use Rattle.fg_caches.specs.Places.{row_at, line_by}
-use Rattle.fg_caches.specs.Tables.{Table, size_of, address, line_in, caches_of, is_cut, missing, InMemory, Keeps}
-use Rattle.fg_device.specs.Code.Tables.{whole_of, IsCutOut, HasCut, FitsProgram, Stays}
+use Rattle.fg_caches.specs.Lines.{Range}
+use Rattle.fg_caches.specs.Tables.{Table, is_cut, missing, InMemory, Keeps}
+use Rattle.fg_device.specs.Code.Tables.{IsCutOut, HasCut, FitsProgram, Stays}
 use Rattle.fg_steps.specs.Agents.{piece_range}
 use Rattle.fg_subs.specs.declared.program.Program.{Program}
-use Rattle.fg_view.specs.Views.{view_of}
+use Rattle.fg_view.specs.Views.{View, view_of}
 
 both_cut : (a b : Bool) → (if a then 0 else 1) + (if b then 0 else 1) ≡ 0 → (a ≡ true) × (b ≡ true)
 both_cut true true e = (refl, refl)
@@ -38,11 +35,11 @@ still_cut t u r K C =
       cut = none_missing u r.memory r.start r.len (K.cuts r.memory r.start ends.0) (K.cuts r.memory (r.start + r.len) ends.1);
     }
 
-pub still_has : (t u : Table) (program : Program) → Keeps t u → HasCut t program → HasCut u program
-still_has t u program K H = record {
-  memories = λ m lt. still_cut t u (whole_of program m) K (H.memories m lt);
-  pieces = λ p lt. still_cut t u (piece_range (view_of program) p) K (H.pieces p lt);
-  junk = λ p lt. subst (λ junk. (piece_range (view_of program) p).len ≤ length junk) (sym K.junk) (H.junk p lt);
+pub still_has : (t u : Table) (V : View) → Keeps t u → HasCut t V → HasCut u V
+still_has t u V K H = record {
+  pieces = λ p lt. still_cut t u (piece_range V p) K (H.pieces p lt);
+  junk = λ p lt. subst (λ junk. (piece_range V p).len ≤ length junk) (sym K.junk) (H.junk p lt);
+  short = H.short;
 }
 
 pub still_fits : (t u : Table) (program : Program) (fill : ℕ) → Keeps t u → FitsProgram t program fill → FitsProgram u program fill
@@ -50,7 +47,7 @@ still_fits t u program fill K F = record {
   agents = K.agents ∙ F.agents;
   memories = K.memories ∙ F.memories;
   sizes = λ m. K.sizes m ∙ F.sizes m;
-  cuts = still_has t u program K F.cuts;
+  cuts = still_has t u (view_of program) K F.cuts;
   junk = subst (λ (junk : List ℕ). (k : ℕ) → k < length junk → slice_index junk k ≡ fill) (sym K.junk) F.junk;
 }
 
@@ -75,12 +72,3 @@ stays_on t u v A B = record {
   cuts = omega (arith, A.cuts, B.cuts);
   stores = B.stores ∙ A.stores;
 }
-
--- a table has no line behind a memory's end
-pub no_line : (t : Table) (g m i : ℕ) → size_of t m ≤ i → (caches_of t).line g m i ≡ Absent
-unfolding caches_of
-no_line t g m i ge = ap (λ b. if nat_lt g t.agents && b then line_in t.slots (line_by (row_at t.segments (address t m i)) g) (address t m i) else Absent) (le-ltb i (size_of t m) ge) ∙ off (nat_lt g t.agents) (line_in t.slots (line_by (row_at t.segments (address t m i)) g) (address t m i))
-  where
-    off : (b : Bool) (l : Line) → (if b && false then l else Absent) ≡ Absent
-    off true l = refl
-    off false l = refl

@@ -13,7 +13,7 @@ use Rattle.fg_device.proofs.Events.{moves, room_moved}
 use Rattle.fg_device.proofs.Fitting.{missing_le, still_fits}
 use Rattle.fg_device.specs.Code.Kept.{device_in, IsKept}
 use Rattle.fg_device.specs.Code.Parts.{HasState, HasRoom}
-use Rattle.fg_device.specs.Code.Tables.{memory_size, HasBytes, FitsProgram}
+use Rattle.fg_device.specs.Code.Tables.{memory_size, HasBytes}
 use Rattle.fg_device.specs.declared.device.Device.TheInside.{Inside}
 use Rattle.fg_steps.specs.Devices.{Device, state_of}
 use Rattle.fg_steps.specs.Histories.{moved}

@@ -61,7 +61,7 @@ module _ (program : Program) (S : IsSmall program) (O : (rule : Rule) → Obeys 
     pub fits_made : {E : Type 0} (result : Result Table E) (cuts : List (ℕ × ℕ)) → HasCuts program.pieces (length program.pieces) cuts → (agents longest : ℕ) → agents ≡ 8 * length program.queues → All (λ piece. bytes_of piece.shape ≤ longest) program.pieces → IfOk result (λ t. IsMade t agents opening (replicate longest fill)) → IfOk result (λ t. All (λ c. is_cut t c.0 c.1 ≡ true) cuts) → IfOk result (λ t. FitsProgram t program fill)
     fits_made (Ok t) cuts C agents longest known long made cut =
         let M : IsMade t (8 * length program.queues) (map (opened_memory fill) program.memories) (replicate longest fill) = subst (λ a. IsMade t a (map (opened_memory fill) program.memories) (replicate longest fill)) known (subst (λ (o : List (List ℕ)). IsMade t agents o (replicate longest fill)) is made) in
-        opens_fitting program fill cuts C (lies program O) t (replicate longest fill) M cut (λ k lt. get_or-replicate longest k fill 0 (omega (arith, lt, length-replicate longest fill))) (λ p lt. omega (arith, long p no_piece lt, length-replicate longest fill))
+        opens_fitting program fill cuts C (lies program O) t (replicate longest fill) M cut (λ k lt. get_or-replicate longest k fill 0 (omega (arith, lt, length-replicate longest fill))) (λ p lt. omega (arith, long p no_piece lt, length-replicate longest fill)) (sizes_small program S)
     fits_made (Err e) cuts C agents longest known long made cut = tt
 
 -- each piece that is read back is there

@@ -1,5 +1,5 @@
 -- A device as it is opened.
-use Rattle.std.proofs.Common.{◌≡◌, ℕ, ◌+◌, ◌*◌, ◌/◌, ◌%◌, ◌<◌, ◌≤◌, true, List, [], ◌∷◌, length, map, get_or, slice_get, Option, Some, None, refl, sym, ap, ◌∙◌, subst, ⊎_elim, arith}
+use Rattle.std.proofs.Common.{◌≡◌, ℕ, ◌+◌, ◌*◌, ◌/◌, ◌%◌, ◌^◌, ◌<◌, ◌≤◌, true, List, [], ◌∷◌, length, map, get_or, slice_get, Option, Some, None, refl, sym, ap, ◌∙◌, subst, ⊎_elim, arith}
 use Rattle.std.specs.Prelude.{slice_index, slice_index_or, replicate}
 use Rattle.std.specs.List.{All, sum_by}
 use Rattle.std.specs.Option.{option_map_or}
@@ -94,8 +94,8 @@ module _ (program : Program) (fill : ℕ) (cuts : List (ℕ × ℕ)) (C : HasCut
       (cases_eq (k % 2) 0))
 
   -- the table that is made of all that is the program's
-  pub opens_fitting : (t : Table) (junk : List ℕ) → IsMade t (8 * length program.queues) (map (opened_memory fill) program.memories) junk → All (λ c. is_cut t c.0 c.1 ≡ true) cuts → ((k : ℕ) → k < length junk → slice_index junk k ≡ fill) → ((p : ℕ) → p < length program.pieces → bytes_of (piece_in program.pieces p).shape ≤ length junk) → FitsProgram t program fill
-  opens_fitting t junk M A same long =
+  pub opens_fitting : (t : Table) (junk : List ℕ) → IsMade t (8 * length program.queues) (map (opened_memory fill) program.memories) junk → All (λ c. is_cut t c.0 c.1 ≡ true) cuts → ((k : ℕ) → k < length junk → slice_index junk k ≡ fill) → ((p : ℕ) → p < length program.pieces → bytes_of (piece_in program.pieces p).shape ≤ length junk) → ((p : ℕ) → p < length program.pieces → bytes_of (piece_in program.pieces p).shape < 2 ^ 32) → FitsProgram t program fill
+  opens_fitting t junk M A same long short =
       let R : ℕ × ℕ → Type 0 = λ c. is_cut t c.0 c.1 ≡ true in
       let sizes : (m : ℕ) → size_of t m ≡ memory_size program m = λ m. M.sizes m ∙ opened_size program fill m in
       let many : length (map (opened_memory fill) program.memories) ≡ length program.memories = length-map program.memories (opened_memory fill) in
@@ -104,10 +104,6 @@ module _ (program : Program) (fill : ℕ) (cuts : List (ℕ × ℕ)) (C : HasCut
         memories = M.memories ∙ many;
         sizes = sizes;
         cuts = record {
-          memories = λ m lt. record {
-            within = record { there = omega (arith, lt, M.memories, many); within = omega (arith, sizes m) };
-            cut = none_missing t m 0 (memory_size program m) (M.starts m (omega (arith, lt, many))) (subst (λ z. is_cut t m z ≡ true) (sizes m ∙ zero_plus (memory_size program m)) (M.ends m (omega (arith, lt, many))));
-          };
           pieces = λ p lt.
               let piece = piece_in program.pieces p in
               let l = L p lt in
@@ -116,12 +112,10 @@ module _ (program : Program) (fill : ℕ) (cuts : List (ℕ × ℕ)) (C : HasCut
                 cut = none_missing t piece.memory piece.offset (bytes_of piece.shape) (subst R (C.starts p lt) (A (2 * p) (0, 0) (omega (arith, lt, C.many)))) (subst R (C.ends p lt) (A (2 * p + 1) (0, 0) (omega (arith, lt, C.many))));
               };
           junk = λ p lt. subst (λ junk. bytes_of (piece_in program.pieces p).shape ≤ length junk) (sym M.junk) (long p lt);
+          short = short;
         };
         junk = subst (λ (junk : List ℕ). (k : ℕ) → k < length junk → slice_index junk k ≡ fill) (sym M.junk) same;
       }
-    where
-      zero_plus : (n : ℕ) → n ≡ 0 + n
-      zero_plus n = omega arith
 
 -- THE FIELDS
 

@@ -9,3 +9,4 @@ pub mod Results
 pub mod Rooms
 pub mod Syncs
 pub mod Tables
+pub mod Takes

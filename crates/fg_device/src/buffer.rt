@@ -11,7 +11,7 @@ use std::alloc::Global;
 use std::marker::Model;
 
 /// So many bytes.
-#[derive(Debug, Drop)]
+#[derive(Drop)]
 pub(crate) struct Buffer {
     bytes: Vec<u8>,
 }

@@ -14,9 +14,9 @@ ghost use Rattle.fg_steps.specs.Ready.{kind_at, read_node};
 ghost use Rattle.fg_steps.specs.States.{is_done};
 
 use crate::buffer::Buffer;
-use crate::held::{Held, none_held};
+use crate::held::Held;
 use crate::nodes::read_node;
-use crate::opening::{history, rooms, table_of};
+use crate::opening::{Lists, Stored, lists_of, stored_of};
 use fg_base::{Event, List, NoMemory, Shape};
 use fg_caches::Segments;
 use fg_checker::Checked;
@@ -80,11 +80,15 @@ impl Device {
         let plain = program.program();
         let control = Control::new(alloc, &program)?;
         let count = control.view().count();
-        let table = table_of(alloc, plain, fill, moves, count as u32)?;
-        let shapes = plain.shapes(alloc)?;
-        let held = none_held(alloc, count)?;
-        let reads = rooms(alloc, control.view(), &plain.readbacks)?;
-        let history = history(alloc, 2 * count + moves as usize)?;
+        let stored = stored_of(alloc, plain, fill, moves, count as u32)?;
+        let events = 2 * count + moves as usize;
+        let lists = lists_of(alloc, control.view(), &plain.readbacks, count, events)?;
+        let Stored { table, shapes } = stored;
+        let Lists {
+            held,
+            reads,
+            history,
+        } = lists;
         Ok(Device {
             program,
             shapes,

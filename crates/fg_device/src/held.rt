@@ -8,7 +8,7 @@ use fg_base::{List, NoMemory};
 use std::alloc::Global;
 
 /// What a begun command loaded, and room for what it stores.
-#[derive(Debug, Drop)]
+#[derive(Drop)]
 pub(crate) struct Held {
     pub loaded: List<List<u8>>,
     pub room: Buffer,

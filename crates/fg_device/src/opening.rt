@@ -1,6 +1,6 @@
 //! What a device is opened with.
 
-ghost use Rattle.std.specs.Prelude.{◌≡◌, ◌<◌, ◌≤◌, ◌+◌, ◌*◌, ◌^◌, ℕ, [], length, map, vec_len, vec_capacity, IfOk};
+ghost use Rattle.std.specs.Prelude.{◌≡◌, ◌<◌, ◌≤◌, ◌+◌, ◌*◌, ◌^◌, ℕ, [], length, map, replicate, vec_len, vec_capacity, IfOk, None};
 ghost use Rattle.std.specs.List.{All};
 ghost use Rattle.fg_base.specs.Maxima.{max_nodes};
 ghost use Rattle.fg_base.specs.Shapes.{bytes_of};
@@ -9,11 +9,13 @@ ghost use Rattle.fg_caches.specs.Tables.{caches_of};
 ghost use Rattle.fg_device.specs.Code.Opened.{opened_memory, room_of, piece_end, HasCuts};
 ghost use Rattle.fg_device.specs.Code.Tables.{FitsProgram};
 ghost use Rattle.fg_subs.specs.Obeys.{Obeys, IsSmall};
+ghost use Rattle.fg_subs.specs.Rules.{shapes_of};
 ghost use Rattle.fg_subs.specs.declared.rule.Rule.{Rule};
 ghost use Rattle.fg_view.specs.Views.{piece_at};
 
 use crate::buffer::Buffer;
-use fg_base::{Event, List, NoMemory};
+use crate::held::{Held, none_held};
+use fg_base::{Event, List, NoMemory, Shape};
 use fg_caches::Segments;
 use fg_subs::{Memory, Piece, Program};
 use fg_view::View;
@@ -64,9 +66,9 @@ fn longest(pieces: &[Piece]) -> u32
     longest
 }
 
-/// The table of a program: its memories as they are opened, cut at the ends of all pieces, with room for so many cache moves and
-/// stores.
-pub(crate) fn table_of(
+// The table of a program: its memories as they are opened, cut at the ends of all pieces, with room for so many cache moves and
+// stores.
+fn table_of(
     alloc: Global,
     program: &Program,
     fill: u8,
@@ -88,8 +90,37 @@ pub(crate) fn table_of(
     Segments::new(alloc, agents, opening, junk, &cuts, moves, stores)
 }
 
-/// Room for the pieces that are read back.
-pub(crate) fn rooms(alloc: Global, view: &View, readbacks: &[u32]) -> Result<Vec<Buffer>, NoMemory>
+/// The table of a program, and the shapes of its pieces.
+#[derive(Drop)]
+pub(crate) struct Stored {
+    pub table: Segments,
+    pub shapes: List<Shape>,
+}
+
+/// Those of this program, with room for so many cache moves and stores.
+pub(crate) fn stored_of(
+    alloc: Global,
+    program: &Program,
+    fill: u8,
+    moves: u32,
+    stores: u32,
+) -> Result<Stored, NoMemory>
+    requires small { IsSmall program.now }
+    requires obeys { (rule : Rule) → Obeys rule program.now }
+    requires stores { stores ≤ max_nodes }
+    ensures fits { IfOk result (λ stored. FitsProgram stored.table program.now fill) }
+    ensures opened { IfOk result (λ stored. caches_of stored.table ≡ opened (map (opened_memory fill) program.now.memories)) }
+    ensures cuts { IfOk result (λ stored. stored.table.cuts_left ≡ 2 * moves) }
+    ensures stores { IfOk result (λ stored. stored.table.stores_left ≡ stores) }
+    ensures shapes { IfOk result (λ stored. stored.shapes ≡ shapes_of program.now) }
+{
+    let table = table_of(alloc, program, fill, moves, stores)?;
+    let shapes = program.shapes(alloc)?;
+    Ok(Stored { table, shapes })
+}
+
+// Room for the pieces that are read back.
+fn rooms(alloc: Global, view: &View, readbacks: &[u32]) -> Result<Vec<Buffer>, NoMemory>
     requires there { All (λ p. p < length view.now.pieces) readbacks.now }
     requires small { (p : ℕ) → p < length view.now.pieces → bytes_of (piece_at view.now p).shape < 2 ^ 32 }
     ensures { IfOk result (λ rooms. rooms.items ≡ map (room_of view.now) readbacks.now) }
@@ -102,12 +133,45 @@ pub(crate) fn rooms(alloc: Global, view: &View, readbacks: &[u32]) -> Result<Vec
     Ok(rooms)
 }
 
-/// No event, and room for so many.
-pub(crate) fn history(alloc: Global, count: usize) -> Result<Vec<Event>, NoMemory>
+// No event, and room for so many.
+fn history(alloc: Global, count: usize) -> Result<Vec<Event>, NoMemory>
     ensures items { IfOk result (λ history. history.items ≡ []) }
     ensures room { IfOk result (λ history. count + vec_len history ≤ vec_capacity history) }
 {
     let mut history = Vec::new(alloc);
     history.reserve(count)?;
     Ok(history)
+}
+
+/// What a device keeps of nodes, read-backs and events.
+#[derive(Drop)]
+pub(crate) struct Lists {
+    pub held: Vec<Option<Held>>,
+    pub reads: Vec<Buffer>,
+    pub history: Vec<Event>,
+}
+
+/// Those of so many nodes that hold nothing, with room for these read-backs and for so many events.
+pub(crate) fn lists_of(
+    alloc: Global,
+    view: &View,
+    readbacks: &[u32],
+    count: usize,
+    events: usize,
+) -> Result<Lists, NoMemory>
+    requires there { All (λ p. p < length view.now.pieces) readbacks.now }
+    requires small { (p : ℕ) → p < length view.now.pieces → bytes_of (piece_at view.now p).shape < 2 ^ 32 }
+    ensures held { IfOk result (λ lists. lists.held.items ≡ replicate count None) }
+    ensures reads { IfOk result (λ lists. lists.reads.items ≡ map (room_of view.now) readbacks.now) }
+    ensures items { IfOk result (λ lists. lists.history.items ≡ []) }
+    ensures room { IfOk result (λ lists. events + vec_len lists.history ≤ vec_capacity lists.history) }
+{
+    let held = none_held(alloc, count)?;
+    let reads = rooms(alloc, view, readbacks)?;
+    let history = history(alloc, events)?;
+    Ok(Lists {
+        held,
+        reads,
+        history,
+    })
 }

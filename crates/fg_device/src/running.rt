@@ -1,6 +1,6 @@
 //! What a command stores, by what it loaded.
 
-ghost use Rattle.std.specs.Prelude.{◌≡◌, ◌≤◌, [], length, take, slice_index_or};
+ghost use Rattle.std.specs.Prelude.{◌≡◌, ◌≤◌, ℕ, List, [], length, take, slice_get, slice_index_or, Some};
 ghost use Rattle.fg_base.specs.Applied.{applied};
 ghost use Rattle.fg_base.specs.Operands.{sources_of, destination_of};
 ghost use Rattle.fg_base.specs.Shapes.{bytes_of, shape_at};
@@ -53,6 +53,26 @@ fn run(op: &Op<u32>, shapes: &[Shape], loaded: &[List<u8>], out: &mut [u8])
     }
 }
 
+// The old bytes of the destination, if they were loaded after the sources.
+fn lay_old(op: &Op<u32>, loaded: &[List<u8>], out: &mut [u8])
+    requires { (bytes : List ℕ) → slice_get loaded.now (length (sources_of op.now)) ≡ Some bytes → length bytes ≡ length out.old }
+    ensures { out.new ≡ slice_index_or loaded.now (length (sources_of op.now)) out.old }
+{
+    if let Some(old) = loaded.get(source_count(op)) {
+        out.copy_from_slice(old);
+    }
+}
+
+// What a command stores, in a slice of zeros.
+fn store_in(op: &Op<u32>, shapes: &[Shape], loaded: &[List<u8>], out: &mut [u8])
+    requires runnable { IsRunnable shapes.now op.now loaded.now }
+    requires room { out.old ≡ no_old shapes.now op.now }
+    ensures { out.new ≡ stored_by shapes.now op.now loaded.now }
+{
+    lay_old(op, loaded, out);
+    run(op, shapes, loaded, out);
+}
+
 /// What a command stores. The room holds zeros, and takes the old bytes where these were loaded.
 pub(crate) fn stored_by(
     op: &Op<u32>,
@@ -66,9 +86,6 @@ pub(crate) fn stored_by(
     ensures long { length result ≡ bytes_of (shape_at shapes.now (destination_of op.now)) }
 {
     let mut out = room.into_vec();
-    if let Some(old) = loaded.get(source_count(op)) {
-        out.copy_from_slice(old);
-    }
-    run(op, shapes, loaded, &mut out);
+    store_in(op, shapes, loaded, &mut out);
     List::from_vec(out)
 }

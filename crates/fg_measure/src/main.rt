@@ -5,12 +5,14 @@ mod call;
 mod driving;
 mod ranges;
 mod repeat;
+mod small;
 mod stopped;
 mod table;
 
 use crate::call::call_of;
 use crate::driving::{device_of, driven};
 use crate::repeat::repeat;
+use crate::small::{small, small_of};
 use crate::stopped::Stopped;
 use std::alloc::Global;
 use std::env;
@@ -48,12 +50,19 @@ fn times_of(word: &str) -> Result<u32, Stopped> {
     }
 }
 
+fn sum_of(alloc: Global, word: &str, times: u32) -> Result<u64, Stopped> {
+    if let Some(action) = small_of(word) {
+        return small(alloc, action, times);
+    }
+    match call_of(word) {
+        Some(call) => repeat(alloc, call, times),
+        None => Err(Stopped),
+    }
+}
+
 // A call so many times; then what it left is printed as one number, so that no call is left out.
 fn repeated(rt: &impl Print, alloc: Global, call: &str, times: &str) -> Result<(), Stopped> {
-    let Some(call) = call_of(call) else {
-        return Err(Stopped);
-    };
-    let sum = repeat(alloc, call, times_of(times)?)?;
+    let sum = sum_of(alloc, call, times_of(times)?)?;
     match println!(rt; "{sum}") {
         Ok(()) => Ok(()),
         Err(_) => Err(Stopped),

@@ -6,12 +6,9 @@ ghost use Rattle.fg_measure.specs.Code.Tables.{image, HoldsImage};
 use crate::call::{Call, act, put, write_back};
 use crate::ranges::{PLACES, Ranges};
 use crate::stopped::Stopped;
-use crate::table::{picture, table};
+use crate::table::{STORES, picture, table};
 use fg_caches::Segments;
 use std::alloc::Global;
-
-// As many stores as a table may have.
-const STORES: u32 = 20_000;
 
 // So many stores are made first, by two agents in turn.
 const BEFORE: u32 = 32;

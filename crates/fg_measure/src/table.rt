@@ -3,7 +3,7 @@
 ghost use Rattle.std.specs.Prelude.{◌≡◌, ◌≤◌, ◌∷◌, [], length, IfOk};
 ghost use Rattle.std.specs.List.{All};
 ghost use Rattle.fg_base.specs.Maxima.{max_nodes};
-ghost use Rattle.fg_measure.specs.Code.Tables.{image, HoldsImage};
+ghost use Rattle.fg_measure.specs.Code.Tables.{image, row, HoldsImage, HoldsRow};
 
 use crate::ranges::{IMAGE, place};
 use fg_base::{List, NoMemory};
@@ -11,6 +11,9 @@ use fg_caches::Segments;
 use std::alloc::Global;
 
 const AGENTS: u32 = 2;
+
+/// As many stores as a table may have.
+pub const STORES: u32 = 20_000;
 
 // Room for cuts that no call needs, since ranges end where the table is cut.
 const SPARE: u32 = 2;
@@ -60,4 +63,25 @@ pub fn table(alloc: Global, places: u32, stores: u32) -> Result<Segments, NoMemo
     let cuts = cuts(alloc, places)?;
     let junk = List::new(alloc);
     Segments::new(alloc, AGENTS, opening, junk, &cuts, SPARE, stores)
+}
+
+// Where pieces of 256 bytes begin.
+fn row_cuts(alloc: Global) -> Result<Vec<(u32, u32)>, NoMemory>
+    ensures { IfOk result (λ cuts. All (λ c. (c.0 ≡ 0) × (c.1 ≤ row)) cuts.items) }
+{
+    let mut cuts = Vec::new(alloc);
+    for k in 0..16 {
+        cuts.push((0, 256 * k))?;
+    }
+    Ok(cuts)
+}
+
+/// A memory of sixteen pieces of 256 zeros, at whose ends the table is cut.
+pub fn row(alloc: Global) -> Result<Segments, NoMemory>
+    ensures { IfOk result HoldsRow }
+{
+    let opening = one(alloc, zeros(alloc, 4096)?)?;
+    let cuts = row_cuts(alloc)?;
+    let junk = List::new(alloc);
+    Segments::new(alloc, AGENTS, opening, junk, &cuts, SPARE, STORES)
 }

@@ -3,3 +3,7 @@
 
 #[cfg(test)]
 mod control;
+#[cfg(test)]
+mod device;
+#[cfg(test)]
+mod drive;

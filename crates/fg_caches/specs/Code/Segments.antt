@@ -21,6 +21,9 @@ IsLaid count segments = (k : ℕ) → k < length segments → RowIn count (segme
 abbrev pub within : ℕ → ℕ → ℕ → Bool
 within from to x = nat_le from x && nat_lt x to
 
+abbrev pub changed_segment : ℕ → Change → Segment → Segment
+changed_segment g change s = record { end = s.end; row = changed g change s.row }
+
 -- the segment after a change of those that are numbered from first up to last
 abbrev pub changed_in : ℕ → ℕ → ℕ → Change → ℕ → Segment → Segment
-changed_in first last g change k s = if within first last k then record { end = s.end; row = changed g change s.row } else s
+changed_in first last g change k s = if within first last k then changed_segment g change s else s

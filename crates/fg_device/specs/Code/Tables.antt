@@ -1,5 +1,5 @@
 -- What the table of a device keeps of its program.
-use Rattle.std.specs.Prelude.{◌≡◌, ℕ, ◌*◌, ◌<◌, ◌≤◌, length, slice_get, slice_index}
+use Rattle.std.specs.Prelude.{◌≡◌, ℕ, ◌*◌, ◌^◌, ◌<◌, ◌≤◌, length, slice_get, slice_index}
 use Rattle.std.specs.Option.{option_map_or}
 use Rattle.fg_caches.specs.Effects.{Caches}
 use Rattle.fg_caches.specs.Lines.{Range}
@@ -8,31 +8,28 @@ use Rattle.fg_steps.specs.Agents.{piece_range}
 use Rattle.fg_steps.specs.States.{State}
 use Rattle.fg_subs.specs.Limits.{memory_bytes}
 use Rattle.fg_subs.specs.declared.program.Program.{Program}
-use Rattle.fg_view.specs.Views.{view_of}
+use Rattle.fg_view.specs.Views.{View, view_of}
 
 abbrev pub memory_size : Program → ℕ → ℕ
 memory_size program m = option_map_or memory_bytes (slice_get program.memories m) 0
-
-abbrev pub whole_of : Program → ℕ → Range
-whole_of program m = record { memory = m; start = 0; len = memory_size program m }
 
 -- the range is one of a memory, and the table is cut at both of its ends
 pub record IsCutOut (t : Table) (r : Range) : Type 0 where
   pub within : InMemory t r.memory r.start r.len
   pub cut : missing t r.memory r.start r.len ≡ 0
 
--- all memories and all pieces are cut out, and the junk is long enough for each piece
-pub record HasCut (t : Table) (program : Program) : Type 0 where
-  pub memories : (m : ℕ) → m < length program.memories → IsCutOut t (whole_of program m)
-  pub pieces : (p : ℕ) → p < length program.pieces → IsCutOut t (piece_range (view_of program) p)
-  pub junk : (p : ℕ) → p < length program.pieces → (piece_range (view_of program) p).len ≤ length (junk_of t)
+-- all pieces are cut out, the junk is long enough for each, and their lengths are numbers of four bytes
+pub record HasCut (t : Table) (V : View) : Type 0 where
+  pub pieces : (p : ℕ) → p < length V.pieces → IsCutOut t (piece_range V p)
+  pub junk : (p : ℕ) → p < length V.pieces → (piece_range V p).len ≤ length (junk_of t)
+  pub short : (p : ℕ) → p < length V.pieces → (piece_range V p).len < 2 ^ 32
 
 -- the table has the agents and the memories of the program, and its junk is the fill byte
 pub record FitsProgram (t : Table) (program : Program) (fill : ℕ) : Type 0 where
   pub agents : t.agents ≡ 8 * length program.queues
   pub memories : length t.memories ≡ length program.memories
   pub sizes : (m : ℕ) → size_of t m ≡ memory_size program m
-  pub cuts : HasCut t program
+  pub cuts : HasCut t (view_of program)
   pub junk : (k : ℕ) → k < length (junk_of t) → slice_index (junk_of t) k ≡ fill
 
 -- a change where the table is cut already takes no room

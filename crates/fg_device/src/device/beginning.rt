@@ -1,19 +1,18 @@
 //! A command begins.
 
-ghost use Rattle.std.specs.Prelude.{◌≡◌, ◌<◌, [], ◌∷◌, length, map, true, false, if◌then◌else◌, IfOk, OnErr, replicate, Some};
+ghost use Rattle.std.specs.Prelude.{◌≡◌, ◌<◌, [], ◌∷◌, length, map, true, false, if◌then◌else◌, IfOk, OnErr, replicate};
 ghost use Rattle.fg_base.specs.Shapes.{bytes_of};
 ghost use Rattle.fg_base.specs.declared.event.Event.TheVariants as events;
 ghost use Rattle.fg_caches.specs.Effects.{load};
 ghost use Rattle.fg_caches.specs.Lines.{range};
 ghost use Rattle.fg_caches.specs.Tables.{InMemory, caches_of};
-ghost use Rattle.fg_checker.specs.Apart.{op_at};
 ghost use Rattle.fg_device.specs.Carried.{Carries};
 ghost use Rattle.fg_device.specs.Code.Loads.{store_size, IsRunnable};
+ghost use Rattle.fg_device.specs.Code.Takes.{loads_in, IsCommand, IsTaken};
 ghost use Rattle.fg_steps.specs.Devices.{state_of, view_in, did, is_ready, LoadsApart};
 ghost use Rattle.fg_steps.specs.Outputs.{no_old};
 ghost use Rattle.fg_steps.specs.Ready.{is_command, kind_at};
 ghost use Rattle.fg_steps.specs.Steps.{taken};
-ghost use Rattle.fg_subs.specs.Rules.{shapes_of};
 ghost use Rattle.fg_view.specs.ShapedView.{Has};
 ghost use Rattle.fg_view.specs.Views.{view_of, loads_of};
 
@@ -77,44 +76,71 @@ impl Device {
             room,
             held,
         } = self.taken(alloc, node)?;
+        self.keep(node, held);
+        Ok(Job::new(command, room))
+    }
+
+    // The event itself, once there is what the device holds of the command.
+    fn keep(&mut self, node: u32, held: Held)
+        requires command { is_command (kind_at (view_in self.old) node) ≡ true }
+        requires ready { is_ready self.old node ≡ true }
+        requires held { IsTaken self.old node held }
+        ensures event { self.new ≡ did self.old (events.Begin node) }
+        ensures loaded { (state_of self.new).loaded node ≡ held.loaded }
+        ensures apart { LoadsApart self.new node held.loaded }
+    {
         event_laws();
         self.control.begin(node);
         hold(&mut self.held, node, held);
         self.history.push_reserved(Event::Begin { node });
-        Ok(Job::new(command, room))
     }
 
     // All that a Begin takes memory for.
     fn taken(&self, alloc: Global, node: u32) -> Result<Taken, NoMemory>
         requires command { is_command (kind_at (view_in self.now) node) ≡ true }
         requires node { node < length (view_in self.now).nodes }
-        ensures node { IfOk result (λ t. t.command.node ≡ node) }
-        ensures loaded { IfOk result (λ t. t.command.loaded ≡ map (taken (view_in self.now) (state_of self.now) node (self.now.fill ∷ [])) (loads_of (view_in self.now) node)) }
+        ensures held { IfOk result (λ t. IsTaken self.now node t.held) }
+        ensures command { IfOk result (λ t. IsCommand self.now.program node t.held.loaded t.command) }
         ensures runs { IfOk result (λ t. IsRunnable t.command.shapes t.command.op t.command.loaded) }
-        ensures op { IfOk result (λ t. op_at self.now.program node ≡ Some t.command.op) }
-        ensures shapes { IfOk result (λ t. t.command.shapes ≡ shapes_of self.now.program) }
         ensures room { IfOk result (λ t. t.room ≡ no_old t.command.shapes t.command.op) }
-        ensures again { IfOk result (λ t. t.held.loaded ≡ t.command.loaded) }
-        ensures spare { IfOk result (λ t. t.held.room ≡ replicate (store_size (view_in self.now) node) 0) }
+    {
+        let held = self.held_for(alloc, node)?;
+        let command = self.command(alloc, node, &held.loaded)?;
+        let room = self.room(alloc, node)?;
+        Ok(Taken {
+            command,
+            room,
+            held,
+        })
+    }
+
+    fn held_for(&self, alloc: Global, node: u32) -> Result<Held, NoMemory>
+        requires command { is_command (kind_at (view_in self.now) node) ≡ true }
+        requires node { node < length (view_in self.now).nodes }
+        ensures { IfOk result (IsTaken self.now node) }
     {
         let loaded = self.loads(alloc, node)?;
-        let again = copies(alloc, &loaded)?;
         let room = self.room(alloc, node)?;
-        let spare = self.room(alloc, node)?;
+        Ok(Held { loaded, room })
+    }
+
+    // The command with what it loads.
+    fn command(&self, alloc: Global, node: u32, loaded: &[List<u8>]) -> Result<Command, NoMemory>
+        requires command { is_command (kind_at (view_in self.now) node) ≡ true }
+        requires node { node < length (view_in self.now).nodes }
+        requires loaded { loaded.now ≡ loads_in self.now node }
+        ensures command { IfOk result (IsCommand self.now.program node loaded.now) }
+        ensures runs { IfOk result (λ command. IsRunnable command.shapes command.op command.loaded) }
+        ensures room { IfOk result (λ command. replicate (store_size (view_in self.now) node) 0 ≡ no_old command.shapes command.op) }
+    {
         let op = op_of(&self.program, node).copy(alloc)?;
         let shapes = self.shapes.copy(alloc)?;
-        Ok(Taken {
-            command: Command {
-                node,
-                op,
-                shapes,
-                loaded,
-            },
-            room,
-            held: Held {
-                loaded: again,
-                room: spare,
-            },
+        let loaded = copies(alloc, loaded)?;
+        Ok(Command {
+            node,
+            op,
+            shapes,
+            loaded,
         })
     }
 

@@ -48,8 +48,37 @@ fn is_same(command: &Command, op: &Op<u32>, shapes: &[Shape], loaded: &List<List
     has_op(command, op, shapes) && command.loaded.same(loaded)
 }
 
-// What a begun command stores: the bytes that were computed where they are of this command and of what it loaded, else it is
-// computed here; and junk where it is marked.
+// The bytes that were computed, where they are of this command and of what it loaded; else it is computed here.
+fn computed(
+    op: &Op<u32>,
+    shapes: &[Shape],
+    held: Held,
+    command: &Command,
+    bytes: List<u8>,
+) -> List<u8>
+    requires runs { IsRunnable shapes.now op.now held.loaded }
+    requires room { held.room ≡ no_old shapes.now op.now }
+    requires bytes { IsResult command.now bytes }
+    ensures stored { result ≡ stored_by shapes.now op.now held.loaded }
+    ensures long { length result ≡ bytes_of (shape_at shapes.now (destination_of op.now)) }
+{
+    let Held { loaded, room } = held;
+    if is_same(command, op, shapes, &loaded) {
+        return bytes;
+    }
+    stored_by(op, shapes, &loaded, room)
+}
+
+// Junk, as much as there is room for.
+fn filled(held: Held, byte: u8) -> List<u8>
+    ensures { result ≡ replicate (length held.room) byte }
+{
+    let Held { mut room, .. } = held;
+    room.fill(byte);
+    room.into_list()
+}
+
+// What a begun command stores: its bytes, or junk where it is marked.
 fn made(
     junk: Option<u8>,
     op: &Op<u32>,
@@ -65,15 +94,9 @@ fn made(
     ensures stored { IfNone junk (result ≡ stored_by shapes.now op.now held.loaded) }
     ensures long { length result ≡ bytes_of (shape_at shapes.now (destination_of op.now)) }
 {
-    let Held { loaded, mut room } = held;
-    if let Some(byte) = junk {
-        room.fill(byte);
-        return room.into_list();
-    }
-    if is_same(command, op, shapes, &loaded) {
-        bytes
-    } else {
-        stored_by(op, shapes, &loaded, room)
+    match junk {
+        Some(byte) => filled(held, byte),
+        None => computed(op, shapes, held, command, bytes),
     }
 }
 

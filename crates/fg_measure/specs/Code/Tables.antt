@@ -1,4 +1,4 @@
--- The table that is measured.
+-- The tables that are measured.
 use Rattle.std.specs.Prelude.{ℕ, ◌≡◌, length}
 use Rattle.fg_caches.specs.Tables.{Table, size_of}
 
@@ -6,8 +6,18 @@ use Rattle.fg_caches.specs.Tables.{Table, size_of}
 abbrev pub image : ℕ
 image = 8294400
 
--- one memory with an image, before two agents
-pub record HoldsImage (t : Table) : Type 0 where
+-- as many bytes as sixteen pieces of 256 bytes have
+abbrev pub row : ℕ
+row = 4096
+
+-- one memory of so many bytes, before two agents
+pub record Holds (size : ℕ) (t : Table) : Type 0 where
   pub agents : t.agents ≡ 2
   pub memories : length t.memories ≡ 1
-  pub size : size_of t 0 ≡ image
+  pub size_is : size_of t 0 ≡ size
+
+abbrev pub HoldsImage : Table → Type 0
+HoldsImage t = Holds image t
+
+abbrev pub HoldsRow : Table → Type 0
+HoldsRow t = Holds row t

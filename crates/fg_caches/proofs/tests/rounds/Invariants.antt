@@ -10,6 +10,6 @@ invariant-loop-k g l = record {
   large : size_of l.table 0 ≡ LARGE;
   small : size_of l.table 1 ≡ SMALL;
   junk : length (junk_of l.table) ≡ LARGE;
-  cuts : 4 * EVENTS ≤ l.table.cuts_left + 4 * l._k;
-  stores : 2 * EVENTS ≤ l.table.stores_left + 2 * l._k;
+  cuts : 4 * EVENTS ≤ l.table.cuts_left + 4 * l.k;
+  stores : 2 * EVENTS ≤ l.table.stores_left + 2 * l.k;
 }

@@ -18,7 +18,7 @@ loop-access-preserved c =
     let V = c.args.control.now.view in
     let list = c.as_slice-accesses.result.now in
     record {
-      cut = still_has now new c.args.program.now e.stays.keeps inv.cut;
+      cut = still_has now new V e.stays.keeps inv.cut;
       bytes = λ s agrees. junked_more V s c.args.node (junk_of old) list c.loop-access.access-index (junked V s c.args.node (junk_of old) list (caches_of old)) _ c.loop-access-test.true (junk_of now) inv.stays.keeps.junk (caches_of now) (caches_of new) (e.bytes s agrees) (inv.bytes s agrees);
       stays = stays_on old now new inv.stays e.stays;
     }

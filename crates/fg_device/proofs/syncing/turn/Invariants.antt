@@ -9,7 +9,7 @@ use Rattle.fg_steps.specs.States.{State}
 -- what is still to come leads where all leads
 abbrev pub invariant-loop-access : goal.invariant-loop-access
 invariant-loop-access l = record {
-  cut : HasCut l.table l.program;
+  cut : HasCut l.table l.control.view;
   bytes : (s : State) → Agrees l.control s → junked l.control.view s l.node (junk_of l.initial.table) (drop l.access-index l.accesses) (caches_of l.table) ≡ junked l.control.view s l.node (junk_of l.initial.table) l.accesses (caches_of l.initial.table);
   stays : Stays l.initial.table l.table;
 }

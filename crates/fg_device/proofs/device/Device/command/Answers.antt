@@ -1,0 +1,30 @@
+use Rattle.std.proofs.Common.{◌≡◌, ◌∙◌, true, Some, refl, sym, ap, subst}
+use Rattle.fg_checker.specs.Apart.{op_at}
+use Rattle.fg_device.proofs.Reaches.{runs_on, room_on}
+use Rattle.fg_device.proofs.device.Device.command.Goals as goal
+use Rattle.fg_steps.specs.Devices.{Device}
+use Rattle.fg_steps.specs.Ready.{is_command, kind_at}
+use Rattle.fg_subs.specs.Rules.{shapes_of}
+use Rattle.fg_subs.specs.declared.program.Program.{Program}
+use Rattle.fg_view.specs.Views.{view_of}
+
+pub op_of-requires-clause-command : goal.op_of-requires-clause-command
+op_of-requires-clause-command c = subst (λ (p : Program). is_command (kind_at (view_of p) c.args.node) ≡ true) (sym (c.deref.ensures ∙ ap (λ (d : Device). d.program) c.self.view_is)) c.requires.command
+
+pub returns-clause-command : goal.returns-clause-command
+returns-clause-command c = record {
+  node = refl;
+  op = ap (λ (p : Program). op_at p c.args.node) (sym (c.deref.ensures ∙ ap (λ (d : Device). d.program) c.self.view_is)) ∙ c.op_of.ensures ∙ ap Some (sym c.in_ok-op.ensures);
+  shapes = c.in_ok-shapes.ensures ∙ c.self.invariant.shapes ∙ ap (λ (d : Device). shapes_of d.program) c.self.view_is;
+  loaded = c.in_ok-loaded.ensures;
+}
+
+pub returns-clause-runs : goal.returns-clause-runs
+returns-clause-runs c =
+    let e = returns-clause-command c in
+    runs_on c.self.inside c.self.invariant c.args.self.now c.self.view_is c.args.node c.requires.command c.requires.node c.in_ok-op.op e.op c.in_ok-shapes.shapes e.shapes c.in_ok-loaded.loaded (c.in_ok-loaded.ensures ∙ c.requires.loaded)
+
+pub returns-clause-room : goal.returns-clause-room
+returns-clause-room c =
+    let e = returns-clause-command c in
+    room_on c.self.inside c.self.invariant c.args.self.now c.self.view_is c.args.node c.requires.command c.requires.node c.in_ok-op.op e.op c.in_ok-shapes.shapes e.shapes _ refl

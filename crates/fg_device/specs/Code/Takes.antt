@@ -1,0 +1,27 @@
+-- What a Begin takes memory for.
+use Rattle.std.specs.Prelude.{◌≡◌, ℕ, List, [], ◌∷◌, map, replicate, Some}
+use Rattle.fg_checker.specs.Apart.{op_at}
+use Rattle.fg_device.specs.Code.Loads.{store_size}
+use Rattle.fg_device.specs.declared.held.Held.{Held}
+use Rattle.fg_device.specs.declared.job.Command.{Command}
+use Rattle.fg_steps.specs.Devices.{Device, state_of, view_in}
+use Rattle.fg_steps.specs.Steps.{taken}
+use Rattle.fg_subs.specs.Rules.{shapes_of}
+use Rattle.fg_subs.specs.declared.program.Program.{Program}
+use Rattle.fg_view.specs.Views.{loads_of}
+
+-- what the command loads, load by load
+abbrev pub loads_in : Device → ℕ → List (List ℕ)
+loads_in d n = map (taken (view_in d) (state_of d) n (d.fill ∷ [])) (loads_of (view_in d) n)
+
+-- that, and zeros in the room of what it stores
+pub record IsTaken (d : Device) (n : ℕ) (held : Held) : Type 0 where
+  pub loaded : held.loaded ≡ loads_in d n
+  pub room : held.room ≡ replicate (store_size (view_in d) n) 0
+
+-- the command of a node, with these bytes
+pub record IsCommand (program : Program) (n : ℕ) (bytes : List (List ℕ)) (command : Command) : Type 0 where
+  pub node : command.node ≡ n
+  pub op : op_at program n ≡ Some command.op
+  pub shapes : command.shapes ≡ shapes_of program
+  pub loaded : command.loaded ≡ bytes
