@@ -12,7 +12,7 @@ mod table;
 use crate::call::call_of;
 use crate::driving::{device_of, driven};
 use crate::repeat::repeat;
-use crate::small::{small, small_of};
+use crate::small::{run_small, small_of};
 use crate::stopped::Stopped;
 use std::alloc::Global;
 use std::env;
@@ -52,7 +52,7 @@ fn times_of(word: &str) -> Result<u32, Stopped> {
 
 fn sum_of(alloc: Global, word: &str, times: u32) -> Result<u64, Stopped> {
     if let Some(action) = small_of(word) {
-        return small(alloc, action, times);
+        return run_small(alloc, action, times);
     }
     match call_of(word) {
         Some(call) => repeat(alloc, call, times),

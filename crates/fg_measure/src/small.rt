@@ -103,7 +103,7 @@ fn round(alloc: Global, small: Small) -> Result<u64, Stopped> {
 }
 
 /// As many buffers as a table may have stores, so many times. The answer is how many were let go.
-pub fn small(alloc: Global, small: Small, times: u32) -> Result<u64, Stopped> {
+pub fn run_small(alloc: Global, small: Small, times: u32) -> Result<u64, Stopped> {
     let mut sum = 0u64;
     for _time in 0..times {
         sum = sum.wrapping_add(round(alloc, small)?);
