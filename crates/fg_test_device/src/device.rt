@@ -1,4 +1,4 @@
-ghost use Rattle.std.specs.Prelude.{◌≡◌, nat_le, slice_get, true, false};
+ghost use Rattle.std.specs.Prelude.{◌≡◌, nat_le, slice_get, true, false, IfSome};
 ghost use Rattle.std.specs.Option.{option_map_or};
 ghost use Rattle.fg_caches.specs.Lines.{range};
 ghost use Rattle.fg_steps.specs.Devices.{view_in, is_ready};
