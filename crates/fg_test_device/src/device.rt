@@ -259,13 +259,31 @@ fn finished<R: Threads + Sync>(
     Ok(computed(rt, alloc, device, 0)?)
 }
 
+// Whether a device does not take what another one has computed, and nothing happens.
+fn is_not_taken<R: Threads + Sync>(
+    rt: &R,
+    alloc: Global,
+    first: &mut Device,
+    second: &mut Device,
+) -> Result<bool, SketchError> {
+    let done = finished(rt, alloc, first)?;
+    let landed = second.end(done);
+    Ok(landed == Landed::NotBegun && second.history().is_empty())
+}
+
+fn other_refuses<R: Threads + Sync>(
+    rt: &R,
+    alloc: Global,
+    first: &mut Device,
+) -> Result<bool, Fail> {
+    let mut second = device(alloc, UNORDERED)?;
+    Ok(is_not_taken(rt, alloc, first, &mut second)?)
+}
+
 #[test]
 fn foreign_finished(rt: HostRuntime) -> Result<(), Fail> {
     let alloc = rt.alloc();
     let mut first = sent(device(alloc, UNORDERED)?);
-    let mut second = device(alloc, UNORDERED)?;
-    let done = finished(&rt, alloc, &mut first)?;
-    assert!(&rt; second.end(done) == Landed::NotBegun);
-    assert!(&rt; second.history().is_empty());
+    assert!(&rt; other_refuses(&rt, alloc, &mut first)?);
     Ok(())
 }
