@@ -31,6 +31,10 @@ pub record LastOf (V : View) (test : NodeAccess → Bool) (n t : ℕ) (d : Acces
 abbrev pub NoneOf : View → (NodeAccess → Bool) → ℕ → Type 0
 NoneOf V test n = (v : ℕ) (c : Access) → Has V v c → test (node_access v c) ≡ true → Before V v n → ⊥
 
+-- what an access of the sort and of the piece is
+pub sorted_on : (sort : AccessKind → Bool) (p v : ℕ) (c : Access) → on_piece p sort (node_access v c) ≡ true → (c.piece ≡ p) × (sort c.kind ≡ true)
+sorted_on sort p v c h = let t = and_parts (c.piece == p) (sort c.kind) h in (eqb-true c.piece p t.0, t.1)
+
 -- NUMBERS
 
 -- the last number below q that is so, if there is one
@@ -133,9 +137,6 @@ module _ (F : Plan) (V : View) (N : Nodes) (sort : AccessKind → Bool) (p : ℕ
 -- FROM RANKS TO WHAT HAPPENS BEFORE
 
 module _ (F : Plan) (V : View) (N : Nodes) (D : IsFull V) (X : Local F V N) (C : Acyclic V) (sort : AccessKind → Bool) (moves : (d : AccessKind) → sort d ≡ true → (changes d || transfers d) ≡ true) where
-  sorted_on : (p v : ℕ) (c : Access) → on_piece p sort (node_access v c) ≡ true → (c.piece ≡ p) × (sort c.kind ≡ true)
-  sorted_on p v c h = let t = and_parts (c.piece == p) (sort c.kind) h in (eqb-true c.piece p t.0, t.1)
-
   -- access a of node n stands at rank q, and its piece has bytes
   module _ (n q : ℕ) (a : Access) (B : At F V N n a q) (o : overlap V a.piece a.piece ≡ true) where
     clashes : (c b : Access) → sort c.kind ≡ true → c.piece ≡ a.piece → b.piece ≡ a.piece → clash V c b ≡ true
@@ -146,7 +147,7 @@ module _ (F : Plan) (V : View) (N : Nodes) (D : IsFull V) (X : Local F V N) (C :
 
     pub none_of : NoneAt F V N sort a.piece q → NoneOf V (on_piece a.piece sort) n
     none_of none v c h tc p =
-        let so = sorted_on a.piece v c tc in
+        let so = sorted_on sort a.piece v c tc in
         let W = at_of F V N D X v c h in
         none v W.0 c (record { at = W.1; sorted = so.1; piece = so.0 }) (below v W.0 c so.1 so.0 W.1 p)
 
@@ -155,7 +156,7 @@ module _ (F : Plan) (V : View) (N : Nodes) (D : IsFull V) (X : Local F V N) (C :
       has = at_has F V N t d r L.is.at;
       is = and_from (d.piece == a.piece) (sort d.kind) (eq-eqb d.piece a.piece L.is.piece) L.is.sorted;
       before = rank_before F V N D X t n d a r q L.is.piece L.is.at B L.below;
-      last = λ v c h tc p. let so = sorted_on a.piece v c tc in let W = at_of F V N D X v c h in go v c so.1 so.0 p W.0 W.1 (cases_lt W.0 r) (cases_eq W.0 r);
+      last = λ v c h tc p. let so = sorted_on sort a.piece v c tc in let W = at_of F V N D X v c h in go v c so.1 so.0 p W.0 W.1 (cases_lt W.0 r) (cases_eq W.0 r);
     }
       where
         go : (v : ℕ) (c : Access) → sort c.kind ≡ true → c.piece ≡ a.piece → Before V v n → (i : ℕ) → At F V N v c i → (i < r) ⊎ (r ≤ i) → (i ≡ r) ⊎ (i ≡ r → ⊥) → (v ≡ t) ⊎ Before V v t

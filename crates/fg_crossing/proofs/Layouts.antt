@@ -1,13 +1,13 @@
 -- Each access finds the layout that it wants.
-use Rattle.std.proofs.Common.{◌≡◌, ◌⊎◌, inl, inr, ℕ, ◌+◌, ◌<◌, ◌≤◌, ◌==◌, ◌||◌, true, false, List, None, Some, take, refl, sym, ap, ◌∙◌, subst, ⊎_elim, eqb-true, arith}
+use Rattle.std.proofs.Common.{◌≡◌, ◌⊎◌, inl, inr, ℕ, ◌+◌, ◌<◌, ◌≤◌, ◌||◌, true, false, List, None, Some, take, refl, sym, ap, ◌∙◌, subst, ⊎_elim, arith}
 use Rattle.std.specs.Option.{option_map_or}
-use Rattle.std.proofs.lemmas.Bool.{cases_Bool, and_parts, or_left, or_right}
+use Rattle.std.proofs.lemmas.Bool.{cases_Bool, or_left, or_right}
 use Rattle.fg_bits.specs.declared.layout.Layout.{Layout}
 use Rattle.fg_bits.specs.declared.layout.Layout.TheVariants.{Undefined}
 use Rattle.fg_crossing.proofs.Clashes.{itself, piece_clash}
 use Rattle.fg_crossing.proofs.KindTables.{layout_changes, plain_sets_none, release_changes_none, release_wants_none, wanting_keeps}
 use Rattle.fg_crossing.proofs.Knit.{Acyclic}
-use Rattle.fg_crossing.proofs.Lasts.{LastOf, LastAt, NoneAt, SortAt, last_or_none, last_of, sort_at}
+use Rattle.fg_crossing.proofs.Lasts.{LastOf, LastAt, NoneAt, SortAt, last_or_none, last_of, sort_at, sorted_on}
 use Rattle.fg_crossing.proofs.Listed.{Finds, finds_change, last_listed}
 use Rattle.fg_crossing.proofs.Listings.{listed_of}
 use Rattle.fg_crossing.proofs.Ranks.{rank, phase, At, at_of}
@@ -26,7 +26,7 @@ use Rattle.fg_stated.specs.Stated.{LayoutAt}
 use Rattle.fg_ties.specs.Tied.{Tied}
 use Rattle.fg_view.specs.AccessKinds.{changes, sets_layout, sets_owner, transfers, wanted}
 use Rattle.fg_view.specs.ShapedView.{Has, NodeAccessAt, ShapedView}
-use Rattle.fg_view.specs.Views.{View, node_access, node_accesses_of}
+use Rattle.fg_view.specs.Views.{View, node_accesses_of}
 use Rattle.fg_view.specs.declared.access.Access.{Access}
 use Rattle.fg_view.specs.declared.access.AccessKind.{AccessKind}
 use Rattle.fg_view.specs.declared.node_access.NodeAccess.{NodeAccess}
@@ -116,12 +116,9 @@ module _ (F : Plan) (V : View) (N : Nodes) (D : IsFull V) (X : Local F V N) (S :
       has : Has V b.node b.access
       has = (listed_of V order j b hb).1
 
-      so : (v : ℕ) (c : Access) → on_piece b.access.piece sets_layout (node_access v c) ≡ true → (c.piece ≡ b.access.piece) × (sets_layout c.kind ≡ true)
-      so v c h = let t = and_parts (c.piece == b.access.piece) (sets_layout c.kind) h in (eqb-true c.piece b.access.piece t.0, t.1)
-
       finds : Finds V (on_piece b.access.piece sets_layout) b.node b.access
-      finds = finds_change V S (on_piece b.access.piece sets_layout) (λ v c h. layout_changes c.kind (so v c h).1) b.node b.access (wanting_keeps b.access.kind l w)
-          (λ v c h. piece_clash V b.access.piece c b.access (itself V S b.node b.access has) (so v c h).0 refl (layout_moves c.kind (so v c h).1))
+      finds = finds_change V S (on_piece b.access.piece sets_layout) (λ v c h. layout_changes c.kind (sorted_on sets_layout b.access.piece v c h).1) b.node b.access (wanting_keeps b.access.kind l w)
+          (λ v c h. piece_clash V b.access.piece c b.access (itself V S b.node b.access has) (sorted_on sets_layout b.access.piece v c h).0 refl (layout_moves c.kind (sorted_on sets_layout b.access.piece v c h).1))
 
       by : (t : ℕ) × (d : Access) × LastOf V (on_piece b.access.piece sets_layout) b.node t d × (layout_after d.kind ≡ l) → option_map_or (λ a. layout_after a.access.kind) (last_on sets_layout b.access.piece (take j (node_accesses_of V order))) Undefined ≡ l
       by (t, d, L, is) = ap (λ z. option_map_or (λ a. layout_after a.access.kind) z Undefined) (last_listed V S T order O I A (on_piece b.access.piece sets_layout) j b hb finds t d L) ∙ is

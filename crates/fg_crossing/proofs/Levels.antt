@@ -1,6 +1,7 @@
 -- Nodes sorted by levels that no edge lowers are in order.
 use Rattle.std.proofs.Common.{◌≡◌, ◌≢◌, ◌⊎◌, inl, inr, ℕ, zero, suc, ◌<◌, ◌≤◌, nat_le, if◌then◌else◌, Bool, true, false, List, [], ◌∷◌, length, refl, sym, ap, ◌∙◌, subst, ne_eqb, arith}
 use Rattle.std.proofs.lemmas.Bool.{cases_eq, cases_lt}
+use Rattle.fg_crossing.specs.Laws.{LowerFirst}
 use Rattle.fg_crossing.specs.Levels.{Under, Leveled, placed, by_level}
 use Rattle.fg_hb.specs.Orders.{Among, before_in, Distinct, Earlier, Order, IsStuck}
 use Rattle.fg_hb.specs.declared.node.Node.{Node}
@@ -123,6 +124,9 @@ earlier level (z ∷ rest) S x n ax an u = go (cases_eq z n) ax an (λ a b. earl
     go (inr ne) (inr a) (inl f) next = absurd (ne (sym f))
     go (inr ne) (inr a) (inr b) next = subst (Among x) (sym (past z n rest ne)) (inr (next a b))
 
+pub lower_first : (level : ℕ → ℕ) (count : ℕ) → LowerFirst level count
+lower_first level count x n lx ln u = earlier level (by_level level count) (by_level_sorted level count) x n (all level count x lx) (all level count n ln) u
+
 pub leveled_order : (nodes : List Node) (level : ℕ → ℕ) → Leveled nodes level → Order nodes (by_level level (length nodes))
 leveled_order nodes level L = record {
   once = distinct level (by_level level (length nodes)) sorted;
@@ -139,7 +143,7 @@ leveled_order nodes level L = record {
     sorted = by_level_sorted level (length nodes)
 
     before : (x n : ℕ) → x < length nodes → Among n (by_level level (length nodes)) → Under level x n → Earlier (by_level level (length nodes)) x n
-    before x n lt a u = earlier level (by_level level (length nodes)) sorted x n (all level (length nodes) x lt) a u
+    before x n lt a u = lower_first level (length nodes) x n lt (below level (length nodes) n a) u
 
 pub never_stuck : (nodes : List Node) (level : ℕ → ℕ) → Leveled nodes level → (q n : ℕ) → IsStuck nodes q n → ⊥
 never_stuck nodes level L q n S = S.none (by_level level (length nodes)) (leveled_order nodes level L)

@@ -6,7 +6,7 @@ use Rattle.std.specs.Prelude.{unwrap_or}
 use Rattle.std.proofs.lemmas.Bool.{and_from, and_parts, false≢true}
 use Rattle.fg_crossing.proofs.Clashes.{itself, piece_clash}
 use Rattle.fg_crossing.proofs.KindTables.{owner_moves}
-use Rattle.fg_crossing.proofs.Lasts.{NoneAt}
+use Rattle.fg_crossing.proofs.Lasts.{NoneAt, sorted_on}
 use Rattle.fg_crossing.proofs.Listed.{Finds, finds_owner, last_listed, none_listed, stands_before}
 use Rattle.fg_crossing.proofs.Listings.{has_within, listed_in, listed_of}
 use Rattle.fg_crossing.proofs.Owners.{OwnedBy, set, never, owned_by, owner_queued, runs_first}
@@ -25,7 +25,6 @@ use Rattle.fg_ties.specs.Tied.{Tied}
 use Rattle.fg_view.specs.AccessKinds.{is_discard, sets_owner}
 use Rattle.fg_view.specs.ShapedView.{Has, NodeAccessAt, ShapedView}
 use Rattle.fg_view.specs.Views.{View, family_at, node_access, node_accesses_of, shared_at}
-use Rattle.fg_view.specs.declared.access.Access.{Access}
 use Rattle.fg_view.specs.declared.node_access.NodeAccess.{NodeAccess}
 
 -- the first access that is so
@@ -106,12 +105,9 @@ module _ (F : Plan) (V : View) (N : Nodes) (D : IsFull V) (X : Local F V N) (S :
       own : (acquires V b.node ≡ false) × (is_host (node_at V.nodes b.node).kind ≡ false) × (shared_at V b.access.piece ≡ false)
       own = none_of_four (is_discard b.access.kind) (acquires V b.node) (is_host (node_at V.nodes b.node).kind) (shared_at V b.access.piece) needs
 
-      so : (v : ℕ) (c : Access) → on_piece b.access.piece sets_owner (node_access v c) ≡ true → (c.piece ≡ b.access.piece) × (sets_owner c.kind ≡ true)
-      so v c h = let t = and_parts (c.piece == b.access.piece) (sets_owner c.kind) h in (eqb-true c.piece b.access.piece t.0, t.1)
-
       finds : Finds V (on_piece b.access.piece sets_owner) b.node b.access
-      finds = finds_owner V S (on_piece b.access.piece sets_owner) (λ v c h. (so v c h).1) b.node b.access
-          (λ v c h. piece_clash V b.access.piece c b.access (itself V S b.node b.access has) (so v c h).0 refl (owner_moves c.kind (so v c h).1))
+      finds = finds_owner V S (on_piece b.access.piece sets_owner) (λ v c h. (sorted_on sets_owner b.access.piece v c h).1) b.node b.access
+          (λ v c h. piece_clash V b.access.piece c b.access (itself V S b.node b.access has) (sorted_on sets_owner b.access.piece v c h).0 refl (owner_moves c.kind (sorted_on sets_owner b.access.piece v c h).1))
 
       go : OwnedBy F V N D X S Y H b.node b.access → found_owner V (node_accesses_of V order) j b.access.piece ≡ family_at V b.node
       go (set {t = t} {d = d} L e) = ap (λ z. option_map_or (λ a. owner_after a.access.kind (family_at V a.node)) z (first_owner V (node_accesses_of V order) b.access.piece)) (last_listed V S T order O I A (on_piece b.access.piece sets_owner) j b hb finds t d L) ∙ e

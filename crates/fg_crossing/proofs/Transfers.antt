@@ -1,11 +1,11 @@
 -- Each release is followed by its acquire, and each acquire has its release before it.
-use Rattle.std.proofs.Common.{◌≡◌, ℕ, zero, suc, ◌+◌, ◌-◌, ◌<◌, ◌==◌, ◌||◌, if◌then◌else◌, Bool, true, false, List, [], ◌∷◌, drop, Some, refl, sym, ap, ◌∙◌, ⊎_elim, eq-eqb, eqb-true, arith}
+use Rattle.std.proofs.Common.{◌≡◌, ℕ, zero, suc, ◌+◌, ◌-◌, ◌<◌, ◌==◌, ◌||◌, if◌then◌else◌, Bool, true, false, List, [], ◌∷◌, drop, Some, refl, sym, ap, ◌∙◌, ⊎_elim, eq-eqb, arith}
 use Rattle.std.specs.List.{find}
 use Rattle.std.specs.Prelude.{slice_get, unwrap_or}
-use Rattle.std.proofs.lemmas.Bool.{cases_Bool, and_from, and_parts, or_right, false≢true}
+use Rattle.std.proofs.lemmas.Bool.{cases_Bool, and_from, or_right, false≢true}
 use Rattle.fg_crossing.proofs.Clashes.{itself, piece_clash}
 use Rattle.fg_crossing.proofs.KindTables.{transfer_sets_owner}
-use Rattle.fg_crossing.proofs.Lasts.{LastOf, last_of}
+use Rattle.fg_crossing.proofs.Lasts.{LastOf, last_of, sorted_on}
 use Rattle.fg_crossing.proofs.Listed.{Finds, finds_owner, last_listed, listed_before, stands_before}
 use Rattle.fg_crossing.proofs.Listings.{has_within, listed_in, listed_of}
 use Rattle.fg_crossing.proofs.Ranks.{rank, phase, At, at_has, at_of, rank_before, before_rank}
@@ -78,9 +78,6 @@ transfer_moves : (d : AccessKind) → transfers d ≡ true → (changes d || tra
 transfer_moves d h = or_right (changes d) (transfers d) h
 
 module _ (F : Plan) (V : View) (N : Nodes) (D : IsFull V) (X : Local F V N) (S : ShapedView V) (H : Handed F V N) (T : Tied V) (order : List ℕ) (O : Order V.nodes order) (I : IsIrreflexive V.nodes) (A : IsAsymmetric V.nodes) where
-  transfer_on : (p v : ℕ) (c : Access) → on_piece p transfers (node_access v c) ≡ true → (c.piece ≡ p) × (transfers c.kind ≡ true)
-  transfer_on p v c h = let t = and_parts (c.piece == p) (transfers c.kind) h in (eqb-true c.piece p t.0, t.1)
-
   -- a transfer clashes with what touches its piece, and it is the last thing that its node does
   transfer_before : (i j : ℕ) (a b : NodeAccess) → NodeAccessAt (node_accesses_of V order) i a → NodeAccessAt (node_accesses_of V order) j b → i < j → transfers a.access.kind ≡ true → clash V a.access b.access ≡ true → Before V a.node b.node
   transfer_before i j a b ha hb lt t c = ⊎_elim (λ z. absurd (never z.1)) (λ p. p) (listed_before V S T order O I A i j a b ha hb lt c)
@@ -101,7 +98,7 @@ module _ (F : Plan) (V : View) (N : Nodes) (D : IsFull V) (X : Local F V N) (S :
       meets c d pc pd t = piece_clash V b.access.piece c d over pc pd (transfer_moves c.kind t)
 
       between : (k : ℕ) (c : NodeAccess) → j < k → k < i → NodeAccessAt (node_accesses_of V order) k c → on_piece b.access.piece transfers c ≡ true → ⊥
-      between k c l m hc t = by (transfer_on b.access.piece c.node c.access t) (at_of F V N D X c.node c.access (listed_of V order k c hc).1)
+      between k c l m hc t = by (sorted_on transfers b.access.piece c.node c.access t) (at_of F V N D X c.node c.access (listed_of V order k c hc).1)
         where
           by : (c.access.piece ≡ b.access.piece) × (transfers c.access.kind ≡ true) → (s : ℕ) × At F V N c.node c.access s → ⊥
           by (pc, tc) (s, W) =
@@ -146,8 +143,8 @@ module _ (F : Plan) (V : View) (N : Nodes) (D : IsFull V) (X : Local F V N) (S :
       over = itself V S b.node b.access has
 
       finds : Finds V (on_piece b.access.piece transfers) b.node b.access
-      finds = finds_owner V S (on_piece b.access.piece transfers) (λ v c h. transfer_sets_owner c.kind (transfer_on b.access.piece v c h).1) b.node b.access
-          (λ v c h. let t = transfer_on b.access.piece v c h in piece_clash V b.access.piece c b.access over t.0 refl (transfer_moves c.kind t.1))
+      finds = finds_owner V S (on_piece b.access.piece transfers) (λ v c h. transfer_sets_owner c.kind (sorted_on transfers b.access.piece v c h).1) b.node b.access
+          (λ v c h. let t = sorted_on transfers b.access.piece v c h in piece_clash V b.access.piece c b.access over t.0 refl (transfer_moves c.kind t.1))
 
       by : (h : ℕ) × Spot F V N b.node b.access h → last_transfer (node_accesses_of V order) j b.access.piece ≡ Some (Release what)
       by (h, s) = go (H.acquired h b.access what turn e)

@@ -1,23 +1,27 @@
 -- Laws of recorded programs.
-use Rattle.std.specs.Prelude.{ℕ, List, length}
+use Rattle.std.specs.Prelude.{ℕ, ◌<◌, List, length}
 use Rattle.fg_checker.specs.Sound.{Sound}
 use Rattle.fg_crossing.specs.Crossings.{Later, IsFull}
 use Rattle.fg_crossing.specs.Facts.{Facts}
-use Rattle.fg_crossing.specs.Levels.{Leveled, by_level}
+use Rattle.fg_crossing.specs.Levels.{Leveled, Under, by_level}
 use Rattle.fg_crossing.specs.Nodes.{Nodes, Places}
 use Rattle.fg_crossing.specs.Plans.{Plan, Reach}
-use Rattle.fg_hb.specs.Orders.{IsLeast, IsStuck, Order}
+use Rattle.fg_hb.specs.Orders.{Earlier, IsLeast, IsStuck, Order}
 use Rattle.fg_hb.specs.declared.node.Node.{Node}
 use Rattle.fg_view.specs.ShapedView.{ShapedView}
 use Rattle.fg_view.specs.Views.{View}
 
--- what one command needs of another comes later than it, on one queue or over a signal and a wait
+-- a command comes later than what it needs, on one queue or over a signal and a wait, where signals and waits are of all commands
 abbrev pub Crosses : Plan → View → Nodes → Type 0
 Crosses F V N = IsFull V → Places F V N → (c d : ℕ) → Reach F c d → Later V.nodes (N.command c) (N.command d)
 
--- what has the facts of a plan is sound in its least order
+-- a shaped view that has the facts of a plan is sound in its least order
 abbrev pub MakesSound : Plan → View → Nodes → Type 0
 MakesSound F V N = ShapedView V → Facts F V N → (order : List ℕ) → IsLeast V.nodes order → Sound V order
+
+-- of two numbers the one with the lower level stands first, and on one level the lower one
+abbrev pub LowerFirst : (ℕ → ℕ) → ℕ → Type 0
+LowerFirst level count = (x n : ℕ) → x < count → n < count → Under level x n → Earlier (by_level level count) x n
 
 -- nodes by their levels are in order
 abbrev pub HasOrder : List Node → (ℕ → ℕ) → Type 0

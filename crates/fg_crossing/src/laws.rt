@@ -1,7 +1,7 @@
 //! Laws of recorded programs.
 
 ghost use Rattle.std.specs.Prelude.{ℕ, List};
-ghost use Rattle.fg_crossing.specs.Laws.{Crosses, MakesSound, HasOrder, IsNeverStuck};
+ghost use Rattle.fg_crossing.specs.Laws.{Crosses, MakesSound, LowerFirst, HasOrder, IsNeverStuck};
 ghost use Rattle.fg_crossing.specs.Nodes.{Nodes};
 ghost use Rattle.fg_crossing.specs.Plans.{Plan};
 ghost use Rattle.fg_hb.specs.declared.node.Node.{Node};
@@ -9,8 +9,9 @@ ghost use Rattle.fg_view.specs.Views.{View};
 
 use fg_hb::before_laws;
 
-/// What one command needs of another comes later than it, on one queue or over a signal and a wait (`crosses`). A view that has
-/// the facts of a plan, each about one group, is sound in its least order (`sound`). It does nothing.
+/// Where signals and waits are of ALL_COMMANDS and nodes in their places, what one command needs of another comes before it, on
+/// one queue or over a signal and a wait (`crosses`). A shaped view that has the facts of a plan, each about one group, is sound
+/// in its least order (`sound`). It does nothing.
 pub fn crossing_laws()
     ensures crosses { (F : Plan) (V : View) (N : Nodes) → Crosses F V N }
     ensures sound { (F : Plan) (V : View) (N : Nodes) → MakesSound F V N }
@@ -18,8 +19,10 @@ pub fn crossing_laws()
     before_laws();
 }
 
-/// Nodes with levels that no edge lowers have an order (`order`), so the queues get through (`never_stuck`). It does nothing.
+/// Numbers by their levels stand lower levels first (`lower_first`). Nodes with levels that no edge lowers are so in order
+/// (`order`), and the queues get through (`never_stuck`). It does nothing.
 pub fn leveled_laws()
+    ensures lower_first { (level : ℕ → ℕ) (count : ℕ) → LowerFirst level count }
     ensures order { (nodes : List Node) (level : ℕ → ℕ) → HasOrder nodes level }
     ensures never_stuck { (nodes : List Node) (level : ℕ → ℕ) → IsNeverStuck nodes level }
 {}

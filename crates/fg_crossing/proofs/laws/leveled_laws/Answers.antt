@@ -1,5 +1,8 @@
-use Rattle.fg_crossing.proofs.Levels.{leveled_order, never_stuck}
+use Rattle.fg_crossing.proofs.Levels.{lower_first, leveled_order, never_stuck}
 use Rattle.fg_crossing.proofs.laws.leveled_laws.Goals as goal
+
+pub returns-clause-lower_first : goal.returns-clause-lower_first
+returns-clause-lower_first c = lower_first
 
 pub returns-clause-order : goal.returns-clause-order
 returns-clause-order c = leveled_order

@@ -1,0 +1,27 @@
+-- What holds of frames, of sound programs, and of what frames are compiled to.
+use Rattle.std.specs.Prelude.{◌≡◌, ℕ, List, slice_get, Bool, Some}
+use Rattle.std.specs.List.{All}
+use Rattle.fg_base.specs.Applied.{bytes_at}
+use Rattle.fg_checker.specs.Apart.{host_bytes}
+use Rattle.fg_faithful.specs.Kept.{kept_bytes}
+use Rattle.fg_frame.specs.Numbered.{NumberedFrame}
+use Rattle.fg_hb.specs.Orders.{Order}
+use Rattle.fg_meaning.specs.Meaning.{meaning}
+use Rattle.fg_subs.specs.declared.program.Program.{Program}
+use Rattle.fg_view.specs.Views.{view_of}
+
+-- the host reads the same bytes in any two orders
+abbrev pub OrdersAgree : Program → Type 0
+OrdersAgree program = (one other : List ℕ) → Order (view_of program).nodes one → Order (view_of program).nodes other → (k : ℕ) → host_bytes program one k ≡ host_bytes program other k
+
+-- each exported unit has after the kept passes what it has after all passes
+abbrev pub KeptSuffice : NumberedFrame → List Bool → Type 0
+KeptSuffice frame kept = All (λ unit. meaning frame unit ≡ Some (bytes_at (kept_bytes frame kept) unit)) frame.exports
+
+-- where the nodes run in this order, read-back k has the bytes of the unit that is exported as number k
+abbrev pub ReadsMeaning : NumberedFrame → Program → List ℕ → Type 0
+ReadsMeaning frame program order = (k unit : ℕ) → slice_get frame.exports k ≡ Some unit → host_bytes program order k ≡ meaning frame unit
+
+-- so it is in every order
+abbrev pub IsReadMeant : NumberedFrame → Program → Type 0
+IsReadMeant frame program = (order : List ℕ) → Order (view_of program).nodes order → ReadsMeaning frame program order
