@@ -60,9 +60,6 @@ pub data AreNext (G : Grouping) (g : ℕ) : Type 0 where
   of_export : length G.groups ≤ g → is_copy G g ≡ true → is_read G (suc g) ≡ true → export_at G g ≡ export_at G (suc g) → AreNext G g
 
 module _ (G : Grouping) (L : IsGrouped G) (K : IsKnown G) where
-  abbrev n : ℕ
-  n = length G.groups
-
   -- RESOURCES
 
   pub resource_unit : (g : ℕ) → g < length G.groups → resource_of G g ≡ unit_of G g
@@ -78,7 +75,7 @@ module _ (G : Grouping) (L : IsGrouped G) (K : IsKnown G) where
   resource_past g le past = resource_late g le ∙ ap (λ b. length G.imports + (if b then export_at G g else g)) (le-ltb g (group_count G) past)
 
   -- a group of no unit is of a resource after them
-  late : (g : ℕ) → length G.groups ≤ g → length G.imports ≤ resource_of G g
+  pub late : (g : ℕ) → length G.groups ≤ g → length G.imports ≤ resource_of G g
   late g le = ⊎_elim (λ lt. let e = resource_export g le lt in omega (arith, e)) (λ past. let e = resource_past g le past in omega (arith, e)) (cases_lt g (group_count G))
 
   pub resource_piece : (g : ℕ) → has_piece G (resource_of G g) ≡ true

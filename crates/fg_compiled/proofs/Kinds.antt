@@ -34,6 +34,17 @@ transfer_is Alias e = absurd (false≢true e)
 transfer_is Init e = absurd (false≢true e)
 transfer_is AliasInit e = absurd (false≢true e)
 
+module _ (G : Grouping) where
+  -- the unit at the place of a placed one
+  pub placed_unit : (unit : ℕ) → place_of G unit < length (placed G) → unit_at G (place_of G unit) ≡ unit
+  placed_unit unit lt = eqb-true (unit_at G (place_of G unit)) unit (passes_at_first (λ u. u == unit) (placed G) 0 lt)
+
+  pub no_import : (unit : ℕ) → place_of G unit < length (placed G) → is_import G unit ≡ false
+  no_import unit lt =
+      let passes : (is_touched G (unit_at G (place_of G unit)) && not (is_import G (unit_at G (place_of G unit)))) ≡ true = filter_passes (λ u. is_touched G u && not (is_import G u)) (range_with_len 0 (length G.imports)) (place_of G unit) 0 lt in
+      let fresh = not-true (is_import G (unit_at G (place_of G unit))) (and_parts (is_touched G (unit_at G (place_of G unit))) (not (is_import G (unit_at G (place_of G unit)))) passes).1 in
+      subst (λ u. is_import G u ≡ false) (placed_unit unit lt) fresh
+
 module _ (G : Grouping) (L : IsGrouped G) (heap : Heap) where
   -- AFTER A GROUP OF ITS UNIT
 
@@ -76,16 +87,6 @@ module _ (G : Grouping) (L : IsGrouped G) (heap : Heap) where
   first_alone zero e = refl
   first_alone (suc m) e = ap (λ b. if b then group_at G m else []) (not-true (goes_on G m) e)
 
-  -- the unit at the place of a placed one
-  pub placed_unit : (unit : ℕ) → place_of G unit < length (placed G) → unit_at G (place_of G unit) ≡ unit
-  placed_unit unit lt = eqb-true (unit_at G (place_of G unit)) unit (passes_at_first (λ u. u == unit) (placed G) 0 lt)
-
-  pub no_import : (unit : ℕ) → place_of G unit < length (placed G) → is_import G unit ≡ false
-  no_import unit lt =
-      let passes : (is_touched G (unit_at G (place_of G unit)) && not (is_import G (unit_at G (place_of G unit)))) ≡ true = filter_passes (λ u. is_touched G u && not (is_import G u)) (range_with_len 0 (length G.imports)) (place_of G unit) 0 lt in
-      let fresh = not-true (is_import G (unit_at G (place_of G unit))) (and_parts (is_touched G (unit_at G (place_of G unit))) (not (is_import G (unit_at G (place_of G unit)))) passes).1 in
-      subst (λ u. is_import G u ≡ false) (placed_unit unit lt) fresh
-
   -- a unit that has a group has a last one
   last_some : (unit g m : ℕ) → g < m → m ≤ length G.groups → is_of G unit g ≡ true → 0 < length (last_below G unit m)
   last_some unit g zero lt le own = absurd (omega (arith, lt))
@@ -113,7 +114,7 @@ module _ (G : Grouping) (L : IsGrouped G) (heap : Heap) where
       among = contains_filter (is_under G heap (place_of G (unit_of G h))) (range_with_len 0 (length (placed G))) (place_of G (unit_of G g)) (contains_number (length (placed G)) (place_of G (unit_of G g)) O.lower_placed) O.under
 
       some : 0 < length (last_uses G (unit_at G (place_of G (unit_of G g))))
-      some = subst (λ u. 0 < length (last_uses G u)) (sym (placed_unit (unit_of G g) O.lower_placed)) (last_some (unit_of G g) g (length G.groups) O.lower (omega arith) (is_own G L g O.lower))
+      some = subst (λ u. 0 < length (last_uses G u)) (sym (placed_unit G (unit_of G g) O.lower_placed)) (last_some (unit_of G g) g (length G.groups) O.lower (omega arith) (is_own G L g O.lower))
 
   first_is : (g h : ℕ) → is_over G heap g h ≡ true → (turn_of G heap h).kind ≡ first_kind true (is_some (first (group_at G h)).layout)
   first_is g h o =
@@ -121,7 +122,7 @@ module _ (G : Grouping) (L : IsGrouped G) (heap : Heap) where
       let A = earlier G h in
       let B = group_at G h in
       ap (λ b. if b then next_kind G A B else if is_import G (first B).unit then Nothing else first_kind (has_uses (uses_under G heap (place_of G (first B).unit))) (is_some (first B).layout)) (ap has_uses (first_alone h O.upper_first))
-      ∙ ap (λ b. if b then Nothing else first_kind (has_uses (uses_under G heap (place_of G (first B).unit))) (is_some (first B).layout)) (no_import (unit_of G h) O.upper_placed)
+      ∙ ap (λ b. if b then Nothing else first_kind (has_uses (uses_under G heap (place_of G (first B).unit))) (is_some (first B).layout)) (no_import G (unit_of G h) O.upper_placed)
       ∙ ap (λ b. first_kind b (is_some (first B).layout)) (under_some g h o)
 
   -- an alias barrier, for an image with a barrier out of UNDEFINED

@@ -1,3 +1,12 @@
+pub mod Aliased
+pub mod Contained
 pub mod Counting
+pub mod Exports
 pub mod Grouped
 pub mod Groups
+pub mod Kinds
+pub mod Lying
+pub mod Opened
+pub mod Places
+pub mod Stages
+pub mod Steps

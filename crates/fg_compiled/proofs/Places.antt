@@ -47,6 +47,26 @@ pub record HasItem (G : Grouping) (heap : Heap) (c : ℕ) : Type 0 where
   pub at : ItemAt G heap (queue_of G c) (step G heap (Command c)) it
   pub known : c < length G.commands
 
+-- turns and members of the groups of units, and of those after them
+module _ (G : Grouping) (heap : Heap) where
+  pub turn_unit : (g : ℕ) → g < length G.groups → (nodes_of G heap).turn g ≡ turn_node G heap g
+  turn_unit g lt = ap (λ b. if b then turn_node G heap g else copied_node G heap (export_at G g)) (lt-ltb g (length G.groups) lt)
+
+  pub turn_late : (g : ℕ) → length G.groups ≤ g → (nodes_of G heap).turn g ≡ copied_node G heap (export_at G g)
+  turn_late g le = ap (λ b. if b then turn_node G heap g else copied_node G heap (export_at G g)) (le-ltb g (length G.groups) le)
+
+  pub turned_unit : (g : ℕ) → g < length G.groups → (nodes_of G heap).turned g ≡ is_there (turn_of G heap g).kind
+  turned_unit g lt = ap (λ b. if b then is_there (turn_of G heap g).kind else is_read G g) (lt-ltb g (length G.groups) lt)
+
+  pub turned_late : (g : ℕ) → length G.groups ≤ g → (nodes_of G heap).turned g ≡ is_read G g
+  turned_late g le = ap (λ b. if b then is_there (turn_of G heap g).kind else is_read G g) (le-ltb g (length G.groups) le)
+
+  pub member_unit : (c g : ℕ) → g < length G.groups → uses_in_group G c g ≡ true → is_member G c g ≡ true
+  member_unit c g lt e = sym (ap (λ b. if b then is_member G c g else (is_copy G g && is_copy_of G (export_at G g) c)) (lt-ltb g (length G.groups) lt)) ∙ e
+
+  pub member_late : (c g : ℕ) → length G.groups ≤ g → uses_in_group G c g ≡ true → (is_copy G g ≡ true) × (is_copy_of G (export_at G g) c ≡ true)
+  member_late c g le e = and_parts (is_copy G g) (is_copy_of G (export_at G g) c) (sym (ap (λ b. if b then is_member G c g else (is_copy G g && is_copy_of G (export_at G g) c)) (le-ltb g (length G.groups) le)) ∙ e)
+
 module _ (G : Grouping) (L : IsGrouped G) (heap : Heap) (S : IsStanding G heap) where
   -- ITEMS
 
@@ -246,30 +266,12 @@ module _ (G : Grouping) (L : IsGrouped G) (heap : Heap) (S : IsStanding G heap) 
       abbrev piece : ℕ → ℕ
       piece = (plan_of G heap).piece
 
-      turn_unit : (g : ℕ) → g < length G.groups → turn g ≡ turn_node G heap g
-      turn_unit g lt = ap (λ b. if b then turn_node G heap g else copied_node G heap (export_at G g)) (lt-ltb g (length G.groups) lt)
-
-      turn_late : (g : ℕ) → length G.groups ≤ g → turn g ≡ copied_node G heap (export_at G g)
-      turn_late g le = ap (λ b. if b then turn_node G heap g else copied_node G heap (export_at G g)) (le-ltb g (length G.groups) le)
-
-      turned_unit : (g : ℕ) → g < length G.groups → turned g ≡ is_there (turn_of G heap g).kind
-      turned_unit g lt = ap (λ b. if b then is_there (turn_of G heap g).kind else is_read G g) (lt-ltb g (length G.groups) lt)
-
-      turned_late : (g : ℕ) → length G.groups ≤ g → turned g ≡ is_read G g
-      turned_late g le = ap (λ b. if b then is_there (turn_of G heap g).kind else is_read G g) (le-ltb g (length G.groups) le)
-
-      member_unit : (c g : ℕ) → g < length G.groups → uses_in_group G c g ≡ true → is_member G c g ≡ true
-      member_unit c g lt e = sym (ap (λ b. if b then is_member G c g else (is_copy G g && is_copy_of G (export_at G g) c)) (lt-ltb g (length G.groups) lt)) ∙ e
-
-      member_late : (c g : ℕ) → length G.groups ≤ g → uses_in_group G c g ≡ true → (is_copy G g ≡ true) × (is_copy_of G (export_at G g) c ≡ true)
-      member_late c g le e = and_parts (is_copy G g) (is_copy_of G (export_at G g) c) (sym (ap (λ b. if b then is_member G c g else (is_copy G g && is_copy_of G (export_at G g) c)) (le-ltb g (length G.groups) le)) ∙ e)
-
       turned_next : (g : ℕ) → piece g ≡ piece (suc g) → turned (suc g) ≡ true
       turned_next g e = go (next G L K g e)
         where
           go : AreNext G g → turned (suc g) ≡ true
-          go (of_unit lt goes) = turned_unit (suc g) lt ∙ next_there G L heap g goes
-          go (of_export le copy read one) = turned_late (suc g) (omega (arith, le)) ∙ read
+          go (of_unit lt goes) = turned_unit G heap (suc g) lt ∙ next_there G L heap g goes
+          go (of_export le copy read one) = turned_late G heap (suc g) (omega (arith, le)) ∙ read
 
       leads_cases : (g h : ℕ) → leads (plan_of G heap) g h ≡ true → ((h ≡ suc g) × (piece g ≡ piece (suc g))) ⊎ (is_over G heap g h ≡ true)
       leads_cases g h e = ⊎_elim
@@ -280,28 +282,28 @@ module _ (G : Grouping) (L : IsGrouped G) (heap : Heap) (S : IsStanding G heap) 
       are_turned : (g h : ℕ) → leads (plan_of G heap) g h ≡ true → turned h ≡ true
       are_turned g h e = ⊎_elim
           (λ near. subst (λ k. turned k ≡ true) (sym near.0) (turned_next g near.1))
-          (λ over. turned_unit h (over_parts G heap g h over).upper ∙ over_there G L heap g h over)
+          (λ over. turned_unit G heap h (over_parts G heap g h over).upper ∙ over_there G L heap g h over)
           (leads_cases g h e)
 
       into_turn : (g c : ℕ) → piece g ≡ piece (suc g) → is_released G heap g ≡ false → uses_in_group G c g ≡ true → Later (program_nodes P) (command_node G heap c) (turn (suc g))
       into_turn g c e kept m = go (next G L K g e)
         where
           go : AreNext G g → Later (program_nodes P) (command_node G heap c) (turn (suc g))
-          go (of_unit lt goes) = subst (λ x. Later (program_nodes P) (command_node G heap c) x) (sym (turn_unit (suc g) lt)) (into_next K g c goes kept (member_unit c g (omega (arith, lt)) m))
-          go (of_export le copy read one) = subst (λ x. Later (program_nodes P) (command_node G heap c) x) (sym (turn_late (suc g) (omega (arith, le)) ∙ ap (copied_node G heap) (sym one))) (into_copied A (export_at G g) c (copies_from G (export_at G g) c (member_late c g le m).1))
+          go (of_unit lt goes) = subst (λ x. Later (program_nodes P) (command_node G heap c) x) (sym (turn_unit G heap (suc g) lt)) (into_next K g c goes kept (member_unit G heap c g (omega (arith, lt)) m))
+          go (of_export le copy read one) = subst (λ x. Later (program_nodes P) (command_node G heap c) x) (sym (turn_late G heap (suc g) (omega (arith, le)) ∙ ap (copied_node G heap) (sym one))) (into_copied A (export_at G g) c (copies_from G (export_at G g) c (member_late G heap c g le m).1))
 
       -- the group of a copy has no turn
       copy_alone : (h d : ℕ) → length G.groups ≤ h → turned h ≡ true → uses_in_group G d h ≡ true → ⊥
       copy_alone h d le t m =
-          let read = (and_parts (is_of_export G h) ((h - length G.groups) % 2 == 1) (sym (turned_late h le) ∙ t)).1 in
-          let copy = (and_parts (is_of_export G h) ((h - length G.groups) % 2 == 0) (member_late d h le m).0).1 in
+          let read = (and_parts (is_of_export G h) ((h - length G.groups) % 2 == 1) (sym (turned_late G heap h le) ∙ t)).1 in
+          let copy = (and_parts (is_of_export G h) ((h - length G.groups) % 2 == 0) (member_late G heap d h le m).0).1 in
           let odd = eqb-true ((h - length G.groups) % 2) 1 read in
           let even = eqb-true ((h - length G.groups) % 2) 0 copy in
           omega (arith, odd, even)
 
       onto : (h d : ℕ) → turned h ≡ true → uses_in_group G d h ≡ true → Later (program_nodes P) (turn h) (command_node G heap d)
       onto h d t m = ⊎_elim
-          (λ lt. subst (λ x. Later (program_nodes P) x (command_node G heap d)) (sym (turn_unit h lt)) (onto_member h d (lt, sym (turned_unit h lt) ∙ t) (member_unit d h lt m)))
+          (λ lt. subst (λ x. Later (program_nodes P) x (command_node G heap d)) (sym (turn_unit G heap h lt)) (onto_member h d (lt, sym (turned_unit G heap h lt) ∙ t) (member_unit G heap d h lt m)))
           (λ le. absurd (copy_alone h d le t m))
           (cases_lt h (length G.groups))
 
@@ -310,7 +312,7 @@ module _ (G : Grouping) (L : IsGrouped G) (heap : Heap) (S : IsStanding G heap) 
 
       into_acquire : (g h : ℕ) → is_released G heap g ≡ true → leads (plan_of G heap) g h ≡ true → Crossed (program_nodes P) (release_node G heap g) (turn h)
       into_acquire g h r e = ⊎_elim
-          (λ near. let within = next_within G L g (released_goes G L heap g r) in subst (λ k. Crossed (program_nodes P) (release_node G heap g) (turn k)) (sym near.0) (subst (λ x. Crossed (program_nodes P) (release_node G heap g) x) (sym (turn_unit (suc g) within)) (into_transfer g r)))
+          (λ near. let within = next_within G L g (released_goes G L heap g r) in subst (λ k. Crossed (program_nodes P) (release_node G heap g) (turn k)) (sym near.0) (subst (λ x. Crossed (program_nodes P) (release_node G heap g) x) (sym (turn_unit G heap (suc g) within)) (into_transfer g r)))
           (λ over. absurd (false≢true (sym (over_parts G heap g h over).lower_last ∙ released_goes G L heap g r)))
           (leads_cases g h e)
 
@@ -322,6 +324,6 @@ module _ (G : Grouping) (L : IsGrouped G) (heap : Heap) (S : IsStanding G heap) 
             let n : suc g ≡ g + 1 = omega arith in
             subst (λ k. piece g ≡ piece k → Later (program_nodes P) (command_node G heap c) (turn k)) n (λ same. into_turn g c same kept m) e;
         onto = onto;
-        into_release = λ g c r m. into_release K g c r (member_unit c g (released_low g r) m);
+        into_release = λ g c r m. into_release K g c r (member_unit G heap c g (released_low g r) m);
         into_acquire = into_acquire;
       }

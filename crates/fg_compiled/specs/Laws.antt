@@ -1,8 +1,9 @@
 -- Laws of what is compiled of a frame.
-use Rattle.std.specs.Prelude.{ℕ, List, Bool}
+use Rattle.std.specs.Prelude.{◌≡◌, ◌≢◌, ◌⊎◌, ℕ, ◌<◌, List, Bool, true, false}
 use Rattle.fg_compiled.specs.Nodes.{nodes_of}
 use Rattle.fg_compiled.specs.Plan.{plan_of}
-use Rattle.fg_crossing.specs.Nodes.{Nodes}
+use Rattle.fg_crossing.specs.Aliases.{Beside}
+use Rattle.fg_crossing.specs.Nodes.{Nodes, IsBarrier}
 use Rattle.fg_crossing.specs.Plans.{Plan, Grouped}
 use Rattle.fg_frame.specs.Good.{IsGood}
 use Rattle.fg_frame.specs.Numbered.{NumberedFrame}
@@ -11,7 +12,8 @@ use Rattle.fg_groups.specs.Placed.{sizes}
 use Rattle.fg_lifetimes.specs.Ordered.{IsOrdered}
 use Rattle.fg_place.specs.Placing.{Places, IsLeast}
 use Rattle.fg_recorder.specs.Recorded.{heap_with, recorded}
-use Rattle.fg_view.specs.Views.{View, view_of}
+use Rattle.fg_ties.specs.Passing.{UpTo}
+use Rattle.fg_view.specs.Views.{View, overlap, view_of}
 
 -- of each program that is compiled of a good frame, by its plan and its nodes
 abbrev pub OfCompiled : (Plan → View → Nodes → Type 0) → Type 0
@@ -24,3 +26,17 @@ OfCompiled IsSo =
 
 abbrev pub IsGrouped : Plan → View → Nodes → Type 0
 IsGrouped F V N = Grouped F
+
+-- UNITS IN THE SAME BYTES
+
+-- two units that overlap are ordered
+abbrev pub AreOrdered : Plan → View → Nodes → Type 0
+AreOrdered F V N = (g h : ℕ) → g < F.groups → h < F.groups → F.piece g ≢ F.piece h → overlap V (F.piece g) (F.piece h) ≡ true → Beside F g h ⊎ Beside F h g
+
+-- between them stands an alias barrier, up to the turn of the later one's first group
+abbrev pub HaveBarriers : Plan → View → Nodes → Type 0
+HaveBarriers F V N = (g h : ℕ) → F.over g h ≡ true → IsBarrier V (N.alias h) × UpTo V (N.alias h) (N.turn h)
+
+-- and the last group of the earlier one is not released
+abbrev pub AreKept : Plan → View → Nodes → Type 0
+AreKept F V N = (g h : ℕ) → F.over g h ≡ true → N.released g ≡ false

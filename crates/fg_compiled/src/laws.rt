@@ -1,12 +1,33 @@
 //! Laws of compiled programs.
 
-ghost use Rattle.fg_compiled.specs.Laws.{OfCompiled, IsGrouped};
+ghost use Rattle.fg_compiled.specs.Laws.{OfCompiled, IsGrouped, AreOrdered, HaveBarriers, AreKept};
+ghost use Rattle.fg_crossing.specs.Nodes.{Places, Roles};
 
+use fg_cut::cut_laws;
 use fg_groups::group_laws;
+use fg_recorder::script_laws;
 
-/// The groups of a compiled frame stand by their pieces. It does nothing.
+/// Of each program that is compiled of a good frame: the groups of its plan stand by their pieces (`grouped`). Commands, turns,
+/// releases and host reads are what they are called (`roles`), and a turn comes after the commands before it and before its
+/// own, with a release between where the family changes (`placed`). It does nothing.
 pub fn places_law()
     ensures grouped { OfCompiled IsGrouped }
+    ensures roles { OfCompiled Roles }
+    ensures placed { OfCompiled Places }
 {
     group_laws();
+    script_laws();
+    cut_laws();
+}
+
+/// Of each program that is compiled of a good frame: two units in the same bytes are ordered (`ordered`), between them stands an
+/// alias barrier (`barriers`), and the earlier one is not handed on after its last group (`kept`). It does nothing.
+pub fn aliases_law()
+    ensures ordered { OfCompiled AreOrdered }
+    ensures barriers { OfCompiled HaveBarriers }
+    ensures kept { OfCompiled AreKept }
+{
+    group_laws();
+    script_laws();
+    cut_laws();
 }
