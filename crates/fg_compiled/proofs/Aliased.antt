@@ -12,7 +12,7 @@ use Rattle.fg_bits.specs.declared.layout.Layouts.{Layouts}
 use Rattle.fg_bits.specs.declared.masks.Masks.{Masks}
 use Rattle.fg_compiled.proofs.Grouped.{Over, over_from, over_parts, resource_unit}
 use Rattle.fg_compiled.proofs.Groups.{next_unit, next_within, some_use}
-use Rattle.fg_compiled.proofs.Kinds.{over_kinds, over_there, under_some}
+use Rattle.fg_compiled.proofs.TurnKinds.{over_kinds, over_there, under_some}
 use Rattle.fg_compiled.proofs.Lying.{AreMeeting, are_meeting, meet_turned, meeting_ordered}
 use Rattle.fg_compiled.proofs.Opened.{is_barrier, item_stands}
 use Rattle.fg_compiled.proofs.Places.{turn_unit}

@@ -1,12 +1,14 @@
 pub mod Aliased
 pub mod Contained
 pub mod Counting
+pub mod Early
 pub mod Exports
 pub mod Grouped
 pub mod Groups
-pub mod Kinds
+pub mod Into
 pub mod Lying
 pub mod Opened
 pub mod Places
 pub mod Stages
 pub mod Steps
+pub mod TurnKinds

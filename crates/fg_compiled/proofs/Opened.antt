@@ -12,7 +12,7 @@ use Rattle.fg_base.specs.declared.role.Role.TheVariants.{CopyRead}
 use Rattle.fg_compiled.proofs.Counting.{count_late}
 use Rattle.fg_compiled.proofs.Exports.{AreCopied, Copies, copies_from}
 use Rattle.fg_compiled.proofs.Groups.{member_of, next_within, some_use, sourced}
-use Rattle.fg_compiled.proofs.Kinds.{released_goes}
+use Rattle.fg_compiled.proofs.TurnKinds.{released_goes}
 use Rattle.fg_compiled.proofs.Places.{member_late, member_unit, release_at, turn_late, turn_unit, turned_late, turned_unit}
 use Rattle.fg_compiled.proofs.Stages.{OpensBy, group_stages, last_stages, turn_opens}
 use Rattle.fg_compiled.proofs.Steps.{ItemAt, command_at, copy_at, item_there, turn_at}

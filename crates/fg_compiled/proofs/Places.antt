@@ -11,7 +11,7 @@ use Rattle.fg_compiled.proofs.Contained.{Rising, contains_on, contains_some, fir
 use Rattle.fg_compiled.proofs.Exports.{AreCopied, Copies, copies_from}
 use Rattle.fg_compiled.proofs.Grouped.{AreNext, of_unit, of_export, next, over_parts}
 use Rattle.fg_compiled.proofs.Groups.{Member, commands_rise, first_in, member_of, member_queue, next_unit, next_within, some_use, sourced, use_queue}
-use Rattle.fg_compiled.proofs.Kinds.{earlier_is, kept_barrier, next_there, over_there, released_goes, released_transfer}
+use Rattle.fg_compiled.proofs.TurnKinds.{earlier_is, kept_barrier, next_there, over_there, released_goes, released_transfer}
 use Rattle.fg_compiled.proofs.Steps.{ItemAt, command_at, command_steps, copy_at, does_at, over_need, soon, sooner_crossed, turn_at}
 use Rattle.fg_compiled.specs.Nodes.{command_node, copied_node, copied_step, copy_of, item_at, nodes_of, release_node, release_queue, steps, turn_node, turn_queue}
 use Rattle.fg_compiled.specs.Plan.{export_at, is_copy, is_copy_of, is_of_export, is_of_unit, is_over, is_read, plan_of, resource_of, uses_in_group}
@@ -94,7 +94,7 @@ module _ (G : Grouping) (L : IsGrouped G) (heap : Heap) (S : IsStanding G heap) 
   last_high : (g c : ℕ) → g < length G.groups → Member G c g → c ≤ (last (group_at G g)).command
   last_high g c lt M = let l = up_to_last (group_at G g) M.one (L.members_rise g [] lt) M.there in let e = M.command in omega (arith, l, e)
 
-  turn_before : (g d : ℕ) → IsRecorded G heap (OfTurn g) → Member G d g → step G heap (OfTurn g) < step G heap (Command d)
+  pub turn_before : (g d : ℕ) → IsRecorded G heap (OfTurn g) → Member G d g → step G heap (OfTurn g) < step G heap (Command d)
   turn_before g d r M =
       let low = first_low g d r.0 M in
       let known = (member_command d g r.0 M).known in

@@ -3,6 +3,7 @@ use Rattle.std.specs.Prelude.{◌≡◌, ◌≢◌, ◌⊎◌, ℕ, ◌<◌, Lis
 use Rattle.fg_compiled.specs.Nodes.{nodes_of}
 use Rattle.fg_compiled.specs.Plan.{plan_of}
 use Rattle.fg_crossing.specs.Aliases.{Beside}
+use Rattle.fg_crossing.specs.Crossings.{Later}
 use Rattle.fg_crossing.specs.Nodes.{Nodes, IsBarrier}
 use Rattle.fg_crossing.specs.Plans.{Plan, Grouped}
 use Rattle.fg_frame.specs.Good.{IsGood}
@@ -40,3 +41,7 @@ HaveBarriers F V N = (g h : ℕ) → F.over g h ≡ true → IsBarrier V (N.alia
 -- and the last group of the earlier one is not released
 abbrev pub AreKept : Plan → View → Nodes → Type 0
 AreKept F V N = (g h : ℕ) → F.over g h ≡ true → N.released g ≡ false
+
+-- what uses the earlier one comes before the barrier
+abbrev pub ComeBefore : Plan → View → Nodes → Type 0
+ComeBefore F V N = (g h c : ℕ) → F.over g h ≡ true → F.member c g ≡ true → Later V.nodes (N.command c) (N.alias h)

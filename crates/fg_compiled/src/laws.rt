@@ -1,8 +1,9 @@
 //! Laws of compiled programs.
 
-ghost use Rattle.fg_compiled.specs.Laws.{OfCompiled, IsGrouped, AreOrdered, HaveBarriers, AreKept};
+ghost use Rattle.fg_compiled.specs.Laws.{OfCompiled, IsGrouped, AreOrdered, HaveBarriers, ComeBefore, AreKept};
 ghost use Rattle.fg_crossing.specs.Nodes.{Places, Roles};
 
+use fg_crossing::crossing_laws;
 use fg_cut::cut_laws;
 use fg_groups::group_laws;
 use fg_recorder::script_laws;
@@ -20,14 +21,18 @@ pub fn places_law()
     cut_laws();
 }
 
-/// Of each program that is compiled of a good frame: two units in the same bytes are ordered (`ordered`), between them stands an
-/// alias barrier (`barriers`), and the earlier one is not handed on after its last group (`kept`). It does nothing.
+/// Of each program that is compiled of a good frame: two units in the same bytes are ordered (`ordered`). Between them stands an
+/// alias barrier (`barriers`), which comes after what uses the earlier one (`before`), and that is not handed on after its last
+/// group (`kept`). It does nothing.
 pub fn aliases_law()
     ensures ordered { OfCompiled AreOrdered }
     ensures barriers { OfCompiled HaveBarriers }
+    ensures before { OfCompiled ComeBefore }
     ensures kept { OfCompiled AreKept }
 {
     group_laws();
     script_laws();
     cut_laws();
+    crossing_laws();
+    places_law();
 }
