@@ -5,10 +5,12 @@ pub mod Early
 pub mod Exports
 pub mod Grouped
 pub mod Groups
+pub mod Imports
 pub mod Into
 pub mod Lying
 pub mod Opened
 pub mod Places
+pub mod Soundness
 pub mod Stages
 pub mod Steps
 pub mod TurnKinds

@@ -3,4 +3,4 @@
 
 mod laws;
 
-pub use laws::{aliases_law, places_law};
+pub use laws::{aliases_law, places_law, sound_law};
