@@ -2,11 +2,13 @@ pub mod Aliased
 pub mod Contained
 pub mod Counting
 pub mod Early
+pub mod Entries
 pub mod Exports
 pub mod Grouped
 pub mod Groups
 pub mod Imports
 pub mod Into
+pub mod Later
 pub mod Lying
 pub mod Opened
 pub mod Places
