@@ -8,11 +8,14 @@ pub mod Grouped
 pub mod Groups
 pub mod Imports
 pub mod Into
+pub mod KeptCommands
 pub mod Later
 pub mod Lying
+pub mod Makers
 pub mod Opened
 pub mod Places
 pub mod Soundness
 pub mod Stages
+pub mod Starting
 pub mod Steps
 pub mod TurnKinds

@@ -2,5 +2,7 @@
 #![tactic(auto)]
 
 mod laws;
+mod starts;
 
 pub use laws::{aliases_law, places_law, sound_law};
+pub use starts::starts_law;

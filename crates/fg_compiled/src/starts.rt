@@ -1,0 +1,13 @@
+//! What kept commands do first.
+
+ghost use Rattle.std.specs.Prelude.{List, Bool};
+ghost use Rattle.fg_compiled.specs.Starts.{AreStarted};
+ghost use Rattle.fg_frame.specs.Good.{IsGood};
+ghost use Rattle.fg_frame.specs.Numbered.{NumberedFrame};
+ghost use Rattle.fg_versions.specs.Culled.{AreKept};
+
+/// Of the commands of a good frame's kept passes and its exports the first that touches a unit, where that is no import, stores
+/// all of it. It does nothing.
+pub fn starts_law()
+    ensures { (frame : NumberedFrame) (kept : List Bool) → IsGood frame → AreKept frame kept → AreStarted frame kept }
+{}
