@@ -16,6 +16,6 @@ pub mod Opened
 pub mod Places
 pub mod Soundness
 pub mod Stages
-pub mod Starting
+pub mod Started
 pub mod Steps
 pub mod TurnKinds

@@ -1,4 +1,4 @@
-use Rattle.fg_compiled.proofs.Starting.{is_started}
+use Rattle.fg_compiled.proofs.Started.{is_started}
 use Rattle.fg_compiled.proofs.starts.starts_law.Goals as goal
 
 pub returns : goal.returns
