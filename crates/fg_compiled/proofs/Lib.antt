@@ -1,4 +1,6 @@
 pub mod Aliased
+pub mod Barriers
+pub mod Bits
 pub mod Contained
 pub mod Counting
 pub mod Early
@@ -9,6 +11,8 @@ pub mod Into
 pub mod Lying
 pub mod Opened
 pub mod Places
+pub mod Roles
 pub mod Stages
 pub mod Steps
 pub mod TurnKinds
+pub mod Unions
