@@ -1,6 +1,7 @@
 pub mod Aliased
 pub mod Barriers
 pub mod Bits
+pub mod Commands
 pub mod Contained
 pub mod Counting
 pub mod Early
@@ -10,9 +11,13 @@ pub mod Groups
 pub mod Into
 pub mod Lying
 pub mod Opened
+pub mod Ops
+pub mod Pieces
 pub mod Places
 pub mod Roles
 pub mod Stages
 pub mod Steps
+pub mod Touches
 pub mod TurnKinds
 pub mod Unions
+pub mod Uses

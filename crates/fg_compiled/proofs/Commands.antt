@@ -1,0 +1,107 @@
+-- The commands of a frame: operations of passes on units, and for each export one copy of it.
+use Rattle.std.proofs.Common.{◌≡◌, ◌⊎◌, ⊎_elim, ℕ, zero, suc, ◌+◌, ◌-◌, ◌<◌, ◌≤◌, ◌==◌, ◌||◌, Bool, true, false, List, [], ◌∷◌, length, map, get_or, slice_get, if◌then◌else◌, Some, None, refl, sym, ap, ◌∙◌, subst, ne_eqb, arith}
+use Rattle.std.specs.List.{All}
+use Rattle.std.specs.Prelude.{is_some}
+use Rattle.std.proofs.lemmas.Bool.{cases_lt}
+use Rattle.std.proofs.lemmas.List.{get_or_append_left, get_or-append_right, length-append, length-map}
+use Rattle.std.proofs.lemmas.List.Elements.{All-nil, All-append, All-map, All-head, All-tail}
+use Rattle.std.proofs.lemmas.Option.{slice_get-get_or, slice_get_within, get_or_from_slice_get}
+use Rattle.fg_base.proofs.Lists.{one}
+use Rattle.fg_base.specs.InPlace.{in_place}
+use Rattle.fg_base.specs.Operands.{sources_of, destination_of, operands_of}
+use Rattle.fg_base.specs.Shapes.{shape_at}
+use Rattle.fg_base.specs.declared.op.Op.{Op}
+use Rattle.fg_base.specs.declared.shape.Shape.{Shape}
+use Rattle.fg_base.specs.declared.shape.Shape.TheVariants.{Buffer, Image}
+use Rattle.fg_compiled.specs.Plan.{export_count}
+use Rattle.fg_frame.specs.Good.{IsGood, shapes_in}
+use Rattle.fg_frame.specs.Numbered.{NumberedFrame}
+use Rattle.fg_frame.specs.declared.numbered.NumberedPass.{NumberedPass}
+use Rattle.fg_groups.specs.Commands.{on_queue, pass_commands, kept_commands, copy_out, export_command, export_commands, readback_shape}
+use Rattle.fg_groups.specs.Groups.{grouping}
+use Rattle.fg_groups.specs.declared.command.Command.{Command}
+use Rattle.fg_groups.specs.declared.grouping.Grouping.{Grouping}
+
+-- an operation of a pass, on units alone, or the copy of an export into the buffer after the units
+pub data Sort (G : Grouping) (command : Command) : Type 0 where
+  a_pass : command.export ≡ None → All (λ r. r < length G.imports) (operands_of command.op) → in_place command.op ≡ false → Sort G command
+  a_copy : (k unit : ℕ) (shape : Shape) → k < export_count G → unit < length G.imports → command.export ≡ Some k → command.op ≡ copy_out shape unit (length G.imports + k) → Sort G command
+
+-- EACH COMMAND
+
+kept_each : (P : Command → Type 0) (passes : List NumberedPass) (kept : List Bool) → All (λ pass. All (λ op. P (on_queue pass.queue op)) pass.ops) passes → All P (kept_commands passes kept)
+kept_each P [] kept all = All-nil P
+kept_each P (pass ∷ passes) [] all = All-nil P
+kept_each P (pass ∷ passes) (keep ∷ kept) all =
+    All-append P (if keep then pass_commands pass else []) (kept_commands passes kept)
+    (own keep)
+    (kept_each P passes kept (All-tail (λ (x : NumberedPass). All (λ op. P (on_queue x.queue op)) x.ops) pass passes all))
+  where
+    own : (b : Bool) → All P (if b then pass_commands pass else [])
+    own true = All-map P (on_queue pass.queue) pass.ops (All-head (λ (x : NumberedPass). All (λ op. P (on_queue x.queue op)) x.ops) pass passes all)
+    own false = All-nil P
+
+exports_each : (P : Command → Type 0) (frame : NumberedFrame) (k : ℕ) (units : List ℕ) → ((j d : ℕ) → j < length units → P (export_command frame (k + j) (get_or units j d))) → All P (export_commands frame k units)
+exports_each P frame k [] each = All-nil P
+exports_each P frame k (unit ∷ units) each =
+    let z : k + 0 ≡ k = omega arith in
+    All-append P (export_command frame k unit ∷ []) (export_commands frame (suc k) units)
+    (one P (export_command frame k unit) (subst (λ n. P (export_command frame n unit)) z (each 0 unit (omega arith))))
+    (exports_each P frame (suc k) units (λ j d lt. let next : k + suc j ≡ suc k + j = omega arith in subst (λ n. P (export_command frame n (get_or units j d))) next (each (suc j) d (omega (arith, lt)))))
+
+-- a copy is not in place
+copy_apart : (shape : Shape) (src dst : ℕ) → (src == dst) ≡ false → in_place (copy_out shape src dst) ≡ false
+copy_apart (Buffer size) src dst e = ap (λ b. b || false) e
+copy_apart (Image width height texel) src dst e = ap (λ b. b || false) e
+
+pub not_in_place : (G : Grouping) (command : Command) → Sort G command → in_place command.op ≡ false
+not_in_place G command (a_pass none operands apart) = apart
+not_in_place G command (a_copy k unit shape below lt is op) = ap in_place op ∙ copy_apart shape unit (length G.imports + k) (ne_eqb unit (length G.imports + k) (λ e. omega (arith, e, lt)))
+
+pub copy_destination : (shape : Shape) (src dst : ℕ) → destination_of (copy_out shape src dst) ≡ dst
+copy_destination (Buffer size) src dst = refl
+copy_destination (Image width height texel) src dst = refl
+
+pub copy_sources : (shape : Shape) (src dst : ℕ) → sources_of (copy_out shape src dst) ≡ src ∷ []
+copy_sources (Buffer size) src dst = refl
+copy_sources (Image width height texel) src dst = refl
+
+module _ (frame : NumberedFrame) (kept : List Bool) where
+  abbrev G : Grouping
+  G = grouping frame kept
+
+  abbrev passes : List Command
+  passes = kept_commands frame.passes kept
+
+  abbrev copies : List Command
+  copies = export_commands frame 0 frame.exports
+
+  module _ (good : IsGood frame) where
+    imports_count : length G.imports ≡ length frame.units
+    imports_count = length-map frame.units (λ u. is_some u.imported)
+
+    exports_count : export_count G ≡ length frame.exports
+    exports_count =
+        let total = length-append (shapes_in frame) (map (readback_shape frame) frame.exports) in
+        let units = length-map frame.units (λ u. u.shape) in
+        let exports = length-map frame.exports (readback_shape frame) in
+        let imports = imports_count in
+        omega (arith, total, units, exports, imports)
+
+    pub sorts : All (Sort G) G.commands
+    sorts = All-append (Sort G) passes copies
+        (kept_each (Sort G) frame.passes kept (λ p d lt. λ k e l.
+        let pass : NumberedPass = get_or frame.passes p d in
+        let same = imports_count in
+        a_pass refl
+        (λ j r below. let low = (good.within p d lt).ops k e l j r below in omega (arith, low, same))
+        (((good.passes_good p d lt).ops_good k e l).not_in_place)))
+        (exports_each (Sort G) frame 0 frame.exports (λ k d lt.
+        let z : k ≡ 0 + k = omega arith in
+        let unit : ℕ = get_or frame.exports k d in
+        let same = imports_count in
+        let count = exports_count in
+        let low = good.exports_within k d lt in
+        subst (λ n. Sort G (export_command frame n unit)) z
+        (a_copy k unit (shape_at (shapes_in frame) unit) (omega (arith, lt, count)) (omega (arith, low, same)) refl
+        (ap (λ n. copy_out (shape_at (shapes_in frame) unit) unit (n + k)) (sym same)))))
