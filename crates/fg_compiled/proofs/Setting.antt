@@ -1,0 +1,31 @@
+-- What is known of a compiled program by the laws of the crates below.
+use Rattle.std.proofs.Common.{◌≡◌, length, map}
+use Rattle.std.specs.List.{All}
+use Rattle.fg_compiled.proofs.Commands.{Sort}
+use Rattle.fg_compiled.proofs.Exports.{AreCopied}
+use Rattle.fg_compiled.specs.Nodes.{steps}
+use Rattle.fg_cut.specs.Later.{AreSooner}
+use Rattle.fg_cut.specs.Standing.{AllStand, AreThese}
+use Rattle.fg_groups.specs.Laws.{IsGrouped, IsKnown}
+use Rattle.fg_groups.specs.declared.grouping.Grouping.{Grouping}
+use Rattle.fg_recorder.specs.Pieces.{pieces, readbacks}
+use Rattle.fg_recorder.specs.Standing.{IsStanding}
+use Rattle.fg_subs.specs.declared.program.Program.{Program}
+use Rattle.fg_timeline.specs.Laws.{Ends}
+use Rattle.fg_timeline.specs.Steps.{IsScript}
+use Rattle.fg_turns.specs.Under.{Heap}
+
+pub record IsSet (G : Grouping) (heap : Heap) (P : Program) : Type 0 where
+  pub grouped : IsGrouped G
+  pub known : IsKnown G
+  pub sorts : All (Sort G) G.commands
+  pub copied : AreCopied G
+  pub script : IsScript (steps G heap) (length G.families)
+  pub standing : IsStanding G heap
+  pub stand : AllStand P (steps G heap) (length G.families)
+  pub all : AreThese P (steps G heap) (length G.families)
+  pub sooner : AreSooner P (steps G heap) (length G.families)
+  pub ends : Ends (steps G heap) (length G.families)
+  pub families : map (λ queue. queue.family) P.queues ≡ G.families
+  pub pieces : P.pieces ≡ pieces G heap.offsets
+  pub readbacks : P.readbacks ≡ readbacks G
