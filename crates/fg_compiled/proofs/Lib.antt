@@ -2,6 +2,7 @@ pub mod Aliased
 pub mod Barriers
 pub mod Bits
 pub mod Commands
+pub mod Compiled
 pub mod Contained
 pub mod Counting
 pub mod Early
@@ -19,6 +20,8 @@ pub mod Pieces
 pub mod Places
 pub mod Roles
 pub mod Setting
+pub mod SpotFacts
+pub mod Spots
 pub mod Stages
 pub mod Steps
 pub mod Touches
