@@ -1,3 +1,4 @@
+pub mod AliasTaken
 pub mod Aliased
 pub mod Barriers
 pub mod Bits
@@ -13,12 +14,15 @@ pub mod Groups
 pub mod Into
 pub mod Items
 pub mod Lying
+pub mod Masked
 pub mod Members
 pub mod Opened
 pub mod Ops
 pub mod Pieces
 pub mod Places
+pub mod Reading
 pub mod Roles
+pub mod Served
 pub mod Setting
 pub mod SpotFacts
 pub mod Spots
