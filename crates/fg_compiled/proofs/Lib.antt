@@ -11,6 +11,7 @@ pub mod ExportGroups
 pub mod Exports
 pub mod Grouped
 pub mod Groups
+pub mod HandedOn
 pub mod Into
 pub mod Items
 pub mod Lying
@@ -29,6 +30,7 @@ pub mod Spots
 pub mod Stages
 pub mod Steps
 pub mod Touches
+pub mod TurnAccesses
 pub mod TurnKinds
 pub mod Unions
 pub mod Uses
