@@ -1,8 +1,7 @@
 -- Units that lie in the same bytes.
-use Rattle.std.proofs.Common.{◌≡◌, ◌≢◌, ◌⊎◌, ⊎_elim, inl, inr, ℕ, zero, suc, ◌+◌, ◌-◌, ◌<◌, ◌≤◌, ◌==◌, ◌&&◌, ◌||◌, nat_lt, not, Bool, true, false, List, length, get_or, if◌then◌else◌, Option, None, Some, refl, sym, ap, ◌∙◌, subst, bit_and, eq-eqb, eqb-true, arith}
+use Rattle.std.proofs.Common.{◌≡◌, ◌≢◌, ◌⊎◌, ⊎_elim, inl, inr, ℕ, zero, suc, ◌+◌, ◌-◌, ◌<◌, ◌≤◌, ◌==◌, ◌&&◌, ◌||◌, nat_lt, not, Bool, true, false, length, get_or, Option, None, Some, refl, sym, ap, ◌∙◌, subst, bit_and, eq-eqb, eqb-true, arith}
 use Rattle.std.specs.Int.Bits.{and_zero_r}
-use Rattle.std.specs.Prelude.{slice_get}
-use Rattle.std.proofs.lemmas.Bool.{and_from, and_left, and_parts, false≢true, lt-ltb, or_left}
+use Rattle.std.proofs.lemmas.Bool.{and_from, and_left, false≢true, lt-ltb, or_left}
 use Rattle.std.proofs.lemmas.List.{length-map}
 use Rattle.fg_base.specs.Shapes.{bytes_of, shape_at}
 use Rattle.fg_bits.specs.Sets.{meets}
@@ -10,7 +9,7 @@ use Rattle.fg_bits.specs.Stages.{expand}
 use Rattle.fg_bits.specs.declared.layout.Layout.TheVariants.{Undefined}
 use Rattle.fg_bits.specs.declared.layout.Layouts.{Layouts}
 use Rattle.fg_bits.specs.declared.masks.Masks.{Masks}
-use Rattle.fg_compiled.proofs.Grouped.{Over, over_from, over_parts, resource_unit}
+use Rattle.fg_compiled.proofs.Grouped.{over_from, over_parts, resource_unit}
 use Rattle.fg_compiled.proofs.Groups.{next_unit, next_within, some_use}
 use Rattle.fg_compiled.proofs.TurnKinds.{over_kinds, over_there, under_some}
 use Rattle.fg_compiled.proofs.Lying.{AreMeeting, are_meeting, meet_turned, meeting_ordered}
@@ -30,32 +29,27 @@ use Rattle.fg_groups.specs.Laws.{IsGrouped, IsKnown}
 use Rattle.fg_groups.specs.Needs.{group_at, goes_on}
 use Rattle.fg_groups.specs.Placed.{placed, sizes}
 use Rattle.fg_groups.specs.declared.grouping.Grouping.{Grouping}
-use Rattle.fg_groups.specs.declared.unit_use.Use.{Use}
-use Rattle.fg_hb.specs.Edges.{edge, holds_back, is_at, is_sync, meeting, node_at, signalled}
+use Rattle.fg_hb.specs.Edges.{holds_back, is_at, is_sync, meeting, node_at, signalled}
 use Rattle.fg_hb.specs.Nodes.{item_node, program_nodes}
-use Rattle.fg_hb.specs.declared.node.Node.{Node}
 use Rattle.fg_place.specs.Placing.{IsLeast, Places, number_at, overlap}
 use Rattle.fg_reach.specs.Paths.{one}
 use Rattle.fg_recorder.specs.Items.{barrier, both as layouts_both, init}
 use Rattle.fg_recorder.specs.Pieces.{piece_of, pieces}
 use Rattle.fg_recorder.specs.Recorded.{heap_with}
 use Rattle.fg_recorder.specs.Script.{is_released}
-use Rattle.fg_recorder.specs.Standing.{IsStanding, StandsAt, item_by, step, turn_item}
-use Rattle.fg_recorder.specs.declared.mark.Mark.{Mark}
+use Rattle.fg_recorder.specs.Standing.{IsStanding, item_by, step, turn_item}
 use Rattle.fg_recorder.specs.declared.mark.Mark.TheVariants.{Turn as OfTurn}
-use Rattle.fg_recorder.specs.declared.mark.Marked.TheVariants.{Does}
 use Rattle.fg_subs.specs.declared.program.Item.{Item}
 use Rattle.fg_subs.specs.declared.program.Item.TheVariants as item
 use Rattle.fg_subs.specs.declared.program.Program.{Program}
 use Rattle.fg_ties.specs.Passing.{UpTo}
 use Rattle.fg_timeline.specs.Steps.{IsScript}
 use Rattle.fg_turns.specs.Masks.{barrier_masks, entry_masks}
-use Rattle.fg_turns.specs.Turns.{earlier, first, has_uses, is_transfer, kind_of, masks_of, turn_between, turn_of}
+use Rattle.fg_turns.specs.Turns.{earlier, first, is_transfer, masks_of, turn_between, turn_of}
 use Rattle.fg_turns.specs.Under.{Heap, is_under, place_of, uses_under}
 use Rattle.fg_turns.specs.Unions.{stages_on}
-use Rattle.fg_turns.specs.declared.turn.TurnKind.{TurnKind}
 use Rattle.fg_turns.specs.declared.turn.TurnKind.TheVariants as kinds
-use Rattle.fg_view.specs.Views.{no_piece, overlap as piece_overlap, pieces_overlap, view_of}
+use Rattle.fg_view.specs.Views.{no_piece, pieces_overlap, view_of}
 
 -- THE FIRST AND THE LAST GROUP OF A UNIT
 

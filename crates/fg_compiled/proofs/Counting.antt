@@ -1,5 +1,5 @@
 -- How many of the first numbers pass a test.
-use Rattle.std.proofs.Common.{◌≡◌, ◌⊎◌, ⊎_elim, inl, inr, ℕ, zero, suc, ◌+◌, ◌-◌, ◌<◌, ◌≤◌, ◌==◌, nat_le, Bool, true, false, List, [], ◌∷◌, ◌++◌, length, get_or, slice_get, if◌then◌else◌, Some, refl, sym, ap, ◌∙◌, subst, eq-eqb, arith}
+use Rattle.std.proofs.Common.{◌≡◌, ⊎_elim, ℕ, zero, suc, ◌+◌, ◌-◌, ◌<◌, ◌≤◌, ◌==◌, nat_le, Bool, true, false, List, [], ◌∷◌, ◌++◌, length, get_or, slice_get, if◌then◌else◌, Some, refl, sym, ap, ◌∙◌, subst, eq-eqb, arith}
 use Rattle.std.specs.List.{count_by, filter, position_or_len, range_with_len}
 use Rattle.std.proofs.lemmas.Bool.{cases_lt, cases_order, false≢true, le-leb, lt-leb}
 use Rattle.std.proofs.lemmas.List.Sums.{sum_by-append, sum_by-cons, count_by-le-length, fails_before_first}

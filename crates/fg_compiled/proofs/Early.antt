@@ -1,5 +1,5 @@
 -- What a command needs is needed before what stands beside it.
-use Rattle.std.proofs.Common.{◌≡◌, ◌⊎◌, ⊎_elim, inl, inr, ℕ, zero, suc, ◌+◌, ◌-◌, ◌<◌, ◌≤◌, ◌==◌, Bool, true, false, List, [], ◌∷◌, ◌++◌, length, map, get_or, if◌then◌else◌, Some, None, refl, sym, ap, ◌∙◌, subst, append_assoc, eq-eqb, arith}
+use Rattle.std.proofs.Common.{◌≡◌, ⊎_elim, ℕ, zero, suc, ◌+◌, ◌-◌, ◌<◌, ◌≤◌, ◌==◌, Bool, true, false, List, [], ◌∷◌, ◌++◌, length, map, get_or, if◌then◌else◌, Some, None, refl, sym, ap, ◌∙◌, subst, append_assoc, eq-eqb, arith}
 use Rattle.std.specs.List.{All, Contains, filter, flat_map}
 use Rattle.std.specs.Prelude.{slice_get}
 use Rattle.std.proofs.lemmas.Bool.{cases_lt, false≢true}
@@ -9,11 +9,11 @@ use Rattle.std.proofs.lemmas.Option.{get_or_from_slice_get, slice_get-get_or, sl
 use Rattle.fg_base.proofs.Lists.{each_of, entry_of, one}
 use Rattle.fg_base.specs.Operands.{mapped}
 use Rattle.fg_base.specs.declared.shape.Shape.{Shape}
-use Rattle.fg_compiled.proofs.Contained.{contains_at, contains_filter, contains_map, contains_part}
+use Rattle.fg_compiled.proofs.Contained.{contains_filter, contains_map, contains_part}
 use Rattle.fg_compiled.proofs.Exports.{entry_right}
 use Rattle.fg_compiled.proofs.Groups.{some_use}
 use Rattle.fg_groups.specs.Laws.{IsGrouped, IsSourced}
-use Rattle.fg_groups.specs.Needs.{group_at, group_of, uses_at, uses_in, use_at}
+use Rattle.fg_groups.specs.Needs.{group_at, uses_at, uses_in, use_at}
 use Rattle.fg_groups.specs.Uses.{command_uses, uses_of}
 use Rattle.fg_groups.specs.declared.command.Command as commands
 use Rattle.fg_groups.specs.declared.grouping.Grouping.{Grouping}

@@ -1,9 +1,9 @@
 -- Groups stand by their pieces.
-use Rattle.std.proofs.Common.{◌≡◌, ◌⊎◌, ⊎_elim, inl, inr, ℕ, zero, suc, ◌+◌, ◌-◌, ◌*◌, ◌/◌, ◌%◌, ◌<◌, ◌≤◌, ◌==◌, ◌&&◌, ◌||◌, nat_lt, not, Bool, true, false, length, if◌then◌else◌, refl, sym, ap, ◌∙◌, subst, eq-eqb, arith}
+use Rattle.std.proofs.Common.{◌≡◌, ◌⊎◌, ⊎_elim, inl, inr, ℕ, zero, suc, ◌+◌, ◌-◌, ◌%◌, ◌<◌, ◌≤◌, ◌==◌, ◌&&◌, nat_lt, not, true, false, length, if◌then◌else◌, sym, ap, ◌∙◌, subst, eq-eqb, arith}
 use Rattle.std.proofs.lemmas.Bool.{and_from, and_parts, cases_lt, false≢true, le-leb, le-ltb, lt-ltb, ltb-true, not-true, or_left}
 use Rattle.fg_compiled.proofs.Counting.{count_le, count_same}
 use Rattle.fg_compiled.proofs.Groups.{goes, unit_known, unit_piece, units_rise}
-use Rattle.fg_compiled.specs.Plan.{export_at, export_count, group_count, is_copy, is_first, is_last, is_of_export, is_of_unit, is_over, is_placed, is_read, plan_of, resource_after, resource_of, unit_of, unit_under}
+use Rattle.fg_compiled.specs.Plan.{export_at, group_count, is_copy, is_first, is_last, is_of_export, is_of_unit, is_over, is_placed, is_read, plan_of, resource_after, resource_of, unit_of, unit_under}
 use Rattle.fg_crossing.specs.Plans.{Grouped}
 use Rattle.fg_groups.specs.Laws.{IsGrouped, IsKnown}
 use Rattle.fg_groups.specs.Needs.{goes_on, is_touched}

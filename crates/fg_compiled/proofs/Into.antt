@@ -1,5 +1,5 @@
 -- What uses the earlier of two units in the same bytes comes before the alias barrier.
-use Rattle.std.proofs.Common.{◌≡◌, ◌≢◌, ◌⊎◌, ⊎_elim, inl, inr, ℕ, zero, suc, ◌+◌, ◌-◌, ◌<◌, ◌≤◌, ◌==◌, ◌&&◌, ◌||◌, nat_lt, Bool, true, false, List, [], length, get_or, if◌then◌else◌, None, Some, refl, sym, ap, ◌∙◌, subst, eq-eqb, eqb-true, arith}
+use Rattle.std.proofs.Common.{◌≡◌, ◌⊎◌, ⊎_elim, inl, inr, ℕ, suc, ◌+◌, ◌-◌, ◌<◌, ◌≤◌, ◌==◌, ◌&&◌, ◌||◌, nat_lt, Bool, true, false, [], length, get_or, if◌then◌else◌, None, Some, refl, sym, ap, ◌∙◌, subst, eq-eqb, eqb-true, arith}
 use Rattle.std.specs.List.{Contains, range_with_len}
 use Rattle.std.specs.Prelude.{slice_get}
 use Rattle.std.proofs.lemmas.Bool.{and_from, and_parts, cases_Bool, cases_eq, cases_order, false≢true, lt-ltb, ltb-true, or_cases, or_left}
@@ -10,26 +10,25 @@ use Rattle.fg_bits.specs.Sets.{meets}
 use Rattle.fg_compiled.proofs.Aliased.{alias_at, alias_item}
 use Rattle.fg_compiled.proofs.Contained.{contains_on, contains_some, from_first, on_rising}
 use Rattle.fg_compiled.proofs.Early.{IsEarly}
-use Rattle.fg_compiled.proofs.Grouped.{Over, over_parts, resource_unit}
-use Rattle.fg_compiled.proofs.Groups.{Member, commands_rise, first_in, member_of, member_queue, next_unit, next_within, is_own, sourced, some_use, use_queue}
+use Rattle.fg_compiled.proofs.Grouped.{over_parts, resource_unit}
+use Rattle.fg_compiled.proofs.Groups.{Member, commands_rise, first_in, member_of, member_queue, next_unit, next_within, is_own, some_use, use_queue}
 use Rattle.fg_compiled.proofs.Places.{HasItem, member_unit, into_next, into_release, into_transfer, member_command, member_into, known_command, release_at, turn_before}
-use Rattle.fg_compiled.proofs.Steps.{ItemAt, command_steps, over_need, soon, sooner_crossed, turn_at}
+use Rattle.fg_compiled.proofs.Steps.{ItemAt, command_steps, over_need, soon, turn_at}
 use Rattle.fg_compiled.proofs.TurnKinds.{earlier_is, kept_barrier, next_there, over_kinds, over_there, placed_unit, released_transfer}
-use Rattle.fg_compiled.specs.Nodes.{alias_node, alias_step, command_node, item_at, nodes_of, release_node, release_queue, steps, steps_before, turn_node, turn_queue}
+use Rattle.fg_compiled.specs.Nodes.{alias_node, alias_step, command_node, item_at, release_node, release_queue, steps, steps_before, turn_node, turn_queue}
 use Rattle.fg_compiled.specs.Plan.{is_copy, is_copy_of, export_at, is_over, plan_of, resource_of, unit_of, uses_in_group}
-use Rattle.fg_crossing.specs.Crossings.{Sooner, Crossed, Later, IsFull, wait_stages, signal_stages}
+use Rattle.fg_crossing.specs.Crossings.{Sooner, Crossed, Later, IsFull, wait_stages}
 use Rattle.fg_crossing.specs.Plans.{Reach, by_queue, by_need, then_reach}
 use Rattle.fg_cut.specs.Later.{AreSooner, AreCrossed}
 use Rattle.fg_groups.specs.Laws.{IsGrouped, IsKnown}
 use Rattle.fg_groups.specs.Needs.{group_at, goes_on, is_member, is_of, leads, needs, queue_of, touches}
-use Rattle.fg_groups.specs.Placed.{placed, sizes, unit_at}
+use Rattle.fg_groups.specs.Placed.{sizes, unit_at}
 use Rattle.fg_groups.specs.declared.grouping.Grouping.{Grouping}
 use Rattle.fg_groups.specs.declared.unit_use.Use.{Use}
 use Rattle.fg_hb.specs.Edges.{edge, holds_back, is_at, is_signal, is_sync, is_wait, meeting, node_at, signalled}
 use Rattle.fg_hb.specs.Nodes.{program_nodes}
 use Rattle.fg_hb.specs.declared.kind.Kind.{Kind}
 use Rattle.fg_hb.specs.declared.kind.Kind.TheVariants as node_kinds
-use Rattle.fg_hb.specs.declared.node.Node.{Node}
 use Rattle.fg_lifetimes.specs.Ordered.{IsOrdered}
 use Rattle.fg_place.specs.Placing.{number_at, overlap}
 use Rattle.fg_reach.specs.Paths.{Path, one, then_on}
@@ -44,12 +43,10 @@ use Rattle.fg_recorder.specs.declared.mark.Marked.TheVariants.{Does, Needs}
 use Rattle.fg_subs.specs.declared.program.Item.{Item}
 use Rattle.fg_subs.specs.declared.program.Item.TheVariants as item
 use Rattle.fg_subs.specs.declared.program.Program.{Program}
-use Rattle.fg_timeline.specs.declared.step.Step.{Step}
 use Rattle.fg_turns.specs.Masks.{release_masks}
-use Rattle.fg_turns.specs.Turns.{earlier, first, last, no_use, turn_of}
+use Rattle.fg_turns.specs.Turns.{first, last, no_use, turn_of}
 use Rattle.fg_turns.specs.Under.{Heap, place_of}
 use Rattle.fg_turns.specs.Unions.{on}
-use Rattle.fg_turns.specs.declared.turn.TurnKind.{TurnKind}
 use Rattle.fg_turns.specs.declared.turn.TurnKind.TheVariants as kinds
 use Rattle.fg_view.specs.Views.{view_of}
 

@@ -1,22 +1,22 @@
 -- Where pieces lie: two that overlap are of placed units of which one is ordered before the other.
-use Rattle.std.proofs.Common.{◌≡◌, ◌≢◌, ◌⊎◌, ⊎_elim, inl, inr, ℕ, zero, suc, ◌+◌, ◌-◌, ◌<◌, ◌≤◌, ◌==◌, ◌&&◌, ◌||◌, nat_lt, not, Bool, true, false, List, length, map, get_or, if◌then◌else◌, Some, refl, sym, ap, ◌∙◌, subst, eq-eqb, eqb-true, arith}
+use Rattle.std.proofs.Common.{◌≡◌, ◌≢◌, ◌⊎◌, ⊎_elim, inl, inr, ℕ, ◌+◌, ◌<◌, ◌==◌, ◌&&◌, ◌||◌, nat_lt, not, Bool, true, false, List, length, get_or, if◌then◌else◌, Some, refl, sym, ap, ◌∙◌, subst, eq-eqb, eqb-true, arith}
 use Rattle.std.specs.List.{count_by, filter, range_with_len}
 use Rattle.std.specs.Option.{option_map}
 use Rattle.std.specs.Prelude.{slice_get}
 use Rattle.std.proofs.lemmas.Bool.{and_from, and_parts, cases_lt, cases_order, false≢true, le-leb, lt-ltb, or_from, or_left, or_parts, or_right}
-use Rattle.std.proofs.lemmas.List.{get_or-map, length-map}
+use Rattle.std.proofs.lemmas.List.{get_or-map}
 use Rattle.std.proofs.lemmas.Option.{get_or_from_slice_get, slice_get-map}
 use Rattle.fg_base.specs.Shapes.{bytes_of, shape_at}
 use Rattle.fg_compiled.proofs.Counting.{count_same, counted, place_within}
-use Rattle.fg_compiled.proofs.Grouped.{late, resource_export, resource_piece, resource_unit, same_resource}
+use Rattle.fg_compiled.proofs.Grouped.{late, resource_export, resource_piece, resource_unit}
 use Rattle.fg_compiled.proofs.Groups.{touched, unit_known}
 use Rattle.fg_compiled.proofs.TurnKinds.{placed_unit}
-use Rattle.fg_compiled.specs.Plan.{export_at, export_count, group_count, resource_of, unit_of}
+use Rattle.fg_compiled.specs.Plan.{group_count, resource_of, unit_of}
 use Rattle.fg_groups.specs.Laws.{IsGrouped, IsKnown}
 use Rattle.fg_groups.specs.Needs.{is_touched}
 use Rattle.fg_groups.specs.Placed.{is_import, placed, sizes, unit_at}
 use Rattle.fg_groups.specs.declared.grouping.Grouping.{Grouping}
-use Rattle.fg_place.specs.Placing.{IsLeast, Places, collides, goes_first, number_at, overlap}
+use Rattle.fg_place.specs.Placing.{IsLeast, Places, goes_first, number_at, overlap}
 use Rattle.fg_recorder.specs.Pieces.{has_memory, has_piece, is_readback, memory_of, offset_of, piece, piece_of, pieces, resources}
 use Rattle.fg_turns.specs.Under.{place_of}
 use Rattle.fg_view.specs.Views.{is_before_end, no_piece, pieces_overlap}

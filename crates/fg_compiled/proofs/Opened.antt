@@ -1,8 +1,8 @@
 -- What the nodes of a compiled frame are.
-use Rattle.std.proofs.Common.{◌≡◌, ◌⊎◌, ⊎_elim, inl, inr, ℕ, zero, suc, ◌+◌, ◌-◌, ◌*◌, ◌/◌, ◌%◌, ◌<◌, ◌≤◌, ◌==◌, ◌&&◌, nat_le, nat_lt, not, Bool, true, false, List, [], length, map, get_or, if◌then◌else◌, Option, Some, None, refl, sym, ap, ◌∙◌, subst, arith}
+use Rattle.std.proofs.Common.{◌≡◌, ⊎_elim, inl, inr, ℕ, suc, ◌-◌, ◌%◌, ◌<◌, ◌≤◌, ◌==◌, nat_lt, not, true, length, get_or, Some, refl, sym, ap, ◌∙◌, subst, arith}
 use Rattle.std.specs.List.{filter, range_with_len}
 use Rattle.std.specs.Prelude.{slice_get}
-use Rattle.std.proofs.lemmas.Bool.{and_parts, cases_lt, leb-true, le-ltb, lt-ltb, ltb-false, ltb-true, not-true}
+use Rattle.std.proofs.lemmas.Bool.{and_parts, cases_lt, ltb-false, ltb-true, not-true}
 use Rattle.std.proofs.lemmas.List.{length-map}
 use Rattle.std.proofs.lemmas.List.Sums.{length-filter}
 use Rattle.std.proofs.lemmas.Option.{slice_get-get_or}
@@ -10,31 +10,30 @@ use Rattle.fg_base.specs.Operands.{mapped}
 use Rattle.fg_base.specs.declared.op.Op.{Op}
 use Rattle.fg_base.specs.declared.role.Role.TheVariants.{CopyRead}
 use Rattle.fg_compiled.proofs.Counting.{count_late}
-use Rattle.fg_compiled.proofs.Exports.{AreCopied, Copies, copies_from}
+use Rattle.fg_compiled.proofs.Exports.{AreCopied, copies_from}
 use Rattle.fg_compiled.proofs.Groups.{member_of, next_within, some_use, sourced}
 use Rattle.fg_compiled.proofs.TurnKinds.{released_goes}
 use Rattle.fg_compiled.proofs.Places.{member_late, member_unit, release_at, turn_late, turn_unit, turned_late, turned_unit}
 use Rattle.fg_compiled.proofs.Stages.{OpensBy, group_stages, last_stages, turn_opens}
 use Rattle.fg_compiled.proofs.Steps.{ItemAt, command_at, copy_at, item_there, turn_at}
-use Rattle.fg_compiled.specs.Nodes.{command_node, copied_node, copied_step, copy_of, item_at, nodes_of, read_node, release_node, release_queue, steps, turn_node, turn_queue}
-use Rattle.fg_compiled.specs.Plan.{export_at, export_count, group_count, is_copy, is_copy_of, is_of_export, is_of_unit, is_read, plan_of, uses_in_group}
+use Rattle.fg_compiled.specs.Nodes.{command_node, copied_step, copy_of, item_at, nodes_of, read_node, release_queue, steps, turn_queue}
+use Rattle.fg_compiled.specs.Plan.{export_at, export_count, group_count, is_of_export, is_of_unit, is_read, plan_of, uses_in_group}
 use Rattle.fg_crossing.specs.Nodes.{IsBarrier, IsCommand, Roles}
 use Rattle.fg_cut.specs.Opens.{AreOpen}
 use Rattle.fg_cut.specs.Standing.{AllStand, StandsFor}
-use Rattle.fg_groups.specs.Laws.{IsGrouped, IsSourced}
-use Rattle.fg_groups.specs.Needs.{group_at, is_member, queue_of}
+use Rattle.fg_groups.specs.Laws.{IsGrouped}
+use Rattle.fg_groups.specs.Needs.{group_at, queue_of}
 use Rattle.fg_groups.specs.declared.command.Command as commands
 use Rattle.fg_groups.specs.declared.grouping.Grouping.{Grouping}
 use Rattle.fg_hb.specs.Edges.{is_host, is_sync, node_at}
 use Rattle.fg_hb.specs.Nodes.{item_node, program_nodes}
 use Rattle.fg_recorder.specs.Items.{transfer}
 use Rattle.fg_recorder.specs.Pieces.{is_readback, piece_of, readbacks, resources}
-use Rattle.fg_recorder.specs.Script.{is_released}
 use Rattle.fg_recorder.specs.Standing.{IsStanding, host_item, step, turn_item}
 use Rattle.fg_recorder.specs.Wanted.{is_there}
 use Rattle.fg_recorder.specs.declared.mark.Mark.TheVariants.{Command, Turn as OfTurn, Release}
 use Rattle.fg_subs.specs.Barriers.{masks_of}
-use Rattle.fg_subs.specs.Entries.{OfItem, OfHost}
+use Rattle.fg_subs.specs.Entries.{OfItem}
 use Rattle.fg_subs.specs.declared.program.Item.{Item}
 use Rattle.fg_subs.specs.declared.program.Item.TheVariants as item
 use Rattle.fg_subs.specs.declared.program.Program.{Program}

@@ -1,20 +1,20 @@
 -- Where the nodes of a compiled frame stand.
-use Rattle.std.proofs.Common.{◌≡◌, ◌≢◌, ◌⊎◌, ⊎_elim, inl, inr, ℕ, zero, suc, ◌+◌, ◌-◌, ◌%◌, ◌<◌, ◌≤◌, ◌==◌, ◌&&◌, Bool, true, false, List, [], length, if◌then◌else◌, Option, Some, None, refl, sym, ap, ◌∙◌, subst, eqb-true, eq-eqb, arith}
-use Rattle.std.specs.List.{All, Contains}
+use Rattle.std.proofs.Common.{◌≡◌, ◌≢◌, ◌⊎◌, ⊎_elim, inl, inr, ℕ, suc, ◌+◌, ◌-◌, ◌%◌, ◌<◌, ◌≤◌, ◌==◌, ◌&&◌, Bool, true, false, [], length, if◌then◌else◌, Some, sym, ap, ◌∙◌, subst, eqb-true, arith}
+use Rattle.std.specs.List.{Contains}
 use Rattle.std.specs.Option.{option_map_or}
 use Rattle.std.specs.Prelude.{slice_get}
-use Rattle.std.proofs.lemmas.Bool.{and_from, and_parts, cases_eq, cases_lt, cases_order, false≢true, le-ltb, lt-ltb, or_cases}
+use Rattle.std.proofs.lemmas.Bool.{and_parts, cases_eq, cases_lt, cases_order, false≢true, le-ltb, lt-ltb, or_cases}
 use Rattle.std.proofs.lemmas.List.Elements.{All-contains}
 use Rattle.std.proofs.lemmas.Option.{slice_get_cases, slice_get_within}
 use Rattle.fg_base.specs.Operands.{mapped}
-use Rattle.fg_compiled.proofs.Contained.{Rising, contains_on, contains_some, first_on, first_queue, from_first, last_on, last_queue, on_rising, up_to_last}
+use Rattle.fg_compiled.proofs.Contained.{contains_on, contains_some, from_first, last_on, last_queue, on_rising, up_to_last}
 use Rattle.fg_compiled.proofs.Exports.{AreCopied, Copies, copies_from}
 use Rattle.fg_compiled.proofs.Grouped.{AreNext, of_unit, of_export, next, over_parts}
-use Rattle.fg_compiled.proofs.Groups.{Member, commands_rise, first_in, member_of, member_queue, next_unit, next_within, some_use, sourced, use_queue}
+use Rattle.fg_compiled.proofs.Groups.{Member, commands_rise, first_in, member_of, member_queue, next_unit, next_within, sourced, use_queue}
 use Rattle.fg_compiled.proofs.TurnKinds.{earlier_is, kept_barrier, next_there, over_there, released_goes, released_transfer}
 use Rattle.fg_compiled.proofs.Steps.{ItemAt, command_at, command_steps, copy_at, does_at, over_need, soon, sooner_crossed, turn_at}
-use Rattle.fg_compiled.specs.Nodes.{command_node, copied_node, copied_step, copy_of, item_at, nodes_of, release_node, release_queue, steps, turn_node, turn_queue}
-use Rattle.fg_compiled.specs.Plan.{export_at, is_copy, is_copy_of, is_of_export, is_of_unit, is_over, is_read, plan_of, resource_of, uses_in_group}
+use Rattle.fg_compiled.specs.Nodes.{command_node, copied_node, copied_step, item_at, nodes_of, release_node, release_queue, steps, turn_node, turn_queue}
+use Rattle.fg_compiled.specs.Plan.{export_at, is_copy, is_copy_of, is_of_export, is_over, is_read, plan_of, uses_in_group}
 use Rattle.fg_crossing.specs.Crossings.{Sooner, Crossed, Later}
 use Rattle.fg_crossing.specs.Nodes.{Places}
 use Rattle.fg_crossing.specs.Plans.{leads}
@@ -27,7 +27,7 @@ use Rattle.fg_groups.specs.declared.unit_use.Use.{Use}
 use Rattle.fg_hb.specs.Nodes.{program_nodes}
 use Rattle.fg_recorder.specs.Items.{transfer}
 use Rattle.fg_recorder.specs.Pieces.{piece_of}
-use Rattle.fg_recorder.specs.Script.{groups_used, is_released, use_releases}
+use Rattle.fg_recorder.specs.Script.{is_released}
 use Rattle.fg_recorder.specs.Standing.{IsNeeded, IsRecorded, IsStanding, NeedsOthers, host_item, host_step, step, turn_item}
 use Rattle.fg_recorder.specs.Wanted.{is_there}
 use Rattle.fg_recorder.specs.declared.mark.Mark.TheVariants.{Command, Turn as OfTurn, Release}
@@ -35,10 +35,9 @@ use Rattle.fg_subs.specs.declared.program.Item.{Item}
 use Rattle.fg_subs.specs.declared.program.Item.TheVariants as item
 use Rattle.fg_subs.specs.declared.program.Program.{Program}
 use Rattle.fg_turns.specs.Masks.{release_masks}
-use Rattle.fg_turns.specs.Turns.{earlier, first, last, turn_of}
+use Rattle.fg_turns.specs.Turns.{first, last, turn_of}
 use Rattle.fg_turns.specs.Under.{Heap}
 use Rattle.fg_turns.specs.Unions.{on}
-use Rattle.fg_turns.specs.declared.turn.TurnKind.TheVariants as kinds
 use Rattle.fg_view.specs.Views.{view_of}
 
 -- the item of command c is there

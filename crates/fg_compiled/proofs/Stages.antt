@@ -1,10 +1,10 @@
 -- The masks round groups name stages of roles.
-use Rattle.std.proofs.Common.{◌≡◌, ◌⊎◌, ⊎_elim, inl, inr, ℕ, zero, suc, ◌-◌, ◌<◌, ◌≤◌, ◌==◌, ◌++◌, not, Bool, true, false, List, [], ◌∷◌, length, get_or, if◌then◌else◌, Option, Some, None, refl, sym, ap, ◌∙◌, subst, bit_and, bit_or, eq-eqb, eqb-true, arith}
+use Rattle.std.proofs.Common.{◌≡◌, ◌⊎◌, ⊎_elim, inl, ℕ, zero, suc, ◌-◌, ◌<◌, ◌≤◌, ◌==◌, ◌++◌, not, Bool, true, false, List, [], ◌∷◌, length, get_or, if◌then◌else◌, Option, Some, None, refl, sym, ap, ◌∙◌, subst, bit_and, bit_or, eq-eqb, eqb-true, arith}
 use Rattle.std.specs.List.{All, Contains}
 use Rattle.std.specs.Prelude.{is_some}
 use Rattle.std.proofs.lemmas.Bool.{cases_lt, false≢true}
 use Rattle.std.proofs.lemmas.List.{get_or_past}
-use Rattle.std.proofs.lemmas.List.Elements.{All-nil, All-append, All-contains}
+use Rattle.std.proofs.lemmas.List.Elements.{All-nil, All-append}
 use Rattle.std.proofs.lemmas.List.Folds.{list_any_at}
 use Rattle.std.proofs.lemmas.Nat.{and_assoc, and_or_self, or_comm}
 use Rattle.std.specs.Int.Bits.{or_self}
@@ -28,19 +28,19 @@ use Rattle.fg_groups.specs.Placed.{is_import, unit_at}
 use Rattle.fg_groups.specs.Uses.{command_uses, is_first_named, use_of, uses_from}
 use Rattle.fg_groups.specs.declared.grouping.Grouping.{Grouping}
 use Rattle.fg_groups.specs.declared.unit_use.Use.{Use}
-use Rattle.fg_recorder.specs.Items.{barrier, both, init, layouts_between, transfer}
+use Rattle.fg_recorder.specs.Items.{barrier, both, init, layouts_between}
 use Rattle.fg_recorder.specs.Pieces.{piece_of}
 use Rattle.fg_recorder.specs.Standing.{item_by, turn_item}
 use Rattle.fg_recorder.specs.Wanted.{is_there}
 use Rattle.fg_subs.specs.Barriers.{masks_of}
 use Rattle.fg_subs.specs.declared.program.Item.{Item}
 use Rattle.fg_subs.specs.declared.program.Item.TheVariants as item
-use Rattle.fg_turns.specs.Masks.{barrier_masks, entry_masks, release_masks}
+use Rattle.fg_turns.specs.Masks.{barrier_masks, entry_masks}
 use Rattle.fg_turns.specs.Turns.{earlier, first, first_kind, has_uses, last, no_use, turn_between, turn_of}
 use Rattle.fg_turns.specs.Under.{Heap, last_below, last_uses, place_of, under, uses_under}
 use Rattle.fg_turns.specs.Unions.{is_elsewhere, on, stages_on}
 use Rattle.fg_turns.specs.declared.turn.TurnKind.{TurnKind}
-use Rattle.fg_turns.specs.declared.turn.TurnKind.TheVariants.{Nothing, Barrier, Transfer, Alias, Init, AliasInit}
+use Rattle.fg_turns.specs.declared.turn.TurnKind.TheVariants.{Nothing, Barrier, Transfer}
 
 -- SETS
 

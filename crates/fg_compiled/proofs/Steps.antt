@@ -1,12 +1,11 @@
 -- What is recorded, as items of queues at steps, and what comes later.
-use Rattle.std.proofs.Common.{◌≡◌, ◌⊎◌, ⊎_elim, inl, inr, ℕ, zero, suc, ◌+◌, ◌-◌, ◌<◌, ◌≤◌, ◌==◌, Bool, true, false, List, length, Option, Some, None, refl, sym, ap, ◌∙◌, subst, eq-eqb, eqb-true, arith}
+use Rattle.std.proofs.Common.{◌≡◌, ⊎_elim, inl, inr, ℕ, ◌<◌, ◌≤◌, true, false, List, length, Option, Some, None, refl, sym, ap, ◌∙◌, subst, eq-eqb, eqb-true, arith}
 use Rattle.std.specs.Option.{option_map, option_map_or}
 use Rattle.std.specs.Prelude.{slice_get}
 use Rattle.std.proofs.lemmas.Bool.{cases_order, false≢true}
-use Rattle.std.proofs.lemmas.Option.{slice_get-map, slice_get_within}
+use Rattle.std.proofs.lemmas.Option.{slice_get-map}
 use Rattle.fg_base.specs.Operands.{mapped}
-use Rattle.fg_compiled.specs.Nodes.{command_node, copied_step, item_at, steps}
-use Rattle.fg_compiled.specs.Plan.{exports}
+use Rattle.fg_compiled.specs.Nodes.{copied_step, item_at, steps}
 use Rattle.fg_crossing.specs.Crossings.{Sooner, Crossed, Later}
 use Rattle.fg_cut.specs.Later.{AreSooner, AreCrossed}
 use Rattle.fg_groups.specs.Needs.{group_at, queue_of}
@@ -17,10 +16,9 @@ use Rattle.fg_hb.specs.declared.node.Node.{Node}
 use Rattle.fg_recorder.specs.Marks.{unmarked}
 use Rattle.fg_recorder.specs.Pieces.{piece_of}
 use Rattle.fg_recorder.specs.Script.{script}
-use Rattle.fg_recorder.specs.Standing.{IsNeeded, IsRecorded, IsStanding, Precedes, StandsAt, host_item, host_step, step, turn_item}
+use Rattle.fg_recorder.specs.Standing.{IsNeeded, IsRecorded, IsStanding, StandsAt, host_item, host_step, step, turn_item}
 use Rattle.fg_recorder.specs.declared.mark.Mark.{Mark}
-use Rattle.fg_recorder.specs.declared.mark.Mark.TheVariants.{Command, Turn as OfTurn, Release}
-use Rattle.fg_recorder.specs.declared.mark.Marked.{Marked}
+use Rattle.fg_recorder.specs.declared.mark.Mark.TheVariants.{Command, Turn as OfTurn}
 use Rattle.fg_recorder.specs.declared.mark.Marked.TheVariants.{Does, Needs}
 use Rattle.fg_subs.specs.declared.program.Item.{Item}
 use Rattle.fg_subs.specs.declared.program.Item.TheVariants as item

@@ -1,8 +1,8 @@
 -- Which kind of turn stands before a group.
-use Rattle.std.proofs.Common.{◌≡◌, ◌⊎◌, ⊎_elim, inl, inr, ℕ, zero, suc, ◌+◌, ◌<◌, ◌≤◌, ◌==◌, ◌&&◌, not, Bool, true, false, List, [], ◌∷◌, length, get_or, if◌then◌else◌, Option, refl, sym, ap, ◌∙◌, subst, eq-eqb, eqb-true, arith}
-use Rattle.std.specs.List.{All, Contains, range_with_len}
+use Rattle.std.proofs.Common.{◌≡◌, ◌⊎◌, ⊎_elim, inl, inr, ℕ, zero, suc, ◌<◌, ◌≤◌, ◌==◌, ◌&&◌, not, Bool, true, false, List, [], ◌∷◌, length, if◌then◌else◌, refl, sym, ap, ◌∙◌, subst, eqb-true, arith}
+use Rattle.std.specs.List.{Contains, range_with_len}
 use Rattle.std.specs.Prelude.{is_some}
-use Rattle.std.proofs.lemmas.Bool.{and_from, and_parts, cases_eq, cases_lt, cases_order, false≢true, not-true}
+use Rattle.std.proofs.lemmas.Bool.{and_from, and_parts, cases_eq, cases_order, false≢true, not-true}
 use Rattle.std.proofs.lemmas.List.Elements.{filter_passes}
 use Rattle.std.proofs.lemmas.List.Sums.{passes_at_first}
 use Rattle.fg_compiled.proofs.Contained.{contains_filter, contains_number, some_part}
@@ -17,7 +17,7 @@ use Rattle.fg_groups.specs.declared.grouping.Grouping.{Grouping}
 use Rattle.fg_groups.specs.declared.unit_use.Use.{Use}
 use Rattle.fg_recorder.specs.Script.{is_released}
 use Rattle.fg_recorder.specs.Wanted.{is_there}
-use Rattle.fg_turns.specs.Turns.{earlier, first, first_kind, has_uses, is_transfer, kind_of, last, next_kind, turn_of}
+use Rattle.fg_turns.specs.Turns.{earlier, first, first_kind, has_uses, is_transfer, next_kind, turn_of}
 use Rattle.fg_turns.specs.Under.{Heap, is_under, last_below, last_uses, place_of, under, uses_under}
 use Rattle.fg_turns.specs.declared.turn.TurnKind.{TurnKind}
 use Rattle.fg_turns.specs.declared.turn.TurnKind.TheVariants.{Nothing, Barrier, Transfer, Alias, Init, AliasInit}
