@@ -1,24 +1,27 @@
 -- The commands of a frame: operations of passes on units, and for each export one copy of it.
-use Rattle.std.proofs.Common.{◌≡◌, ◌⊎◌, ⊎_elim, ℕ, zero, suc, ◌+◌, ◌-◌, ◌<◌, ◌≤◌, ◌==◌, ◌||◌, Bool, true, false, List, [], ◌∷◌, length, map, get_or, slice_get, if◌then◌else◌, Some, None, refl, sym, ap, ◌∙◌, subst, ne_eqb, arith}
+use Rattle.std.proofs.Common.{◌≡◌, ◌⊎◌, ⊎_elim, ℕ, zero, suc, ◌+◌, ◌-◌, ◌<◌, ◌≤◌, ◌==◌, ◌||◌, Bool, true, false, List, [], ◌∷◌, length, map, get_or, slice_get, if◌then◌else◌, Option, Some, None, refl, sym, ap, ◌∙◌, subst, ne_eqb, arith}
 use Rattle.std.specs.List.{All}
 use Rattle.std.specs.Prelude.{is_some}
-use Rattle.std.proofs.lemmas.Bool.{cases_lt}
-use Rattle.std.proofs.lemmas.List.{get_or_append_left, get_or-append_right, length-append, length-map}
+use Rattle.std.proofs.lemmas.Bool.{cases_lt, false≢true}
+use Rattle.std.proofs.lemmas.List.{get_or-append-add, get_or-map, get_or_past, get_or_append_left, get_or-append_right, length-append, length-map}
 use Rattle.std.proofs.lemmas.List.Elements.{All-nil, All-append, All-map, All-head, All-tail}
 use Rattle.std.proofs.lemmas.Option.{slice_get-get_or, slice_get_within, get_or_from_slice_get}
-use Rattle.fg_base.proofs.Lists.{one}
+use Rattle.fg_base.proofs.Lists.{entry_of, one}
 use Rattle.fg_base.specs.InPlace.{in_place}
 use Rattle.fg_base.specs.Operands.{sources_of, destination_of, operands_of}
-use Rattle.fg_base.specs.Shapes.{shape_at}
+use Rattle.fg_base.specs.Shapes.{is_image, shape_at}
 use Rattle.fg_base.specs.declared.op.Op.{Op}
 use Rattle.fg_base.specs.declared.shape.Shape.{Shape}
 use Rattle.fg_base.specs.declared.shape.Shape.TheVariants.{Buffer, Image}
 use Rattle.fg_compiled.specs.Plan.{export_count}
 use Rattle.fg_frame.specs.Good.{IsGood, shapes_in}
 use Rattle.fg_frame.specs.Numbered.{NumberedFrame}
+use Rattle.fg_frame.specs.Units.{Unit}
+use Rattle.fg_frame.specs.Uses.{import_fits}
 use Rattle.fg_frame.specs.declared.numbered.NumberedPass.{NumberedPass}
 use Rattle.fg_groups.specs.Commands.{on_queue, pass_commands, kept_commands, copy_out, export_command, export_commands, readback_shape}
 use Rattle.fg_groups.specs.Groups.{grouping}
+use Rattle.fg_groups.specs.Placed.{is_import}
 use Rattle.fg_groups.specs.declared.command.Command.{Command}
 use Rattle.fg_groups.specs.declared.grouping.Grouping.{Grouping}
 
@@ -26,6 +29,12 @@ use Rattle.fg_groups.specs.declared.grouping.Grouping.{Grouping}
 pub data Sort (G : Grouping) (command : Command) : Type 0 where
   a_pass : command.export ≡ None → All (λ r. r < length G.imports) (operands_of command.op) → in_place command.op ≡ false → Sort G command
   a_copy : (k unit : ℕ) (shape : Shape) → k < export_count G → unit < length G.imports → command.export ≡ Some k → command.op ≡ copy_out shape unit (length G.imports + k) → Sort G command
+
+-- an entry that is there
+pub entry_there : {X : Type 0} (xs : List X) (i : ℕ) → i < length xs → (x : X) × (slice_get xs i ≡ Some x)
+entry_there [] i lt = absurd (omega (arith, lt))
+entry_there (x ∷ xs) zero lt = (x, refl)
+entry_there (x ∷ xs) (suc i) lt = entry_there xs i (omega (arith, lt))
 
 -- EACH COMMAND
 
@@ -105,3 +114,41 @@ module _ (frame : NumberedFrame) (kept : List Bool) where
         subst (λ n. Sort G (export_command frame n unit)) z
         (a_copy k unit (shape_at (shapes_in frame) unit) (omega (arith, lt, count)) (omega (arith, low, same)) refl
         (ap (λ n. copy_out (shape_at (shapes_in frame) unit) unit (n + k)) (sym same)))))
+
+    -- SHAPES
+
+    units_count : length (shapes_in frame) ≡ length frame.units
+    units_count = length-map frame.units (λ u. u.shape)
+
+    -- the buffer of an export is no image
+    pub buffers_plain : (k : ℕ) → k < export_count G → is_image (shape_at G.shapes (length G.imports + k)) ≡ false
+    buffers_plain k lt =
+        let count = exports_count in
+        let low : k < length frame.exports = omega (arith, lt, count) in
+        ap (λ n. is_image (shape_at G.shapes (n + k))) (imports_count ∙ sym units_count)
+        ∙ ap is_image (get_or-append-add (shapes_in frame) (map (readback_shape frame) frame.exports) k (Buffer 0) ∙ get_or-map (readback_shape frame) frame.exports k 0 (Buffer 0) low)
+
+    no_image : (shape : Shape) (imported : Option (List ℕ)) → is_some imported ≡ true → import_fits shape imported ≡ true → is_image shape ≡ false
+    no_image (Buffer size) imported s fit = refl
+    no_image (Image width height texel) None s fit = absurd (false≢true s)
+    no_image (Image width height texel) (Some bytes) s fit = absurd (false≢true fit)
+
+    none_past : (unit : ℕ) → length frame.units ≤ unit → is_import G unit ≡ false
+    none_past unit le = get_or_past G.imports unit false (let count = imports_count in omega (arith, count, le))
+
+    -- nor is an import
+    pub imports_plain : (unit : ℕ) → is_import G unit ≡ true → is_image (shape_at G.shapes unit) ≡ false
+    imports_plain unit e = ⊎_elim within (λ le. absurd (false≢true (sym (none_past unit le) ∙ e))) (cases_lt unit (length frame.units))
+      where
+        within : unit < length frame.units → is_image (shape_at G.shapes unit) ≡ false
+        within lt = of_there (entry_there frame.units unit lt)
+          where
+            of_there : (u : Unit) × (slice_get frame.units unit ≡ Some u) → is_image (shape_at G.shapes unit) ≡ false
+            of_there (u, at) =
+                let got : get_or frame.units unit u ≡ u = get_or_from_slice_get frame.units unit u u at in
+                let count = units_count in
+                let shape : shape_at G.shapes unit ≡ u.shape =
+                get_or_append_left (shapes_in frame) (map (readback_shape frame) frame.exports) (Buffer 0) unit (omega (arith, count, lt))
+                ∙ get_or-map (λ (x : Unit). x.shape) frame.units unit u (Buffer 0) lt ∙ ap (λ (x : Unit). x.shape) got in
+                let own : is_some u.imported ≡ true = sym (get_or-map (λ (x : Unit). is_some x.imported) frame.units unit u false lt ∙ ap (λ (x : Unit). is_some x.imported) got) ∙ e in
+                ap is_image shape ∙ no_image u.shape u.imported own (entry_of (λ (x : Unit). import_fits x.shape x.imported ≡ true) frame.units unit u good.imports_fit at)

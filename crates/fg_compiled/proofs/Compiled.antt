@@ -1,6 +1,6 @@
 -- What is known of each program that is compiled of a good frame.
 use Rattle.std.proofs.Common.{ℕ, Bool, List, length, refl}
-use Rattle.fg_compiled.proofs.Commands.{sorts}
+use Rattle.fg_compiled.proofs.Commands.{buffers_plain, imports_plain, sorts}
 use Rattle.fg_compiled.proofs.Exports.{are_copied}
 use Rattle.fg_compiled.proofs.Setting.{IsSet}
 use Rattle.fg_compiled.specs.Nodes.{steps}
@@ -35,6 +35,8 @@ module _ (frame : NumberedFrame) (kept : List Bool) (ordered : ℕ → ℕ → B
     known = known;
     sorts = sorts frame kept good;
     copied = are_copied frame kept;
+    imports = imports_plain frame kept good;
+    buffers = buffers_plain frame kept good;
     script = script;
     standing = standing;
     stand = stand;

@@ -14,11 +14,14 @@ pub mod Groups
 pub mod HandedOn
 pub mod Into
 pub mod Items
+pub mod LaidBy
+pub mod LaidOut
 pub mod Lying
 pub mod Masked
 pub mod Members
 pub mod Opened
 pub mod Ops
+pub mod OwnedBy
 pub mod Pieces
 pub mod Places
 pub mod Reading

@@ -43,17 +43,12 @@ use Rattle.fg_subs.specs.Rules.{shapes_of}
 use Rattle.fg_subs.specs.declared.program.Item.TheVariants as item
 use Rattle.fg_subs.specs.declared.program.Program.{Program}
 use Rattle.fg_turns.specs.Under.{Heap}
+use Rattle.fg_view.specs.AccessKinds.{wanted}
 use Rattle.fg_view.specs.Effects.{command_accesses, layout_wanted, role_agent}
 use Rattle.fg_view.specs.ShapedView.{Has}
 use Rattle.fg_view.specs.Views.{View, effect_at, view_of}
 use Rattle.fg_view.specs.declared.access.Access.{Access}
 use Rattle.fg_view.specs.declared.access.AccessKind.TheVariants.{Load, Store}
-
--- an entry that is there
-pub entry_there : {X : Type 0} (xs : List X) (i : ℕ) → i < length xs → (x : X) × (slice_get xs i ≡ Some x)
-entry_there [] i lt = absurd (omega (arith, lt))
-entry_there (x ∷ xs) zero lt = (x, refl)
-entry_there (x ∷ xs) (suc i) lt = entry_there xs i (omega (arith, lt))
 
 -- WHAT A TOUCH DOES
 
@@ -64,6 +59,10 @@ touch_plain shapes q t a (a_store bits e is) = ap (λ (x : Access). is_plain x.k
 pub touch_piece : (shapes : List Shape) (q : ℕ) (t : Touch) (a : Access) → IsOf shapes q t a → a.piece ≡ t.what
 touch_piece shapes q t a (a_load bits e is) = ap (λ (x : Access). x.piece) is
 touch_piece shapes q t a (a_store bits e is) = ap (λ (x : Access). x.piece) is
+
+pub touch_wanted : (shapes : List Shape) (q : ℕ) (t : Touch) (a : Access) → IsOf shapes q t a → wanted a.kind ≡ layout_wanted (shape_at shapes t.what) t.role
+touch_wanted shapes q t a (a_load bits e is) = ap (λ (x : Access). wanted x.kind) is
+touch_wanted shapes q t a (a_store bits e is) = ap (λ (x : Access). wanted x.kind) is
 
 -- by a use that says of the role what there is
 pub by_touch : (shapes : List Shape) (q : ℕ) (t : Touch) (u : Use) (a : Access) → u.stage.0 ≡ role_stage t.role → u.accesses.0 ≡ role_accesses t.role t.whole → u.writes.0 ≡ role_writes t.role → IsOf shapes q t a → IsBy q u a.kind
@@ -85,6 +84,7 @@ pub record IsDone (G : Grouping) (heap : Heap) (P : Program) (c g : ℕ) (a : Ac
   pub one : Use
   pub there : Contains (group_at G g) one
   pub command : one.command ≡ c
+  pub layout : wanted a.kind ≡ one.layout
   pub is : IsDoneBy G heap P c a one
 
 module _ (G : Grouping) (heap : Heap) (P : Program) (S : IsSet G heap P) where
@@ -154,6 +154,12 @@ module _ (G : Grouping) (heap : Heap) (P : Program) (S : IsSet G heap P) where
         by = subst (λ q. IsBy q u a.kind) same (by_touch shapes command.queue (moved (piece_of G) T.touch) u a stage accesses writes T.is);
       }
 
+  -- an image is wanted in the layout of its role
+  pub touched_wanted : (c : ℕ) (command : Command) (at : slice_get G.commands c ≡ Some command) (a : Access) (T : IsTouched G.shapes shapes (piece_of G) command.queue command.op a) → wanted a.kind ≡ layout_wanted (shape_at G.shapes T.touch.what) T.touch.role
+  touched_wanted c command at a T =
+      touch_wanted shapes command.queue (moved (piece_of G) T.touch) a T.is
+      ∙ ap (λ shape. layout_wanted shape T.touch.role) (All-contains (λ r. shape_at shapes (piece_of G r) ≡ shape_at G.shapes r) (operands_of command.op) T.touch.what (pieces_same c command at) (touch_operand G.shapes command.op T.touch T.there))
+
   -- MEMBERS
 
   module _ (c g : ℕ) (low : g < length G.groups) (M : Member G c g) (a : Access) (h : Has (view_of P) (command_node G heap c) a) (on : a.piece ≡ piece_of G (unit_of G g)) where
@@ -172,6 +178,7 @@ module _ (G : Grouping) (heap : Heap) (P : Program) (S : IsSet G heap P) where
           one = M.one;
           there = M.there;
           command = M.command;
+          layout = touched_wanted c X.command at a T ∙ ap (λ (t : Touch). layout_wanted (shape_at G.shapes t.what) t.role) (sym same) ∙ sym (ap (λ (u : Use). u.layout) I.is);
           is = done_by c X.command at a T M.one (member_queue G S.grouped c g low M)
               (ap (λ (u : Use). u.stage.0) I.is ∙ ap (λ (t : Touch). role_stage t.role) same)
               (ap (λ (u : Use). u.accesses.0) I.is ∙ ap (λ (t : Touch). role_accesses t.role t.whole) same)

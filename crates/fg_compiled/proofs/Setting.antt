@@ -1,12 +1,15 @@
 -- What is known of a compiled program by the laws of the crates below.
-use Rattle.std.proofs.Common.{◌≡◌, length, map}
+use Rattle.std.proofs.Common.{◌≡◌, ℕ, ◌+◌, ◌<◌, true, false, length, map}
 use Rattle.std.specs.List.{All}
+use Rattle.fg_base.specs.Shapes.{is_image, shape_at}
 use Rattle.fg_compiled.proofs.Commands.{Sort}
 use Rattle.fg_compiled.proofs.Exports.{AreCopied}
 use Rattle.fg_compiled.specs.Nodes.{steps}
+use Rattle.fg_compiled.specs.Plan.{export_count}
 use Rattle.fg_cut.specs.Later.{AreSooner}
 use Rattle.fg_cut.specs.Standing.{AllStand, AreThese}
 use Rattle.fg_groups.specs.Laws.{IsGrouped, IsKnown}
+use Rattle.fg_groups.specs.Placed.{is_import}
 use Rattle.fg_groups.specs.declared.grouping.Grouping.{Grouping}
 use Rattle.fg_recorder.specs.Pieces.{pieces, readbacks}
 use Rattle.fg_recorder.specs.Standing.{IsStanding}
@@ -20,6 +23,9 @@ pub record IsSet (G : Grouping) (heap : Heap) (P : Program) : Type 0 where
   pub known : IsKnown G
   pub sorts : All (Sort G) G.commands
   pub copied : AreCopied G
+  -- imports and the buffers of exports are no images
+  pub imports : (unit : ℕ) → is_import G unit ≡ true → is_image (shape_at G.shapes unit) ≡ false
+  pub buffers : (k : ℕ) → k < export_count G → is_image (shape_at G.shapes (length G.imports + k)) ≡ false
   pub script : IsScript (steps G heap) (length G.families)
   pub standing : IsStanding G heap
   pub stand : AllStand P (steps G heap) (length G.families)

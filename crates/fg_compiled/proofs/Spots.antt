@@ -13,14 +13,14 @@ use Rattle.fg_base.specs.Touches.{touches_of}
 use Rattle.fg_base.specs.declared.shape.Shape.{Shape}
 use Rattle.fg_base.specs.declared.shape.Shape.TheVariants.{Buffer, Image}
 use Rattle.fg_base.specs.declared.touch.Touch.{Touch}
-use Rattle.fg_compiled.proofs.Commands.{Sort, a_pass, a_copy}
+use Rattle.fg_compiled.proofs.Commands.{Sort, a_pass, a_copy, entry_there}
 use Rattle.fg_compiled.proofs.ExportGroups.{IsExport, copy_export, copy_group, copy_is, copy_parts, no_read, not_both, read_export, read_group, read_is, read_parts}
 use Rattle.fg_compiled.proofs.Exports.{Copies, copies_from}
 use Rattle.fg_compiled.proofs.Grouped.{resource_export, resource_unit}
 use Rattle.fg_compiled.proofs.Groups.{Member, member_of, next_unit, next_within, some_use, sourced}
 use Rattle.fg_compiled.proofs.Items.{IsEntry, IsMarkedAt, item_marked, item_stands, turn_entries}
 use Rattle.fg_compiled.proofs.TurnKinds.{released_goes}
-use Rattle.fg_compiled.proofs.Members.{IsDone, command_stands, done, entry_there, found_unit, pieces_same, queue_at, touch_piece, touch_plain, touched, use_group}
+use Rattle.fg_compiled.proofs.Members.{IsDone, command_stands, done, found_unit, pieces_same, queue_at, touch_piece, touch_plain, touched, use_group}
 use Rattle.fg_compiled.proofs.Pieces.{read_back}
 use Rattle.fg_compiled.proofs.Roles.{changes_write}
 use Rattle.fg_compiled.proofs.Setting.{IsSet}

@@ -77,6 +77,10 @@ module _ (G : Grouping) (heap : Heap) where
   pub next_after : (h : ℕ) → is_next (turn_of G heap h).kind ≡ true → (g : ℕ) × IsAfter G g h
   next_after h e = after_earlier h (some_earlier h e)
 
+  -- it is told by the two groups
+  pub next_kind_is : (h : ℕ) → is_next (turn_of G heap h).kind ≡ true → (turn_of G heap h).kind ≡ next_kind G (earlier G h) (group_at G h)
+  next_kind_is h e = ap (λ b. if b then next_kind G (earlier G h) (group_at G h) else if is_import G (first (group_at G h)).unit then kinds.Nothing else first_kind (has_uses (uses_under G heap (place_of G (first (group_at G h)).unit))) (is_some (first (group_at G h)).layout)) (some_earlier h e)
+
 -- AN ACCESS OF A TURN
 
 module _ (G : Grouping) (heap : Heap) (P : Program) (S : IsSet G heap P) where
