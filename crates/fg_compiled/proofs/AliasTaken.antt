@@ -1,5 +1,5 @@
 -- What an alias barrier takes of the members of the last group of a unit that had the bytes.
-use Rattle.std.proofs.Common.{◌≡◌, ◌⊎◌, inl, inr, ⊎_elim, ℕ, zero, suc, ◌+◌, ◌-◌, ◌<◌, ◌≤◌, ◌==◌, Bool, true, false, List, length, if◌then◌else◌, None, refl, sym, ap, ◌∙◌, subst, arith}
+use Rattle.std.proofs.Common.{◌≡◌, ◌⊎◌, inl, inr, ⊎_elim, ℕ, zero, suc, ◌-◌, ◌<◌, ◌≤◌, Bool, true, false, length, if◌then◌else◌, None, refl, sym, ap, ◌∙◌, subst, arith}
 use Rattle.std.specs.List.{Contains, range_with_len}
 use Rattle.std.proofs.lemmas.Bool.{cases_lt, cases_order, false≢true}
 use Rattle.fg_bits.specs.declared.masks.Masks.{Masks}
@@ -8,7 +8,7 @@ use Rattle.fg_compiled.proofs.Contained.{contains_filter, contains_number}
 use Rattle.fg_compiled.proofs.Grouped.{Over, over_parts}
 use Rattle.fg_compiled.proofs.Groups.{goes, is_own, of_unit, units_rise}
 use Rattle.fg_compiled.proofs.Items.{barrier_stands, item_stands}
-use Rattle.fg_compiled.proofs.TurnKinds.{over_kinds, over_there, placed_unit}
+use Rattle.fg_compiled.proofs.TurnKinds.{over_kinds, placed_unit}
 use Rattle.fg_compiled.proofs.Members.{done}
 use Rattle.fg_compiled.proofs.Served.{before_bytes, own_piece, takes_by}
 use Rattle.fg_compiled.proofs.Setting.{IsSet}
@@ -39,7 +39,6 @@ use Rattle.fg_subs.specs.declared.program.Program.{Program}
 use Rattle.fg_turns.specs.Masks.{barrier_masks}
 use Rattle.fg_turns.specs.Turns.{earlier, masks_of, turn_of}
 use Rattle.fg_turns.specs.Under.{Heap, is_under, last_below, last_uses, place_of, under, uses_under}
-use Rattle.fg_turns.specs.declared.turn.TurnKind.{TurnKind}
 use Rattle.fg_turns.specs.declared.turn.TurnKind.TheVariants as kinds
 use Rattle.fg_view.specs.Views.{View, view_of}
 use Rattle.fg_view.specs.declared.access.Access.{Access}

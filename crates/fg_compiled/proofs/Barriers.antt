@@ -1,5 +1,5 @@
 -- What a barrier takes of a command before it and gives to one after it, by what a use says of their accesses.
-use Rattle.std.proofs.Common.{◌≡◌, ℕ, ◌==◌, ◌&&◌, Bool, true, refl, sym, ap, ◌∙◌, subst, eq-eqb, arith}
+use Rattle.std.proofs.Common.{◌≡◌, ℕ, ◌==◌, ◌&&◌, Bool, true, sym, ap, ◌∙◌, subst, eq-eqb, arith}
 use Rattle.std.proofs.lemmas.Bool.{and_from}
 use Rattle.fg_base.specs.declared.role.Role.{Role}
 use Rattle.fg_bits.specs.Agents.{agents}
@@ -14,11 +14,9 @@ use Rattle.fg_crossing.specs.Masks.{Takes, Gives}
 use Rattle.fg_groups.specs.declared.unit_use.Use.{Use}
 use Rattle.fg_hb.specs.Edges.{node_at}
 use Rattle.fg_hb.specs.Nodes.{barrier_node}
-use Rattle.fg_view.specs.Effects.{role_agent}
 use Rattle.fg_view.specs.Views.{View, effect_at, queue_at, is_on}
 use Rattle.fg_view.specs.declared.access.Access.{Access}
 use Rattle.fg_view.specs.declared.access.AccessKind.{AccessKind}
-use Rattle.fg_view.specs.declared.access.AccessKind.TheVariants.{Load, Store}
 
 -- node t is a barrier of queue q with these masks, and serves piece p
 pub record IsBarrierOf (V : View) (t q p : ℕ) (masks : Masks) : Type 0 where

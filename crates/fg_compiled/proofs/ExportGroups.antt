@@ -1,6 +1,6 @@
 -- The two groups of each export, by their numbers: that of its copy, and that of the host's read.
-use Rattle.std.proofs.Common.{◌≡◌, ℕ, zero, suc, ◌+◌, ◌-◌, ◌*◌, ◌/◌, ◌%◌, ◌<◌, ◌≤◌, ◌==◌, ◌&&◌, nat_lt, not, Bool, true, false, length, if◌then◌else◌, refl, sym, ap, ◌∙◌, eq-eqb, eqb-true, arith}
-use Rattle.std.proofs.lemmas.Bool.{and_from, and_parts, le-ltb, lt-ltb, ltb-true, ltb-false, not-true, false≢true}
+use Rattle.std.proofs.Common.{◌≡◌, ℕ, suc, ◌+◌, ◌-◌, ◌*◌, ◌%◌, ◌<◌, ◌≤◌, ◌==◌, ◌&&◌, nat_lt, not, true, false, length, refl, ap, eq-eqb, eqb-true, arith}
+use Rattle.std.proofs.lemmas.Bool.{and_from, and_parts, le-ltb, lt-ltb, ltb-true, ltb-false, not-true}
 use Rattle.fg_compiled.specs.Plan.{export_at, export_count, group_count, is_copy, is_of_export, is_of_unit, is_read}
 use Rattle.fg_groups.specs.declared.grouping.Grouping.{Grouping}
 

@@ -1,8 +1,8 @@
 -- Which transfers of ownership there are.
-use Rattle.std.proofs.Common.{◌≡◌, ℕ, zero, suc, ◌+◌, ◌<◌, ◌&&◌, ◌||◌, Bool, true, false, List, [], ◌∷◌, ◌++◌, length, slice_get, if◌then◌else◌, Option, Some, None, refl, sym, ap, ◌∙◌, subst, arith}
+use Rattle.std.proofs.Common.{◌≡◌, ℕ, suc, ◌+◌, ◌<◌, ◌||◌, Bool, true, false, List, [], ◌∷◌, length, slice_get, if◌then◌else◌, Option, Some, None, refl, sym, ap, ◌∙◌, subst, arith}
 use Rattle.std.specs.List.{All, Contains}
 use Rattle.std.specs.Option.{option_map_or}
-use Rattle.std.proofs.lemmas.Bool.{and_from, false≢true}
+use Rattle.std.proofs.lemmas.Bool.{and_from}
 use Rattle.std.proofs.lemmas.List.Elements.{All-nil, All-append, Contains-append_right}
 use Rattle.fg_base.proofs.Lists.{one}
 use Rattle.fg_base.specs.declared.shape.Shape.{Shape}
@@ -14,10 +14,10 @@ use Rattle.fg_compiled.proofs.Groups.{next_unit, next_within}
 use Rattle.fg_compiled.proofs.Setting.{IsSet}
 use Rattle.fg_compiled.proofs.SpotFacts.{entry_got}
 use Rattle.fg_compiled.proofs.Spots.{item_access, leaving_item, piece_is, release_access, release_stands, turn_access, turn_stands}
-use Rattle.fg_compiled.proofs.TurnAccesses.{IsAfter, is_next, next_after, turn_all}
+use Rattle.fg_compiled.proofs.TurnAccesses.{is_next, next_after, turn_all}
 use Rattle.fg_compiled.proofs.TurnKinds.{earlier_is, released_goes, released_transfer}
 use Rattle.fg_compiled.specs.Nodes.{nodes_of, release_node, release_queue, turn_node, turn_queue}
-use Rattle.fg_compiled.specs.Plan.{plan_of, unit_of}
+use Rattle.fg_compiled.specs.Plan.{plan_of}
 use Rattle.fg_crossing.specs.Nodes.{Nodes}
 use Rattle.fg_crossing.specs.Plans.{Plan}
 use Rattle.fg_crossing.specs.Spots.{OfTurn, OfRelease}
@@ -42,9 +42,8 @@ use Rattle.fg_turns.specs.declared.turn.TurnKind.{TurnKind}
 use Rattle.fg_turns.specs.declared.turn.TurnKind.TheVariants as kinds
 use Rattle.fg_view.specs.Effects.{access, acquire_accesses, handover_of, item_effect, layout_change, same_layout, transition_through}
 use Rattle.fg_view.specs.ShapedView.{Has}
-use Rattle.fg_view.specs.Views.{View, accesses_of, view_of}
+use Rattle.fg_view.specs.Views.{View, view_of}
 use Rattle.fg_view.specs.declared.access.Access.{Access}
-use Rattle.fg_view.specs.declared.access.AccessKind.{AccessKind}
 use Rattle.fg_view.specs.declared.access.AccessKind.TheVariants as access_kinds
 use Rattle.fg_view.specs.declared.access.Handover.{Handover}
 

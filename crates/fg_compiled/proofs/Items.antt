@@ -1,11 +1,10 @@
 -- The node of each item that is recorded, and what barriers are as nodes.
-use Rattle.std.proofs.Common.{◌≡◌, ℕ, suc, ◌==◌, ◌||◌, Bool, true, false, List, [], ◌∷◌, length, slice_get, if◌then◌else◌, Option, Some, None, refl, sym, ap, ap₂, ◌∙◌, subst, eq-eqb}
+use Rattle.std.proofs.Common.{◌≡◌, ℕ, ◌||◌, Bool, true, false, List, [], ◌∷◌, length, slice_get, if◌then◌else◌, Option, Some, None, refl, sym, ap, ap₂, ◌∙◌, eq-eqb}
 use Rattle.std.specs.List.{All}
 use Rattle.std.specs.Option.{option_map, option_map_or}
 use Rattle.std.proofs.lemmas.List.Elements.{All-nil, All-append}
 use Rattle.std.proofs.lemmas.Option.{slice_get-map}
 use Rattle.fg_base.proofs.Lists.{one}
-use Rattle.fg_base.specs.declared.op.Op.{Op}
 use Rattle.fg_base.specs.declared.shape.Shape.{Shape}
 use Rattle.fg_bits.specs.Agents.{agents}
 use Rattle.fg_bits.specs.Layouts.{is_undefined}
@@ -19,7 +18,7 @@ use Rattle.fg_cut.specs.Standing.{AllStand, StandsFor}
 use Rattle.fg_groups.specs.declared.grouping.Grouping.{Grouping}
 use Rattle.fg_groups.specs.declared.unit_use.Use.{Use}
 use Rattle.fg_hb.specs.Nodes.{barrier_node}
-use Rattle.fg_recorder.specs.Items.{barrier, both, init, layouts_between, transfer}
+use Rattle.fg_recorder.specs.Items.{barrier, both, layouts_between, transfer}
 use Rattle.fg_recorder.specs.Marks.{unmarked}
 use Rattle.fg_recorder.specs.Pieces.{piece_of}
 use Rattle.fg_recorder.specs.Script.{script}

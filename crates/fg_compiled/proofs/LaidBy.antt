@@ -1,5 +1,5 @@
 -- The layout of each group is where its members want it.
-use Rattle.std.proofs.Common.{◌≡◌, ◌⊎◌, ⊎_elim, ℕ, zero, suc, ◌+◌, ◌-◌, ◌<◌, ◌≤◌, Bool, true, false, List, [], ◌∷◌, length, slice_get, if◌then◌else◌, Option, Some, None, refl, sym, ap, ◌∙◌, subst, arith}
+use Rattle.std.proofs.Common.{◌≡◌, ⊎_elim, ℕ, zero, suc, ◌+◌, ◌-◌, ◌<◌, ◌≤◌, Bool, true, false, [], ◌∷◌, length, slice_get, if◌then◌else◌, Option, Some, None, refl, sym, ap, ◌∙◌, arith}
 use Rattle.std.specs.List.{Contains}
 use Rattle.std.specs.Prelude.{is_some, unwrap_or}
 use Rattle.std.proofs.lemmas.Bool.{cases_Bool, false≢true, le-leb, or_left}
@@ -25,7 +25,7 @@ use Rattle.fg_compiled.proofs.Touches.{moved}
 use Rattle.fg_compiled.proofs.TurnAccesses.{IsAfter, does_item, does_known, does_there, is_next, next_after, turn_all, turn_does, turn_low}
 use Rattle.fg_compiled.proofs.TurnKinds.{earlier_is, next_kinds, next_there}
 use Rattle.fg_compiled.specs.Nodes.{nodes_of, turn_queue}
-use Rattle.fg_compiled.specs.Plan.{export_at, is_copy, is_copy_of, plan_of, resource_of, unit_of}
+use Rattle.fg_compiled.specs.Plan.{export_at, is_copy, is_copy_of, plan_of, unit_of}
 use Rattle.fg_crossing.specs.Kinds.{is_release}
 use Rattle.fg_crossing.specs.Nodes.{Nodes}
 use Rattle.fg_crossing.specs.Plans.{First, Plan}
@@ -34,7 +34,6 @@ use Rattle.fg_crossing.specs.States.{Laid}
 use Rattle.fg_groups.specs.Needs.{group_at, goes_on, is_touched}
 use Rattle.fg_groups.specs.Placed.{is_import}
 use Rattle.fg_groups.specs.declared.grouping.Grouping.{Grouping}
-use Rattle.fg_groups.specs.declared.unit_use.Use.{Use}
 use Rattle.fg_recorder.specs.Pieces.{has_piece, is_readback, piece_of}
 use Rattle.fg_recorder.specs.Standing.{turn_item}
 use Rattle.fg_recorder.specs.Wanted.{is_there}

@@ -1,50 +1,43 @@
 -- The layout of each group, and the turns that set one.
-use Rattle.std.proofs.Common.{◌≡◌, ◌⊎◌, inl, inr, ⊎_elim, ℕ, zero, suc, ◌+◌, ◌<◌, ◌≤◌, ◌==◌, ◌&&◌, ◌||◌, not, Bool, true, false, List, [], ◌∷◌, ◌++◌, length, get_or, slice_get, if◌then◌else◌, Option, Some, None, refl, sym, ap, ap₂, ◌∙◌, subst, eqb-true, arith}
+use Rattle.std.proofs.Common.{◌≡◌, ℕ, zero, suc, ◌<◌, ◌==◌, ◌||◌, Bool, true, false, List, [], ◌∷◌, ◌++◌, length, if◌then◌else◌, Option, Some, None, refl, sym, ap, ap₂, ◌∙◌, subst, eqb-true, arith}
 use Rattle.std.specs.List.{All, Contains, list_any}
 use Rattle.std.specs.Option.{option_map_or}
 use Rattle.std.specs.Prelude.{is_some, unwrap_or}
-use Rattle.std.proofs.lemmas.Bool.{cases_Bool, cases_lt, false≢true, or_parts}
-use Rattle.std.proofs.lemmas.List.{get_or_default, get_or_past}
+use Rattle.std.proofs.lemmas.Bool.{false≢true, or_parts}
+use Rattle.std.proofs.lemmas.List.{get_or_default}
 use Rattle.std.proofs.lemmas.List.Elements.{All-nil, All-append, All-contains, Contains-get_or}
 use Rattle.std.proofs.lemmas.List.Folds.{list_any-append}
-use Rattle.fg_base.proofs.Lists.{entry_of, one}
+use Rattle.fg_base.proofs.Lists.{one}
 use Rattle.fg_base.specs.Shapes.{is_image, shape_at}
 use Rattle.fg_base.specs.declared.role.Role.{Role}
 use Rattle.fg_base.specs.declared.role.Role.TheVariants.{CopyRead, CopyWrite, ClearWrite, Sampled, StorageRead, StorageWrite, Attachment}
 use Rattle.fg_base.specs.declared.shape.Shape.{Shape}
 use Rattle.fg_base.specs.declared.shape.Shape.TheVariants.{Buffer, Image}
-use Rattle.fg_base.specs.declared.touch.Touch.{Touch}
 use Rattle.fg_bits.specs.Layouts.{is_undefined, layout_number}
 use Rattle.fg_bits.specs.Roles.{role_layout}
 use Rattle.fg_bits.specs.declared.layout.Layout.{Layout}
 use Rattle.fg_bits.specs.declared.layout.Layout.TheVariants.{Undefined, General, ColorAttachment, ShaderReadOnly, TransferSrc, TransferDst}
-use Rattle.fg_bits.specs.declared.layout.Layouts.{Layouts}
 use Rattle.fg_bits.specs.declared.masks.Masks.{Masks}
-use Rattle.fg_compiled.proofs.Commands.{Sort}
-use Rattle.fg_compiled.proofs.Grouped.{AreNext, of_unit, of_export, next}
-use Rattle.fg_compiled.proofs.Groups.{Member, next_unit, next_within, some_use, sourced, unit_each}
-use Rattle.fg_compiled.proofs.Setting.{IsSet}
+use Rattle.fg_compiled.proofs.Groups.{Member, some_use, sourced, unit_each}
 use Rattle.fg_compiled.proofs.Uses.{sourced_use}
 use Rattle.fg_compiled.specs.Plan.{unit_of}
 use Rattle.fg_groups.specs.Laws.{IsGrouped}
-use Rattle.fg_groups.specs.Needs.{group_at, goes_on}
+use Rattle.fg_groups.specs.Needs.{group_at}
 use Rattle.fg_groups.specs.Uses.{layout_for}
 use Rattle.fg_groups.specs.declared.grouping.Grouping.{Grouping}
 use Rattle.fg_groups.specs.declared.unit_use.Use.{Use}
-use Rattle.fg_recorder.specs.Items.{barrier, both, layouts_between, transfer}
+use Rattle.fg_recorder.specs.Items.{barrier, both, transfer}
 use Rattle.fg_recorder.specs.Pieces.{piece_of}
 use Rattle.fg_recorder.specs.Standing.{item_by}
 use Rattle.fg_stated.specs.PieceStates.{layout_after}
-use Rattle.fg_subs.specs.declared.program.Transfer.{Transfer}
 use Rattle.fg_turns.specs.Masks.{entry_masks}
 use Rattle.fg_turns.specs.Turns.{first, last, no_use}
 use Rattle.fg_turns.specs.declared.turn.Turn.{Turn}
 use Rattle.fg_turns.specs.declared.turn.TurnKind.{TurnKind}
 use Rattle.fg_turns.specs.declared.turn.TurnKind.TheVariants as kinds
 use Rattle.fg_view.specs.AccessKinds.{sets_layout, wanted}
-use Rattle.fg_view.specs.Effects.{access, acquire_accesses, handover_of, item_effect, layout_change, same_layout, transition_through}
+use Rattle.fg_view.specs.Effects.{access, handover_of, item_effect, layout_change, same_layout, transition_through}
 use Rattle.fg_view.specs.declared.access.Access.{Access}
-use Rattle.fg_view.specs.declared.access.AccessKind.{AccessKind}
 use Rattle.fg_view.specs.declared.access.AccessKind.TheVariants as access_kinds
 use Rattle.fg_compiled.proofs.TurnAccesses.{is_next}
 

@@ -1,10 +1,9 @@
 -- The nodes of commands: each access is by a touch of an operand, and one of a group's unit is as its use says.
-use Rattle.std.proofs.Common.{◌≡◌, ⊎_elim, ℕ, zero, suc, ◌<◌, ◌≤◌, ◌==◌, Bool, true, false, List, [], ◌∷◌, length, map, get_or, slice_get, if◌then◌else◌, Some, refl, sym, ap, ◌∙◌, subst, arith}
+use Rattle.std.proofs.Common.{◌≡◌, ⊎_elim, ℕ, ◌<◌, true, List, length, map, get_or, slice_get, Some, sym, ap, ◌∙◌, subst, arith}
 use Rattle.std.specs.List.{All, Contains}
 use Rattle.std.specs.Option.{option_map_or}
 use Rattle.std.proofs.lemmas.Bool.{cases_lt, le-leb, or_left}
 use Rattle.std.proofs.lemmas.List.Elements.{All-contains, Contains-get_or}
-use Rattle.std.proofs.lemmas.Option.{slice_get_within}
 use Rattle.fg_base.proofs.Lists.{entry_of}
 use Rattle.fg_base.specs.Operands.{operands_of, mapped}
 use Rattle.fg_base.specs.Shapes.{shape_at}
@@ -15,7 +14,7 @@ use Rattle.fg_bits.specs.Roles.{role_stage, op_stage}
 use Rattle.fg_compiled.proofs.Bits.{Inside}
 use Rattle.fg_compiled.proofs.Commands.{Sort, not_in_place}
 use Rattle.fg_compiled.proofs.Counting.{count_same}
-use Rattle.fg_compiled.proofs.Groups.{Member, member_of, member_queue, sourced, unit_each, unit_piece}
+use Rattle.fg_compiled.proofs.Groups.{Member, member_queue, sourced, unit_each, unit_piece}
 use Rattle.fg_compiled.proofs.Items.{item_stands}
 use Rattle.fg_compiled.proofs.Ops.{destination_role_mapped}
 use Rattle.fg_compiled.proofs.Pieces.{piece_shape}
@@ -44,11 +43,10 @@ use Rattle.fg_subs.specs.declared.program.Item.TheVariants as item
 use Rattle.fg_subs.specs.declared.program.Program.{Program}
 use Rattle.fg_turns.specs.Under.{Heap}
 use Rattle.fg_view.specs.AccessKinds.{wanted}
-use Rattle.fg_view.specs.Effects.{command_accesses, layout_wanted, role_agent}
+use Rattle.fg_view.specs.Effects.{command_accesses, layout_wanted}
 use Rattle.fg_view.specs.ShapedView.{Has}
-use Rattle.fg_view.specs.Views.{View, effect_at, view_of}
+use Rattle.fg_view.specs.Views.{view_of}
 use Rattle.fg_view.specs.declared.access.Access.{Access}
-use Rattle.fg_view.specs.declared.access.AccessKind.TheVariants.{Load, Store}
 
 -- WHAT A TOUCH DOES
 

@@ -1,11 +1,10 @@
 -- Operations on other numbers for the same operands: they touch these in the same roles.
-use Rattle.std.proofs.Common.{◌≡◌, ℕ, List, [], ◌∷◌, map, refl, ap, ap₂, ◌∙◌, arith}
+use Rattle.std.proofs.Common.{◌≡◌, map, refl, ap, ap₂, ◌∙◌, arith}
 use Rattle.std.specs.List.{All}
 use Rattle.fg_base.specs.Operands.{sources_of, destination_of, operands_of, mapped}
 use Rattle.fg_base.specs.Touches.{source_role, destination_role}
 use Rattle.fg_base.specs.declared.op.Op.{Op}
 use Rattle.fg_base.specs.declared.op.Op.TheVariants.{FillBuffer, ClearImage, CopyBuffer, CopyImage, BufferToImage, ImageToBuffer, Ramp, Map, Combine, Select, Convert, Box3, Halve, Histogram, Draw}
-use Rattle.fg_base.specs.declared.role.Role.{Role}
 use Rattle.fg_base.specs.declared.shape.Shape.{Shape}
 
 pub sources_mapped : {R S : Type 0} (f : R → S) (op : Op R) → sources_of (mapped f op) ≡ map f (sources_of op)

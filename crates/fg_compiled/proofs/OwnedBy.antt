@@ -1,19 +1,19 @@
 -- The family of each group, and where it is decided.
-use Rattle.std.proofs.Common.{◌≡◌, ◌⊎◌, ⊎_elim, ℕ, zero, suc, ◌+◌, ◌-◌, ◌<◌, ◌≤◌, ◌==◌, ◌&&◌, ◌||◌, Bool, true, false, List, [], length, map, get_or, slice_get, if◌then◌else◌, Option, Some, refl, sym, ap, ◌∙◌, subst, eqb-true, arith}
+use Rattle.std.proofs.Common.{◌≡◌, ℕ, zero, suc, ◌+◌, ◌-◌, ◌<◌, ◌≤◌, ◌||◌, Bool, true, false, List, [], length, get_or, slice_get, if◌then◌else◌, Option, Some, refl, sym, ap, ◌∙◌, subst, eqb-true, arith}
 use Rattle.std.specs.List.{Contains}
-use Rattle.std.proofs.lemmas.Bool.{cases_lt, false≢true, le-ltb, lt-ltb}
+use Rattle.std.proofs.lemmas.Bool.{false≢true, le-ltb, lt-ltb}
 use Rattle.std.proofs.lemmas.List.{get_or_default}
-use Rattle.std.proofs.lemmas.List.Elements.{All-contains, Contains-get_or}
+use Rattle.std.proofs.lemmas.List.Elements.{Contains-get_or}
 use Rattle.std.proofs.lemmas.Option.{get_or_from_slice_get, slice_get-get_or}
 use Rattle.fg_base.specs.Operands.{mapped}
 use Rattle.fg_base.specs.declared.shape.Family.{Family}
 use Rattle.fg_base.specs.declared.shape.Family.TheVariants.{Graphics, Compute, Transfer}
 use Rattle.fg_bits.specs.Families.{family_number}
 use Rattle.fg_bits.specs.Sharings.{is_shared}
-use Rattle.fg_compiled.proofs.ExportGroups.{IsExport, copy_parts, read_parts}
-use Rattle.fg_compiled.proofs.Exports.{Copies, copies_from}
+use Rattle.fg_compiled.proofs.ExportGroups.{read_parts}
+use Rattle.fg_compiled.proofs.Exports.{copies_from}
 use Rattle.fg_compiled.proofs.Grouped.{AreNext, of_unit, of_export, next}
-use Rattle.fg_compiled.proofs.Groups.{Member, next_unit, some_use, sourced, unit_known, unit_piece}
+use Rattle.fg_compiled.proofs.Groups.{next_unit, some_use, sourced, unit_known, unit_piece}
 use Rattle.fg_compiled.proofs.Members.{command_stands, queue_at}
 use Rattle.fg_compiled.proofs.Pieces.{piece_there}
 use Rattle.fg_compiled.proofs.Reading.{read_stands}
@@ -23,27 +23,26 @@ use Rattle.fg_compiled.proofs.Spots.{leaving_item, piece_is, release_stands, tur
 use Rattle.fg_compiled.proofs.TurnAccesses.{does_known, does_there, is_next, next_kind_is, turn_does, turn_low}
 use Rattle.fg_compiled.proofs.TurnKinds.{earlier_is, kept_barrier}
 use Rattle.fg_compiled.specs.Nodes.{copy_of, nodes_of, release_queue, turn_node, turn_queue}
-use Rattle.fg_compiled.specs.Plan.{export_at, is_copy, is_copy_of, is_of_unit, is_read, plan_of, unit_of}
+use Rattle.fg_compiled.specs.Plan.{export_at, is_of_unit, plan_of, unit_of}
 use Rattle.fg_crossing.specs.Nodes.{Nodes}
 use Rattle.fg_crossing.specs.Plans.{Plan}
 use Rattle.fg_crossing.specs.Spots.{Spot, at_turn, at_member, at_release, at_reader}
 use Rattle.fg_crossing.specs.States.{Owned}
 use Rattle.fg_cut.specs.Standing.{StandsFor}
 use Rattle.fg_groups.specs.Groups.{family_of, same_family, sharing_of, shares}
-use Rattle.fg_groups.specs.Needs.{group_at, goes_on, queue_of}
+use Rattle.fg_groups.specs.Needs.{group_at, queue_of}
 use Rattle.fg_groups.specs.declared.grouping.Grouping.{Grouping}
 use Rattle.fg_groups.specs.declared.unit_use.Use.{Use}
 use Rattle.fg_hb.specs.Edges.{is_host, node_at}
 use Rattle.fg_hb.specs.Nodes.{item_node}
 use Rattle.fg_recorder.specs.Pieces.{piece, piece_of}
-use Rattle.fg_recorder.specs.Script.{is_released}
 use Rattle.fg_recorder.specs.Standing.{turn_item}
 use Rattle.fg_subs.specs.Entries.{OfItem}
 use Rattle.fg_subs.specs.declared.program.Item.{Item}
 use Rattle.fg_subs.specs.declared.program.Item.TheVariants as item
 use Rattle.fg_subs.specs.declared.program.Piece.{Piece}
 use Rattle.fg_subs.specs.declared.program.Program.{Program}
-use Rattle.fg_turns.specs.Turns.{earlier, first, last, next_kind, no_use, turn_of}
+use Rattle.fg_turns.specs.Turns.{earlier, first, last, no_use}
 use Rattle.fg_turns.specs.Under.{Heap}
 use Rattle.fg_turns.specs.declared.turn.TurnKind.TheVariants as kinds
 use Rattle.fg_view.specs.AccessKinds.{sets_owner}

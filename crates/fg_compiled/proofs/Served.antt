@@ -1,12 +1,11 @@
 -- What barriers take of commands before them, and give to commands after them.
-use Rattle.std.proofs.Common.{◌≡◌, ◌⊎◌, ⊎_elim, ℕ, zero, suc, ◌+◌, ◌-◌, ◌<◌, ◌≤◌, ◌==◌, ◌&&◌, Bool, true, false, List, [], ◌∷◌, length, slice_get, if◌then◌else◌, Option, Some, None, refl, sym, ap, ◌∙◌, subst, arith}
+use Rattle.std.proofs.Common.{◌≡◌, ℕ, suc, ◌+◌, ◌<◌, true, false, List, length, Some, None, refl, sym, ap, ◌∙◌, subst, arith}
 use Rattle.std.specs.List.{Contains}
 use Rattle.std.specs.Option.{option_map_or}
-use Rattle.std.proofs.lemmas.Bool.{and_from, and_parts, false≢true, le-leb, or_left}
+use Rattle.std.proofs.lemmas.Bool.{false≢true, le-leb, or_left}
 use Rattle.fg_base.proofs.Lists.{entry_of}
 use Rattle.fg_base.specs.Operands.{destination_of}
 use Rattle.fg_base.specs.Touches.{destination_role, destination_touch, touches_of}
-use Rattle.fg_base.specs.declared.role.Role.{Role}
 use Rattle.fg_base.specs.declared.role.Role.TheVariants.{CopyWrite}
 use Rattle.fg_base.specs.declared.shape.Shape.{Shape}
 use Rattle.fg_base.specs.declared.shape.Shape.TheVariants.{Buffer, Image}
@@ -19,21 +18,21 @@ use Rattle.fg_compiled.proofs.Barriers.{IsBarrierOf, IsTaken, IsGiven, takes, gi
 use Rattle.fg_compiled.proofs.Bits.{Inside, inside_self}
 use Rattle.fg_compiled.proofs.Commands.{Sort, a_pass, a_copy, copy_destination, not_in_place}
 use Rattle.fg_compiled.proofs.Counting.{count_same}
-use Rattle.fg_compiled.proofs.ExportGroups.{IsExport, copy_parts, not_both, read_parts}
+use Rattle.fg_compiled.proofs.ExportGroups.{IsExport, copy_parts, not_both}
 use Rattle.fg_compiled.proofs.Exports.{Copies, copies_from}
 use Rattle.fg_compiled.proofs.Grouped.{AreNext, of_unit, of_export, next}
-use Rattle.fg_compiled.proofs.Groups.{Member, next_unit, next_within}
-use Rattle.fg_compiled.proofs.Items.{Serves, barrier_stands, item_masks, item_stands, turn_masks, turn_serves}
+use Rattle.fg_compiled.proofs.Groups.{next_unit, next_within}
+use Rattle.fg_compiled.proofs.Items.{barrier_stands, item_masks, item_stands, turn_masks, turn_serves}
 use Rattle.fg_compiled.proofs.TurnKinds.{earlier_is, kept_barrier, released_goes}
-use Rattle.fg_compiled.proofs.Members.{IsDone, IsDoneBy, done, done_by, queue_at, touch_has, touch_piece, touched}
+use Rattle.fg_compiled.proofs.Members.{IsDoneBy, done, done_by, queue_at, touch_has, touch_piece, touched}
 use Rattle.fg_compiled.proofs.Roles.{IsBy}
 use Rattle.fg_compiled.proofs.Setting.{IsSet}
 use Rattle.fg_compiled.proofs.SpotFacts.{IsMemberOf, of_group, of_copy, member_cases}
-use Rattle.fg_compiled.proofs.Spots.{leaving_item, member_is, piece_is, piece_late, release_stands, turn_is, turn_late, turn_stands, turned_is, turned_late}
+use Rattle.fg_compiled.proofs.Spots.{leaving_item, piece_is, piece_late, release_stands, turn_is, turn_late, turn_stands, turned_is, turned_late}
 use Rattle.fg_compiled.proofs.Touches.{alike, destination_there, moved}
 use Rattle.fg_compiled.proofs.Unions.{barrier_takes, release_takes, barrier_gives, entry_gives}
-use Rattle.fg_compiled.specs.Nodes.{command_node, copied_node, copied_step, copy_of, item_at, nodes_of, release_node, release_queue, turn_node, turn_queue}
-use Rattle.fg_compiled.specs.Plan.{export_at, is_copy, is_copy_of, is_read, plan_of, unit_of}
+use Rattle.fg_compiled.specs.Nodes.{command_node, copied_node, copied_step, item_at, nodes_of, release_node, release_queue, turn_node, turn_queue}
+use Rattle.fg_compiled.specs.Plan.{export_at, plan_of, unit_of}
 use Rattle.fg_crossing.specs.Crossings.{Sooner}
 use Rattle.fg_crossing.specs.Masks.{Takes, Gives}
 use Rattle.fg_crossing.specs.Nodes.{Nodes}
@@ -42,22 +41,20 @@ use Rattle.fg_crossing.specs.Spots.{OfMember}
 use Rattle.fg_cut.specs.Standing.{StandsFor}
 use Rattle.fg_groups.specs.Commands.{copy_out}
 use Rattle.fg_groups.specs.Needs.{group_at, goes_on, is_touched, queue_of}
-use Rattle.fg_groups.specs.Uses.{role_accesses, role_writes, use_of}
+use Rattle.fg_groups.specs.Uses.{role_writes, use_of}
 use Rattle.fg_groups.specs.declared.command.Command as commands
 use Rattle.fg_groups.specs.declared.grouping.Grouping.{Grouping}
 use Rattle.fg_groups.specs.declared.unit_use.Use.{Use}
 use Rattle.fg_hb.specs.Edges.{node_at}
 use Rattle.fg_recorder.specs.Pieces.{has_piece, is_readback, piece_of}
-use Rattle.fg_recorder.specs.Script.{is_released}
 use Rattle.fg_recorder.specs.Standing.{IsRecorded, host_item, host_step, turn_item}
 use Rattle.fg_recorder.specs.Wanted.{is_there}
 use Rattle.fg_recorder.specs.declared.mark.Mark.TheVariants as marks
 use Rattle.fg_subs.specs.Entries.{OfItem}
 use Rattle.fg_subs.specs.Rules.{shapes_of}
-use Rattle.fg_subs.specs.declared.program.Item.TheVariants as item
 use Rattle.fg_subs.specs.declared.program.Program.{Program}
 use Rattle.fg_turns.specs.Masks.{barrier_masks, release_masks, host_masks}
-use Rattle.fg_turns.specs.Turns.{earlier, first, turn_of}
+use Rattle.fg_turns.specs.Turns.{earlier, turn_of}
 use Rattle.fg_turns.specs.Under.{Heap, place_of, uses_under}
 use Rattle.fg_turns.specs.declared.turn.TurnKind.{TurnKind}
 use Rattle.fg_turns.specs.declared.turn.TurnKind.TheVariants as kinds

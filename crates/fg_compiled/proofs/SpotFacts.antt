@@ -1,12 +1,11 @@
 -- What holds of the groups that accesses are of.
-use Rattle.std.proofs.Common.{◌≡◌, ◌⊎◌, inl, inr, ⊎_elim, ℕ, zero, suc, ◌+◌, ◌<◌, ◌≤◌, ◌==◌, ◌&&◌, ◌||◌, Bool, true, false, List, [], ◌∷◌, length, map, get_or, slice_get, if◌then◌else◌, Some, refl, sym, ap, ◌∙◌, subst, eq-eqb, eqb-true, arith}
-use Rattle.std.specs.List.{All, Contains}
-use Rattle.std.proofs.lemmas.Bool.{and_parts, cases_lt, cases_order, false≢true, ltb-true, or_cases}
+use Rattle.std.proofs.Common.{◌≡◌, ⊎_elim, ℕ, zero, suc, ◌+◌, ◌<◌, ◌≤◌, ◌==◌, ◌&&◌, true, false, List, [], ◌∷◌, length, get_or, slice_get, Some, refl, sym, ap, ◌∙◌, eq-eqb, eqb-true, arith}
+use Rattle.std.specs.List.{Contains}
+use Rattle.std.proofs.lemmas.Bool.{and_parts, cases_lt, cases_order, false≢true, or_cases}
 use Rattle.std.proofs.lemmas.List.{get_or_default}
 use Rattle.std.proofs.lemmas.List.Elements.{Contains-get_or}
 use Rattle.std.proofs.lemmas.List.Folds.{list_any_at}
 use Rattle.fg_base.specs.Operands.{mapped}
-use Rattle.fg_base.specs.Touches.{touches_of}
 use Rattle.fg_base.specs.declared.shape.Shape.{Shape}
 use Rattle.fg_base.specs.declared.touch.Touch.{Touch}
 use Rattle.fg_compiled.proofs.ExportGroups.{copy_parts, no_read, not_both, read_parts}
@@ -17,15 +16,14 @@ use Rattle.fg_compiled.proofs.TurnKinds.{released_goes}
 use Rattle.fg_compiled.proofs.Members.{command_stands, done, pieces_same, touch_piece, touch_plain}
 use Rattle.fg_compiled.proofs.Roles.{changes_write}
 use Rattle.fg_compiled.proofs.Setting.{IsSet}
-use Rattle.fg_compiled.proofs.Spots.{all_spots, member_is, member_late, piece_is, turned_is, turned_late}
-use Rattle.fg_compiled.proofs.Touches.{Acting, acting, moved, touched_there}
+use Rattle.fg_compiled.proofs.Spots.{all_spots, member_is, member_late, piece_is, turned_late}
+use Rattle.fg_compiled.proofs.Touches.{acting, moved, touched_there}
 use Rattle.fg_compiled.proofs.Uses.{sourced_use}
 use Rattle.fg_compiled.specs.Nodes.{command_node, nodes_of}
-use Rattle.fg_compiled.specs.Plan.{export_at, group_count, is_copy, is_copy_of, is_of_export, is_read, plan_of, unit_of}
+use Rattle.fg_compiled.specs.Plan.{export_at, is_copy, is_copy_of, plan_of}
 use Rattle.fg_crossing.specs.Nodes.{Nodes}
 use Rattle.fg_crossing.specs.Plans.{Plan, leads}
-use Rattle.fg_crossing.specs.Spots.{OfTurn, OfMember, OfRelease, OfReader, Spot, at_turn, at_member, at_release, at_reader, Spots}
-use Rattle.fg_groups.specs.Laws.{AreTogether}
+use Rattle.fg_crossing.specs.Spots.{OfMember, Spot, at_turn, at_member, at_release, at_reader, Spots}
 use Rattle.fg_groups.specs.Needs.{group_at, is_member, queue_of}
 use Rattle.fg_groups.specs.Uses.{is_write}
 use Rattle.fg_groups.specs.declared.grouping.Grouping.{Grouping}

@@ -1,12 +1,11 @@
 -- Each access of a compiled program is of a group: of its turn, a member, its release or its host read.
-use Rattle.std.proofs.Common.{◌≡◌, ◌⊎◌, inl, inr, ⊎_elim, ℕ, zero, suc, ◌+◌, ◌<◌, ◌≤◌, ◌==◌, ◌&&◌, Bool, true, false, List, [], ◌∷◌, length, map, get_or, slice_get, if◌then◌else◌, Option, Some, None, refl, sym, ap, ◌∙◌, subst, eq-eqb, eqb-true, arith}
-use Rattle.std.specs.List.{All, Contains, list_any}
+use Rattle.std.proofs.Common.{◌≡◌, ◌⊎◌, inl, inr, ⊎_elim, ℕ, zero, suc, ◌+◌, ◌<◌, ◌≤◌, ◌==◌, ◌&&◌, true, false, List, [], ◌∷◌, length, slice_get, if◌then◌else◌, Option, Some, None, refl, sym, ap, ◌∙◌, subst, eq-eqb, arith}
+use Rattle.std.specs.List.{All, Contains}
 use Rattle.std.specs.Option.{option_map_or}
-use Rattle.std.proofs.lemmas.Bool.{and_from, and_parts, cases_lt, cases_order, false≢true, le-ltb, lt-ltb, ltb-true}
-use Rattle.std.proofs.lemmas.List.{get_or_default, get_or_past, length-map}
-use Rattle.std.proofs.lemmas.List.Elements.{All-contains, Contains-get_or}
+use Rattle.std.proofs.lemmas.Bool.{and_from, cases_lt, le-ltb, lt-ltb}
+use Rattle.std.proofs.lemmas.List.{get_or_past, length-map}
+use Rattle.std.proofs.lemmas.List.Elements.{All-contains}
 use Rattle.std.proofs.lemmas.List.Folds.{list_any_at}
-use Rattle.std.proofs.lemmas.Option.{get_or_from_slice_get}
 use Rattle.fg_base.proofs.Lists.{entry_of, one}
 use Rattle.fg_base.specs.Operands.{operands_of, mapped}
 use Rattle.fg_base.specs.Touches.{touches_of}
@@ -14,37 +13,33 @@ use Rattle.fg_base.specs.declared.shape.Shape.{Shape}
 use Rattle.fg_base.specs.declared.shape.Shape.TheVariants.{Buffer, Image}
 use Rattle.fg_base.specs.declared.touch.Touch.{Touch}
 use Rattle.fg_compiled.proofs.Commands.{Sort, a_pass, a_copy, entry_there}
-use Rattle.fg_compiled.proofs.ExportGroups.{IsExport, copy_export, copy_group, copy_is, copy_parts, no_read, not_both, read_export, read_group, read_is, read_parts}
-use Rattle.fg_compiled.proofs.Exports.{Copies, copies_from}
+use Rattle.fg_compiled.proofs.ExportGroups.{IsExport, copy_export, copy_group, copy_is, read_export, read_group, read_is}
 use Rattle.fg_compiled.proofs.Grouped.{resource_export, resource_unit}
-use Rattle.fg_compiled.proofs.Groups.{Member, member_of, next_unit, next_within, some_use, sourced}
+use Rattle.fg_compiled.proofs.Groups.{next_unit}
 use Rattle.fg_compiled.proofs.Items.{IsEntry, IsMarkedAt, item_marked, item_stands, turn_entries}
 use Rattle.fg_compiled.proofs.TurnKinds.{released_goes}
-use Rattle.fg_compiled.proofs.Members.{IsDone, command_stands, done, found_unit, pieces_same, queue_at, touch_piece, touch_plain, touched, use_group}
+use Rattle.fg_compiled.proofs.Members.{found_unit, queue_at, touch_piece, touch_plain, touched, use_group}
 use Rattle.fg_compiled.proofs.Pieces.{read_back}
-use Rattle.fg_compiled.proofs.Roles.{changes_write}
 use Rattle.fg_compiled.proofs.Setting.{IsSet}
-use Rattle.fg_compiled.proofs.Touches.{acting, moved, touch_operand, touched_there}
-use Rattle.fg_compiled.proofs.Uses.{used_by, sourced_use}
+use Rattle.fg_compiled.proofs.Touches.{moved, touch_operand}
+use Rattle.fg_compiled.proofs.Uses.{used_by}
 use Rattle.fg_compiled.specs.Nodes.{command_node, copied_node, item_at, nodes_of, read_node, release_node, release_queue, steps, turn_node, turn_queue}
-use Rattle.fg_compiled.specs.Plan.{export_at, exports, group_count, is_copy, is_copy_of, is_of_export, is_of_unit, is_read, plan_of, resource_of, unit_of, uses_in_group}
+use Rattle.fg_compiled.specs.Plan.{export_at, exports, is_copy, is_copy_of, is_read, plan_of, unit_of}
 use Rattle.fg_crossing.specs.Kinds.{is_plain, is_release}
 use Rattle.fg_crossing.specs.Nodes.{Nodes}
-use Rattle.fg_crossing.specs.Plans.{Plan, leads}
-use Rattle.fg_crossing.specs.Spots.{OfTurn, OfMember, OfRelease, OfReader, Spot, at_turn, at_member, at_release, at_reader, Spots}
+use Rattle.fg_crossing.specs.Plans.{Plan}
+use Rattle.fg_crossing.specs.Spots.{OfTurn, OfRelease, Spot, at_turn, at_member, at_release, at_reader}
 use Rattle.fg_cut.specs.Standing.{IsOneOf, as_wait, as_item, as_signal, as_read, StandsFor, read_number}
 use Rattle.fg_groups.specs.Commands.{copy_out}
-use Rattle.fg_groups.specs.Laws.{AreTogether}
-use Rattle.fg_groups.specs.Needs.{group_at, group_of, goes_on, is_member, queue_of}
-use Rattle.fg_groups.specs.Uses.{is_write}
+use Rattle.fg_groups.specs.Needs.{group_at, group_of, is_member}
 use Rattle.fg_groups.specs.declared.command.Command as commands
 use Rattle.fg_groups.specs.declared.grouping.Grouping.{Grouping}
 use Rattle.fg_groups.specs.declared.unit_use.Use.{Use}
 use Rattle.fg_hb.specs.Nodes.{entry_node, program_nodes}
 use Rattle.fg_recorder.specs.Items.{transfer}
 use Rattle.fg_recorder.specs.Pieces.{piece_of}
-use Rattle.fg_recorder.specs.Script.{is_released, script}
-use Rattle.fg_recorder.specs.Standing.{IsKnown, by_mark, by_alias, by_copy, IsRecorded, StandsAt, host_item, step, turn_item}
+use Rattle.fg_recorder.specs.Script.{script}
+use Rattle.fg_recorder.specs.Standing.{IsKnown, by_mark, by_alias, by_copy, IsRecorded, StandsAt, step, turn_item}
 use Rattle.fg_recorder.specs.Wanted.{is_there}
 use Rattle.fg_recorder.specs.declared.mark.Mark.{Mark}
 use Rattle.fg_recorder.specs.declared.mark.Mark.TheVariants.{Command, Turn as OfTurnMark, Release}
@@ -55,12 +50,11 @@ use Rattle.fg_subs.specs.declared.program.Item.{Item}
 use Rattle.fg_subs.specs.declared.program.Item.TheVariants as item
 use Rattle.fg_subs.specs.declared.program.Program.{Program}
 use Rattle.fg_turns.specs.Masks.{release_masks}
-use Rattle.fg_turns.specs.Turns.{earlier, first, last, no_use, turn_of}
+use Rattle.fg_turns.specs.Turns.{earlier, turn_of}
 use Rattle.fg_turns.specs.Under.{Heap}
-use Rattle.fg_view.specs.AccessKinds.{changes}
-use Rattle.fg_view.specs.Effects.{access, entry_effect, handover_of, item_effect, no_effect, touch_accesses, command_accesses}
+use Rattle.fg_view.specs.Effects.{access, entry_effect, handover_of, item_effect, no_effect}
 use Rattle.fg_view.specs.ShapedView.{Has}
-use Rattle.fg_view.specs.Views.{View, accesses_of, effect_at, view_of}
+use Rattle.fg_view.specs.Views.{View, accesses_of, view_of}
 use Rattle.fg_view.specs.declared.access.Access.{Access}
 use Rattle.fg_view.specs.declared.access.AccessKind.TheVariants as access_kinds
 use Rattle.fg_view.specs.declared.access.Agent.TheVariants as agent

@@ -1,22 +1,20 @@
 -- The accesses of turns by the kind of the turn.
-use Rattle.std.proofs.Common.{◌≡◌, ◌⊎◌, inl, inr, ⊎_elim, ℕ, zero, suc, ◌+◌, ◌<◌, ◌≤◌, ◌&&◌, Bool, true, false, List, [], ◌∷◌, length, get_or, slice_get, if◌then◌else◌, Some, refl, sym, ap, ◌∙◌, subst, arith}
+use Rattle.std.proofs.Common.{◌≡◌, ⊎_elim, ℕ, zero, suc, ◌<◌, ◌≤◌, ◌&&◌, Bool, true, false, List, [], length, get_or, slice_get, if◌then◌else◌, Some, refl, sym, ap, ◌∙◌, subst}
 use Rattle.std.specs.List.{All, list_any}
 use Rattle.std.specs.Prelude.{is_some}
 use Rattle.std.proofs.lemmas.Bool.{and_from, and_parts, cases_lt, false≢true, lt-ltb, ltb-true}
 use Rattle.std.proofs.lemmas.List.Folds.{list_any_at, Any-from_list_any}
 use Rattle.std.proofs.lemmas.Option.{slice_get-get_or, slice_get_within, get_or_from_slice_get}
 use Rattle.fg_base.proofs.Lists.{entry_of}
-use Rattle.fg_base.specs.declared.shape.Shape.{Shape}
 use Rattle.fg_compiled.proofs.ExportGroups.{read_parts}
 use Rattle.fg_compiled.proofs.Served.{copied_stands}
 use Rattle.fg_compiled.proofs.Setting.{IsSet}
 use Rattle.fg_compiled.proofs.Spots.{no_access, turn_access, turn_is, turn_late, turn_stands, turned_is, turned_late}
 use Rattle.fg_compiled.specs.Nodes.{copied_node, copy_of, nodes_of, turn_node, turn_queue}
-use Rattle.fg_compiled.specs.Plan.{export_at, is_of_unit, is_read, plan_of}
+use Rattle.fg_compiled.specs.Plan.{export_at, is_of_unit, plan_of}
 use Rattle.fg_crossing.specs.Nodes.{Nodes}
 use Rattle.fg_crossing.specs.Plans.{Plan}
 use Rattle.fg_crossing.specs.Spots.{OfTurn}
-use Rattle.fg_groups.specs.Groups.{shares}
 use Rattle.fg_groups.specs.Needs.{group_at, goes_on}
 use Rattle.fg_groups.specs.Placed.{is_import}
 use Rattle.fg_groups.specs.declared.grouping.Grouping.{Grouping}
@@ -26,7 +24,7 @@ use Rattle.fg_recorder.specs.Wanted.{is_there}
 use Rattle.fg_recorder.specs.declared.mark.Mark.TheVariants as marks
 use Rattle.fg_subs.specs.Rules.{shapes_of}
 use Rattle.fg_subs.specs.declared.program.Program.{Program}
-use Rattle.fg_turns.specs.Turns.{earlier, first, first_kind, has_uses, kind_of, next_kind, turn_of}
+use Rattle.fg_turns.specs.Turns.{earlier, first, first_kind, has_uses, next_kind, turn_of}
 use Rattle.fg_turns.specs.Under.{Heap, place_of, uses_under}
 use Rattle.fg_turns.specs.declared.turn.TurnKind.{TurnKind}
 use Rattle.fg_turns.specs.declared.turn.TurnKind.TheVariants as kinds

@@ -1,6 +1,6 @@
 -- The masks round a group have what each of its uses does on their queue.
-use Rattle.std.proofs.Common.{◌≡◌, ℕ, zero, suc, ◌<◌, ◌==◌, Bool, true, false, List, [], ◌∷◌, length, get_or, if◌then◌else◌, bit_or, refl, sym, ap, ◌∙◌, subst, eq-eqb, arith}
-use Rattle.std.specs.List.{Contains, filter}
+use Rattle.std.proofs.Common.{◌≡◌, ℕ, ◌==◌, List, if◌then◌else◌, bit_or, eq-eqb}
+use Rattle.std.specs.List.{Contains}
 use Rattle.std.proofs.lemmas.List.Elements.{All-contains}
 use Rattle.fg_compiled.proofs.Barriers.{IsTaken, IsGiven}
 use Rattle.fg_compiled.proofs.Contained.{contains_filter}

@@ -4,7 +4,6 @@ use Rattle.std.specs.List.{All, Contains, list_any}
 use Rattle.std.proofs.lemmas.Bool.{and_from, lt-ltb, or_from}
 use Rattle.std.proofs.lemmas.List.Elements.{All-nil, All-head, All-tail, All-append, All-contains, All-contains_itself, Contains-append_left, Contains-append_right}
 use Rattle.std.proofs.lemmas.List.Folds.{list_any_at, list_any-append}
-use Rattle.std.proofs.lemmas.Option.{slice_get_within, get_or_from_slice_get}
 use Rattle.fg_base.proofs.Booleans.{clash}
 use Rattle.fg_base.proofs.Lists.{entry_of, one}
 use Rattle.fg_base.specs.Touches.{touches_of}
