@@ -105,7 +105,7 @@ module _ (G : Grouping) (heap : Heap) (P : Program) (S : IsSet G heap P) where
 
   -- FROM GROUP TO GROUP
 
-  last_there : (g : ℕ) → g < length G.groups → Contains (group_at G g) (last (group_at G g))
+  pub last_there : (g : ℕ) → g < length G.groups → Contains (group_at G g) (last (group_at G g))
   last_there g lt = let some = some_use G S.grouped g lt in Contains-get_or (group_at G g) (length (group_at G g) - 1) no_use (omega (arith, some))
 
   -- what the last use before group g + 1 is in

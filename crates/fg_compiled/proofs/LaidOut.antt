@@ -93,7 +93,7 @@ module _ (G : Grouping) (L : IsGrouped G) where
       sym (ap (λ (v : Use). v.layout) (get_or_default (group_at G g) 0 no_use u (some_use G L g lt)) ∙ T ∙ ap (λ (v : Use). v.layout) at)
 
   -- an image is in a known one
-  use_known : (g : ℕ) (u : Use) → g < length G.groups → Contains (group_at G g) u → IsKnownFor (shape_at G.shapes (unit_of G g)) u.layout
+  pub use_known : (g : ℕ) (u : Use) → g < length G.groups → Contains (group_at G g) u → IsKnownFor (shape_at G.shapes (unit_of G g)) u.layout
   use_known g u lt there =
       let M : Member G u.command g = record { one = u; there = there; command = refl } in
       let X = sourced G L u.command g lt M in

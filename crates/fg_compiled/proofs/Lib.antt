@@ -6,6 +6,7 @@ pub mod Commands
 pub mod Compiled
 pub mod Contained
 pub mod Counting
+pub mod Discarding
 pub mod Early
 pub mod ExportGroups
 pub mod Exports
@@ -32,6 +33,7 @@ pub mod SpotFacts
 pub mod Spots
 pub mod Stages
 pub mod Steps
+pub mod Storing
 pub mod Touches
 pub mod TurnAccesses
 pub mod TurnKinds

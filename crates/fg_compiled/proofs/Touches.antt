@@ -197,6 +197,13 @@ contains_flat f [] x y (k, lt, at) h = absurd (omega (arith, lt))
 contains_flat f (z ∷ xs) x y (zero, lt, at) h = Contains-append_left (f z) (flat_map f xs) y (subst (λ w. Contains (f w) y) (sym at) h)
 contains_flat f (z ∷ xs) x y (suc k, lt, at) h = Contains-append_right (f z) (flat_map f xs) y (contains_flat f xs x y (k, omega (arith, lt), at) h)
 
+-- a touch that stores
+pub storing : (shapes : List Shape) (q : ℕ) (t : Touch) (bits : ℕ) → store_access t.role ≡ Some bits → Contains (touch_accesses shapes q t) (access t.what (Store (role_agent q t.role bits) (layout_wanted (shape_at shapes t.what) t.role)))
+storing shapes q t bits e =
+    let a : Access = access t.what (Store (role_agent q t.role bits) (layout_wanted (shape_at shapes t.what) t.role)) in
+    Contains-append_right (option_map_or (touch_load shapes q t) (load_access t.role t.whole) []) (option_map_or (touch_store shapes q t) (store_access t.role) []) a
+    (subst (λ o. Contains (option_map_or (touch_store shapes q t) o []) a) (sym e) (0, omega arith, refl))
+
 -- a touch makes an access of its unit that loads or stores
 pub record Acting (shapes : List Shape) (q : ℕ) (t : Touch) : Type 0 where
   pub one : Access

@@ -2,3 +2,4 @@ pub mod Laws
 pub mod Nodes
 pub mod Plan
 pub mod Served
+pub mod Fed
