@@ -1,5 +1,5 @@
 -- The commands of a frame: operations of passes on units, and for each export one copy of it.
-use Rattle.std.proofs.Common.{◌≡◌, ⊎_elim, ℕ, zero, suc, ◌+◌, ◌<◌, ◌≤◌, ◌==◌, ◌||◌, Bool, true, false, List, [], ◌∷◌, length, map, get_or, slice_get, if◌then◌else◌, Option, Some, None, refl, sym, ap, ◌∙◌, subst, ne_eqb, arith}
+use Rattle.std.proofs.Common.{◌≡◌, ⊎_elim, ℕ, zero, suc, ◌+◌, ◌<◌, ◌≤◌, ◌==◌, ◌||◌, Bool, true, false, List, [], ◌∷◌, length, map, get_or, slice_get, if◌then◌else◌, Option, Some, None, refl, sym, ap, ◌∙◌, subst, ne_eqb, ap₂, eq-eqb, arith}
 use Rattle.std.specs.List.{All}
 use Rattle.std.specs.Prelude.{is_some}
 use Rattle.std.proofs.lemmas.Bool.{cases_lt, false≢true}
@@ -8,8 +8,9 @@ use Rattle.std.proofs.lemmas.List.Elements.{All-nil, All-append, All-map, All-he
 use Rattle.std.proofs.lemmas.Option.{get_or_from_slice_get}
 use Rattle.fg_base.proofs.Lists.{entry_of, one}
 use Rattle.fg_base.specs.InPlace.{in_place}
-use Rattle.fg_base.specs.Operands.{sources_of, destination_of, operands_of}
-use Rattle.fg_base.specs.Shapes.{is_image, shape_at}
+use Rattle.fg_base.specs.Operands.{sources_of, destination_of, operands_of, mapped}
+use Rattle.fg_base.specs.Shapes.{bytes_of, is_image, shape_at}
+use Rattle.fg_base.specs.Wholes.{is_whole}
 use Rattle.fg_base.specs.declared.shape.Shape.{Shape}
 use Rattle.fg_base.specs.declared.shape.Shape.TheVariants.{Buffer, Image}
 use Rattle.fg_compiled.specs.Plan.{export_count}
@@ -27,7 +28,7 @@ use Rattle.fg_groups.specs.declared.grouping.Grouping.{Grouping}
 -- an operation of a pass, on units alone, or the copy of an export into the buffer after the units
 pub data Sort (G : Grouping) (command : Command) : Type 0 where
   a_pass : command.export ≡ None → All (λ r. r < length G.imports) (operands_of command.op) → in_place command.op ≡ false → Sort G command
-  a_copy : (k unit : ℕ) (shape : Shape) → k < export_count G → unit < length G.imports → command.export ≡ Some k → command.op ≡ copy_out shape unit (length G.imports + k) → Sort G command
+  a_copy : (k unit : ℕ) (shape : Shape) → k < export_count G → unit < length G.imports → command.export ≡ Some k → command.op ≡ copy_out shape unit (length G.imports + k) → shape_at G.shapes unit ≡ shape → shape_at G.shapes (length G.imports + k) ≡ Buffer (bytes_of shape) → Sort G command
 
 -- an entry that is there
 pub entry_there : {X : Type 0} (xs : List X) (i : ℕ) → i < length xs → (x : X) × (slice_get xs i ≡ Some x)
@@ -57,6 +58,9 @@ exports_each P frame k (unit ∷ units) each =
     (one P (export_command frame k unit) (subst (λ n. P (export_command frame n unit)) z (each 0 unit (omega arith))))
     (exports_each P frame (suc k) units (λ j d lt. let next : k + suc j ≡ suc k + j = omega arith in subst (λ n. P (export_command frame n (get_or units j d))) next (each (suc j) d (omega (arith, lt)))))
 
+none_some : (k : ℕ) → None ≡ Some k → ⊥
+none_some k e = cc
+
 -- a copy is not in place
 copy_apart : (shape : Shape) (src dst : ℕ) → (src == dst) ≡ false → in_place (copy_out shape src dst) ≡ false
 copy_apart (Buffer size) src dst e = ap (λ b. b || false) e
@@ -64,7 +68,7 @@ copy_apart (Image width height texel) src dst e = ap (λ b. b || false) e
 
 pub not_in_place : (G : Grouping) (command : Command) → Sort G command → in_place command.op ≡ false
 not_in_place G command (a_pass none operands apart) = apart
-not_in_place G command (a_copy k unit shape below lt is op) = ap in_place op ∙ copy_apart shape unit (length G.imports + k) (ne_eqb unit (length G.imports + k) (λ e. omega (arith, e, lt)))
+not_in_place G command (a_copy k unit shape below lt is op from to) = ap in_place op ∙ copy_apart shape unit (length G.imports + k) (ne_eqb unit (length G.imports + k) (λ e. omega (arith, e, lt)))
 
 pub copy_destination : (shape : Shape) (src dst : ℕ) → destination_of (copy_out shape src dst) ≡ dst
 copy_destination (Buffer size) src dst = refl
@@ -73,6 +77,15 @@ copy_destination (Image width height texel) src dst = refl
 pub copy_sources : (shape : Shape) (src dst : ℕ) → sources_of (copy_out shape src dst) ≡ src ∷ []
 copy_sources (Buffer size) src dst = refl
 copy_sources (Image width height texel) src dst = refl
+
+-- a copy stores all of the buffer
+copy_whole : (shapes : ℕ → Shape) (shape : Shape) (src dst : ℕ) → shapes src ≡ shape → shapes dst ≡ Buffer (bytes_of shape) → is_whole (mapped shapes (copy_out shape src dst)) ≡ true
+copy_whole shapes (Buffer size) src dst from to = ap (λ s. size == bytes_of s) to ∙ eq-eqb size size refl
+copy_whole shapes (Image width height texel) src dst from to = ap₂ (λ a b. bytes_of a == bytes_of b) from to ∙ eq-eqb (bytes_of (Image width height texel)) (bytes_of (Image width height texel)) refl
+
+pub export_whole : (G : Grouping) (command : Command) (k : ℕ) → Sort G command → command.export ≡ Some k → is_whole (mapped (shape_at G.shapes) command.op) ≡ true
+export_whole G command k (a_pass none operands apart) is = absurd (none_some k (sym none ∙ is))
+export_whole G command k (a_copy j unit shape below lt e op from to) is = ap (λ o. is_whole (mapped (shape_at G.shapes) o)) op ∙ copy_whole (shape_at G.shapes) shape unit (length G.imports + j) from to
 
 module _ (frame : NumberedFrame) (kept : List Bool) where
   abbrev G : Grouping
@@ -85,7 +98,7 @@ module _ (frame : NumberedFrame) (kept : List Bool) where
   copies = export_commands frame 0 frame.exports
 
   module _ (good : IsGood frame) where
-    imports_count : length G.imports ≡ length frame.units
+    pub imports_count : length G.imports ≡ length frame.units
     imports_count = length-map frame.units (λ u. is_some u.imported)
 
     exports_count : export_count G ≡ length frame.exports
@@ -95,6 +108,9 @@ module _ (frame : NumberedFrame) (kept : List Bool) where
         let exports = length-map frame.exports (readback_shape frame) in
         let imports = imports_count in
         omega (arith, total, units, exports, imports)
+
+    units_count : length (shapes_in frame) ≡ length frame.units
+    units_count = length-map frame.units (λ u. u.shape)
 
     pub sorts : All (Sort G) G.commands
     sorts = All-append (Sort G) passes copies
@@ -112,12 +128,13 @@ module _ (frame : NumberedFrame) (kept : List Bool) where
         let low = good.exports_within k d lt in
         subst (λ n. Sort G (export_command frame n unit)) z
         (a_copy k unit (shape_at (shapes_in frame) unit) (omega (arith, lt, count)) (omega (arith, low, same)) refl
-        (ap (λ n. copy_out (shape_at (shapes_in frame) unit) unit (n + k)) (sym same)))))
+        (ap (λ n. copy_out (shape_at (shapes_in frame) unit) unit (n + k)) (sym same))
+        (get_or_append_left (shapes_in frame) (map (readback_shape frame) frame.exports) (Buffer 0) unit (let units = units_count in omega (arith, units, low)))
+        (ap (λ n. shape_at G.shapes (n + k)) (same ∙ sym units_count)
+        ∙ get_or-append-add (shapes_in frame) (map (readback_shape frame) frame.exports) k (Buffer 0)
+        ∙ get_or-map (readback_shape frame) frame.exports k d (Buffer 0) lt))))
 
     -- SHAPES
-
-    units_count : length (shapes_in frame) ≡ length frame.units
-    units_count = length-map frame.units (λ u. u.shape)
 
     -- the buffer of an export is no image
     pub buffers_plain : (k : ℕ) → k < export_count G → is_image (shape_at G.shapes (length G.imports + k)) ≡ false

@@ -2,6 +2,7 @@
 use Rattle.std.proofs.Common.{ℕ, Bool, List, length, refl}
 use Rattle.fg_compiled.proofs.Commands.{buffers_plain, imports_plain, sorts}
 use Rattle.fg_compiled.proofs.Exports.{are_copied}
+use Rattle.fg_compiled.proofs.Imported.{imported_pieces}
 use Rattle.fg_compiled.proofs.Setting.{IsSet}
 use Rattle.fg_compiled.specs.Nodes.{steps}
 use Rattle.fg_cut.specs.Later.{AreSooner}
@@ -37,6 +38,7 @@ module _ (frame : NumberedFrame) (kept : List Bool) (ordered : ℕ → ℕ → B
     copied = are_copied frame kept;
     imports = imports_plain frame kept good;
     buffers = buffers_plain frame kept good;
+    imported = imported_pieces frame kept good known ordered places;
     script = script;
     standing = standing;
     stand = stand;

@@ -172,12 +172,12 @@ module _ (G : Grouping) (heap : Heap) (P : Program) (S : IsSet G heap P) where
 
   -- TURNS
 
-  record IsBefore (g h : ℕ) (l : Layout) : Type 0 where
-    after : IsAfter G g h
-    low : g < length G.groups
-    layout : own_layout g ≡ Some l
+  pub record IsBefore (g h : ℕ) (l : Layout) : Type 0 where
+    pub after : IsAfter G g h
+    pub low : g < length G.groups
+    pub layout : own_layout g ≡ Some l
 
-  turn_before : (h : ℕ) (a : Access) (l : Layout) → OfTurn F V N h a → wanted a.kind ≡ Some l → (g : ℕ) × IsBefore g h l
+  pub turn_before : (h : ℕ) (a : Access) (l : Layout) → OfTurn F V N h a → wanted a.kind ≡ Some l → (g : ℕ) × IsBefore g h l
   turn_before h a l O w =
       let Q = turn_all G heap P S (IsWanting (turn_of G heap h).kind (last (earlier G h)).layout) h a O (turn_wanting (shapes_of P) (turn_queue G h) (turn_of G heap h).kind G (turn_of G heap h) (earlier G h) (group_at G h)) in
       let found = Q.wants l w in
@@ -203,7 +203,7 @@ module _ (G : Grouping) (heap : Heap) (P : Program) (S : IsSet G heap P) where
   -- THE FIRST GROUP OF AN IMAGE
 
   record IsImage (g : ℕ) : Type 0 where
-    low : g < length G.groups
+    pub low : g < length G.groups
     image : is_image (shape_at G.shapes (unit_of G g)) ≡ true
 
   read_wants : (g : ℕ) (b : Access) → OfReader F V N g b → wanted b.kind ≡ None

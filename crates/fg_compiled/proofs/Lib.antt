@@ -13,6 +13,7 @@ pub mod Exports
 pub mod Grouped
 pub mod Groups
 pub mod HandedOn
+pub mod Imported
 pub mod Into
 pub mod Items
 pub mod LaidBy

@@ -43,7 +43,7 @@ counted_from p a (suc n) (suc k) lt e =
         let number : count_by p (range_with_len a (suc k)) ≡ count_by p (range_with_len (a + 1) k) = omega (arith, none, count) in
         ap (slice_get (filter p (range_with_len (a + 1) n))) number ∙ rest
 
-counted : (p : ℕ → Bool) (n k : ℕ) → k < n → p k ≡ true → slice_get (filter p (range_with_len 0 n)) (count_by p (range_with_len 0 k)) ≡ Some k
+pub counted : (p : ℕ → Bool) (n k : ℕ) → k < n → p k ≡ true → slice_get (filter p (range_with_len 0 n)) (count_by p (range_with_len 0 k)) ≡ Some k
 counted p n k lt e =
     let z : 0 + k ≡ k = omega arith in
     counted_from p 0 n k lt (subst (λ x. p x ≡ true) (sym z) e) ∙ ap (λ x. Some x) z

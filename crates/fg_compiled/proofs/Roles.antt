@@ -99,7 +99,7 @@ stores_said role whole bits e = inside_then bits (role_writes role) (role_access
 
 -- A CHANGE IS A WRITE
 
-store_some : (role : Role) (bits : ℕ) → store_access role ≡ Some bits → (bits == 0) ≡ false
+pub store_some : (role : Role) (bits : ℕ) → store_access role ≡ Some bits → (bits == 0) ≡ false
 store_some CopyRead bits e = absurd cc
 store_some CopyWrite bits e = ap (λ o. unwrap_or o 0 == 0) (sym e)
 store_some ClearWrite bits e = ap (λ o. unwrap_or o 0 == 0) (sym e)

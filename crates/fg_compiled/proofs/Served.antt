@@ -161,7 +161,7 @@ module _ (G : Grouping) (heap : Heap) (P : Program) (S : IsSet G heap P) where
   -- it is on the buffer of the export
   pub copied_to : (k c : ℕ) (C : Copies G k c) → Sort G C.command → (destination_of C.command.op ≡ length G.imports + k) × (destination_role C.command.op ≡ CopyWrite)
   copied_to k c C (a_pass none operands apart) = absurd (none_some k (sym none ∙ C.export))
-  copied_to k c C (a_copy j unit shape below lt is op) =
+  copied_to k c C (a_copy j unit shape below lt is op from to) =
       let same : j ≡ k = same_some j k (sym is ∙ C.export) in
       (ap destination_of op ∙ copy_destination shape unit (length G.imports + j) ∙ ap (λ n. length G.imports + n) same, ap destination_role op ∙ copy_role shape unit (length G.imports + j))
 

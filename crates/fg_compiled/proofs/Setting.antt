@@ -11,12 +11,13 @@ use Rattle.fg_cut.specs.Standing.{AllStand, AreThese}
 use Rattle.fg_groups.specs.Laws.{IsGrouped, IsKnown}
 use Rattle.fg_groups.specs.Placed.{is_import}
 use Rattle.fg_groups.specs.declared.grouping.Grouping.{Grouping}
-use Rattle.fg_recorder.specs.Pieces.{pieces, readbacks}
+use Rattle.fg_recorder.specs.Pieces.{has_piece, piece_of, pieces, readbacks}
 use Rattle.fg_recorder.specs.Standing.{IsStanding}
 use Rattle.fg_subs.specs.declared.program.Program.{Program}
 use Rattle.fg_timeline.specs.Laws.{Ends}
 use Rattle.fg_timeline.specs.Steps.{IsScript}
 use Rattle.fg_turns.specs.Under.{Heap}
+use Rattle.fg_view.specs.Views.{imported_at, view_of}
 
 pub record IsSet (G : Grouping) (heap : Heap) (P : Program) : Type 0 where
   pub grouped : IsGrouped G
@@ -26,6 +27,8 @@ pub record IsSet (G : Grouping) (heap : Heap) (P : Program) : Type 0 where
   -- imports and the buffers of exports are no images
   pub imports : (unit : ℕ) → is_import G unit ≡ true → is_image (shape_at G.shapes unit) ≡ false
   pub buffers : (k : ℕ) → k < export_count G → is_image (shape_at G.shapes (length G.imports + k)) ≡ false
+  -- the piece of an import begins with its bytes
+  pub imported : (unit : ℕ) → unit < length G.imports → is_import G unit ≡ true → has_piece G unit ≡ true → imported_at (view_of P) (piece_of G unit) ≡ true
   pub script : IsScript (steps G heap) (length G.families)
   pub standing : IsStanding G heap
   pub stand : AllStand P (steps G heap) (length G.families)

@@ -124,7 +124,7 @@ module _ (G : Grouping) (heap : Heap) (P : Program) (S : IsSet G heap P) where
   -- ALONE
 
   -- of two uses of a group neither writes
-  lone_use : (g : ℕ) → g < length G.groups → (u v : Use) → Contains (group_at G g) u → Contains (group_at G g) v → is_write u ≡ true → u ≡ v
+  pub lone_use : (g : ℕ) → g < length G.groups → (u v : Use) → Contains (group_at G g) u → Contains (group_at G g) v → is_write u ≡ true → u ≡ v
   lone_use g lt u v (i, li, at-u) (j, lj, at-v) w = ⊎_elim same (⊎_elim before after) (cases_order i j)
     where
       same : i ≡ j → u ≡ v

@@ -158,7 +158,7 @@ module _ (G : Grouping) (heap : Heap) (P : Program) (S : IsSet G heap P) where
   -- of the buffer of an export
   buffer_spot : (c : ℕ) (command : commands.Command) (at : slice_get G.commands c ≡ Some command) (a : Access) (h : Has V (command_node G heap c) a) (r : ℕ) → Contains (operands_of command.op) r → length G.imports ≤ r → Sort G command → is_plain a.kind ≡ true → a.piece ≡ piece_of G r → (g : ℕ) × Spot F V N (command_node G heap c) a g
   buffer_spot c command at a h r there late (a_pass none operands apart) plain piece = absurd (let low = All-contains (λ n. n < length G.imports) (operands_of command.op) r operands there in omega (arith, low, late))
-  buffer_spot c command at a h r there late (a_copy k unit shape below lt is op) plain piece =
+  buffer_spot c command at a h r there late (a_copy k unit shape below lt is op from to) plain piece =
       let X = copy_export G k below in
       let what : r ≡ length G.imports + k = ⊎_elim (λ e. absurd (omega (arith, e, lt, late))) (λ e. e) (copy_operands shape unit (length G.imports + k) r (subst (λ o. Contains (operands_of o) r) op there)) in (
         copy_group G k,

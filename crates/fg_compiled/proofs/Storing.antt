@@ -99,10 +99,10 @@ module _ (G : Grouping) (heap : Heap) (P : Program) (S : IsSet G heap P) where
   abbrev pub group_stores : ℕ → Bool
   group_stores g = if is_of_unit G g then list_any is_write (group_at G g) else is_copy G g
 
-  stores_low : (g : ℕ) → g < length G.groups → group_stores g ≡ list_any is_write (group_at G g)
+  pub stores_low : (g : ℕ) → g < length G.groups → group_stores g ≡ list_any is_write (group_at G g)
   stores_low g lt = ap (λ b. if b then list_any is_write (group_at G g) else is_copy G g) (lt-ltb g (length G.groups) lt)
 
-  stores_late : (g : ℕ) → length G.groups ≤ g → group_stores g ≡ is_copy G g
+  pub stores_late : (g : ℕ) → length G.groups ≤ g → group_stores g ≡ is_copy G g
   stores_late g le = ap (λ b. if b then list_any is_write (group_at G g) else is_copy G g) (le-ltb g (length G.groups) le)
 
   -- a command stores by a touch of its operation
