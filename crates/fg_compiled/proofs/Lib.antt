@@ -33,6 +33,7 @@ pub mod Setting
 pub mod SpotFacts
 pub mod Spots
 pub mod Stages
+pub mod Starting
 pub mod Steps
 pub mod Storing
 pub mod Touches
