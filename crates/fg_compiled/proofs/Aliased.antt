@@ -12,6 +12,7 @@ use Rattle.fg_bits.specs.declared.masks.Masks.{Masks}
 use Rattle.fg_compiled.proofs.Grouped.{over_from, over_parts, resource_unit}
 use Rattle.fg_compiled.proofs.Groups.{next_unit, next_within, some_use}
 use Rattle.fg_compiled.proofs.TurnKinds.{over_kinds, over_there, under_some}
+use Rattle.fg_compiled.proofs.Later.{held_back}
 use Rattle.fg_compiled.proofs.Lying.{AreMeeting, are_meeting, meet_turned, meeting_ordered}
 use Rattle.fg_compiled.proofs.Opened.{is_barrier, item_stands}
 use Rattle.fg_compiled.proofs.Places.{turn_unit}
@@ -125,9 +126,9 @@ module _ (G : Grouping) (L : IsGrouped G) (K : IsKnown G) (ordered : ℕ → ℕ
 -- THE BARRIER BETWEEN THEM
 
 -- the stages that a barrier waits for
-barrier_source : (piece : ℕ) (layouts : Option Layouts) (masks : Masks) (q : ℕ) → (item_node q (barrier piece layouts masks)).src_stages.0 ≡ expand masks.src_stages.0
-barrier_source piece (Some layouts) masks q = refl
-barrier_source piece None masks q = refl
+source_is : (piece : ℕ) (layouts : Option Layouts) (masks : Masks) (q : ℕ) → (item_node q (barrier piece layouts masks)).src_stages.0 ≡ expand masks.src_stages.0
+source_is piece (Some layouts) masks q = refl
+source_is piece None masks q = refl
 
 pub are_kept : (G : Grouping) (heap : Heap) (g h : ℕ) → is_over G heap g h ≡ true → is_released G heap g ≡ false
 are_kept G heap g h o = and_left (goes_on G g) (is_transfer (turn_of G heap (suc g)).kind) (over_parts G heap g h o).lower_last
@@ -206,17 +207,8 @@ module _ (G : Grouping) (L : IsGrouped G) (heap : Heap) (S : IsStanding G heap) 
           B = is_barrier G L heap S P T opens K (turn_queue G h) (step G heap (OfTurn h)) (turn_item G heap h) turned (turn_opens G L heap h upper (over_there G L heap g h o))
 
           both : (turn_of G heap h).kind ≡ kinds.AliasInit → UpTo (view_of P) (alias_node G heap h) (turn_node G heap h)
-          both e = inr (one (or_left (nat_lt x y && holds_back (node_at (program_nodes P) x) (node_at (program_nodes P) y)) (signalled (program_nodes P) x y || is_at (meeting (program_nodes P) (node_at (program_nodes P) y).kind) x)
-              (and_from (nat_lt x y) (holds_back (node_at (program_nodes P) x) (node_at (program_nodes P) y)) (lt-ltb x y before.less)
-              (and_from ((node_at (program_nodes P) x).queue == (node_at (program_nodes P) y).queue) ((is_sync (node_at (program_nodes P) x).kind || is_sync (node_at (program_nodes P) y).kind) && meets (node_at (program_nodes P) x).dst_stages.0 (node_at (program_nodes P) y).src_stages.0) (eq-eqb (node_at (program_nodes P) x).queue (node_at (program_nodes P) y).queue before.same)
-              (and_from (is_sync (node_at (program_nodes P) x).kind || is_sync (node_at (program_nodes P) y).kind) (meets (node_at (program_nodes P) x).dst_stages.0 (node_at (program_nodes P) y).src_stages.0) (or_left (is_sync (node_at (program_nodes P) x).kind) (is_sync (node_at (program_nodes P) y).kind) A.sync) held)))))
+          both e = inr (one (held_back (program_nodes P) (alias_node G heap h) (turn_node G heap h) before A.sync held))
             where
-              x : ℕ
-              x = alias_node G heap h
-
-              y : ℕ
-              y = turn_node G heap h
-
               before : Sooner (program_nodes P) (alias_node G heap h) (turn_node G heap h)
               before =
                   let a = S.each_alias h upper e in
@@ -229,7 +221,7 @@ module _ (G : Grouping) (L : IsGrouped G) (heap : Heap) (S : IsStanding G heap) 
               held =
                   let entry : turn_item G heap h ≡ init G (group_at G h) = ap (λ k. item_by k G (turn_between k h (earlier G h) (uses_under G heap (place_of G (unit_of G h))) (group_at G h)) (earlier G h) (group_at G h)) e in
                   let here : (node_at (program_nodes P) (turn_node G heap h)).src_stages.0 ≡ expand (stages_on (group_at G h) (turn_queue G h)) =
-                  ap (λ z. z.src_stages.0) (item_stands G L heap S P T opens K (turn_queue G h) (step G heap (OfTurn h)) (turn_item G heap h) turned).node ∙ ap (λ it. (item_node (turn_queue G h) it).src_stages.0) entry ∙ barrier_source (piece_of G (first (group_at G h)).unit) (layouts_both (Some Undefined) (first (group_at G h)).layout) (entry_masks (group_at G h) (turn_queue G h)) (turn_queue G h) in
+                  ap (λ z. z.src_stages.0) (item_stands G L heap S P T opens K (turn_queue G h) (step G heap (OfTurn h)) (turn_item G heap h) turned).node ∙ ap (λ it. (item_node (turn_queue G h) it).src_stages.0) entry ∙ source_is (piece_of G (first (group_at G h)).unit) (layouts_both (Some Undefined) (first (group_at G h)).layout) (entry_masks (group_at G h) (turn_queue G h)) (turn_queue G h) in
                   let there : (node_at (program_nodes P) (alias_node G heap h)).dst_stages.0 ≡ expand (stages_on (group_at G h) (turn_queue G h)) =
                   ap (λ z. z.dst_stages.0) (item_stands G L heap S P T opens K (turn_queue G h) (alias_step G heap h) (alias_item h) (alias_at g h o)).node in
                   ap (λ z. meets z (node_at (program_nodes P) (turn_node G heap h)).src_stages.0) (there ∙ sym here)

@@ -2,7 +2,9 @@
 use Rattle.std.proofs.Common.{◌≡◌, ⊎_elim, ℕ, zero, suc, ◌+◌, ◌-◌, ◌<◌, ◌≤◌, ◌==◌, nat_le, Bool, true, false, List, [], ◌∷◌, ◌++◌, length, get_or, slice_get, if◌then◌else◌, Some, refl, sym, ap, ◌∙◌, subst, eq-eqb, arith}
 use Rattle.std.specs.List.{count_by, filter, position_or_len, range_with_len}
 use Rattle.std.proofs.lemmas.Bool.{cases_lt, cases_order, false≢true, le-leb, lt-leb}
-use Rattle.std.proofs.lemmas.List.Sums.{sum_by-append, sum_by-cons, count_by-le-length, fails_before_first}
+use Rattle.std.proofs.lemmas.List.Elements.{filter-append}
+use Rattle.std.proofs.lemmas.List.Sums.{sum_by-append, sum_by-cons, count_by-le-length, fails_before_first, length-filter}
+use Rattle.std.proofs.lemmas.List.{get_or_append_left, get_or-append_right, length-append}
 use Rattle.std.proofs.lemmas.Option.{get_or_from_slice_get, slice_get_within}
 use Rattle.fg_base.proofs.Lists.{range_more}
 
@@ -88,3 +90,53 @@ place_within p n k lt e = ⊎_elim (λ h. h) (λ le. absurd (late le)) (cases_lt
         let at = counted p n k lt e in
         let below = slice_get_within (filter p (range_with_len 0 n)) (count_by p (range_with_len 0 k)) k at in
         false≢true (sym (fails_before_first (λ u. u == k) (filter p (range_with_len 0 n)) (count_by p (range_with_len 0 k)) 0 (omega (arith, le, below))) ∙ eq-eqb (get_or (filter p (range_with_len 0 n)) (count_by p (range_with_len 0 k)) 0) k (get_or_from_slice_get (filter p (range_with_len 0 n)) (count_by p (range_with_len 0 k)) k 0 at))
+
+-- the one at a place passes, and stands behind those that pass before it
+pub record IsKept (p : ℕ → Bool) (n k : ℕ) : Type 0 where
+  pub number : ℕ
+  pub is : get_or (filter p (range_with_len 0 n)) k 0 ≡ number
+  pub low : number < n
+  pub passes : p number ≡ true
+  pub place : count_by p (range_with_len 0 number) ≡ k
+
+pub kept_at : (p : ℕ → Bool) (n k : ℕ) → k < length (filter p (range_with_len 0 n)) → IsKept p n k
+kept_at p zero k lt = absurd (omega (arith, lt))
+kept_at p (suc n) k lt = go (p n) refl (kept_at p n k)
+  where
+    more : filter p (range_with_len 0 (suc n)) ≡ filter p (range_with_len 0 n) ++ filter p (n ∷ [])
+    more = ap (filter p) (range_more 0 n n (omega arith)) ∙ filter-append p (range_with_len 0 n) (n ∷ [])
+
+    count : length (filter p (range_with_len 0 (suc n))) ≡ length (filter p (range_with_len 0 n)) + length (filter p (n ∷ []))
+    count = ap length more ∙ length-append (filter p (range_with_len 0 n)) (filter p (n ∷ []))
+
+    earlier : k < length (filter p (range_with_len 0 n)) → (k < length (filter p (range_with_len 0 n)) → IsKept p n k) → IsKept p (suc n) k
+    earlier l rest =
+        let R = rest l in
+        let low = R.low in
+        record {
+          number = R.number;
+          is = ap (λ xs. get_or xs k 0) more ∙ get_or_append_left (filter p (range_with_len 0 n)) (filter p (n ∷ [])) 0 k l ∙ R.is;
+          low = omega (arith, low);
+          passes = R.passes;
+          place = R.place;
+        }
+
+    go : (b : Bool) → p n ≡ b → (k < length (filter p (range_with_len 0 n)) → IsKept p n k) → IsKept p (suc n) k
+    go false e rest =
+        let none : length (filter p (n ∷ [])) ≡ 0 = ap (λ z. length (if z then n ∷ [] else [])) e in
+        earlier (omega (arith, none, count, lt)) rest
+    go true e rest = ⊎_elim
+        (λ l. earlier l rest)
+        (λ (le : length (filter p (range_with_len 0 n)) ≤ k).
+        let one : filter p (n ∷ []) ≡ n ∷ [] = ap (λ z. if z then n ∷ [] else []) e in
+        let size : length (filter p (n ∷ [])) ≡ 1 = ap length one in
+        let at : k ≡ length (filter p (range_with_len 0 n)) = omega (arith, le, size, count, lt) in
+        let z : k - length (filter p (range_with_len 0 n)) ≡ 0 = omega (arith, at) in
+        record {
+          number = n;
+          is = ap (λ xs. get_or xs k 0) more ∙ get_or-append_right (filter p (range_with_len 0 n)) (filter p (n ∷ [])) (length (filter p (range_with_len 0 n))) k 0 refl le ∙ ap (λ xs. get_or xs (k - length (filter p (range_with_len 0 n))) 0) one ∙ ap (λ i. get_or (n ∷ []) i 0) z;
+          low = omega arith;
+          passes = e;
+          place = sym (length-filter p (range_with_len 0 n)) ∙ sym at;
+        })
+        (cases_lt k (length (filter p (range_with_len 0 n))))

@@ -10,7 +10,7 @@ use Rattle.fg_base.proofs.Lists.{each_of, entry_of, one}
 use Rattle.fg_base.specs.Operands.{mapped}
 use Rattle.fg_base.specs.declared.shape.Shape.{Shape}
 use Rattle.fg_compiled.proofs.Contained.{contains_filter, contains_map, contains_part}
-use Rattle.fg_compiled.proofs.Exports.{entry_right}
+use Rattle.fg_compiled.proofs.Entries.{contains_entry, entry_left, entry_right}
 use Rattle.fg_compiled.proofs.Groups.{some_use}
 use Rattle.fg_groups.specs.Laws.{IsGrouped, IsSourced}
 use Rattle.fg_groups.specs.Needs.{group_at, uses_at, uses_in, use_at}
@@ -78,9 +78,6 @@ used_among shapes units c (d ∷ list) zero j command u e n h =
     Contains-append_left (command_uses shapes units c d) (uses_of shapes units (suc c) list) u (subst (λ k. Contains (command_uses shapes units k d) u) number (subst (λ x. Contains (command_uses shapes units j x) u) same h))
 used_among shapes units c (d ∷ list) (suc i) j command u e n h = Contains-append_right (command_uses shapes units c d) (uses_of shapes units (suc c) list) u (used_among shapes units (suc c) list i j command u e (omega (arith, n)) h)
 
-contains_entry : {X : Type 0} (xs : List X) (k : ℕ) (x : X) → slice_get xs k ≡ Some x → Contains xs x
-contains_entry xs k x e = (k, slice_get_within xs k x e, get_or_from_slice_get xs k x x e)
-
 module _ (G : Grouping) (L : IsGrouped G) where
   first_source : (g : ℕ) → g < length G.groups → IsSourced G (first (group_at G g))
   first_source g lt = L.sourced g [] lt 0 no_use (some_use G L g lt)
@@ -95,12 +92,7 @@ module _ (G : Grouping) (L : IsGrouped G) where
       let told = contains_map (λ (u : UseAt). u.group) (filter (λ (u : UseAt). u.command == (first (group_at G g)).command) (uses_at G)) (use_at G.groups (first (group_at G g))) kept in
       subst (λ h. Contains (groups_used G (first (group_at G g)).command) h) (L.numbered g lt 0 no_use (some_use G L g lt)) told
 
--- LISTS
-
-entry_left : {X : Type 0} (xs ys : List X) (i : ℕ) → i < length xs → slice_get (xs ++ ys) i ≡ slice_get xs i
-entry_left [] ys i lt = absurd (omega (arith, lt))
-entry_left (x ∷ xs) ys zero lt = refl
-entry_left (x ∷ xs) ys (suc i) lt = entry_left xs ys i (omega (arith, lt))
+-- WHERE A BLOCK STANDS
 
 -- a list within another
 record IsWithin (list part : List Marked) : Type 0 where

@@ -9,6 +9,7 @@ use Rattle.std.proofs.lemmas.List.Elements.{All-nil, All-append, All-map}
 use Rattle.std.proofs.lemmas.List.Sums.{fails_before_first, passes_at_first}
 use Rattle.std.proofs.lemmas.Option.{get_or_from_slice_get, slice_get-get_or, slice_get_within}
 use Rattle.fg_base.proofs.Lists.{entry_of}
+use Rattle.fg_compiled.proofs.Entries.{entry_cases, entry_right}
 use Rattle.fg_compiled.specs.Nodes.{copy_of}
 use Rattle.fg_compiled.specs.Plan.{export_count, exports, is_copy_of}
 use Rattle.fg_frame.specs.Good.{shapes_in}
@@ -41,20 +42,6 @@ copies_from G k c e = go (slice_get G.commands c) refl e
 pub record AreCopied (G : Grouping) : Type 0 where
   pub each : (k : ℕ) → k < export_count G → Copies G k (copy_of G k)
   pub once : (k c : ℕ) → Copies G k c → copy_of G k ≡ c
-
--- OF LISTS
-
-entry_cases : {X : Type 0} (xs ys : List X) (i : ℕ) (x : X) → slice_get (xs ++ ys) i ≡ Some x → (slice_get xs i ≡ Some x) ⊎ ((length xs ≤ i) × (slice_get ys (i - length xs) ≡ Some x))
-entry_cases [] ys i x e = let same : i - 0 ≡ i = omega arith in inr (omega arith, ap (slice_get ys) same ∙ e)
-entry_cases (z ∷ xs) ys zero x e = inl e
-entry_cases (z ∷ xs) ys (suc i) x e = ⊎_elim
-    (λ h. inl h)
-    (λ h. let le = h.0 in let same : suc i - suc (length xs) ≡ i - length xs = omega arith in inr (omega (arith, le), ap (slice_get ys) same ∙ h.1))
-    (entry_cases xs ys i x e)
-
-pub entry_right : {X : Type 0} (xs ys : List X) (i : ℕ) → slice_get (xs ++ ys) (length xs + i) ≡ slice_get ys i
-entry_right [] ys i = let same : 0 + i ≡ i = omega arith in ap (slice_get ys) same
-entry_right (z ∷ xs) ys i = let same : suc (length xs) + i ≡ suc (length xs + i) = omega arith in ap (slice_get (z ∷ xs ++ ys)) same ∙ entry_right xs ys i
 
 some_same : (a b : ℕ) → Some a ≡ Some b → a ≡ b
 some_same a b e = cc

@@ -12,6 +12,7 @@ use Rattle.fg_compiled.proofs.Contained.{contains_on, contains_some, from_first,
 use Rattle.fg_compiled.proofs.Early.{IsEarly}
 use Rattle.fg_compiled.proofs.Grouped.{over_parts, resource_unit}
 use Rattle.fg_compiled.proofs.Groups.{Member, commands_rise, first_in, member_of, member_queue, next_unit, next_within, is_own, some_use, use_queue}
+use Rattle.fg_compiled.proofs.Later.{later_then}
 use Rattle.fg_compiled.proofs.Places.{HasItem, member_unit, into_next, into_release, into_transfer, member_command, member_into, known_command, release_at, turn_before}
 use Rattle.fg_compiled.proofs.Steps.{ItemAt, command_steps, over_need, soon, turn_at}
 use Rattle.fg_compiled.proofs.TurnKinds.{earlier_is, kept_barrier, next_there, over_kinds, over_there, placed_unit, released_transfer}
@@ -49,42 +50,6 @@ use Rattle.fg_turns.specs.Under.{Heap, place_of}
 use Rattle.fg_turns.specs.Unions.{on}
 use Rattle.fg_turns.specs.declared.turn.TurnKind.TheVariants as kinds
 use Rattle.fg_view.specs.Views.{view_of}
-
--- LATER GOES ON
-
-wait_sync : (kind : Kind) → is_wait kind ≡ true → is_sync kind ≡ true
-wait_sync (node_kinds.Wait queue value) e = refl
-wait_sync node_kinds.Command e = absurd (false≢true e)
-wait_sync node_kinds.Barrier e = refl
-wait_sync (node_kinds.Signal value) e = refl
-wait_sync node_kinds.Host e = absurd (false≢true e)
-
-module _ (P : Program) (full : IsFull (view_of P)) where
-  -- signals wait for the waits before them
-  wait_signal : (w s : ℕ) → is_wait (node_at (program_nodes P) w).kind ≡ true → is_signal (node_at (program_nodes P) s).kind ≡ true → Sooner (program_nodes P) w s → edge (program_nodes P) w s ≡ true
-  wait_signal w s hw hs k =
-      or_left (nat_lt w s && holds_back (node_at (program_nodes P) w) (node_at (program_nodes P) s)) (signalled (program_nodes P) w s || is_at (meeting (program_nodes P) (node_at (program_nodes P) s).kind) w)
-      (and_from (nat_lt w s) (holds_back (node_at (program_nodes P) w) (node_at (program_nodes P) s)) (lt-ltb w s k.less)
-      (and_from ((node_at (program_nodes P) w).queue == (node_at (program_nodes P) s).queue) ((is_sync (node_at (program_nodes P) w).kind || is_sync (node_at (program_nodes P) s).kind) && meets (node_at (program_nodes P) w).dst_stages.0 (node_at (program_nodes P) s).src_stages.0) (eq-eqb (node_at (program_nodes P) w).queue (node_at (program_nodes P) s).queue k.same)
-      (and_from (is_sync (node_at (program_nodes P) w).kind || is_sync (node_at (program_nodes P) s).kind) (meets (node_at (program_nodes P) w).dst_stages.0 (node_at (program_nodes P) s).src_stages.0) (or_left (is_sync (node_at (program_nodes P) w).kind) (is_sync (node_at (program_nodes P) s).kind) (wait_sync (node_at (program_nodes P) w).kind hw))
-      (subst (λ z. meets z (node_at (program_nodes P) s).src_stages.0 ≡ true) (sym (full.waits w hw)) (subst (λ z. meets wait_stages z ≡ true) (sym (full.signals s hs)) refl)))))
-
-  sooner_then : (x y z : ℕ) → Sooner (program_nodes P) x y → Sooner (program_nodes P) y z → Sooner (program_nodes P) x z
-  sooner_then x y z p q = record { same = p.same ∙ q.same; less = omega (arith, p.less, q.less) }
-
-  pub later_then : (x y z : ℕ) → Later (program_nodes P) x y → Later (program_nodes P) y z → Later (program_nodes P) x z
-  later_then x y z (inl p) (inl q) = inl (sooner_then x y z p q)
-  later_then x y z (inl p) (inr q) = inr (record { sent = q.sent; got = q.got; signal = q.signal; wait = q.wait; after = sooner_then x y q.sent p q.after; before = q.before; path = q.path })
-  later_then x y z (inr p) (inl q) = inr (record { sent = p.sent; got = p.got; signal = p.signal; wait = p.wait; after = p.after; before = sooner_then p.got y z p.before q; path = p.path })
-  later_then x y z (inr p) (inr q) = inr (record {
-    sent = p.sent;
-    got = q.got;
-    signal = p.signal;
-    wait = q.wait;
-    after = p.after;
-    before = q.before;
-    path = then_on p.path (then_on (one (wait_signal p.got q.sent p.wait q.signal (sooner_then p.got y q.sent p.before q.after))) q.path);
-  })
 
 -- PATHS
 

@@ -67,7 +67,7 @@ module _ (G : Grouping) (offsets : List ℕ) where
       get_or_from_slice_get (pieces G offsets) (piece_of G r) (piece G offsets r) no_piece at
 
   -- two in one memory lie in the heap
-  same_memory : (r s : ℕ) → memory_of G r ≡ memory_of G s → r ≢ s → (has_memory G r ≡ false) × (has_memory G s ≡ false)
+  pub same_memory : (r s : ℕ) → memory_of G r ≡ memory_of G s → r ≢ s → (has_memory G r ≡ false) × (has_memory G s ≡ false)
   same_memory r s e differ = go (has_memory G r) (has_memory G s) refl refl
     where
       number : (x : ℕ) (b : Bool) → has_memory G x ≡ b → memory_of G x ≡ (if b then 1 + count_by (has_memory G) (range_with_len 0 x) else 0)

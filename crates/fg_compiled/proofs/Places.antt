@@ -12,7 +12,8 @@ use Rattle.fg_compiled.proofs.Exports.{AreCopied, Copies, copies_from}
 use Rattle.fg_compiled.proofs.Grouped.{AreNext, of_unit, of_export, next, over_parts}
 use Rattle.fg_compiled.proofs.Groups.{Member, commands_rise, first_in, member_of, member_queue, next_unit, next_within, sourced, use_queue}
 use Rattle.fg_compiled.proofs.TurnKinds.{earlier_is, kept_barrier, next_there, over_there, released_goes, released_transfer}
-use Rattle.fg_compiled.proofs.Steps.{ItemAt, command_at, command_steps, copy_at, does_at, over_need, soon, sooner_crossed, turn_at}
+use Rattle.fg_compiled.proofs.Later.{sooner_crossed}
+use Rattle.fg_compiled.proofs.Steps.{ItemAt, command_at, command_steps, copy_at, does_at, over_need, soon, turn_at}
 use Rattle.fg_compiled.specs.Nodes.{command_node, copied_node, copied_step, item_at, nodes_of, release_node, release_queue, steps, turn_node, turn_queue}
 use Rattle.fg_compiled.specs.Plan.{export_at, is_copy, is_copy_of, is_of_export, is_over, is_read, plan_of, uses_in_group}
 use Rattle.fg_crossing.specs.Crossings.{Sooner, Crossed, Later}

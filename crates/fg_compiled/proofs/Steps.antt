@@ -29,22 +29,6 @@ use Rattle.fg_timeline.specs.declared.step.Step.TheVariants as cases
 use Rattle.fg_turns.specs.Turns.{first}
 use Rattle.fg_turns.specs.Under.{Heap}
 
--- WHAT COMES LATER
-
-module _ (nodes : List Node) where
-  pub sooner_on : (x y z : ℕ) → Sooner nodes x y → Sooner nodes y z → Sooner nodes x z
-  sooner_on x y z a b = let l = a.less in let m = b.less in record { same = a.same ∙ b.same; less = omega (arith, l, m) }
-
-  pub sooner_crossed : (x y z : ℕ) → Sooner nodes x y → Crossed nodes y z → Crossed nodes x z
-  sooner_crossed x y z a b = record { sent = b.sent; got = b.got; signal = b.signal; wait = b.wait; after = sooner_on x y b.sent a b.after; before = b.before; path = b.path }
-
-  pub crossed_sooner : (x y z : ℕ) → Crossed nodes x y → Sooner nodes y z → Crossed nodes x z
-  crossed_sooner x y z a b = record { sent = a.sent; got = a.got; signal = a.signal; wait = a.wait; after = a.after; before = sooner_on a.got y z a.before b; path = a.path }
-
-  pub later_sooner : (x y z : ℕ) → Later nodes x y → Sooner nodes y z → Later nodes x z
-  later_sooner x y z (inl a) b = inl (sooner_on x y z a b)
-  later_sooner x y z (inr a) b = inr (crossed_sooner x y z a b)
-
 -- STEPS
 
 -- at step i stands this item of queue q

@@ -1,5 +1,5 @@
+pub mod Fed
 pub mod Laws
 pub mod Nodes
 pub mod Plan
 pub mod Served
-pub mod Fed

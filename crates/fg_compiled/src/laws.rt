@@ -1,6 +1,6 @@
 //! Laws of compiled programs.
 
-ghost use Rattle.fg_compiled.specs.Laws.{OfCompiled, IsGrouped, AreOrdered, HaveBarriers, ComeBefore, AreKept};
+ghost use Rattle.fg_compiled.specs.Laws.{OfCompiled, IsGrouped, AreOrdered, HaveBarriers, ComeBefore, AreKept, ImportsAreAlone, IsSoundWith};
 ghost use Rattle.fg_crossing.specs.Nodes.{Places, Roles};
 
 use fg_crossing::crossing_laws;
@@ -23,16 +23,29 @@ pub fn places_law()
 
 /// Of each program that is compiled of a good frame: two units in the same bytes are ordered (`ordered`). Between them stands an
 /// alias barrier (`barriers`), which comes after what uses the earlier one (`before`), and that is not handed on after its last
-/// group (`kept`). It does nothing.
+/// group (`kept`). In the bytes of an import lies nothing else (`imports`). It does nothing.
 pub fn aliases_law()
     ensures ordered { OfCompiled AreOrdered }
     ensures barriers { OfCompiled HaveBarriers }
     ensures before { OfCompiled ComeBefore }
     ensures kept { OfCompiled AreKept }
+    ensures imports { OfCompiled ImportsAreAlone }
 {
     group_laws();
     script_laws();
     cut_laws();
     crossing_laws();
     places_law();
+}
+
+/// A program that is compiled of a good frame is sound in its least order, with what is asked of its accesses, masks and states
+/// beside. It does nothing.
+pub fn sound_law()
+    ensures { OfCompiled IsSoundWith }
+{
+    script_laws();
+    cut_laws();
+    crossing_laws();
+    places_law();
+    aliases_law();
 }

@@ -2,9 +2,11 @@
 #![tactic(auto)]
 
 mod accesses;
+mod bytes;
 mod laws;
 mod states;
 
 pub use accesses::accesses_law;
-pub use laws::{aliases_law, places_law};
+pub use bytes::bytes_law;
+pub use laws::{aliases_law, places_law, sound_law};
 pub use states::states_law;

@@ -1,6 +1,7 @@
 use Rattle.std.proofs.Common.{refl}
 use Rattle.fg_compiled.proofs.Aliased.{alias_barrier, alias_onto, are_kept, are_ordered}
 use Rattle.fg_compiled.proofs.Early.{is_early}
+use Rattle.fg_compiled.proofs.Imports.{import_alone}
 use Rattle.fg_compiled.proofs.Into.{into_alias}
 use Rattle.fg_compiled.proofs.laws.aliases_law.Goals as goal
 use Rattle.fg_compiled.specs.Nodes.{nodes_of, steps}
@@ -43,3 +44,7 @@ returns-clause-before c = λ frame kept ordered places good is_ordered least g h
 
 pub returns-clause-kept : goal.returns-clause-kept
 returns-clause-kept c = λ frame kept ordered places good is_ordered least g h over. are_kept (grouping frame kept) (heap_with ordered places) g h over
+
+pub returns-clause-imports : goal.returns-clause-imports
+returns-clause-imports c = λ frame kept ordered places good is_ordered least g p.
+    import_alone (grouping frame kept) (c.group_laws.ensures.grouped frame kept) (c.group_laws.ensures.known frame kept good) frame places g p
