@@ -12,6 +12,7 @@ pub mod Early
 pub mod Entries
 pub mod ExportGroups
 pub mod Exports
+pub mod Feeding
 pub mod Grouped
 pub mod Groups
 pub mod HandedOn

@@ -1,4 +1,5 @@
 pub mod Fed
+pub mod Kept
 pub mod Laws
 pub mod Nodes
 pub mod Plan

@@ -10,5 +10,5 @@ mod states;
 pub use accesses::accesses_law;
 pub use bytes::bytes_law;
 pub use laws::{aliases_law, places_law, sound_law};
-pub use starts::starts_law;
+pub use starts::{kept_law, starts_law};
 pub use states::states_law;
