@@ -1,7 +1,7 @@
 -- Units that lie in the same bytes.
-use Rattle.std.proofs.Common.{◌≡◌, ◌≢◌, ◌⊎◌, ⊎_elim, inl, inr, ℕ, zero, suc, ◌+◌, ◌-◌, ◌<◌, ◌≤◌, ◌==◌, ◌&&◌, ◌||◌, nat_lt, not, Bool, true, false, length, get_or, Option, None, Some, refl, sym, ap, ◌∙◌, subst, bit_and, eq-eqb, eqb-true, arith}
+use Rattle.std.proofs.Common.{◌≡◌, ◌≢◌, ◌⊎◌, ⊎_elim, inl, inr, ℕ, zero, suc, ◌+◌, ◌-◌, ◌<◌, ◌≤◌, ◌==◌, not, Bool, true, false, length, get_or, Option, None, Some, refl, sym, ap, ◌∙◌, subst, bit_and, eqb-true, arith}
 use Rattle.std.specs.Int.Bits.{and_zero_r}
-use Rattle.std.proofs.lemmas.Bool.{and_from, and_left, false≢true, lt-ltb, or_left}
+use Rattle.std.proofs.lemmas.Bool.{and_from, and_left, false≢true}
 use Rattle.std.proofs.lemmas.List.{length-map}
 use Rattle.fg_base.specs.Shapes.{bytes_of, shape_at}
 use Rattle.fg_bits.specs.Sets.{meets}
@@ -30,7 +30,7 @@ use Rattle.fg_groups.specs.Laws.{IsGrouped, IsKnown}
 use Rattle.fg_groups.specs.Needs.{group_at, goes_on}
 use Rattle.fg_groups.specs.Placed.{placed, sizes}
 use Rattle.fg_groups.specs.declared.grouping.Grouping.{Grouping}
-use Rattle.fg_hb.specs.Edges.{holds_back, is_at, is_sync, meeting, node_at, signalled}
+use Rattle.fg_hb.specs.Edges.{node_at}
 use Rattle.fg_hb.specs.Nodes.{item_node, program_nodes}
 use Rattle.fg_place.specs.Placing.{IsLeast, Places, number_at, overlap}
 use Rattle.fg_reach.specs.Paths.{one}

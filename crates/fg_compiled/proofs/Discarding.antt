@@ -1,57 +1,33 @@
 -- Which turns discard.
-use Rattle.std.proofs.Common.{◌≡◌, ◌⊎◌, ⊎_elim, ℕ, zero, suc, ◌+◌, ◌<◌, ◌≤◌, ◌==◌, ◌&&◌, ◌||◌, not, Bool, true, false, List, [], ◌∷◌, ◌++◌, length, get_or, slice_get, if◌then◌else◌, Option, Some, None, refl, sym, ap, ◌∙◌, subst, eq-eqb, eqb-true, arith}
-use Rattle.std.specs.List.{All, Contains, list_any}
+use Rattle.std.proofs.Common.{◌≡◌, ⊎_elim, ℕ, zero, suc, ◌<◌, ◌||◌, Bool, true, false, List, [], ◌∷◌, ◌++◌, length, if◌then◌else◌, Option, Some, None, refl, sym, ap, ◌∙◌, subst, arith}
+use Rattle.std.specs.List.{All}
 use Rattle.std.specs.Option.{option_map_or}
-use Rattle.std.specs.Prelude.{is_some, unwrap_or}
-use Rattle.std.proofs.lemmas.Bool.{and_from, and_parts, cases_Bool, cases_lt, false≢true, le-ltb, lt-ltb}
-use Rattle.std.proofs.lemmas.List.Elements.{All-nil, All-append, Contains-append_right}
-use Rattle.std.proofs.lemmas.List.Folds.{list_any_at, Any-from_list_any}
-use Rattle.std.proofs.lemmas.Option.{get_or_from_slice_get, slice_get-map}
-use Rattle.fg_base.proofs.Lists.{entry_of, one}
-use Rattle.fg_base.specs.Operands.{mapped}
-use Rattle.fg_base.specs.Shapes.{is_buffer, is_image, shape_at}
-use Rattle.fg_base.specs.Touches.{destination_touch, touches_of}
-use Rattle.fg_base.specs.declared.role.Role.{Role}
-use Rattle.fg_base.specs.declared.role.Role.TheVariants.{CopyRead, CopyWrite, ClearWrite, Sampled, StorageRead, StorageWrite, Attachment}
+use Rattle.std.specs.Prelude.{is_some}
+use Rattle.std.proofs.lemmas.Bool.{cases_lt, false≢true}
+use Rattle.std.proofs.lemmas.List.Elements.{All-nil, All-append}
+use Rattle.fg_base.proofs.Lists.{one}
+use Rattle.fg_base.specs.Shapes.{is_image, shape_at}
 use Rattle.fg_base.specs.declared.shape.Shape.{Shape}
-use Rattle.fg_base.specs.declared.shape.Shape.TheVariants.{Buffer, Image}
-use Rattle.fg_base.specs.declared.touch.Touch.{Touch}
-use Rattle.fg_bits.specs.Accesses.{transfer_write, shader_storage_write, color_attachment_write}
 use Rattle.fg_bits.specs.Layouts.{is_undefined}
-use Rattle.fg_bits.specs.Roles.{store_access}
 use Rattle.fg_bits.specs.declared.layout.Layout.{Layout}
 use Rattle.fg_bits.specs.declared.layout.Layout.TheVariants.{Undefined}
 use Rattle.fg_bits.specs.declared.layout.Layouts.{Layouts}
 use Rattle.fg_bits.specs.declared.masks.Masks.{Masks}
-use Rattle.fg_compiled.proofs.Commands.{Sort}
-use Rattle.fg_compiled.proofs.ExportGroups.{copy_parts}
-use Rattle.fg_compiled.proofs.Exports.{Copies}
 use Rattle.fg_compiled.proofs.Grouped.{AreNext, of_unit, of_export, next, rising}
-use Rattle.fg_compiled.proofs.Groups.{Member, next_within, some_use, sourced, unit_each}
+use Rattle.fg_compiled.proofs.Groups.{next_within, some_use}
 use Rattle.fg_compiled.proofs.LaidBy.{last_there}
 use Rattle.fg_compiled.proofs.LaidOut.{first_known, is_init, use_known}
-use Rattle.fg_compiled.proofs.Members.{command_stands, done, pieces_same}
-use Rattle.fg_compiled.proofs.Pieces.{piece_there}
-use Rattle.fg_compiled.proofs.Roles.{changes_write}
-use Rattle.fg_compiled.proofs.Served.{copied_to}
 use Rattle.fg_compiled.proofs.Setting.{IsSet}
-use Rattle.fg_compiled.proofs.SpotFacts.{IsMemberOf, of_group, of_copy, entry_got, member_cases}
-use Rattle.fg_compiled.proofs.Spots.{copies_is, member_is, member_late, piece_is, piece_late}
-use Rattle.fg_compiled.proofs.Touches.{destination_there, moved, storing, touched_there}
-use Rattle.fg_compiled.proofs.TurnAccesses.{IsAfter, is_next, next_after, turn_all, turn_low}
+use Rattle.fg_compiled.proofs.TurnAccesses.{is_next, next_after, turn_all, turn_low}
 use Rattle.fg_compiled.proofs.TurnKinds.{earlier_is}
-use Rattle.fg_compiled.proofs.Uses.{sourced_use}
-use Rattle.fg_compiled.specs.Nodes.{command_node, copy_of, nodes_of, turn_queue}
-use Rattle.fg_compiled.specs.Plan.{export_at, is_copy, is_copy_of, is_of_unit, plan_of, resource_of, unit_of}
-use Rattle.fg_crossing.specs.Kinds.{is_plain}
+use Rattle.fg_compiled.specs.Nodes.{nodes_of, turn_queue}
+use Rattle.fg_compiled.specs.Plan.{plan_of, resource_of, unit_of}
 use Rattle.fg_crossing.specs.Nodes.{Nodes}
 use Rattle.fg_crossing.specs.Plans.{First, Plan}
-use Rattle.fg_crossing.specs.Spots.{OfTurn, OfMember}
+use Rattle.fg_crossing.specs.Spots.{OfTurn}
 use Rattle.fg_groups.specs.Groups.{shares}
-use Rattle.fg_groups.specs.Needs.{group_at, goes_on, is_member, queue_of}
+use Rattle.fg_groups.specs.Needs.{group_at}
 use Rattle.fg_groups.specs.Placed.{is_import}
-use Rattle.fg_groups.specs.Uses.{is_write, role_writes}
-use Rattle.fg_groups.specs.declared.command.Command as commands
 use Rattle.fg_groups.specs.declared.grouping.Grouping.{Grouping}
 use Rattle.fg_groups.specs.declared.unit_use.Use.{Use}
 use Rattle.fg_recorder.specs.Items.{barrier, both, layouts_between, transfer}
@@ -60,14 +36,13 @@ use Rattle.fg_recorder.specs.Standing.{item_by}
 use Rattle.fg_subs.specs.Rules.{shapes_of}
 use Rattle.fg_subs.specs.declared.program.Program.{Program}
 use Rattle.fg_turns.specs.Masks.{entry_masks}
-use Rattle.fg_turns.specs.Turns.{earlier, first, first_kind, has_uses, last, next_kind, no_use, turn_of}
+use Rattle.fg_turns.specs.Turns.{earlier, first, first_kind, has_uses, last, next_kind, turn_of}
 use Rattle.fg_turns.specs.Under.{Heap, place_of, uses_under}
 use Rattle.fg_turns.specs.declared.turn.Turn.{Turn}
 use Rattle.fg_turns.specs.declared.turn.TurnKind.{TurnKind}
 use Rattle.fg_turns.specs.declared.turn.TurnKind.TheVariants as kinds
-use Rattle.fg_view.specs.AccessKinds.{changes, is_discard}
-use Rattle.fg_view.specs.Effects.{access, command_accesses, handover_of, item_effect, layout_change, layout_wanted, role_agent, same_layout, transition_through}
-use Rattle.fg_view.specs.ShapedView.{Has}
+use Rattle.fg_view.specs.AccessKinds.{is_discard}
+use Rattle.fg_view.specs.Effects.{access, handover_of, item_effect, layout_change, same_layout, transition_through}
 use Rattle.fg_view.specs.Views.{View, view_of}
 use Rattle.fg_view.specs.declared.access.Access.{Access}
 use Rattle.fg_view.specs.declared.access.AccessKind.TheVariants as access_kinds

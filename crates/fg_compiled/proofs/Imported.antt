@@ -1,5 +1,5 @@
 -- The pieces of imports begin with their bytes.
-use Rattle.std.proofs.Common.{◌≡◌, ⊎_elim, ℕ, suc, ◌+◌, ◌<◌, ◌≤◌, ◌&&◌, Bool, true, false, List, length, map, get_or, slice_get, if◌then◌else◌, Option, Some, None, refl, sym, ap, ◌∙◌, subst, arith}
+use Rattle.std.proofs.Common.{◌≡◌, ⊎_elim, ℕ, suc, ◌+◌, ◌<◌, ◌&&◌, Bool, true, false, List, length, map, slice_get, if◌then◌else◌, Option, Some, None, refl, sym, ap, ◌∙◌, arith}
 use Rattle.std.specs.List.{count_by, filter, range_with_len}
 use Rattle.std.specs.Option.{option_and_then, option_map, option_map_or}
 use Rattle.std.specs.Prelude.{is_some}
@@ -22,7 +22,6 @@ use Rattle.fg_groups.specs.declared.grouping.Grouping.{Grouping}
 use Rattle.fg_place.specs.Placing.{Places}
 use Rattle.fg_recorder.specs.Pieces.{has_memory, has_piece, imported, is_readback, memories, memory_of, own_memory, piece, piece_of, pieces, resources}
 use Rattle.fg_recorder.specs.Recorded.{recorded}
-use Rattle.fg_subs.specs.declared.program.Memory.{Memory}
 use Rattle.fg_view.specs.Views as views
 
 buffer_from : (shape : Shape) → is_image shape ≡ false → is_buffer shape ≡ true

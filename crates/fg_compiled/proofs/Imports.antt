@@ -1,5 +1,5 @@
 -- In the bytes of an import lies nothing else.
-use Rattle.std.proofs.Common.{◌≡◌, ◌≢◌, ◌⊎◌, ⊎_elim, ℕ, ◌+◌, ◌<◌, ◌≤◌, ◌==◌, ◌&&◌, Bool, true, false, List, length, map, get_or, if◌then◌else◌, Option, Some, refl, sym, ap, ◌∙◌, subst, eqb-true, arith}
+use Rattle.std.proofs.Common.{◌≡◌, ⊎_elim, ℕ, ◌+◌, ◌<◌, ◌==◌, ◌&&◌, true, false, length, map, get_or, if◌then◌else◌, sym, ap, ◌∙◌, subst, eqb-true, arith}
 use Rattle.std.specs.List.{count_by, filter, range_with_len}
 use Rattle.std.specs.Option.{option_map_or}
 use Rattle.std.specs.Prelude.{slice_get}
@@ -15,7 +15,6 @@ use Rattle.fg_groups.specs.Laws.{IsGrouped, IsKnown}
 use Rattle.fg_groups.specs.declared.grouping.Grouping.{Grouping}
 use Rattle.fg_place.specs.Placing.{Places}
 use Rattle.fg_recorder.specs.Pieces.{has_memory, has_piece, memories, memory_of, piece, piece_of, pieces, resources}
-use Rattle.fg_subs.specs.declared.program.Memory.{Memory}
 use Rattle.fg_view.specs.Views.{is_before_end, is_import, no_piece, piece_imported, pieces_overlap}
 
 module _ (G : Grouping) (L : IsGrouped G) (K : IsKnown G) (frame : NumberedFrame) (places : Places) where

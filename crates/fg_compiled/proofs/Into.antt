@@ -1,12 +1,11 @@
 -- What uses the earlier of two units in the same bytes comes before the alias barrier.
-use Rattle.std.proofs.Common.{◌≡◌, ◌⊎◌, ⊎_elim, inl, inr, ℕ, suc, ◌+◌, ◌-◌, ◌<◌, ◌≤◌, ◌==◌, ◌&&◌, ◌||◌, nat_lt, Bool, true, false, [], length, get_or, if◌then◌else◌, None, Some, refl, sym, ap, ◌∙◌, subst, eq-eqb, eqb-true, arith}
+use Rattle.std.proofs.Common.{◌≡◌, ◌⊎◌, ⊎_elim, inl, inr, ℕ, suc, ◌+◌, ◌-◌, ◌<◌, ◌≤◌, ◌==◌, ◌&&◌, nat_lt, Bool, true, false, [], length, get_or, if◌then◌else◌, None, Some, refl, sym, ap, ◌∙◌, subst, eq-eqb, eqb-true, arith}
 use Rattle.std.specs.List.{Contains, range_with_len}
 use Rattle.std.specs.Prelude.{slice_get}
-use Rattle.std.proofs.lemmas.Bool.{and_from, and_parts, cases_Bool, cases_eq, cases_order, false≢true, lt-ltb, ltb-true, or_cases, or_left}
+use Rattle.std.proofs.lemmas.Bool.{and_from, and_parts, cases_Bool, cases_eq, cases_order, false≢true, lt-ltb, ltb-true, or_cases}
 use Rattle.std.proofs.lemmas.Option.{slice_get_cases}
 use Rattle.std.proofs.lemmas.List.Folds.{Any-from_list_any, list_any_at}
 use Rattle.std.proofs.lemmas.List.FromFn.{get_or-range_with_len, length-range_with_len}
-use Rattle.fg_bits.specs.Sets.{meets}
 use Rattle.fg_compiled.proofs.Aliased.{alias_at, alias_item}
 use Rattle.fg_compiled.proofs.Contained.{contains_on, contains_some, from_first, on_rising}
 use Rattle.fg_compiled.proofs.Early.{IsEarly}
@@ -18,7 +17,7 @@ use Rattle.fg_compiled.proofs.Steps.{ItemAt, command_steps, over_need, soon, tur
 use Rattle.fg_compiled.proofs.TurnKinds.{earlier_is, kept_barrier, next_there, over_kinds, over_there, placed_unit, released_transfer}
 use Rattle.fg_compiled.specs.Nodes.{alias_node, alias_step, command_node, item_at, release_node, release_queue, steps, steps_before, turn_node, turn_queue}
 use Rattle.fg_compiled.specs.Plan.{is_copy, is_copy_of, export_at, is_over, plan_of, resource_of, unit_of, uses_in_group}
-use Rattle.fg_crossing.specs.Crossings.{Sooner, Crossed, Later, IsFull, wait_stages}
+use Rattle.fg_crossing.specs.Crossings.{Sooner, Crossed, Later, IsFull}
 use Rattle.fg_crossing.specs.Plans.{Reach, by_queue, by_need, then_reach}
 use Rattle.fg_cut.specs.Later.{AreSooner, AreCrossed}
 use Rattle.fg_groups.specs.Laws.{IsGrouped, IsKnown}
@@ -26,10 +25,7 @@ use Rattle.fg_groups.specs.Needs.{group_at, goes_on, is_member, is_of, leads, ne
 use Rattle.fg_groups.specs.Placed.{sizes, unit_at}
 use Rattle.fg_groups.specs.declared.grouping.Grouping.{Grouping}
 use Rattle.fg_groups.specs.declared.unit_use.Use.{Use}
-use Rattle.fg_hb.specs.Edges.{edge, holds_back, is_at, is_signal, is_sync, is_wait, meeting, node_at, signalled}
 use Rattle.fg_hb.specs.Nodes.{program_nodes}
-use Rattle.fg_hb.specs.declared.kind.Kind.{Kind}
-use Rattle.fg_hb.specs.declared.kind.Kind.TheVariants as node_kinds
 use Rattle.fg_lifetimes.specs.Ordered.{IsOrdered}
 use Rattle.fg_place.specs.Placing.{number_at, overlap}
 use Rattle.fg_reach.specs.Paths.{Path, one, then_on}

@@ -1,5 +1,5 @@
 -- What comes later goes on, and what holds what back on a queue.
-use Rattle.std.proofs.Common.{◌≡◌, inl, inr, ℕ, ◌<◌, ◌==◌, ◌&&◌, ◌||◌, nat_lt, true, List, refl, sym, ◌∙◌, subst, eq-eqb, arith}
+use Rattle.std.proofs.Common.{◌≡◌, inl, inr, ℕ, ◌==◌, ◌&&◌, ◌||◌, nat_lt, true, List, refl, sym, ◌∙◌, subst, eq-eqb, arith}
 use Rattle.std.proofs.lemmas.Bool.{and_from, false≢true, lt-ltb, or_left}
 use Rattle.fg_bits.specs.Sets.{meets}
 use Rattle.fg_crossing.specs.Crossings.{Sooner, Crossed, Later, IsFull, wait_stages}

@@ -1,24 +1,23 @@
 -- A pass that reads or changes a unit has one before it that makes what it finds, and that is kept where it is kept.
-use Rattle.std.proofs.Common.{◌≡◌, ◌⊎◌, ⊎_elim, inl, inr, ℕ, zero, suc, ◌+◌, ◌-◌, ◌<◌, ◌≤◌, ◌==◌, ◌&&◌, ◌||◌, min, not, Bool, true, false, List, [], ◌∷◌, ◌++◌, length, map, take, get_or, if◌then◌else◌, Option, Some, None, refl, sym, ap, ◌∙◌, subst, eq-eqb, eqb-true, arith}
+use Rattle.std.proofs.Common.{◌≡◌, ◌⊎◌, ⊎_elim, inl, inr, ℕ, zero, suc, ◌+◌, ◌-◌, ◌<◌, ◌≤◌, ◌==◌, ◌&&◌, ◌||◌, not, Bool, true, false, List, [], ◌∷◌, ◌++◌, length, take, get_or, if◌then◌else◌, Option, Some, None, refl, sym, ap, ◌∙◌, subst, eqb-true, arith}
 use Rattle.std.specs.List.{All, Contains, filter, find, list_any}
 use Rattle.std.specs.Option.{option_map_or}
 use Rattle.std.specs.Prelude.{slice_get}
-use Rattle.std.proofs.lemmas.Bool.{and_from, and_parts, cases_Bool, cases_lt, false≢true, or_cases, or_left, or_right}
+use Rattle.std.proofs.lemmas.Bool.{and_parts, cases_Bool, false≢true, or_cases, or_left, or_right}
 use Rattle.std.proofs.lemmas.List.{get_or-take, length-append, length-take, take_all}
 use Rattle.std.proofs.lemmas.List.Elements.{All-nil, All-cons, All-append, Contains-append_right}
-use Rattle.std.proofs.lemmas.List.Folds.{Any-from_list_any, list_any_at}
+use Rattle.std.proofs.lemmas.List.Folds.{Any-from_list_any}
 use Rattle.fg_base.specs.Operands.{touches}
 use Rattle.fg_base.specs.declared.op.Op.{Op}
 use Rattle.fg_compiled.proofs.Contained.{contains_filter, contains_map}
 use Rattle.fg_compiled.proofs.KeptCommands.{ops_at}
 use Rattle.fg_frame.specs.Good.{IsGood, IsGoodPass, has_contents, is_import, renews, shapes_in}
 use Rattle.fg_frame.specs.Numbered.{NumberedFrame}
-use Rattle.fg_frame.specs.Units.{Unit}
 use Rattle.fg_frame.specs.Uses.{starts_whole, stores_whole, writes_it}
 use Rattle.fg_frame.specs.declared.frame.Write.{Write}
 use Rattle.fg_frame.specs.declared.numbered.NumberedPass.{NumberedPass}
-use Rattle.fg_versions.specs.Culled.{AreKept, Culled, Leads, Reaches, here, makes_export, on}
-use Rattle.fg_versions.specs.Versions.{changes, imported, latest, latest_maker, made, made_by, no_pass, pass_at, used, versions}
+use Rattle.fg_versions.specs.Culled.{AreKept, Leads, here, makes_export, on}
+use Rattle.fg_versions.specs.Versions.{changes, latest_maker, made, made_by, no_pass, pass_at, used, versions}
 
 -- VERSIONS
 

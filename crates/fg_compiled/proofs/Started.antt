@@ -1,6 +1,6 @@
 -- A unit that is no import is stored whole before anything else touches it.
-use Rattle.std.proofs.Common.{◌≡◌, ◌⊎◌, ⊎_elim, inl, inr, ℕ, zero, suc, ◌+◌, ◌-◌, ◌<◌, ◌≤◌, ◌==◌, ◌||◌, Bool, true, false, List, [], ◌∷◌, ◌++◌, length, take, get_or, Some, refl, sym, ap, ◌∙◌, subst, eqb-true, ne_eqb, arith}
-use Rattle.std.specs.List.{All, Contains, list_any, position_or_len}
+use Rattle.std.proofs.Common.{◌≡◌, ⊎_elim, ℕ, zero, suc, ◌+◌, ◌-◌, ◌<◌, ◌≤◌, ◌==◌, ◌||◌, Bool, true, false, List, [], ◌∷◌, length, take, get_or, Some, refl, sym, ap, ◌∙◌, subst, eqb-true, ne_eqb, arith}
+use Rattle.std.specs.List.{All, Contains, position_or_len}
 use Rattle.std.specs.Prelude.{slice_get}
 use Rattle.std.proofs.lemmas.Bool.{cases_lt, cases_order, false≢true, or_cases, or_left}
 use Rattle.std.proofs.lemmas.List.Elements.{All-append, All-contains, Contains-append_left}

@@ -1,11 +1,11 @@
 -- What loads from no import, loads what an earlier group of its unit stored.
-use Rattle.std.proofs.Common.{◌≡◌, ◌⊎◌, inl, inr, ⊎_elim, ℕ, zero, suc, ◌+◌, ◌<◌, ◌≤◌, ◌==◌, ◌&&◌, not, Bool, true, false, List, [], ◌∷◌, length, get_or, slice_get, if◌then◌else◌, Option, Some, None, refl, sym, ap, ◌∙◌, subst, eq-eqb, arith}
-use Rattle.std.specs.List.{All, Contains, list_any}
+use Rattle.std.proofs.Common.{◌≡◌, ◌⊎◌, inl, inr, ⊎_elim, ℕ, ◌+◌, ◌<◌, ◌==◌, not, true, false, length, slice_get, Some, None, refl, sym, ap, ◌∙◌, subst, arith}
+use Rattle.std.specs.List.{Contains, list_any}
 use Rattle.std.specs.Prelude.{unwrap_or}
 use Rattle.std.proofs.lemmas.Bool.{cases_Bool, cases_order, false≢true, le-leb, or_left}
-use Rattle.std.proofs.lemmas.List.Elements.{All-contains, Contains-get_or}
+use Rattle.std.proofs.lemmas.List.Elements.{Contains-get_or}
 use Rattle.std.proofs.lemmas.List.Folds.{list_any_at}
-use Rattle.fg_base.proofs.Lists.{entry_of, one}
+use Rattle.fg_base.proofs.Lists.{entry_of}
 use Rattle.fg_base.specs.Touches.{destination_touch, touches_of}
 use Rattle.fg_base.specs.declared.role.Role.{Role}
 use Rattle.fg_base.specs.declared.role.Role.TheVariants.{CopyWrite}
@@ -14,9 +14,9 @@ use Rattle.fg_bits.specs.Roles.{load_access, store_access}
 use Rattle.fg_bits.specs.declared.layout.Layout.{Layout}
 use Rattle.fg_compiled.proofs.Commands.{Sort, export_whole, not_in_place}
 use Rattle.fg_compiled.proofs.Counting.{count_same}
-use Rattle.fg_compiled.proofs.ExportGroups.{copy_export, copy_group, copy_is, copy_parts, read_group, read_number, read_parts}
-use Rattle.fg_compiled.proofs.Exports.{Copies, copies_from}
-use Rattle.fg_compiled.proofs.Groups.{Member, commands_rise, next_unit, some_use, sourced, unit_each, unit_known, unit_piece}
+use Rattle.fg_compiled.proofs.ExportGroups.{copy_export, copy_group, copy_is, copy_parts, read_number, read_parts}
+use Rattle.fg_compiled.proofs.Exports.{copies_from}
+use Rattle.fg_compiled.proofs.Groups.{Member, commands_rise, next_unit, some_use, sourced, unit_known, unit_piece}
 use Rattle.fg_compiled.proofs.LaidBy.{turn_before}
 use Rattle.fg_compiled.proofs.Members.{found_unit, touch_has, touch_piece, touched, use_group}
 use Rattle.fg_compiled.proofs.Roles.{store_some}
@@ -26,10 +26,10 @@ use Rattle.fg_compiled.proofs.SpotFacts.{IsMemberOf, of_group, of_copy, lone_use
 use Rattle.fg_compiled.proofs.Spots.{piece_is, piece_late}
 use Rattle.fg_compiled.proofs.Storing.{group_stores, stores_late, stores_low}
 use Rattle.fg_compiled.proofs.Touches.{IsOf, a_load, a_store, acts, alike, destination_there, moved}
-use Rattle.fg_compiled.proofs.TurnAccesses.{IsAfter, turn_low}
+use Rattle.fg_compiled.proofs.TurnAccesses.{turn_low}
 use Rattle.fg_compiled.proofs.Uses.{sourced_use, used_by}
 use Rattle.fg_compiled.specs.Fed.{DoesTo, IsFed, Loads, Stores}
-use Rattle.fg_compiled.specs.Nodes.{command_node, nodes_of}
+use Rattle.fg_compiled.specs.Nodes.{nodes_of}
 use Rattle.fg_compiled.specs.Plan.{export_at, is_copy, is_copy_of, plan_of, unit_of}
 use Rattle.fg_crossing.specs.Kinds.{is_entry, is_release}
 use Rattle.fg_crossing.specs.Nodes.{Nodes}

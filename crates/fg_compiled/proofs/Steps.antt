@@ -1,18 +1,17 @@
 -- What is recorded, as items of queues at steps, and what comes later.
-use Rattle.std.proofs.Common.{◌≡◌, ⊎_elim, inl, inr, ℕ, ◌<◌, ◌≤◌, true, false, List, length, Option, Some, None, refl, sym, ap, ◌∙◌, subst, eq-eqb, eqb-true, arith}
+use Rattle.std.proofs.Common.{◌≡◌, ⊎_elim, inl, ℕ, ◌<◌, ◌≤◌, true, false, List, length, Option, Some, None, refl, sym, ap, ◌∙◌, subst, eq-eqb, eqb-true, arith}
 use Rattle.std.specs.Option.{option_map, option_map_or}
 use Rattle.std.specs.Prelude.{slice_get}
 use Rattle.std.proofs.lemmas.Bool.{cases_order, false≢true}
 use Rattle.std.proofs.lemmas.Option.{slice_get-map}
 use Rattle.fg_base.specs.Operands.{mapped}
 use Rattle.fg_compiled.specs.Nodes.{copied_step, item_at, steps}
-use Rattle.fg_crossing.specs.Crossings.{Sooner, Crossed, Later}
+use Rattle.fg_crossing.specs.Crossings.{Sooner, Crossed}
 use Rattle.fg_cut.specs.Later.{AreSooner, AreCrossed}
 use Rattle.fg_groups.specs.Needs.{group_at, queue_of}
 use Rattle.fg_groups.specs.declared.command.Command as commands
 use Rattle.fg_groups.specs.declared.grouping.Grouping.{Grouping}
 use Rattle.fg_hb.specs.Nodes.{program_nodes}
-use Rattle.fg_hb.specs.declared.node.Node.{Node}
 use Rattle.fg_recorder.specs.Marks.{unmarked}
 use Rattle.fg_recorder.specs.Pieces.{piece_of}
 use Rattle.fg_recorder.specs.Script.{script}
