@@ -1,0 +1,36 @@
+-- What stands before a group is no command.
+use Rattle.std.proofs.Common.{◌≡◌, ℕ, List, Option, Some, None, refl}
+use Rattle.fg_bits.specs.declared.layout.Layout.TheVariants.{Undefined}
+use Rattle.fg_bits.specs.declared.layout.Layouts.{Layouts}
+use Rattle.fg_bits.specs.declared.masks.Masks.{Masks}
+use Rattle.fg_checker.specs.Apart.{op_of}
+use Rattle.fg_groups.specs.Needs.{group_at}
+use Rattle.fg_groups.specs.declared.grouping.Grouping.{Grouping}
+use Rattle.fg_groups.specs.declared.unit_use.Use.{Use}
+use Rattle.fg_recorder.specs.Items.{both, barrier, init, layouts_between}
+use Rattle.fg_recorder.specs.Pieces.{piece_of}
+use Rattle.fg_recorder.specs.Standing.{item_by, turn_item}
+use Rattle.fg_turns.specs.Masks.{entry_masks}
+use Rattle.fg_turns.specs.Turns.{earlier, first, turn_of}
+use Rattle.fg_turns.specs.Under.{Heap}
+use Rattle.fg_turns.specs.declared.turn.Turn.{Turn}
+use Rattle.fg_turns.specs.declared.turn.TurnKind.{TurnKind}
+use Rattle.fg_turns.specs.declared.turn.TurnKind.TheVariants.{Nothing, Barrier, Transfer, Alias, Init, AliasInit}
+
+barrier_quiet : (piece : ℕ) (layouts : Option Layouts) (masks : Masks) → op_of (barrier piece layouts masks) ≡ None
+barrier_quiet piece (Some layouts) masks = refl
+barrier_quiet piece None masks = refl
+
+init_quiet : (G : Grouping) (B : List Use) → op_of (init G B) ≡ None
+init_quiet G B = barrier_quiet (piece_of G (first B).unit) (both (Some Undefined) (first B).layout) (entry_masks B (first B).queue)
+
+item_quiet : (kind : TurnKind) (G : Grouping) (turn : Turn) (A B : List Use) → op_of (item_by kind G turn A B) ≡ None
+item_quiet Nothing G turn A B = refl
+item_quiet Barrier G turn A B = barrier_quiet (piece_of G (first B).unit) (layouts_between A B) turn.masks
+item_quiet Transfer G turn A B = refl
+item_quiet Alias G turn A B = refl
+item_quiet Init G turn A B = init_quiet G B
+item_quiet AliasInit G turn A B = init_quiet G B
+
+pub turn_quiet : (G : Grouping) (heap : Heap) (g : ℕ) → op_of (turn_item G heap g) ≡ None
+turn_quiet G heap g = item_quiet (turn_of G heap g).kind G (turn_of G heap g) (earlier G g) (group_at G g)
