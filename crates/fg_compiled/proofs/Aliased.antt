@@ -1,0 +1,228 @@
+-- Units that lie in the same bytes.
+use Rattle.std.proofs.Common.{◌≡◌, ◌≢◌, ◌⊎◌, ⊎_elim, inl, inr, ℕ, zero, suc, ◌+◌, ◌-◌, ◌<◌, ◌≤◌, ◌==◌, not, Bool, true, false, length, get_or, Option, None, Some, refl, sym, ap, ◌∙◌, subst, bit_and, eqb-true, arith}
+use Rattle.std.specs.Int.Bits.{and_zero_r}
+use Rattle.std.proofs.lemmas.Bool.{and_from, and_left, false≢true}
+use Rattle.std.proofs.lemmas.List.{length-map}
+use Rattle.fg_base.specs.Shapes.{bytes_of, shape_at}
+use Rattle.fg_bits.specs.Sets.{meets}
+use Rattle.fg_bits.specs.Stages.{expand}
+use Rattle.fg_bits.specs.declared.layout.Layout.TheVariants.{Undefined}
+use Rattle.fg_bits.specs.declared.layout.Layouts.{Layouts}
+use Rattle.fg_bits.specs.declared.masks.Masks.{Masks}
+use Rattle.fg_compiled.proofs.Grouped.{over_from, over_parts, resource_unit}
+use Rattle.fg_compiled.proofs.Groups.{next_unit, next_within, some_use}
+use Rattle.fg_compiled.proofs.TurnKinds.{over_kinds, over_there, under_some}
+use Rattle.fg_compiled.proofs.Later.{held_back}
+use Rattle.fg_compiled.proofs.Lying.{AreMeeting, are_meeting, meet_turned, meeting_ordered}
+use Rattle.fg_compiled.proofs.Opened.{is_barrier, item_stands}
+use Rattle.fg_compiled.proofs.Places.{turn_unit}
+use Rattle.fg_compiled.proofs.Stages.{after_opens, earlier_stages, group_stages, has_own, turn_opens, under_stages}
+use Rattle.fg_compiled.proofs.Steps.{ItemAt, does_at, soon, turn_at}
+use Rattle.fg_compiled.specs.Nodes.{alias_node, alias_step, item_at, nodes_of, steps, steps_before, turn_node, turn_queue}
+use Rattle.fg_compiled.specs.Plan.{group_count, is_first, is_over, plan_of, resource_of, unit_of, unit_under}
+use Rattle.fg_crossing.specs.Aliases.{Beside}
+use Rattle.fg_crossing.specs.Crossings.{Sooner, wait_stages}
+use Rattle.fg_crossing.specs.Nodes.{IsBarrier}
+use Rattle.fg_cut.specs.Later.{AreSooner, AreCrossed}
+use Rattle.fg_cut.specs.Opens.{AreOpen}
+use Rattle.fg_cut.specs.Standing.{AllStand}
+use Rattle.fg_groups.specs.Laws.{IsGrouped, IsKnown}
+use Rattle.fg_groups.specs.Needs.{group_at, goes_on}
+use Rattle.fg_groups.specs.Placed.{placed, sizes}
+use Rattle.fg_groups.specs.declared.grouping.Grouping.{Grouping}
+use Rattle.fg_hb.specs.Edges.{node_at}
+use Rattle.fg_hb.specs.Nodes.{item_node, program_nodes}
+use Rattle.fg_place.specs.Placing.{IsLeast, Places, number_at, overlap}
+use Rattle.fg_reach.specs.Paths.{one}
+use Rattle.fg_recorder.specs.Items.{barrier, both as layouts_both, init}
+use Rattle.fg_recorder.specs.Pieces.{piece_of, pieces}
+use Rattle.fg_recorder.specs.Recorded.{heap_with}
+use Rattle.fg_recorder.specs.Script.{is_released}
+use Rattle.fg_recorder.specs.Standing.{IsStanding, item_by, step, turn_item}
+use Rattle.fg_recorder.specs.declared.mark.Mark.TheVariants.{Turn as OfTurn}
+use Rattle.fg_subs.specs.declared.program.Item.{Item}
+use Rattle.fg_subs.specs.declared.program.Item.TheVariants as item
+use Rattle.fg_subs.specs.declared.program.Program.{Program}
+use Rattle.fg_ties.specs.Passing.{UpTo}
+use Rattle.fg_timeline.specs.Steps.{IsScript}
+use Rattle.fg_turns.specs.Masks.{barrier_masks, entry_masks}
+use Rattle.fg_turns.specs.Turns.{earlier, first, is_transfer, masks_of, turn_between, turn_of}
+use Rattle.fg_turns.specs.Under.{Heap, is_under, place_of, uses_under}
+use Rattle.fg_turns.specs.Unions.{stages_on}
+use Rattle.fg_turns.specs.declared.turn.TurnKind.TheVariants as kinds
+use Rattle.fg_view.specs.Views.{no_piece, pieces_overlap, view_of}
+
+-- THE FIRST AND THE LAST GROUP OF A UNIT
+
+pub record Ends (G : Grouping) (g l : ℕ) : Type 0 where
+  pub within : l < length G.groups
+  pub unit : unit_of G l ≡ unit_of G g
+
+module _ (G : Grouping) (L : IsGrouped G) where
+  last_from : (fuel g : ℕ) → g < length G.groups → length G.groups ≤ g + fuel → (l : ℕ) × Ends G g l × (goes_on G l ≡ false)
+  last_from zero g lt le = absurd (omega (arith, lt, le))
+  last_from (suc fuel) g lt le = go (goes_on G g) refl (λ within. last_from fuel (suc g) within (omega (arith, le)))
+    where
+      go : (b : Bool) → goes_on G g ≡ b → (suc g < length G.groups → (l : ℕ) × Ends G (suc g) l × (goes_on G l ≡ false)) → (l : ℕ) × Ends G g l × (goes_on G l ≡ false)
+      go false e rest = (g, record { within = lt; unit = refl }, e)
+      go true e rest = let r = rest (next_within G L g e) in (r.0, record { within = r.1.within; unit = r.1.unit ∙ sym (next_unit G L g e) }, r.2)
+
+  pub last_of : (g : ℕ) → g < length G.groups → (l : ℕ) × Ends G g l × (goes_on G l ≡ false)
+  last_of g lt = last_from (length G.groups) g lt (omega arith)
+
+  pub first_of : (g : ℕ) → g < length G.groups → (f : ℕ) × Ends G g f × (is_first G f ≡ true)
+  first_of zero lt = (0, record { within = lt; unit = refl }, refl)
+  first_of (suc m) lt = go (goes_on G m) refl (first_of m (omega (arith, lt)))
+    where
+      go : (b : Bool) → goes_on G m ≡ b → (f : ℕ) × Ends G m f × (is_first G f ≡ true) → (f : ℕ) × Ends G (suc m) f × (is_first G f ≡ true)
+      go false e rest = (suc m, record { within = lt; unit = refl }, ap not e)
+      go true e rest = (rest.0, record { within = rest.1.within; unit = rest.1.unit ∙ next_unit G L m e }, rest.2)
+
+-- THEY ARE ORDERED
+
+module _ (G : Grouping) (L : IsGrouped G) (K : IsKnown G) (heap : Heap) where
+  same_piece : (g l : ℕ) → g < length G.groups → Ends G g l → (plan_of G heap).piece l ≡ (plan_of G heap).piece g
+  same_piece g l lt E = ap (piece_of G) (resource_unit G L K l E.within ∙ E.unit ∙ sym (resource_unit G L K g lt))
+
+  beside : (g h : ℕ) → g < length G.groups → h < length G.groups → place_of G (unit_of G g) < length (placed G) → place_of G (unit_of G h) < length (placed G) → unit_under G heap g h ≡ true → Beside (plan_of G heap) g h
+  beside g h lg lh pg ph u =
+      let a = last_of G L g lg in
+      let b = first_of G L h lh in
+      record {
+        last = a.0;
+        first = b.0;
+        same_last = same_piece g a.0 lg a.1;
+        same_first = same_piece h b.0 lh b.1;
+        over = over_from G heap a.0 b.0 (record {
+          lower = a.1.within;
+          lower_placed = subst (λ x. place_of G x < length (placed G)) (sym a.1.unit) pg;
+          lower_last = a.2;
+          upper = b.1.within;
+          upper_placed = subst (λ x. place_of G x < length (placed G)) (sym b.1.unit) ph;
+          upper_first = b.2;
+          under = ap (λ x. is_under G heap (place_of G (unit_of G b.0)) (place_of G x)) a.1.unit ∙ ap (λ y. is_under G heap (place_of G y) (place_of G (unit_of G g))) b.1.unit ∙ u;
+        });
+      }
+
+module _ (G : Grouping) (L : IsGrouped G) (K : IsKnown G) (ordered : ℕ → ℕ → Bool) (places : Places) (least : IsLeast (sizes G) ordered places) where
+  pub are_ordered : (g h : ℕ) → g < group_count G → h < group_count G → piece_of G (resource_of G g) ≢ piece_of G (resource_of G h) → pieces_overlap (get_or (pieces G places.offsets) (piece_of G (resource_of G g)) no_piece) (get_or (pieces G places.offsets) (piece_of G (resource_of G h)) no_piece) ≡ true → Beside (plan_of G (heap_with ordered places)) g h ⊎ Beside (plan_of G (heap_with ordered places)) h g
+  are_ordered g h lg lh differ o = ⊎_elim
+      (λ before. inl (beside G L K (heap_with ordered places) g h M.one.lower M.two.lower M.one.placed_at M.two.placed_at (and_from (ordered i j) (overlap (number_at places.offsets i) (number_at (sizes G) i) (number_at places.offsets j) (number_at (sizes G) j)) before M.meet)))
+      (λ after. inr (beside G L K (heap_with ordered places) h g M.two.lower M.one.lower M.two.placed_at M.one.placed_at (and_from (ordered j i) (overlap (number_at places.offsets j) (number_at (sizes G) j) (number_at places.offsets i) (number_at (sizes G) i)) after (meet_turned (sizes G) ordered places least i j M.meet))))
+      (meeting_ordered (sizes G) ordered places least i j (within i M.one.placed_at) (within j M.two.placed_at) M.apart M.meet)
+    where
+      M : AreMeeting G L K places g h
+      M = are_meeting G L K places g h lg lh differ o
+
+      i : ℕ
+      i = place_of G (unit_of G g)
+
+      j : ℕ
+      j = place_of G (unit_of G h)
+
+      within : (k : ℕ) → k < length (placed G) → k < length (sizes G)
+      within k lt = let count = length-map (placed G) (λ unit. bytes_of (shape_at G.shapes unit)) in omega (arith, lt, count)
+
+-- THE BARRIER BETWEEN THEM
+
+-- the stages that a barrier waits for
+source_is : (piece : ℕ) (layouts : Option Layouts) (masks : Masks) (q : ℕ) → (item_node q (barrier piece layouts masks)).src_stages.0 ≡ expand masks.src_stages.0
+source_is piece (Some layouts) masks q = refl
+source_is piece None masks q = refl
+
+pub are_kept : (G : Grouping) (heap : Heap) (g h : ℕ) → is_over G heap g h ≡ true → is_released G heap g ≡ false
+are_kept G heap g h o = and_left (goes_on G g) (is_transfer (turn_of G heap (suc g)).kind) (over_parts G heap g h o).lower_last
+
+-- what some stages meet meets itself
+meets_own : (a s : ℕ) → meets a s ≡ true → meets s s ≡ true
+meets_own a s m = go (s == 0) refl
+  where
+    own : bit_and s s ≡ s
+    own = eqb-true (bit_and s s) s (has_own s)
+
+    go : (b : Bool) → (s == 0) ≡ b → meets s s ≡ true
+    go false e = ap (λ z. not (z == 0)) own ∙ ap not e
+    go true e = absurd (false≢true (sym (ap (λ z. not (bit_and a z == 0)) (eqb-true s 0 e) ∙ ap (λ z. not (z == 0)) (and_zero_r a)) ∙ m))
+
+module _ (G : Grouping) (L : IsGrouped G) (heap : Heap) (S : IsStanding G heap) where
+  abbrev pub alias_item : ℕ → Item
+  alias_item h = item.Global (barrier_masks (uses_under G heap (place_of G (unit_of G h))) (group_at G h) (turn_queue G h))
+
+  alias_is : (h : ℕ) → (turn_of G heap h).kind ≡ kinds.Alias → turn_item G heap h ≡ alias_item h
+  alias_is h e = ap (λ k. item_by k G (turn_between k h (earlier G h) (uses_under G heap (place_of G (unit_of G h))) (group_at G h)) (earlier G h) (group_at G h)) e
+
+  masks_are : (h : ℕ) → (turn_of G heap h).kind ≡ kinds.AliasInit → (turn_of G heap h).masks ≡ barrier_masks (uses_under G heap (place_of G (unit_of G h))) (group_at G h) (turn_queue G h)
+  masks_are h e = ap (λ k. masks_of k (earlier G h) (uses_under G heap (place_of G (unit_of G h))) (group_at G h) (turn_queue G h)) e
+
+  own_step : (h : ℕ) → (turn_of G heap h).kind ≡ kinds.Alias → alias_step G heap h ≡ step G heap (OfTurn h)
+  own_step h e = let is : alias_step G heap h ≡ step G heap (OfTurn h) - 0 = ap (λ k. step G heap (OfTurn h) - steps_before k) e in omega (arith, is)
+
+  step_before : (h : ℕ) → (turn_of G heap h).kind ≡ kinds.AliasInit → alias_step G heap h ≡ step G heap (OfTurn h) - 1
+  step_before h e = ap (λ k. step G heap (OfTurn h) - steps_before k) e
+
+  pub alias_at : (g h : ℕ) → is_over G heap g h ≡ true → ItemAt G heap (turn_queue G h) (alias_step G heap h) (alias_item h)
+  alias_at g h o = ⊎_elim alone both (over_kinds G L heap g h o)
+    where
+      upper : h < length G.groups
+      upper = (over_parts G heap g h o).upper
+
+      alone : (turn_of G heap h).kind ≡ kinds.Alias → ItemAt G heap (turn_queue G h) (alias_step G heap h) (alias_item h)
+      alone e = subst (λ i. ItemAt G heap (turn_queue G h) i (alias_item h)) (sym (own_step h e)) (subst (λ it. ItemAt G heap (turn_queue G h) (step G heap (OfTurn h)) it) (alias_is h e) (turn_at G heap S h (upper, over_there G L heap g h o)))
+
+      both : (turn_of G heap h).kind ≡ kinds.AliasInit → ItemAt G heap (turn_queue G h) (alias_step G heap h) (alias_item h)
+      both e =
+          let a = S.each_alias h upper e in
+          let next = a.1 in
+          let is = step_before h e in
+          let same : alias_step G heap h ≡ a.0 = omega (arith, next, is) in
+          subst (λ i. ItemAt G heap (turn_queue G h) i (alias_item h)) (sym same)
+          (subst (λ m. ItemAt G heap (turn_queue G h) a.0 (item.Global m)) (masks_are h e)
+          (does_at G heap a.0 (turn_queue G h) None (item.Global (turn_of G heap h).masks) a.2))
+
+  module _ (P : Program) (T : AllStand P (steps G heap) (length G.families)) (opens : AreOpen P) (K : IsScript (steps G heap) (length G.families)) where
+    pub alias_barrier : (g h : ℕ) → is_over G heap g h ≡ true → IsBarrier (view_of P) (alias_node G heap h)
+    alias_barrier g h o =
+        let upper = (over_parts G heap g h o).upper in
+        is_barrier G L heap S P T opens K (turn_queue G h) (alias_step G heap h) (alias_item h) (alias_at g h o)
+        (after_opens G h (earlier G h) (uses_under G heap (place_of G (unit_of G h))) (group_at G h) (earlier_stages G L h) (under_stages G L heap (place_of G (unit_of G h))) (group_stages G L h) (some_use G L h upper)
+        (uses_under G heap (place_of G (unit_of G h))) (under_stages G L heap (place_of G (unit_of G h))) (under_some G L heap g h o))
+
+    module _ (sooner : AreSooner P (steps G heap) (length G.families)) (crossed : AreCrossed P (steps G heap) (length G.families)) where
+      pub alias_onto : (g h : ℕ) → is_over G heap g h ≡ true → UpTo (view_of P) (alias_node G heap h) ((nodes_of G heap).turn h)
+      alias_onto g h o = subst (λ n. UpTo (view_of P) (alias_node G heap h) n) (sym (turn_unit G heap h upper)) (⊎_elim alone both (over_kinds G L heap g h o))
+        where
+          upper : h < length G.groups
+          upper = (over_parts G heap g h o).upper
+
+          alone : (turn_of G heap h).kind ≡ kinds.Alias → UpTo (view_of P) (alias_node G heap h) (turn_node G heap h)
+          alone e = inl (ap (item_at G heap (turn_queue G h)) (own_step h e))
+
+          turned : ItemAt G heap (turn_queue G h) (step G heap (OfTurn h)) (turn_item G heap h)
+          turned = turn_at G heap S h (upper, over_there G L heap g h o)
+
+          A : IsBarrier (view_of P) (alias_node G heap h)
+          A = alias_barrier g h o
+
+          B : IsBarrier (view_of P) (turn_node G heap h)
+          B = is_barrier G L heap S P T opens K (turn_queue G h) (step G heap (OfTurn h)) (turn_item G heap h) turned (turn_opens G L heap h upper (over_there G L heap g h o))
+
+          both : (turn_of G heap h).kind ≡ kinds.AliasInit → UpTo (view_of P) (alias_node G heap h) (turn_node G heap h)
+          both e = inr (one (held_back (program_nodes P) (alias_node G heap h) (turn_node G heap h) before A.sync held))
+            where
+              before : Sooner (program_nodes P) (alias_node G heap h) (turn_node G heap h)
+              before =
+                  let a = S.each_alias h upper e in
+                  let next = a.1 in
+                  let is = step_before h e in
+                  soon G heap P sooner crossed (turn_queue G h) (alias_step G heap h) (step G heap (OfTurn h)) (alias_item h) (turn_item G heap h) (alias_at g h o) turned (omega (arith, next, is))
+
+              -- both have the stages of the group
+              held : meets (node_at (program_nodes P) (alias_node G heap h)).dst_stages.0 (node_at (program_nodes P) (turn_node G heap h)).src_stages.0 ≡ true
+              held =
+                  let entry : turn_item G heap h ≡ init G (group_at G h) = ap (λ k. item_by k G (turn_between k h (earlier G h) (uses_under G heap (place_of G (unit_of G h))) (group_at G h)) (earlier G h) (group_at G h)) e in
+                  let here : (node_at (program_nodes P) (turn_node G heap h)).src_stages.0 ≡ expand (stages_on (group_at G h) (turn_queue G h)) =
+                  ap (λ z. z.src_stages.0) (item_stands G L heap S P T opens K (turn_queue G h) (step G heap (OfTurn h)) (turn_item G heap h) turned).node ∙ ap (λ it. (item_node (turn_queue G h) it).src_stages.0) entry ∙ source_is (piece_of G (first (group_at G h)).unit) (layouts_both (Some Undefined) (first (group_at G h)).layout) (entry_masks (group_at G h) (turn_queue G h)) (turn_queue G h) in
+                  let there : (node_at (program_nodes P) (alias_node G heap h)).dst_stages.0 ≡ expand (stages_on (group_at G h) (turn_queue G h)) =
+                  ap (λ z. z.dst_stages.0) (item_stands G L heap S P T opens K (turn_queue G h) (alias_step G heap h) (alias_item h) (alias_at g h o)).node in
+                  ap (λ z. meets z (node_at (program_nodes P) (turn_node G heap h)).src_stages.0) (there ∙ sym here)
+                  ∙ meets_own wait_stages (node_at (program_nodes P) (turn_node G heap h)).src_stages.0 B.opened.into

@@ -1,0 +1,51 @@
+-- What is known of each program that is compiled of a good frame.
+use Rattle.std.proofs.Common.{ℕ, Bool, List, length, refl}
+use Rattle.fg_compiled.proofs.Commands.{buffers_plain, imports_plain, sorts}
+use Rattle.fg_compiled.proofs.Exports.{are_copied}
+use Rattle.fg_compiled.proofs.Imported.{imported_pieces}
+use Rattle.fg_compiled.proofs.Setting.{IsSet}
+use Rattle.fg_compiled.specs.Nodes.{steps}
+use Rattle.fg_cut.specs.Later.{AreSooner}
+use Rattle.fg_cut.specs.Standing.{AllStand, AreThese}
+use Rattle.fg_frame.specs.Good.{IsGood}
+use Rattle.fg_frame.specs.Numbered.{NumberedFrame}
+use Rattle.fg_groups.specs.Groups.{grouping}
+use Rattle.fg_groups.specs.Laws.{IsGrouped, IsKnown}
+use Rattle.fg_groups.specs.declared.grouping.Grouping.{Grouping}
+use Rattle.fg_place.specs.Placing.{Places}
+use Rattle.fg_recorder.specs.Recorded.{heap_with, recorded}
+use Rattle.fg_recorder.specs.Standing.{IsStanding}
+use Rattle.fg_subs.specs.declared.program.Program.{Program}
+use Rattle.fg_timeline.specs.Laws.{AreOfFamilies, Ends}
+use Rattle.fg_timeline.specs.Steps.{IsScript}
+use Rattle.fg_turns.specs.Under.{Heap}
+
+module _ (frame : NumberedFrame) (kept : List Bool) (ordered : ℕ → ℕ → Bool) (places : Places) where
+  abbrev G : Grouping
+  G = grouping frame kept
+
+  abbrev heap : Heap
+  heap = heap_with ordered places
+
+  abbrev P : Program
+  P = recorded frame kept ordered places
+
+  pub is_set : IsGood frame → IsGrouped G → IsKnown G → IsScript (steps G heap) (length G.families) → IsStanding G heap → AllStand P (steps G heap) (length G.families) → AreThese P (steps G heap) (length G.families) → AreSooner P (steps G heap) (length G.families) → Ends (steps G heap) (length G.families) → AreOfFamilies (steps G heap) G.families → IsSet G heap P
+  is_set good grouped known script standing stand all sooner ends families = record {
+    grouped = grouped;
+    known = known;
+    sorts = sorts frame kept good;
+    copied = are_copied frame kept;
+    imports = imports_plain frame kept good;
+    buffers = buffers_plain frame kept good;
+    imported = imported_pieces frame kept good known ordered places;
+    script = script;
+    standing = standing;
+    stand = stand;
+    all = all;
+    sooner = sooner;
+    ends = ends;
+    families = families.each;
+    pieces = refl;
+    readbacks = refl;
+  }

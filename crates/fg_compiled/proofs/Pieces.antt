@@ -1,0 +1,120 @@
+-- Each resource that is used has a piece of its shape, and the host reads those of the buffers of exports.
+use Rattle.std.proofs.Common.{◌≡◌, ℕ, zero, suc, ◌+◌, ◌-◌, ◌<◌, ◌≤◌, nat_le, Bool, true, false, List, ◌∷◌, length, map, slice_get, if◌then◌else◌, Some, refl, sym, ap, ◌∙◌, subst, arith}
+use Rattle.std.specs.List.{count_by, filter, range_with_len}
+use Rattle.std.specs.Option.{option_map}
+use Rattle.std.proofs.lemmas.Bool.{le-leb, lt-leb}
+use Rattle.std.proofs.lemmas.List.FromFn.{length-range_with_len, get_or-map-range_with_len}
+use Rattle.std.proofs.lemmas.List.{length-map}
+use Rattle.std.proofs.lemmas.List.Sums.{sum_by-cons}
+use Rattle.std.proofs.lemmas.Option.{slice_get-map, slice_get-get_or, slice_get_within, get_or_from_slice_get}
+use Rattle.fg_base.specs.Shapes.{shape_at}
+use Rattle.fg_base.specs.declared.shape.Shape.{Shape}
+use Rattle.fg_base.specs.declared.shape.Shape.TheVariants.{Buffer}
+use Rattle.fg_groups.specs.declared.grouping.Grouping.{Grouping}
+use Rattle.fg_recorder.specs.Pieces.{resources, is_readback, has_piece, piece_of, piece, pieces, readbacks}
+use Rattle.fg_subs.specs.declared.program.Piece.{Piece}
+
+-- NUMBERS
+
+abbrev hit : (ℕ → Bool) → ℕ → ℕ
+hit p x = if p x then 1 else 0
+
+-- the number that passes stands behind those that pass before it
+counted_from : (p : ℕ → Bool) (a n k : ℕ) → k < n → p (a + k) ≡ true → slice_get (filter p (range_with_len a n)) (count_by p (range_with_len a k)) ≡ Some (a + k)
+counted_from p a zero k lt e = absurd (omega (arith, lt))
+counted_from p a (suc n) zero lt e =
+    let z : a + 0 ≡ a = omega arith in
+    let here : p a ≡ true = subst (λ x. p x ≡ true) z e in
+    ap (λ b. slice_get (if b then a ∷ filter p (range_with_len (a + 1) n) else filter p (range_with_len (a + 1) n)) 0) here ∙ ap (λ x. Some x) (sym z)
+counted_from p a (suc n) (suc k) lt e =
+    let next : a + suc k ≡ a + 1 + k = omega arith in
+    go (counted_from p (a + 1) n k (omega (arith, lt)) (subst (λ x. p x ≡ true) next e) ∙ ap (λ x. Some x) (sym next)) (p a) refl
+  where
+    count : count_by p (range_with_len a (suc k)) ≡ hit p a + count_by p (range_with_len (a + 1) k)
+    count = sum_by-cons (hit p) a (range_with_len (a + 1) k)
+
+    go : slice_get (filter p (range_with_len (a + 1) n)) (count_by p (range_with_len (a + 1) k)) ≡ Some (a + suc k) → (b : Bool) → p a ≡ b → slice_get (if b then a ∷ filter p (range_with_len (a + 1) n) else filter p (range_with_len (a + 1) n)) (count_by p (range_with_len a (suc k))) ≡ Some (a + suc k)
+    go rest true h =
+        let one : hit p a ≡ 1 = ap (λ b. if b then 1 else 0) h in
+        let number : count_by p (range_with_len a (suc k)) ≡ suc (count_by p (range_with_len (a + 1) k)) = omega (arith, one, count) in
+        ap (slice_get (a ∷ filter p (range_with_len (a + 1) n))) number ∙ rest
+    go rest false h =
+        let none : hit p a ≡ 0 = ap (λ b. if b then 1 else 0) h in
+        let number : count_by p (range_with_len a (suc k)) ≡ count_by p (range_with_len (a + 1) k) = omega (arith, none, count) in
+        ap (slice_get (filter p (range_with_len (a + 1) n))) number ∙ rest
+
+pub counted : (p : ℕ → Bool) (n k : ℕ) → k < n → p k ≡ true → slice_get (filter p (range_with_len 0 n)) (count_by p (range_with_len 0 k)) ≡ Some k
+counted p n k lt e =
+    let z : 0 + k ≡ k = omega arith in
+    counted_from p 0 n k lt (subst (λ x. p x ≡ true) (sym z) e) ∙ ap (λ x. Some x) z
+
+-- those from number m on
+late_kept : (m a n : ℕ) → m ≤ a → filter (λ r. nat_le m r) (range_with_len a n) ≡ range_with_len a n
+late_kept m a zero le = refl
+late_kept m a (suc n) le =
+    ap (λ b. if b then a ∷ filter (λ r. nat_le m r) (range_with_len (a + 1) n) else filter (λ r. nat_le m r) (range_with_len (a + 1) n)) (le-leb m a le)
+    ∙ ap (λ l. a ∷ l) (late_kept m (a + 1) n (omega (arith, le)))
+
+late_from : (m a d n : ℕ) → a + d ≡ m → filter (λ r. nat_le m r) (range_with_len a (d + n)) ≡ range_with_len m n
+late_from m a zero n e =
+    let same : a ≡ m = omega (arith, e) in
+    let z : 0 + n ≡ n = omega arith in
+    ap (λ k. filter (λ r. nat_le m r) (range_with_len a k)) z ∙ late_kept m a n (omega (arith, same)) ∙ ap (λ b. range_with_len b n) same
+late_from m a (suc d) n e =
+    let next : suc d + n ≡ suc (d + n) = omega arith in
+    ap (λ k. filter (λ r. nat_le m r) (range_with_len a k)) next
+    ∙ ap (λ b. if b then a ∷ filter (λ r. nat_le m r) (range_with_len (a + 1) (d + n)) else filter (λ r. nat_le m r) (range_with_len (a + 1) (d + n))) (lt-leb m a (omega (arith, e)))
+    ∙ late_from m (a + 1) d n (omega (arith, e))
+
+-- SHAPES
+
+module _ (G : Grouping) (offsets : List ℕ) where
+  abbrev pub piece_shapes : List Shape
+  piece_shapes = map (λ piece. piece.shape) (pieces G offsets)
+
+  pub piece_there : (r : ℕ) → r < length G.shapes → has_piece G r ≡ true → slice_get (pieces G offsets) (piece_of G r) ≡ Some (piece G offsets r)
+  piece_there r lt has =
+      slice_get-map (piece G offsets) (filter (has_piece G) (resources G)) (piece_of G r)
+      ∙ ap (option_map (piece G offsets)) (counted (has_piece G) (length G.shapes) r lt has)
+
+  pub piece_shape : (r : ℕ) → r < length G.shapes → has_piece G r ≡ true → shape_at piece_shapes (piece_of G r) ≡ shape_at G.shapes r
+  piece_shape r lt has = get_or_from_slice_get piece_shapes (piece_of G r) (shape_at G.shapes r) (Buffer 0)
+      (slice_get-map (λ (p : Piece). p.shape) (pieces G offsets) (piece_of G r) ∙ ap (option_map (λ (p : Piece). p.shape)) (piece_there r lt has))
+
+-- READBACKS
+
+-- what is read back as number k: the buffer of export k
+pub record IsReadback (G : Grouping) (k piece : ℕ) : Type 0 where
+  pub known : k < length G.shapes - length G.imports
+  pub is : piece ≡ piece_of G (length G.imports + k)
+
+module _ (G : Grouping) (fewer : length G.imports ≤ length G.shapes) where
+  abbrev m : ℕ
+  m = length G.imports
+
+  abbrev n : ℕ
+  n = length G.shapes - length G.imports
+
+  buffers : filter (is_readback G) (resources G) ≡ range_with_len m n
+  buffers = let all : length G.shapes ≡ m + n = omega (arith, fewer) in ap (λ k. filter (is_readback G) (range_with_len 0 k)) all ∙ late_from m 0 m n (omega arith)
+
+  pub read_there : (k : ℕ) → k < n → slice_get (readbacks G) k ≡ Some (piece_of G (m + k))
+  read_there k lt =
+      let count = length-map (range_with_len m n) (piece_of G) in
+      let range = length-range_with_len m n in
+      ap (λ l. slice_get (map (piece_of G) l) k) buffers
+      ∙ slice_get-get_or (map (piece_of G) (range_with_len m n)) k 0 (omega (arith, lt, count, range))
+      ∙ ap (λ x. Some x) (get_or-map-range_with_len (piece_of G) m n k (m + k) 0 lt refl)
+
+  pub read_back : (k piece : ℕ) → slice_get (readbacks G) k ≡ Some piece → IsReadback G k piece
+  read_back k piece e = record { known = known; is = sym (get_or_from_slice_get (map (piece_of G) (range_with_len m n)) k piece 0 there) ∙ get_or-map-range_with_len (piece_of G) m n k (m + k) 0 known refl }
+    where
+      there : slice_get (map (piece_of G) (range_with_len m n)) k ≡ Some piece
+      there = ap (λ l. slice_get (map (piece_of G) l) k) (sym buffers) ∙ e
+
+      known : k < n
+      known =
+          let low = slice_get_within (map (piece_of G) (range_with_len m n)) k piece there in
+          let count = length-map (range_with_len m n) (piece_of G) in
+          let range = length-range_with_len m n in
+          omega (arith, low, count, range)

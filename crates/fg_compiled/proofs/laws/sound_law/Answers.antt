@@ -1,0 +1,27 @@
+use Rattle.std.proofs.Common.{refl}
+use Rattle.fg_compiled.proofs.Soundness.{facts}
+use Rattle.fg_compiled.proofs.laws.sound_law.Goals as goal
+use Rattle.fg_compiled.specs.Nodes.{nodes_of, steps}
+use Rattle.fg_compiled.specs.Plan.{plan_of}
+use Rattle.fg_groups.specs.Groups.{grouping}
+use Rattle.fg_recorder.specs.Recorded.{heap_with, recorded}
+use Rattle.fg_view.specs.Views.{view_of}
+
+pub returns : goal.returns
+returns c = λ frame kept ordered places good is_ordered least shaped accessed order is_least.
+    let G = grouping frame kept in
+    let heap = heap_with ordered places in
+    let program = recorded frame kept ordered places in
+    let P = c.places_law.ensures in
+    let A = c.aliases_law.ensures in
+    c.crossing_laws.ensures.sound (plan_of G heap) (view_of program) (nodes_of G heap) shaped
+    (facts (plan_of G heap) (view_of program) (nodes_of G heap) (c.cut_laws.ensures.full program (steps G heap) G.families refl)
+    (P.grouped frame kept ordered places good is_ordered least)
+    (P.roles frame kept ordered places good is_ordered least)
+    (P.placed frame kept ordered places good is_ordered least)
+    (A.ordered frame kept ordered places good is_ordered least)
+    (A.barriers frame kept ordered places good is_ordered least)
+    (A.before frame kept ordered places good is_ordered least)
+    (A.kept frame kept ordered places good is_ordered least)
+    accessed)
+    order is_least

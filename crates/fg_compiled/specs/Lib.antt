@@ -1,0 +1,7 @@
+pub mod Fed
+pub mod Kept
+pub mod Laws
+pub mod Nodes
+pub mod Plan
+pub mod Served
+pub mod Starts

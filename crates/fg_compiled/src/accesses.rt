@@ -1,0 +1,25 @@
+//! Laws of the accesses of compiled programs.
+
+ghost use Rattle.fg_compiled.specs.Laws.{OfCompiled};
+ghost use Rattle.fg_compiled.specs.Served.{ServeEarlier};
+ghost use Rattle.fg_crossing.specs.Masks.{Masks};
+ghost use Rattle.fg_crossing.specs.Spots.{Spots};
+
+use fg_cut::cut_laws;
+use fg_groups::group_laws;
+use fg_recorder::script_laws;
+use fg_timeline::timeline_laws;
+
+/// Each access of a compiled program is of a group: of its turn, a member, its release or its host read (`spots`). On one queue
+/// the masks of barriers serve the accesses of the groups round them (`masks`), and alias barriers those of the units that had
+/// the bytes before (`aliases`). It does nothing.
+pub fn accesses_law()
+    ensures spots { OfCompiled Spots }
+    ensures masks { OfCompiled Masks }
+    ensures aliases { OfCompiled ServeEarlier }
+{
+    group_laws();
+    script_laws();
+    cut_laws();
+    timeline_laws();
+}

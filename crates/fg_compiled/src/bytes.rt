@@ -1,0 +1,29 @@
+//! Laws of the bytes of compiled programs.
+
+ghost use Rattle.fg_compiled.specs.Fed.{OfFed, IsSoundWhenShaped};
+ghost use Rattle.fg_crossing.specs.States.{Changed};
+
+use crate::accesses::accesses_law;
+use crate::laws::{aliases_law, sound_law};
+use crate::states::states_law;
+use fg_cut::cut_laws;
+use fg_groups::group_laws;
+use fg_recorder::script_laws;
+use fg_timeline::timeline_laws;
+
+/// Where commands load what others stored before them: which groups store is known, what loads from no import loads what an
+/// earlier group of its unit stored, and imports are let alone (`changed`). So a program that breaks no rule is sound in its
+/// least order (`sound`). It does nothing.
+pub fn bytes_law()
+    ensures changed { OfFed Changed }
+    ensures sound { OfFed IsSoundWhenShaped }
+{
+    group_laws();
+    script_laws();
+    cut_laws();
+    timeline_laws();
+    aliases_law();
+    accesses_law();
+    states_law();
+    sound_law();
+}

@@ -1,0 +1,51 @@
+//! Laws of compiled programs.
+
+ghost use Rattle.fg_compiled.specs.Laws.{OfCompiled, IsGrouped, AreOrdered, HaveBarriers, ComeBefore, AreKept, ImportsAreAlone, IsSoundWith};
+ghost use Rattle.fg_crossing.specs.Nodes.{Places, Roles};
+
+use fg_crossing::crossing_laws;
+use fg_cut::cut_laws;
+use fg_groups::group_laws;
+use fg_recorder::script_laws;
+
+/// Of each program that is compiled of a good frame: the groups of its plan stand by their pieces (`grouped`). Commands, turns,
+/// releases and host reads are what they are called (`roles`), and a turn comes after the commands before it and before its
+/// own, with a release between where the family changes (`placed`). It does nothing.
+pub fn places_law()
+    ensures grouped { OfCompiled IsGrouped }
+    ensures roles { OfCompiled Roles }
+    ensures placed { OfCompiled Places }
+{
+    group_laws();
+    script_laws();
+    cut_laws();
+}
+
+/// Of each program that is compiled of a good frame: two units in the same bytes are ordered (`ordered`). Between them stands an
+/// alias barrier (`barriers`), which comes after what uses the earlier one (`before`), and that is not handed on after its last
+/// group (`kept`). In the bytes of an import lies nothing else (`imports`). It does nothing.
+pub fn aliases_law()
+    ensures ordered { OfCompiled AreOrdered }
+    ensures barriers { OfCompiled HaveBarriers }
+    ensures before { OfCompiled ComeBefore }
+    ensures kept { OfCompiled AreKept }
+    ensures imports { OfCompiled ImportsAreAlone }
+{
+    group_laws();
+    script_laws();
+    cut_laws();
+    crossing_laws();
+    places_law();
+}
+
+/// A program that is compiled of a good frame is sound in its least order, with what is asked of its accesses, masks and states
+/// beside. It does nothing.
+pub fn sound_law()
+    ensures { OfCompiled IsSoundWith }
+{
+    script_laws();
+    cut_laws();
+    crossing_laws();
+    places_law();
+    aliases_law();
+}

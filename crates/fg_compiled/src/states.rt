@@ -1,0 +1,22 @@
+//! Laws of the states in which compiled programs leave units.
+
+ghost use Rattle.fg_compiled.specs.Laws.{OfCompiled};
+ghost use Rattle.fg_crossing.specs.States.{Laid, Owned, Handed};
+
+use fg_cut::cut_laws;
+use fg_groups::group_laws;
+use fg_recorder::script_laws;
+use fg_timeline::timeline_laws;
+
+/// The layout of each group is the one that its members want, and turns set it (`laid`). Nodes of a group are on queues of its
+/// family (`owned`), and each change of the family is handed over (`handed`). It does nothing.
+pub fn states_law()
+    ensures laid { OfCompiled Laid }
+    ensures owned { OfCompiled Owned }
+    ensures handed { OfCompiled Handed }
+{
+    group_laws();
+    script_laws();
+    cut_laws();
+    timeline_laws();
+}
