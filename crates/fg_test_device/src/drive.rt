@@ -75,6 +75,18 @@ fn opened(alloc: Global, program: &Checked, moves: u32) -> Result<Device, NoMemo
     Device::new(alloc, program, 238, moves)
 }
 
+fn run<R: Threads + Sync>(
+    rt: &R,
+    alloc: Global,
+    device: &mut Device,
+    tend: Option<u64>,
+) -> Result<(), NoMemory>
+    requires idle { NoneBegun device.old }
+    requires sound { IsSound device.old.program }
+{
+    drive(rt, alloc, device, tend)
+}
+
 // A device that a run has left.
 fn driven<R: Threads + Sync>(
     rt: &R,
@@ -84,7 +96,7 @@ fn driven<R: Threads + Sync>(
     moves: u32,
 ) -> Result<Device, NoMemory> {
     let mut device = opened(alloc, program, moves)?;
-    drive(rt, alloc, &mut device, tend)?;
+    run(rt, alloc, &mut device, tend)?;
     Ok(device)
 }
 
@@ -104,14 +116,23 @@ fn has_history(device: &Device, history: &[Event]) -> bool {
     device.history() == history
 }
 
+fn runs<R: Threads + Sync>(
+    rt: &R,
+    alloc: Global,
+    program: &Checked,
+    tend: Option<u64>,
+    history: &[Event],
+) -> Result<bool, NoMemory> {
+    let device = driven(rt, alloc, program, tend, 2)?;
+    Ok(is_over(&device) && has_history(&device, history))
+}
+
 #[test]
 fn runs_of_a_seed(rt: HostRuntime) -> Result<(), Fail> {
     let alloc = rt.alloc();
     let program = checked(alloc)?;
     for (tend, history) in &ROWS {
-        let device = driven(&rt, alloc, &program, *tend, 2)?;
-        assert!(&rt; is_over(&device));
-        assert!(&rt; has_history(&device, history));
+        assert!(&rt; runs(&rt, alloc, &program, *tend, history)?);
     }
     Ok(())
 }
@@ -125,14 +146,24 @@ const TENDED: [(Option<u64>, Option<u64>, bool); 5] = [
     (None, Some(1), false),
 ];
 
+// Whether a run with one seed has made the moves of another.
+fn makes<R: Threads + Sync>(
+    rt: &R,
+    alloc: Global,
+    program: &Checked,
+    tend: Option<u64>,
+    asked: Option<u64>,
+) -> Result<bool, NoMemory> {
+    let device = driven(rt, alloc, program, tend, MOVES)?;
+    tended(alloc, program, &device, asked)
+}
+
 #[test]
 fn moves_of_a_seed(rt: HostRuntime) -> Result<(), Fail> {
     let alloc = rt.alloc();
     let program = checked(alloc)?;
     for (tend, asked, is) in &TENDED {
-        let device = driven(&rt, alloc, &program, *tend, MOVES)?;
-        let found = tended(alloc, &program, &device, *asked)?;
-        assert!(&rt; found == *is);
+        assert!(&rt; makes(&rt, alloc, &program, *tend, *asked)? == *is);
     }
     Ok(())
 }
