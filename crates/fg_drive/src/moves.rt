@@ -1,13 +1,19 @@
 //! The cache moves of a device, by their events.
 
-ghost use Rattle.std.specs.Prelude.{◌≡◌, ◌<◌, ◌↔◌, IsTrue};
+ghost use Rattle.std.specs.Prelude.{◌≡◌, ◌<◌, ◌↔◌, ℕ, List, true, IsTrue};
+ghost use Rattle.fg_base.specs.declared.event.Event.{Event};
 ghost use Rattle.fg_caches.specs.Draws.{Moves, IsMove};
 ghost use Rattle.fg_drive.specs.Tended.{agents_of, sizes_of};
-ghost use Rattle.fg_steps.specs.Histories.{moved};
+ghost use Rattle.fg_steps.specs.Histories.{is_move, moved};
 
 use crate::sizes::size_of;
 use fg_base::Event;
 use fg_device::Device;
+
+/// A move that a tender draws is a cache move. It does nothing.
+pub fn move_laws()
+    ensures drawn { (agents : ℕ) (sizes : List ℕ) (event : Event) → IsMove agents sizes event → is_move event ≡ true }
+{}
 
 // Whether the device has the agent and the range.
 fn reaches(device: &Device, agent: u32, memory: u32, start: u32, len: u32) -> bool

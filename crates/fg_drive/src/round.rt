@@ -4,7 +4,7 @@ ghost use Rattle.std.specs.Prelude.{◌≡◌, ◌<◌, length, true, IfSome, If
 ghost use Rattle.fg_drive.specs.Code.Keepers.{Advanced, Keeps};
 ghost use Rattle.fg_drive.specs.Firsts.{IsFirst, NothingReady};
 ghost use Rattle.fg_hb.specs.Edges.{is_host, is_sync};
-ghost use Rattle.fg_steps.specs.Devices.{is_ready, NoneBegun};
+ghost use Rattle.fg_steps.specs.Devices.{is_ready, NeverStands, NoneBegun};
 ghost use Rattle.fg_steps.specs.Ready.{is_command, read_node};
 ghost use Rattle.fg_steps.specs.Rounds.{MayGo, Round};
 
@@ -12,6 +12,7 @@ use crate::keeper::Keeper;
 use fg_base::NoMemory;
 use fg_device::{Device, Landed};
 use fg_hb::Kind;
+use fg_steps::device_laws;
 use std::alloc::Global;
 use std::thread::Threads;
 
@@ -19,7 +20,9 @@ use std::thread::Threads;
 pub fn next_node(device: &Device) -> Option<u32>
     ensures some { IfSome result (IsFirst device.now) }
     ensures none { IfNone result (NothingReady device.now) }
+    ensures stands { NeverStands device.now }
 {
+    device_laws();
     let queues = device.program().program().queues.len() as u32;
     for queue in 0..queues + 1 {
         if let Some(node) = device.pick(queue) {

@@ -10,7 +10,6 @@ use crate::keeper::Keeper;
 use crate::round::{next_node, run_node};
 use fg_base::NoMemory;
 use fg_device::Device;
-use fg_steps::device_laws;
 use std::alloc::Global;
 use std::thread::Threads;
 
@@ -27,7 +26,6 @@ fn run_all<R: Threads + Sync>(
     ensures advanced { Advanced device.old device.new keeper.old keeper.new }
     ensures complete { OnOk result (IsComplete device.new) }
 {
-    device_laws();
     while let Some(node) = next_node(device) {
         run_node(rt, alloc, device, keeper, node)?;
     }

@@ -7,7 +7,8 @@ use crate::hold::Hold;
 use fg_base::Event;
 use fg_caches::{MOVES, Tender};
 use fg_device::Device;
-use fg_drive::{is_move_of, make_move};
+use fg_drive::{is_move_of, make_move, move_laws};
+use fg_steps::history_laws;
 
 /// One hold of a tender: it makes the move if one is left and the device has that agent and range, and tells whether it did.
 pub fn tend_once(device: &mut Device, event: Event) -> bool
@@ -25,8 +26,10 @@ pub fn tend_through<H: Hold>(hold: &mut H, seed: u64, agents: u32, sizes: &[u32]
     requires few { length sizes.now < 2 ^ 32 }
     ensures { TendsAll (H.told hold.old) (H.told hold.new) seed agents sizes.now }
 {
+    history_laws();
+    move_laws();
     let mut tender = Tender::new(seed);
-    for _ in 0..MOVES {
+    for _move in 0..MOVES {
         let Some(event) = tender.next(agents, sizes) else {
             return;
         };
