@@ -12,9 +12,6 @@ pub const APART: &str =
 pub const CHAINED: &str =
     "plain:16 plain:16 buffer:16:0:0:shared buffer:16:1:0 read:1 ; graphics fill:0:16 signal:1 ; transfer wait:0:1 copy:0:1:16 all:COPY,TRANSFER_WRITE>HOST,HOST_READ signal:1";
 
-// No queue, and a memory of ones that is read back.
-pub const IDLE: &str = "import:4 buffer:4:0:0 read:0";
-
 const WORDS: [u8; 16] = [7, 0, 0, 0, 7, 0, 0, 0, 7, 0, 0, 0, 7, 0, 0, 0];
 
 fn shaped(alloc: Global, program: Program) -> Result<Shaped, SketchError> {

@@ -1,5 +1,5 @@
 use crate::meeting::Meeting;
-use crate::programs::{APART, CHAINED, IDLE, checked, is_over};
+use crate::programs::{APART, CHAINED, checked, is_over};
 use fg_base::{Event, Gate, IdleGate, NoMemory};
 use fg_checker::Checked;
 use fg_device::Device;
@@ -89,15 +89,5 @@ fn a_tender_beside_workers(rt: HostRuntime) -> Result<(), Fail> {
             );
         }
     }
-    Ok(())
-}
-
-// Without a queue there are host reads alone, and no agent whose lines could move.
-#[test]
-fn no_queue(rt: HostRuntime) -> Result<(), Fail> {
-    let alloc = rt.alloc();
-    let program = checked(alloc, IDLE)?;
-    let device = run_workers(&rt, alloc, &program, 2, Some(1), &IdleGate)?;
-    assert!(&rt; device.history() == [Event::Host { node: 0 }].as_slice());
     Ok(())
 }

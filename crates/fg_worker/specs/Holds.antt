@@ -1,10 +1,10 @@
 -- What holds do to the device of a holder that tells which one it has.
-use Rattle.std.specs.Prelude.{◌≡◌, ◌≤◌, ◌<◌, ℕ, Bool, List, Option, Some, None, if◌then◌else◌}
+use Rattle.std.specs.Prelude.{◌≡◌, ◌≤◌, ◌<◌, ◌↔◌, ℕ, Bool, true, List, Option, Some, None, if◌then◌else◌}
 use Rattle.fg_base.specs.declared.event.Event.{Event}
 use Rattle.fg_base.specs.declared.event.Event.TheVariants.{End}
 use Rattle.fg_caches.specs.Draws.{IsMove, moves_of}
 use Rattle.fg_drive.specs.Tended.{agents_of, sizes_of}
-use Rattle.fg_steps.specs.Devices.{Device, state_of, did, IsComplete}
+use Rattle.fg_steps.specs.Devices.{Device, state_of, did, IsComplete, NoneBegun}
 use Rattle.fg_steps.specs.Histories.{moved, Went}
 use Rattle.fg_steps.specs.States.{is_begun}
 use Rattle.fg_worker.specs.Turns.{Turns}
@@ -38,6 +38,10 @@ TendsTo old new event made = Both old new (λ d e. Tends d e event made)
 -- all nodes are done at the end
 abbrev pub EndsComplete : Option Device → Option Device → Type 0
 EndsComplete old new = Both old new (λ d e. IsComplete e)
+
+-- nothing of it is begun at the end, where nothing was
+abbrev pub LeavesNone : Option Device → Option Device → Type 0
+LeavesNone old new = Both old new (λ d e. NoneBegun d → NoneBegun e)
 
 -- where a tender asks for moves of the program of the device, and enough are left, exactly its first 256 have been made
 abbrev pub TendsAll : Option Device → Option Device → ℕ → ℕ → List ℕ → Type 0

@@ -1,12 +1,11 @@
 -- What one hold of a worker does to a device.
-use Rattle.std.specs.Prelude.{◌≡◌, ◌⊎◌, ℕ, true, false, if◌then◌else◌}
-use Rattle.fg_base.specs.declared.event.Event.{Event}
+use Rattle.std.specs.Prelude.{◌≡◌, ◌⊎◌, ℕ, true}
 use Rattle.fg_base.specs.declared.event.Event.TheVariants.{Begin, Sync, Host}
 use Rattle.fg_checker.specs.Sound.{IsSound}
 use Rattle.fg_device.specs.Carried.{Carries}
 use Rattle.fg_device.specs.declared.job.Command.{Command}
 use Rattle.fg_drive.specs.Firsts.{IsFirst, NothingReady}
-use Rattle.fg_hb.specs.Edges.{is_host}
+use Rattle.fg_hb.specs.Edges.{is_sync, is_host}
 use Rattle.fg_steps.specs.Devices.{Device, state_of, view_in, did, IsNext, NoneReady, IsComplete}
 use Rattle.fg_steps.specs.Ready.{is_command, kind_at}
 use Rattle.fg_steps.specs.States.{is_begun}
@@ -22,15 +21,11 @@ pub record Begins (old new : Device) (n : ℕ) (job : Command) : Type 0 where
   pub command : is_command (kind_at (view_in old) n) ≡ true
   pub event : new ≡ did old (Begin n)
   pub job : Carries new n job
+  pub begun : is_begun ((state_of new).phase n) ≡ true
 
--- the event of a node that is no command
-abbrev pub event_of : Device → ℕ → Event
-event_of d n = if is_host (kind_at (view_in d) n) then Host n else Sync n
-
--- another node is done
-pub record Steps (old new : Device) (n : ℕ) : Type 0 where
-  pub other : is_command (kind_at (view_in old) n) ≡ false
-  pub event : new ≡ did old (event_of old n)
+-- a barrier, wait or signal is done, or the host has read
+abbrev pub Steps : Device → Device → ℕ → Type 0
+Steps old new n = ((is_sync (kind_at (view_in old) n) ≡ true) × (new ≡ did old (Sync n))) ⊎ ((is_host (kind_at (view_in old) n) ≡ true) × (new ≡ did old (Host n)))
 
 -- nothing has changed, since nothing can be done before a command ends; where the program is sound one is begun
 pub record Waits (old new : Device) : Type 0 where

@@ -75,10 +75,11 @@ fn part<R: Threads + Wait + Sync, G: Gate>(
     sizes: &[u32],
     gate: &G,
 ) -> Result<(), NoMemory>
-    requires { length sizes.now < 2 ^ 32 }
+    requires queues { 1 ≤ numbers.queues }
+    requires few { length sizes.now < 2 ^ 32 }
 {
     if i < numbers.workers {
-        let own_queue = i % (numbers.queues as usize).max(1);
+        let own_queue = i % numbers.queues as usize;
         return work(rt, alloc, device, bell, own_queue as u32, gate);
     }
     if let Some(seed) = numbers.tend {

@@ -9,6 +9,7 @@ use fg_base::NoMemory;
 use fg_device::{Device, Job};
 use fg_drive::{next_node, readback_of};
 use fg_hb::Kind;
+use fg_steps::event_laws;
 use std::alloc::Global;
 
 /// What a hold did.
@@ -55,6 +56,7 @@ fn go(device: &mut Device, alloc: Global, node: u32) -> Result<Turn, NoMemory>
     ensures ok { IfOk result (Goes device.old device.new node) }
     ensures err { OnErr result (device.new ≡ device.old) }
 {
+    event_laws();
     match device.kind(node) {
         Kind::Command => return Ok(Turn::Compute(device.begin(alloc, node)?)),
         Kind::Host => {

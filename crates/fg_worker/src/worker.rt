@@ -1,12 +1,13 @@
 //! The loop of a worker.
 
 ghost use Rattle.std.specs.Prelude.{OnOk};
-ghost use Rattle.fg_worker.specs.Holds.{EndsComplete};
+ghost use Rattle.fg_worker.specs.Holds.{EndsComplete, LeavesNone};
 
 use crate::hold::{Hold, Shared};
 use crate::turn::Turn;
 use fg_base::{Gate, NoMemory};
 use fg_device::Device;
+use fg_steps::round_laws;
 use std::alloc::Global;
 use std::sync::{Condvar, Mutex, Wait};
 use std::thread::Threads;
@@ -20,8 +21,10 @@ pub fn work_through<R: Threads + Wait + Sync, H: Hold, G: Gate>(
     own_queue: u32,
     gate: &G,
 ) -> Result<(), NoMemory>
-    ensures { OnOk result (EndsComplete (H.told hold.old) (H.told hold.new)) }
+    ensures complete { OnOk result (EndsComplete (H.told hold.old) (H.told hold.new)) }
+    ensures nothing { LeavesNone (H.told hold.old) (H.told hold.new) }
 {
+    round_laws();
     for _ in rt.forever() {
         match hold.turn(alloc, own_queue)? {
             Turn::Compute(job) => {

@@ -1,16 +1,11 @@
 -- Loops over holds on their way.
-use Rattle.std.specs.Prelude.{◌≡◌, ◌≤◌, ◌++◌, ℕ, ◌-◌, List, Option}
+use Rattle.std.specs.Prelude.{◌≡◌, ◌≤◌, ◌++◌, ℕ, List}
 use Rattle.rand_pcg.specs.Lcg.{Lcg}
 use Rattle.fg_base.specs.declared.event.Event.{Event}
 use Rattle.fg_caches.specs.Draws.{moves_from, moves_of}
 use Rattle.fg_drive.specs.Tended.{agents_of, sizes_of}
 use Rattle.fg_steps.specs.Devices.{Device}
 use Rattle.fg_steps.specs.Histories.{Went}
-use Rattle.fg_worker.specs.Holds.{Both}
-
--- who told still tells
-abbrev pub StillTells : Option Device → Option Device → Type 0
-StillTells old new = Both old new (λ d e. Unit {0})
 
 -- some of the moves have been made, and so many others are to come
 pub record Tending (old new : Device) (seed left : ℕ) (tender : Lcg) (agents : ℕ) (sizes : List ℕ) : Type 0 where
