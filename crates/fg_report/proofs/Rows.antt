@@ -2,6 +2,7 @@
 use Rattle.std.proofs.Common.{◌≡◌, [], ◌∷◌, Some, None, codes, refl}
 use Rattle.std.specs.Fmt.{digits}
 use Rattle.hex.proofs.OnLiterals.{hex_on_literals}
+use Rattle.fg_base.specs.declared.event.Event.TheVariants.{Begin, End, Sync, WriteBack, Fill, DropLine, Host}
 use Rattle.fg_base.specs.declared.limit.Limit.TheVariants.{Passes}
 use Rattle.fg_base.specs.declared.shape.Family.TheVariants.{Graphics, Compute}
 use Rattle.fg_base.specs.declared.path.Leg.TheVariants.{Member, Position}
@@ -10,6 +11,8 @@ use Rattle.fg_frame.specs.Faults.{misshapen, not_json, over_limit}
 use Rattle.fg_report.specs.Exports.{export_lines}
 use Rattle.fg_report.specs.Faults.{frame_fault_text, sub_fault_text}
 use Rattle.fg_report.specs.Hazards.{hazard_text, check_text}
+use Rattle.fg_report.specs.Readbacks.{readback_text}
+use Rattle.fg_report.specs.Traces.{trace_text}
 use Rattle.fg_subs.specs.Faults as subs
 use Rattle.fg_checker.specs.declared.hazard.Hazard.TheVariants.{Stuck, NotVisible, BadLayout, BadOwner, Unmatched, Aliased}
 
@@ -72,3 +75,15 @@ aliased = refl
 accepted : check_text 6 ≡ codes "accepted 6 nodes\n"
 unfolding digits
 accepted = refl
+
+read_back : readback_text 3 (7 ∷ 0 ∷ []) ≡ codes "readback 3 2\n0700\n"
+unfolding digits hex_on_literals
+read_back = refl
+
+traced : trace_text (Begin 0 ∷ WriteBack 6 0 256 4 ∷ End 0 ∷ Sync 1 ∷ Host 2 ∷ []) ≡ codes "events 5\nbegin 0\nwriteback 6 0 256 4\nend 0\nsync 1\nhost 2\n"
+unfolding digits
+traced = refl
+
+cache_moves : trace_text (Fill 1 2 3 4 ∷ DropLine 4 3 2 1 ∷ []) ≡ codes "events 2\nfill 1 2 3 4\ndrop 4 3 2 1\n"
+unfolding digits
+cache_moves = refl

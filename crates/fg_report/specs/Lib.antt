@@ -4,4 +4,6 @@ pub mod Hazards
 pub mod KeptLines
 pub mod Paths
 pub mod PlaceLines
+pub mod Readbacks
+pub mod Traces
 pub mod UnitNames

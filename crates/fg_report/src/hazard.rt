@@ -40,14 +40,14 @@ fn add_field(text: &mut Text, word: &[u8]) -> Result<(), NoMemory>
     text.word(word)
 }
 
-fn add_number(text: &mut Text, number: u32) -> Result<(), NoMemory>
+pub(crate) fn add_number(text: &mut Text, number: u32) -> Result<(), NoMemory>
     ensures { OnOk result (text.new ≡ text.old ++ number_field number) }
 {
     text.word(b" ")?;
     text.number(u64::from(number))
 }
 
-fn add_numbers(text: &mut Text, first: u32, second: u32) -> Result<(), NoMemory>
+pub(crate) fn add_numbers(text: &mut Text, first: u32, second: u32) -> Result<(), NoMemory>
     ensures { OnOk result (text.new ≡ text.old ++ two_numbers first second) }
 {
     add_number(text, first)?;

@@ -8,6 +8,8 @@ mod kept;
 mod key;
 mod path;
 mod place;
+mod readback;
+mod trace;
 mod unit;
 
 pub use export::export_text;
@@ -15,6 +17,8 @@ pub use fault::{frame_fault_text, sub_fault_text};
 pub use hazard::{check_text, hazard_text};
 pub use kept::{cull_text, run_text};
 pub use place::place_text;
+pub use readback::readback_text;
+pub use trace::trace_text;
 
 #[cfg(test)]
 mod tests;

@@ -1,6 +1,6 @@
 use super::*;
 use crate::export::add_export;
-use fg_base::{Leg, Limit, List, Name, NoMemory, Text};
+use fg_base::{Event, Leg, Limit, List, Name, NoMemory, Text};
 use fg_checker::Hazard;
 use fg_frame::{FrameFault, Spot};
 use fg_subs::SubFault;
@@ -66,5 +66,23 @@ fn checks(rt: HostRuntime) -> Result<(), Fail> {
     is_printed(&rt, check_text(alloc, 20000)?, b"accepted 20000 nodes\n");
     let fault = sub_fault_text(alloc, &SubFault::not_json(alloc))?;
     is_printed(&rt, fault, b"fault G10 $\n");
+    Ok(())
+}
+
+#[test]
+fn runs(rt: HostRuntime) -> Result<(), Fail> {
+    let alloc = rt.alloc();
+    let mut text = List::new(alloc);
+    readback_text(&mut text, 1, &[5, 7])?;
+    is_printed(&rt, text, b"readback 1 2\n0507\n");
+    let fill = Event::Fill {
+        agent: 6,
+        memory: 0,
+        start: 256,
+        len: 4,
+    };
+    let history = [Event::Begin { node: 0 }, fill, Event::End { node: 0 }];
+    let trace = trace_text(alloc, &history)?;
+    is_printed(&rt, trace, b"events 3\nbegin 0\nfill 6 0 256 4\nend 0\n");
     Ok(())
 }

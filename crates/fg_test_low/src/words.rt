@@ -1,4 +1,4 @@
-use fg_words::{Command, FrameCommand, SubmissionCommand, command_of};
+use fg_words::{Command, FrameCommand, Options, SubmissionCommand, command_of};
 use std::alloc::{AllocError, Global};
 use std::test::Fail;
 
@@ -21,13 +21,53 @@ const COMMANDS: [(&str, Command); 7] = [
     ("check", Command::Submission(SubmissionCommand::Check)),
 ];
 
-const NO_COMMANDS: [&str; 6] = [
+// The line of a run on a device, how many workers, the seed, and whether a trace is wanted.
+const RUNS: [(&str, u32, Option<u64>, bool); 8] = [
+    ("exec", 2, None, false),
+    ("exec --workers 1", 1, None, false),
+    ("--workers=16 exec", 16, None, false),
+    ("exec --trace", 2, None, true),
+    ("exec --tend 0", 2, Some(0), false),
+    (
+        "--tend 4294967295 --trace -- exec",
+        2,
+        Some(4_294_967_295),
+        true,
+    ),
+    (
+        "exec --workers 0000000007 --tend=0000000010",
+        7,
+        Some(10),
+        false,
+    ),
+    ("exec --trace --tend 5 --workers 4", 4, Some(5), true),
+];
+
+const NO_COMMANDS: [&str; 24] = [
     "",
     "Run",
     "run run",
     "run --help",
     "--version",
     "check --workers 2",
+    "run --trace",
+    "--tend 1 cull",
+    "exec exec",
+    "exec --workers",
+    "exec --workers 0",
+    "exec --workers 17",
+    "exec --workers 00000000002",
+    "exec --workers +2",
+    "exec --workers -2",
+    "exec --workers=",
+    "exec --workers 0x2",
+    "exec --workers 2 --workers 2",
+    "exec --tend 4294967296",
+    "exec --tend 18446744073709551616",
+    "exec --trace --trace",
+    "exec --trace=true",
+    "exec -t",
+    "exec -- --trace",
 ];
 
 fn found(alloc: Global, line: &str) -> Result<Option<Command>, Fail> {
@@ -41,6 +81,15 @@ fn command_lines(rt: HostRuntime) -> Result<(), Fail> {
     for (line, wanted) in &COMMANDS {
         let found = found(alloc, line)?;
         assert!(rt; found == Some(*wanted), "{line}");
+    }
+    for (line, workers, tend, trace) in &RUNS {
+        let options = Options {
+            workers: *workers,
+            tend: *tend,
+            trace: *trace,
+        };
+        let found = found(alloc, line)?;
+        assert!(rt; found == Some(Command::Exec(options)), "{line}");
     }
     for line in &NO_COMMANDS {
         let found = found(alloc, line)?;

@@ -3,14 +3,18 @@
 ghost use Rattle.std.specs.Prelude.{◌≡◌};
 ghost use Rattle.fg_words.specs.Commands.{named};
 
-/// A command that the program has, by what it reads. One that reads nothing, or more than one file, will stand beside
-/// these.
+use crate::Options;
+
+/// A command that the program has, by what it reads and what it needs. One that reads nothing, or more than one file, will
+/// stand beside these.
 #[derive(Clone, Copy, Debug, PartialEq, Eq)]
 pub enum Command {
     /// A command that reads a frame.
     Frame(FrameCommand),
     /// A command that reads a submission.
     Submission(SubmissionCommand),
+    /// Runs a submission on a device, and prints what the host reads.
+    Exec(Options),
 }
 
 /// What is done with a frame.
@@ -38,7 +42,7 @@ pub enum SubmissionCommand {
 }
 
 impl Command {
-    /// The command with this word.
+    /// The command with this word, of those that have no options.
     pub fn named(word: &str) -> Option<Command>
         ensures { result ≡ named word.now }
     {
