@@ -1,6 +1,9 @@
 pub mod AnswerLemmas
+pub mod CallLemmas
 pub mod ExportLemmas
 pub mod KeptLemmas
 pub mod Known
 pub mod PlaceLemmas
+pub mod RunLemmas
 mod Rows
+pub mod Serving

@@ -1,5 +1,5 @@
 -- What a command answers to the bytes of its input.
-use Rattle.std.specs.Prelude.{◌≡◌, ◌⊎◌, ℕ, ◌<◌, ◌≤◌, Bool, List, [], ◌++◌, length, Option, Result, Ok, Err, codes}
+use Rattle.std.specs.Prelude.{◌≡◌, ◌⊎◌, ℕ, ◌<◌, ◌≤◌, Bool, List, [], ◌++◌, length, Option, Some, None, Result, Ok, Err, codes}
 use Rattle.std.specs.Io.KnownBytes.{Keeps}
 use Rattle.fg_base.specs.declared.limit.Limit.TheVariants.{Input}
 use Rattle.fg_frame.specs.Faults.{over_limit}
@@ -20,7 +20,9 @@ use Rattle.fg_report.specs.PlaceLines.{place_text}
 use Rattle.fg_report.specs.KeptLines.{run_text, cull_text}
 use Rattle.fg_top.specs.Files.{frame_file, program_file}
 use Rattle.fg_top.specs.Outcomes.{Tells, EndsAs}
+use Rattle.fg_top.specs.Runs.{HasRun, exec_text}
 use Rattle.fg_top.specs.Texts.{AreExported}
+use Rattle.fg_steps.specs.Devices.{Device}
 use Rattle.fg_subfile.specs.Files.{program_text}
 use Rattle.fg_subs.specs.Faults as subs
 use Rattle.fg_subs.specs.Entries.{entries_of}
@@ -37,25 +39,32 @@ use Rattle.fg_words.specs.declared.command.FrameCommand.{FrameCommand}
 use Rattle.fg_words.specs.declared.command.FrameCommand.TheVariants.{Run, Cull, Place, Compile, Meaning, Migrate}
 use Rattle.fg_words.specs.declared.command.SubmissionCommand.{SubmissionCommand}
 use Rattle.fg_words.specs.declared.command.SubmissionCommand.TheVariants.{Check}
+use Rattle.fg_words.specs.declared.options.Options.{Options}
+
+-- the whole text of a command that ran no device
+abbrev pub done : List ℕ → Answer
+done text = record { status = Done; text = text; device = None }
 
 abbrev pub refusal : FrameFault → Answer
-refusal fault = record { status = Refused; text = frame_fault_text fault }
+refusal fault = record { status = Refused; text = frame_fault_text fault; device = None }
 
 abbrev pub program_refusal : SubFault → Answer
-program_refusal fault = record { status = Refused; text = sub_fault_text fault }
+program_refusal fault = record { status = Refused; text = sub_fault_text fault; device = None }
 
 abbrev pub rejection : Hazard → Answer
-rejection hazard = record { status = Rejected; text = hazard_text hazard }
+rejection hazard = record { status = Rejected; text = hazard_text hazard; device = None }
 
 -- 16 MiB of a frame, 32 MiB of a submission
 abbrev pub input_limit : Command → ℕ
 input_limit (reads.Frame asked) = 16777216
 input_limit (reads.Submission asked) = 33554432
+input_limit (reads.Exec options) = 33554432
 
 -- the answer to more bytes than that
 abbrev pub over_input : Command → Answer
 over_input (reads.Frame asked) = refusal (over_limit Input [])
 over_input (reads.Submission asked) = program_refusal (subs.over_limit Input [])
+over_input (reads.Exec options) = program_refusal (subs.over_limit Input [])
 
 -- the passes that are kept, and then the exports with the bytes of the frame's meaning
 pub record IsRunText (frame : Frame) (text : List ℕ) : Type 0 where
@@ -66,19 +75,21 @@ pub record IsRunText (frame : Frame) (text : List ℕ) : Type 0 where
   pub whole : text ≡ run_text frame kept ++ exports
 
 pub record RunsFrame (frame : Frame) (answer : Answer) : Type 0 where
-  pub done : answer.status ≡ Done
+  pub status : answer.status ≡ Done
   pub text : IsRunText frame answer.text
+  pub device : answer.device ≡ None
 
 -- the exports alone
 pub record MeansFrame (frame : Frame) (answer : Answer) : Type 0 where
-  pub done : answer.status ≡ Done
+  pub status : answer.status ≡ Done
   pub text : AreExported frame answer.text
+  pub device : answer.device ≡ None
 
 -- what becomes of each pass
 pub record CullsFrame (frame : Frame) (answer : Answer) : Type 0 where
   pub kept : List Bool
   pub are_kept : AreKept (numbered frame) kept
-  pub whole : answer ≡ record { status = Done; text = cull_text frame kept }
+  pub whole : answer ≡ done (cull_text frame kept)
 
 -- where the transient units lie: each at its least place, where units that are ordered may share memory
 pub record PlacesFrame (frame : Frame) (answer : Answer) : Type 0 where
@@ -88,7 +99,7 @@ pub record PlacesFrame (frame : Frame) (answer : Answer) : Type 0 where
   pub is_ordered : IsOrdered (grouping (numbered frame) kept) ordered
   pub places : Places
   pub least : IsLeast (sizes (grouping (numbered frame) kept)) ordered places
-  pub whole : answer ≡ record { status = Done; text = place_text frame (grouping (numbered frame) kept) places }
+  pub whole : answer ≡ done (place_text frame (grouping (numbered frame) kept) places)
 
 -- the canonical text of the submissions that the kept passes need, and a line feed
 pub record CompilesFrame (frame : Frame) (answer : Answer) : Type 0 where
@@ -97,11 +108,11 @@ pub record CompilesFrame (frame : Frame) (answer : Answer) : Type 0 where
   pub places : Places
   pub program : Program
   pub compiled : IsCompiled (numbered frame) kept places program
-  pub whole : answer ≡ record { status = Done; text = program_text program ++ codes "\n" }
+  pub whole : answer ≡ done (program_text program ++ codes "\n")
 
 -- the canonical text and a line feed; from the text the frame is read again
 pub record MigratesFrame (frame : Frame) (answer : Answer) : Type 0 where
-  pub whole : answer ≡ record { status = Done; text = frame_text frame ++ codes "\n" }
+  pub whole : answer ≡ done (frame_text frame ++ codes "\n")
   pub again : frame_of (frame_text frame) ≡ Ok frame
 
 -- what is made of a frame without a fault
@@ -119,7 +130,7 @@ AnswersFrameFile asked (Err fault) answer = answer ≡ refusal fault
 
 pub record Accepts (program : Program) (answer : Answer) : Type 0 where
   pub sound : IsSound program
-  pub whole : answer ≡ record { status = Done; text = check_text (length (entries_of program)) }
+  pub whole : answer ≡ done (check_text (length (entries_of program)))
 
 pub record Rejects (program : Program) (answer : Answer) : Type 0 where
   pub hazard : Hazard
@@ -134,10 +145,22 @@ abbrev pub AnswersProgramFile : SubmissionCommand → Result Program SubFault �
 AnswersProgramFile asked (Ok program) answer = AnswersProgram asked program answer
 AnswersProgramFile asked (Err fault) answer = answer ≡ program_refusal fault
 
+-- a sound program has run on a device, what the host has read of it is printed, and the trace where it is asked for
+pub record Executes (options : Options) (program : Program) (answer : Answer) : Type 0 where
+  pub sound : IsSound program
+  pub device : Device
+  pub has_run : HasRun program options.tend device
+  pub whole : answer ≡ record { status = Done; text = exec_text device options.trace; device = Some device }
+
+abbrev pub ExecutesFile : Options → Result Program SubFault → Answer → Type 0
+ExecutesFile options (Ok program) answer = Executes options program answer ⊎ Rejects program answer
+ExecutesFile options (Err fault) answer = answer ≡ program_refusal fault
+
 -- what is made of bytes within the limit
 abbrev pub AnswersBytes : Command → List ℕ → Answer → Type 0
 AnswersBytes (reads.Frame asked) bytes answer = AnswersFrameFile asked (frame_file bytes) answer
 AnswersBytes (reads.Submission asked) bytes answer = AnswersProgramFile asked (program_file bytes) answer
+AnswersBytes (reads.Exec options) bytes answer = ExecutesFile options (program_file bytes) answer
 
 -- more bytes than the limit are refused before anything else
 pub record Answers (command : Command) (bytes : List ℕ) (answer : Answer) : Type 0 where
@@ -150,8 +173,9 @@ pub record AnswersLeft (command : Command) (left : Option (List ℕ)) (answer : 
   pub told : Tells left bytes
   pub answers : Answers command bytes answer
 
--- the call ended with the answer to the bytes that were left; or with a read fault or want of memory, and wrote nothing
-abbrev pub IsAnswered : Command → Option (List ℕ) → Option (List ℕ) → Option (List ℕ) → Status → Type 0
-IsAnswered command left old new ReadFault = Keeps old new
-IsAnswered command left old new NoMemory = Keeps old new
-IsAnswered command left old new status = (answer : Answer) × AnswersLeft command left answer × EndsAs answer.status answer.text old new status
+-- the call ended with the answer to the bytes that were left, and taps were told of its device; or with a read fault or want
+-- of memory, and wrote and told nothing
+abbrev pub IsAnswered : Command → Option (List ℕ) → Option (List ℕ) → Option (List ℕ) → (Option Device → Type 0) → Status → Type 0
+IsAnswered command left old new told ReadFault = Keeps old new × told None
+IsAnswered command left old new told NoMemory = Keeps old new × told None
+IsAnswered command left old new told status = (answer : Answer) × AnswersLeft command left answer × EndsAs answer.status answer.text old new status × told answer.device

@@ -7,6 +7,7 @@ pub mod Complete
 pub mod Ends
 pub mod Files
 pub mod Outcomes
+pub mod Runs
 pub mod Statuses
 pub mod Texts
 pub mod Told

@@ -4,8 +4,7 @@ ghost use Rattle.std.specs.Prelude.{IfOk};
 ghost use Rattle.fg_top.specs.Answers.{CompilesFrame};
 ghost use Rattle.fg_top.specs.Code.Steps.{HasText};
 
-use crate::Status;
-use crate::answer::Answer;
+use crate::answer::{Answer, done};
 use fg_base::NoMemory;
 use fg_frame::GoodFrame;
 use fg_lines::Lines;
@@ -21,8 +20,5 @@ pub fn compile_frame(alloc: Global, good: &GoodFrame) -> Result<Answer, NoMemory
     let compiled = compile(alloc, good)?;
     let mut text = write_program(alloc, &compiled.program)?;
     text.end_line()?;
-    Ok(Answer {
-        status: Status::Done,
-        text,
-    })
+    Ok(done(text))
 }

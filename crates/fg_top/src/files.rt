@@ -1,7 +1,8 @@
 //! A file is read, and the command's answer to it written.
 
-ghost use Rattle.std.specs.Prelude.{◌≡◌, ◌+◌, ◌<◌, ◌⊎◌, ◌^◌, IfOk, IfErr};
+ghost use Rattle.std.specs.Prelude.{◌≡◌, ◌+◌, ◌<◌, ◌⊎◌, ◌^◌, Some, None, false, IfOk, IfErr};
 ghost use Rattle.fg_top.specs.Answers.{AnswersBytes, AnswersLeft, IsAnswered, input_limit, over_input};
+ghost use Rattle.fg_top.specs.AtRest.{needs_device};
 ghost use Rattle.fg_top.specs.Causes.{ReadCause, WriteCause};
 ghost use Rattle.fg_top.specs.Code.Steps.{HasText, ReadsAnswer};
 ghost use Rattle.fg_top.specs.Outcomes.{IsUnanswered, TakesAtMost, TakesWhole};
@@ -18,14 +19,15 @@ use fg_subs::SubFault;
 use fg_words::Command;
 use std::alloc::Global;
 
-/// Reads a file, does what the command says, and writes its text.
+/// Reads a file, does what a command that needs no device says, and writes its text.
 pub fn answer<I: Source, O: Sink>(
     alloc: Global,
     command: Command,
     input: &mut I,
     output: &mut O,
 ) -> Status
-    ensures answered { IsAnswered command (I.left input.old) (O.taken output.old) (O.taken output.new) result }
+    requires { needs_device (Some command) ≡ false }
+    ensures answered { IsAnswered command (I.left input.old) (O.taken output.old) (O.taken output.new) (λ device. device ≡ None) result }
     ensures read { ReadCause (I.faults input.old) (I.faults input.new) result }
     ensures write { WriteCause (O.faults output.old) (O.faults output.new) result }
     ensures taken { TakesAtMost (input_limit command + 1) (I.left input.old) (I.left input.new) }
@@ -40,6 +42,7 @@ pub fn answer<I: Source, O: Sink>(
 
 // The answer to the file that is read, or the status where there is none.
 fn answer_input<I: Source>(alloc: Global, command: Command, input: &mut I) -> Result<Answer, Status>
+    requires { needs_device (Some command) ≡ false }
     ensures answer { IfOk result (AnswersLeft command (I.left input.old)) }
     ensures has_text { IfOk result (λ answer. HasText answer.status) }
     ensures none { IfErr result (λ status. (status ≡ Status.ReadFault) ⊎ (status ≡ Status.NoMemory)) }
@@ -55,36 +58,39 @@ fn answer_input<I: Source>(alloc: Global, command: Command, input: &mut I) -> Re
     }
 }
 
-// 16 MiB of a frame, 32 MiB of a submission.
-fn input_limit(command: Command) -> usize
+/// 16 MiB of a frame, 32 MiB of a submission.
+pub fn input_limit(command: Command) -> usize
     ensures limit { result ≡ input_limit command }
     ensures small { result < 2 ^ 32 }
 {
     match command {
         Command::Frame(_) => 16_777_216,
-        Command::Submission(_) => 33_554_432,
+        Command::Submission(_) | Command::Exec(_) => 33_554_432,
     }
 }
 
-fn over_input(alloc: Global, command: Command) -> Result<Answer, NoMemory>
+/// The answer to more bytes than the limit.
+pub fn over_input(alloc: Global, command: Command) -> Result<Answer, NoMemory>
     ensures over { IfOk result (λ answer. answer ≡ over_input command) }
     ensures has_text { IfOk result (λ answer. HasText answer.status) }
 {
     let place = List::new(alloc);
     match command {
         Command::Frame(_) => refusal(alloc, &FrameFault::over_limit(Limit::Input, place)),
-        Command::Submission(_) => {
+        Command::Submission(_) | Command::Exec(_) => {
             program_refusal(alloc, &SubFault::over_limit(Limit::Input, place))
         }
     }
 }
 
 fn answer_bytes(alloc: Global, command: Command, bytes: &[u8]) -> Result<Answer, NoMemory>
+    requires { needs_device (Some command) ≡ false }
     ensures answer { IfOk result (AnswersBytes command bytes.now) }
     ensures has_text { IfOk result (λ answer. HasText answer.status) }
 {
     match command {
         Command::Frame(asked) => answer_frame_file(alloc, asked, bytes),
         Command::Submission(asked) => answer_program_file(alloc, asked, bytes),
+        Command::Exec(_) => unreachable!(),
     }
 }

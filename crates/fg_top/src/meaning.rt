@@ -4,8 +4,7 @@ ghost use Rattle.std.specs.Prelude.{IfOk};
 ghost use Rattle.fg_top.specs.Answers.{MeansFrame};
 ghost use Rattle.fg_top.specs.Code.Steps.{HasText};
 
-use crate::Status;
-use crate::answer::Answer;
+use crate::answer::{Answer, done};
 use crate::exports::add_exports;
 use fg_base::{List, NoMemory};
 use fg_frame::GoodFrame;
@@ -18,8 +17,5 @@ pub fn mean_frame(alloc: Global, good: &GoodFrame) -> Result<Answer, NoMemory>
 {
     let mut text = List::new(alloc);
     add_exports(alloc, &mut text, good)?;
-    Ok(Answer {
-        status: Status::Done,
-        text,
-    })
+    Ok(done(text))
 }

@@ -7,7 +7,7 @@ ghost use Rattle.fg_top.specs.Code.Steps.{HasText};
 ghost use Rattle.fg_top.specs.Files.{program_file};
 
 use crate::Status;
-use crate::answer::{Answer, program_refusal};
+use crate::answer::{Answer, done, program_refusal};
 use fg_base::NoMemory;
 use fg_checker::{CheckEnd, Hazard, check};
 use fg_report::{check_text, hazard_text};
@@ -52,26 +52,25 @@ fn check_program(alloc: Global, program: Shaped) -> Result<Answer, NoMemory>
 {
     let nodes = program.node_count();
     match check(alloc, program) {
-        Ok(_) => Ok(Answer {
-            status: Status::Done,
-            text: check_text(alloc, nodes)?,
-        }),
+        Ok(_) => Ok(done(check_text(alloc, nodes)?)),
         Err(CheckEnd::Refused(hazard, _)) => rejection(alloc, &hazard),
         Err(CheckEnd::NoMemory) => Err(NoMemory),
     }
 }
 
-fn rejection(alloc: Global, hazard: &Hazard) -> Result<Answer, NoMemory>
+/// The answer to a program that is not sound.
+pub fn rejection(alloc: Global, hazard: &Hazard) -> Result<Answer, NoMemory>
     ensures { IfOk result (λ answer. answer ≡ rejection hazard.now) }
 {
     Ok(Answer {
         status: Status::Rejected,
         text: hazard_text(alloc, hazard)?,
+        device: None,
     })
 }
 
-// The program that bytes are, or their first fault.
-fn shaped(alloc: Global, bytes: &[u8]) -> Result<Shaped, SubReadEnd>
+/// The program that bytes are, or their first fault.
+pub fn shaped(alloc: Global, bytes: &[u8]) -> Result<Shaped, SubReadEnd>
     ensures { ProgramGives result (program_file bytes.now) }
 {
     match shape(alloc, read_program(alloc, bytes)?) {

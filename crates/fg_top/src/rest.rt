@@ -1,7 +1,7 @@
 //! The part of the top call that needs no device.
 
-ghost use Rattle.std.specs.Prelude.{◌≡◌, map, string_bytes, Some, None, IfSome, IfNone};
-ghost use Rattle.fg_top.specs.AtRest.{IsLeft};
+ghost use Rattle.std.specs.Prelude.{◌≡◌, map, string_bytes, None, IfSome, IfNone, true};
+ghost use Rattle.fg_top.specs.AtRest.{IsLeft, needs_device};
 ghost use Rattle.fg_top.specs.Calls.{Call};
 ghost use Rattle.fg_top.specs.Ends.{ends};
 ghost use Rattle.fg_top.specs.Outcomes.{IsUnanswered};
@@ -11,10 +11,10 @@ use crate::Status;
 use crate::files::answer;
 use crate::output::put;
 use fg_base::{NoMemory, Sink, Source};
-use fg_words::{Command, FrameCommand, command_of};
+use fg_words::{Command, command_of};
 use std::alloc::Global;
 
-/// Does the whole work of the top call for all words but `run`, which will run on a device: for that it answers none,
+/// Does the whole work of the top call for all words but those of `exec`, which runs on a device: for these it answers none,
 /// or that memory ran out, and has read and written nothing. For other words all holds that holds of the top call.
 pub fn at_rest<I: Source, O: Sink>(
     alloc: Global,
@@ -23,18 +23,18 @@ pub fn at_rest<I: Source, O: Sink>(
     output: &mut O,
 ) -> Option<Status>
     // The words that are left alone.
-    ensures left { command_of (map string_bytes words.now) ≡ Some (Command.Frame FrameCommand.Run) →
+    ensures left { needs_device (command_of (map string_bytes words.now)) ≡ true →
         IsLeft result × (input.new ≡ input.old) × (output.new ≡ output.old) }
-    ensures none { IfNone result (command_of (map string_bytes words.now) ≡ Some (Command.Frame FrameCommand.Run)) }
+    ensures none { IfNone result (needs_device (command_of (map string_bytes words.now)) ≡ true) }
 
     // All others.
     ensures call { let seen = ends I.left I.faults O.taken O.faults in
-        IfSome result (Call (command_of (map string_bytes words.now)) (seen input.old output.old) (seen input.new output.new)) }
+        IfSome result (Call (command_of (map string_bytes words.now)) (seen input.old output.old) (seen input.new output.new) (λ device. device ≡ None)) }
     ensures unread { command_of (map string_bytes words.now) ≡ None → input.new ≡ input.old }
     ensures unwritten { IfSome result (λ status. IsUnanswered status → output.new ≡ output.old) }
 {
     match command_of(alloc, words) {
-        Ok(Some(Command::Frame(FrameCommand::Run))) => None,
+        Ok(Some(Command::Exec(_))) => None,
         Ok(Some(command)) => Some(answer(alloc, command, input, output)),
         Ok(None) => Some(put(output, Status::Words, b"words\n")),
         Err(NoMemory) => Some(Status::NoMemory),

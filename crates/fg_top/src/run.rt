@@ -4,8 +4,7 @@ ghost use Rattle.std.specs.Prelude.{IfOk};
 ghost use Rattle.fg_top.specs.Answers.{RunsFrame};
 ghost use Rattle.fg_top.specs.Code.Steps.{HasText};
 
-use crate::Status;
-use crate::answer::Answer;
+use crate::answer::{Answer, done};
 use crate::cull::kept_of;
 use crate::exports::add_exports;
 use fg_base::NoMemory;
@@ -22,8 +21,5 @@ pub fn run_frame(alloc: Global, good: &GoodFrame) -> Result<Answer, NoMemory>
     let kept = kept_of(alloc, good)?;
     let mut text = run_text(alloc, good, &kept)?;
     add_exports(alloc, &mut text, good)?;
-    Ok(Answer {
-        status: Status::Done,
-        text,
-    })
+    Ok(done(text))
 }

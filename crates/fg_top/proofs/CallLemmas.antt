@@ -1,0 +1,45 @@
+-- What a call comes to, from what its parts come to.
+use Rattle.std.proofs.Common.{◌≡◌, ◌+◌, ℕ, List, Some, None, sym, subst, inl, inr, refl}
+use Rattle.std.specs.Prelude.{◌⊎◌}
+use Rattle.std.specs.declared.option.Option.{Option}
+use Rattle.fg_base.specs.Counts.{Rose}
+use Rattle.fg_steps.specs.Devices.{Device}
+use Rattle.fg_top.specs.Answers.{IsAnswered, input_limit}
+use Rattle.fg_top.specs.Calls.{Call}
+use Rattle.fg_top.specs.Causes.{ReadCause, WriteCause}
+use Rattle.fg_top.specs.Complete.{Completes}
+use Rattle.fg_top.specs.Ends.{Ends}
+use Rattle.fg_top.specs.declared.ended.Status.{Status}
+use Rattle.fg_top.specs.declared.ended.Status.TheVariants.{Done, Rejected, Refused, Words, ReadFault, WriteFault, NoMemory}
+use Rattle.fg_words.specs.declared.command.Command.{Command}
+
+answered_still : (command : Command) (left old new : Option (List ℕ)) (told : Option Device → Type 0) (status : Status) → told None → IsAnswered command left old new (λ device. device ≡ None) status → IsAnswered command left old new told status
+answered_still command left old new told Done none is = (is.0, is.1, is.2, subst told (sym is.3) none)
+answered_still command left old new told Rejected none is = (is.0, is.1, is.2, subst told (sym is.3) none)
+answered_still command left old new told Refused none is = (is.0, is.1, is.2, subst told (sym is.3) none)
+answered_still command left old new told Words none is = (is.0, is.1, is.2, subst told (sym is.3) none)
+answered_still command left old new told ReadFault none is = (is.0, none)
+answered_still command left old new told WriteFault none is = (is.0, is.1, is.2, subst told (sym is.3) none)
+answered_still command left old new told NoMemory none is = (is.0, none)
+
+-- a call in which no device ran, where taps were told nothing
+pub still : (line : Option Command) (before after : Ends) (told : Option Device → Type 0) (status : Status) → told None → Call line before after (λ device. device ≡ None) status → Call line before after told status
+still line before after told status none call = record {
+  words = λ e. ((call.words e).0, none);
+  answered = λ command e. answered_still command before.left before.written after.written told status none (call.answered command e);
+  taken = call.taken;
+  whole = call.whole;
+  read = call.read;
+  write = call.write;
+  complete = call.complete;
+}
+
+-- an answer that was found is written whole where no read and no write failed
+pub completes : (command : Command) (left old new : Option (List ℕ)) (told : Option Device → Type 0) (status : Status) (reads reads' writes writes' : ℕ) → IsAnswered command left old new told status → ReadCause reads reads' status → WriteCause writes writes' status → ¬ Rose reads reads' → ¬ Rose writes writes' → (status ≡ NoMemory) ⊎ Completes command left old new status
+completes command left old new told Done reads reads' writes writes' is read write steady_read steady_write = inr (record { answer = is.0; answers = is.1; given = is.2.0; written = is.2.1 })
+completes command left old new told Rejected reads reads' writes writes' is read write steady_read steady_write = inr (record { answer = is.0; answers = is.1; given = is.2.0; written = is.2.1 })
+completes command left old new told Refused reads reads' writes writes' is read write steady_read steady_write = inr (record { answer = is.0; answers = is.1; given = is.2.0; written = is.2.1 })
+completes command left old new told Words reads reads' writes writes' is read write steady_read steady_write = inr (record { answer = is.0; answers = is.1; given = is.2.0; written = is.2.1 })
+completes command left old new told ReadFault reads reads' writes writes' is read write steady_read steady_write = absurd (steady_read read)
+completes command left old new told WriteFault reads reads' writes writes' is read write steady_read steady_write = absurd (steady_write write)
+completes command left old new told NoMemory reads reads' writes writes' is read write steady_read steady_write = inl refl
