@@ -1,5 +1,8 @@
 -- What a call comes to, from what its parts come to.
-use Rattle.std.proofs.Common.{◌≡◌, ◌+◌, ℕ, List, Some, None, sym, subst, inl, inr, refl}
+use Rattle.std.proofs.Common.{◌≡◌, ◌+◌, ℕ, List, [], Some, None, is_some, unwrap_or, sym, ap, subst, inl, inr, refl, arith}
+use Rattle.std.proofs.KnownBytes.{Keeps-refl}
+use Rattle.std.proofs.lemmas.Bool.{true≢false}
+use Rattle.std.specs.Io.KnownBytes.{Consumes}
 use Rattle.std.specs.Prelude.{◌⊎◌}
 use Rattle.std.specs.declared.option.Option.{Option}
 use Rattle.fg_base.specs.Counts.{Rose}
@@ -9,6 +12,7 @@ use Rattle.fg_top.specs.Calls.{Call}
 use Rattle.fg_top.specs.Causes.{ReadCause, WriteCause}
 use Rattle.fg_top.specs.Complete.{Completes}
 use Rattle.fg_top.specs.Ends.{Ends}
+use Rattle.fg_top.specs.Outcomes.{IsUnanswered, TakesAtMost, TakesWhole}
 use Rattle.fg_top.specs.declared.ended.Status.{Status}
 use Rattle.fg_top.specs.declared.ended.Status.TheVariants.{Done, Rejected, Refused, Words, ReadFault, WriteFault, NoMemory}
 use Rattle.fg_words.specs.declared.command.Command.{Command}
@@ -43,3 +47,34 @@ completes command left old new told Words reads reads' writes writes' is read wr
 completes command left old new told ReadFault reads reads' writes writes' is read write steady_read steady_write = absurd (steady_read read)
 completes command left old new told WriteFault reads reads' writes writes' is read write steady_read steady_write = absurd (steady_write write)
 completes command left old new told NoMemory reads reads' writes writes' is read write steady_read steady_write = inl refl
+
+-- nothing was read, written or told
+pub nothing : (line : Option Command) (ends : Ends) (told : Option Device → Type 0) → told None → Call line ends ends told NoMemory
+nothing line ends told none = record {
+  words = λ e. (Keeps-refl ends.written, none);
+  answered = λ command e. (Keeps-refl ends.written, none);
+  taken = λ command e. ([], none_taken ends.left, omega arith);
+  whole = λ command e some. absurd (some tt);
+  read = refl;
+  write = refl;
+  complete = λ steady_read steady_write. inl refl;
+}
+  where
+    none_taken : (left : Option (List ℕ)) → Consumes left left []
+    none_taken None = tt
+    none_taken (Some all) = refl
+
+-- a command was answered
+pub called : (line : Option Command) (command : Command) (before after : Ends) (told : Option Device → Type 0) (status : Status) → line ≡ Some command → IsAnswered command before.left before.written after.written told status → ReadCause before.read_faults after.read_faults status → WriteCause before.write_faults after.write_faults status → TakesAtMost (input_limit command + 1) before.left after.left → (¬ IsUnanswered status → TakesWhole (input_limit command) before.left after.left) → Call line before after told status
+called line command before after told status is answered read write taken whole = subst (λ (l : Option Command). Call l before after told status) (sym is) (record {
+  words = λ e. absurd (true≢false (ap is_some e));
+  answered = λ other e. subst (λ (c : Command). IsAnswered c before.left before.written after.written told status) (same other e) answered;
+  taken = λ other e. subst (λ (c : Command). TakesAtMost (input_limit c + 1) before.left after.left) (same other e) taken;
+  whole = λ other e some. subst (λ (c : Command). TakesWhole (input_limit c) before.left after.left) (same other e) (whole some);
+  read = read;
+  write = write;
+  complete = completes command before.left before.written after.written told status before.read_faults after.read_faults before.write_faults after.write_faults answered read write;
+})
+  where
+    same : (other : Command) → Some command ≡ Some other → command ≡ other
+    same other e = ap (λ (o : Option Command). unwrap_or o command) e

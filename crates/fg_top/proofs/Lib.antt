@@ -6,4 +6,3 @@ pub mod Known
 pub mod PlaceLemmas
 pub mod RunLemmas
 mod Rows
-pub mod Serving

@@ -1,5 +1,4 @@
 -- Definitions that serve the code alone: no public clause reaches them.
 pub mod Intakes
-pub mod Serves
 pub mod Stages
 pub mod Steps

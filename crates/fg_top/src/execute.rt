@@ -158,6 +158,7 @@ fn options_in(alloc: Global, words: &[String]) -> Result<Options, NoMemory>
     }
 }
 
+#[tactic(auto, using(crate::proofs::CallLemmas::called, crate::proofs::CallLemmas::nothing))]
 /// Does the work of `exec`: room for all taps is taken before anything is read.
 pub fn execute<R: Threads + Wait + Sync, I: Source, O: Sink, G: Gate + Sync>(
     rt: &R,

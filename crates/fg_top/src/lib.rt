@@ -20,7 +20,6 @@ mod readbacks;
 mod rest;
 mod run;
 mod running;
-mod serve;
 mod telling;
 mod top;
 

@@ -1,6 +1,6 @@
 //! The part of the top call that needs no device.
 
-ghost use Rattle.std.specs.Prelude.{◌≡◌, map, string_bytes, None, IfSome, IfNone, true};
+ghost use Rattle.std.specs.Prelude.{◌≡◌, map, string_bytes, Some, None, IfSome, IfNone, true};
 ghost use Rattle.fg_top.specs.AtRest.{IsLeft, needs_device};
 ghost use Rattle.fg_top.specs.Calls.{Call};
 ghost use Rattle.fg_top.specs.Ends.{ends};
@@ -13,6 +13,15 @@ use crate::output::put;
 use fg_base::{NoMemory, Sink, Source};
 use fg_words::{Command, command_of};
 use std::alloc::Global;
+
+fn needs_device(command: Command) -> bool
+    ensures { result ≡ needs_device (Some command) }
+{
+    match command {
+        Command::Frame(_) | Command::Submission(_) => false,
+        Command::Exec(_) => true,
+    }
+}
 
 /// Does the whole work of the top call for all words but those of `exec`, which runs on a device: for these it answers none,
 /// or that memory ran out, and has read and written nothing. For other words all holds that holds of the top call.
@@ -34,8 +43,12 @@ pub fn at_rest<I: Source, O: Sink>(
     ensures unwritten { IfSome result (λ status. IsUnanswered status → output.new ≡ output.old) }
 {
     match command_of(alloc, words) {
-        Ok(Some(Command::Exec(_))) => None,
-        Ok(Some(command)) => Some(answer(alloc, command, input, output)),
+        Ok(Some(command)) => {
+            if needs_device(command) {
+                return None;
+            }
+            Some(answer(alloc, command, input, output))
+        }
         Ok(None) => Some(put(output, Status::Words, b"words\n")),
         Err(NoMemory) => Some(Status::NoMemory),
     }

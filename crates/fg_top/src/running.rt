@@ -1,6 +1,6 @@
 //! A sound program runs on a device.
 
-ghost use Rattle.std.specs.Prelude.{◌≡◌, ◌≤◌, IfOk, IsTrue};
+ghost use Rattle.std.specs.Prelude.{◌≡◌, ◌≤◌, ℕ, Some, IfOk, IsTrue};
 ghost use Rattle.fg_steps.specs.Devices.{Device};
 ghost use Rattle.fg_steps.specs.Runs.{Runs};
 ghost use Rattle.fg_top.specs.Runs.{HasRun};
@@ -25,6 +25,7 @@ fn run_laws(program: &Checked)
     let _faultless = program.shaped().program();
 }
 
+#[tactic(auto, using(crate::proofs::RunLemmas::has_run))]
 // Whether the device is one of the program that has run to its end, with the cache moves of the seed.
 fn has_run(
     alloc: Global,
@@ -39,7 +40,17 @@ fn has_run(
     Ok(ended && tended(alloc, program, device, tend)?)
 }
 
-// A device that has run the program by itself.
+// How many cache moves are made.
+fn moves_of(tend: Option<u64>) -> u32
+    ensures { (seed : ℕ) → tend ≡ Some seed → result ≡ 256 }
+{
+    match tend {
+        Some(_) => MOVES,
+        None => 0,
+    }
+}
+
+// A device that is driven by itself.
 fn driven<R: Threads + Sync>(
     rt: &R,
     alloc: Global,
@@ -50,8 +61,7 @@ fn driven<R: Threads + Sync>(
 {
     run_laws(program);
     event_laws();
-    let moves = if tend.is_some() { MOVES } else { 0 };
-    let mut device = Device::new(alloc, program, 0, moves)?;
+    let mut device = Device::new(alloc, program, 0, moves_of(tend))?;
     drive(rt, alloc, &mut device, tend)?;
     Ok(device)
 }

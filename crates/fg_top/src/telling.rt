@@ -8,10 +8,10 @@ ghost use Rattle.fg_top.specs.Told.{AreTold};
 
 use crate::answer::Answer;
 use crate::output::put;
-use crate::serve::serve_all;
 use crate::{Ended, Status};
 use fg_base::{NoMemory, Sink, Tap};
 use fg_device::Device;
+use fg_taps::serve_all;
 use std::alloc::Global;
 
 /// No tap is spent.

@@ -1,6 +1,6 @@
 use Rattle.std.proofs.Common.{arith, ◌<◌, length}
-use Rattle.fg_top.proofs.Serving.{serves_at}
-use Rattle.fg_top.proofs.serve.serve_at.Goals as goal
+use Rattle.fg_taps.proofs.Serving.{serves_at}
+use Rattle.fg_taps.proofs.serve.serve_at.Goals as goal
 
 pub returns : goal.returns
 returns g c =

@@ -1,6 +1,6 @@
 use Rattle.std.proofs.Common.{◌≤◌, vec_len, vec_capacity}
-use Rattle.fg_top.proofs.Serving.{IsServing}
-use Rattle.fg_top.proofs.serve.serve_all.Given as goal
+use Rattle.fg_taps.proofs.Serving.{IsServing}
+use Rattle.fg_taps.proofs.serve.serve_all.Given as goal
 
 abbrev pub invariant-loop-place : goal.invariant-loop-place
 invariant-loop-place g l =

@@ -2,8 +2,8 @@
 
 ghost use Rattle.std.specs.Prelude.{◌≡◌, ◌<◌, ◌≤◌, ◌+◌, [], ◌∷◌, ◌++◌, take, drop, vec_len, vec_capacity};
 ghost use Rattle.std.specs.List.{HoldsAt};
-ghost use Rattle.fg_top.specs.Code.Serves.{ServesAt};
-ghost use Rattle.fg_top.specs.Told.{AreServed, IsServed};
+ghost use Rattle.fg_taps.specs.Code.Serves.{ServesAt};
+ghost use Rattle.fg_taps.specs.Served.{AreServed, IsServed};
 
 use fg_base::{Event, Tap, Tell};
 

@@ -1,7 +1,7 @@
 use Rattle.std.proofs.Common.{arith, length, ◌<◌, ap}
-use Rattle.fg_top.proofs.Serving.{serving_none, serving_stays, serving_ends, are_served}
-use Rattle.fg_top.proofs.serve.serve_all.Goals as goal
-use Rattle.fg_top.proofs.serve.serve_all.Goals.{then-serve_at, else-serve_at}
+use Rattle.fg_taps.proofs.Serving.{serving_none, serving_stays, serving_ends, are_served}
+use Rattle.fg_taps.proofs.serve.serve_all.Goals as goal
+use Rattle.fg_taps.proofs.serve.serve_all.Goals.{then-serve_at, else-serve_at}
 
 pub loop-place-init : goal.loop-place-init
 loop-place-init g c =

@@ -1,6 +1,6 @@
 use Rattle.std.proofs.Common.{take}
 use Rattle.fg_base.specs.Taps.{Hears}
-use Rattle.fg_top.proofs.serve.serve.Given as goal
+use Rattle.fg_taps.proofs.serve.serve.Given as goal
 
 abbrev pub invariant-loop-event : goal.invariant-loop-event
 invariant-loop-event g l =

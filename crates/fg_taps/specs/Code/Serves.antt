@@ -3,7 +3,7 @@ use Rattle.std.specs.Prelude.{◌≡◌, ℕ, List, Bool, slice_set}
 use Rattle.std.specs.List.{HoldsAt}
 use Rattle.std.specs.declared.option.Option.{Option}
 use Rattle.fg_base.specs.declared.event.Event.{Event}
-use Rattle.fg_top.specs.Told.{IsServed}
+use Rattle.fg_taps.specs.Served.{IsServed}
 
 -- the tap at this place was served, and the others are as they were
 pub record ServesAt {T : Type 0} (heard : T → Option (List Event)) (finished : T → Type 0) (events : List Event) (old : List T) (at : ℕ) (new : List T) (done : Bool) : Type 0 where
