@@ -11,7 +11,7 @@ use Rattle.fg_top.specs.Runs.{HasRun, first_readbacks, read_by}
 
 pub has_run : (program : Program) (tend : Option ℕ) (d : Device) → ((e : Device) → e.program ≡ program → Runs e) → d.program ≡ program → d.fill ≡ 0 → IsComplete d → moves_in d.history ≡ tended_moves program tend 256 → HasRun program tend d
 has_run program tend d laws is fill complete moves = record {
-  program = is;
+  runs = is;
   fill = fill;
   complete = complete;
   moves = moves;

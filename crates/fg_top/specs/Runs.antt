@@ -16,7 +16,7 @@ read_by d k = (state_of d).host (read_node d.program k)
 -- the device was opened with zeros, each node is done, and the cache moves in its history are the first 256 of the seed's
 -- tender, or none without a seed
 pub record HasRun (program : Program) (tend : Option ℕ) (d : Device) : Type 0 where
-  pub program : d.program ≡ program
+  pub runs : d.program ≡ program
   pub fill : d.fill ≡ 0
   pub complete : IsComplete d
   pub moves : moves_in d.history ≡ tended_moves program tend 256
