@@ -1,11 +1,11 @@
 //! Workers and a tender on a device of their own.
 
-ghost use Rattle.std.specs.Prelude.{◌×◌, ◌≤◌, ◌<◌, ◌^◌, length};
+ghost use Rattle.std.specs.Prelude.{◌×◌, ◌≤◌, ◌<◌, ◌^◌, ◌*◌, length};
 
 use crate::hold::Shared;
 use crate::tending::tend_through;
 use crate::worker::work;
-use fg_base::{Gate, NoMemory};
+use fg_base::{Gate, List, NoMemory};
 use fg_caches::MOVES;
 use fg_checker::Checked;
 use fg_device::Device;
@@ -15,12 +15,60 @@ use std::sync::{Condvar, Mutex, Wait};
 use std::thread;
 use std::thread::Threads;
 
-// The numbers of a run.
-#[derive(Clone, Copy, Debug)]
-struct Numbers {
+// What the parts of a run share, and how many they are.
+#[derive(Drop)]
+struct Run {
+    device: Mutex<Device>,
+    bell: Condvar,
     workers: usize,
-    queues: u32,
     tend: Option<u64>,
+    queues: u32,
+    // Of the memories, in bytes.
+    sizes: List<u32>,
+    ghost some_queue: { 1 ≤ queues },
+    ghost few_queues: { 8 * queues < 2 ^ 32 },
+    ghost few_memories: { length sizes < 2 ^ 32 },
+}
+
+impl Run {
+    fn new(
+        alloc: Global,
+        program: &Checked,
+        workers: u32,
+        tend: Option<u64>,
+    ) -> Result<Run, NoMemory> {
+        let moves = if tend.is_some() { MOVES } else { 0 };
+        let device = Device::new(alloc, program, 0, moves)?;
+        let plain = program.shaped().program();
+        Ok(Run {
+            device: Mutex::new(device),
+            bell: Condvar::new(),
+            workers: workers as usize,
+            tend,
+            queues: plain.queues.len() as u32,
+            sizes: sizes_of(alloc, plain)?,
+        })
+    }
+
+    // Part i: one of the workers, or after them the tender.
+    fn part<R: Threads + Wait + Sync, G: Gate>(
+        &self,
+        rt: &R,
+        alloc: Global,
+        i: usize,
+        gate: &G,
+    ) -> Result<(), NoMemory> {
+        let (device, bell) = (&self.device, &self.bell);
+        if i < self.workers {
+            let own_queue = i % self.queues as usize;
+            return work(rt, alloc, device, bell, own_queue as u32, gate);
+        }
+        if let Some(seed) = self.tend {
+            let mut shared = Shared { rt, device, bell };
+            tend_through(&mut shared, seed, 8 * self.queues, &self.sizes);
+        }
+        Ok(())
+    }
 }
 
 /// A device of the program, opened with zeros, after so many workers have run it. Worker i is of queue i modulo the number of
@@ -37,58 +85,13 @@ pub fn run_workers<R: Threads + Wait + Sync, G: Gate + Sync>(
 ) -> Result<Device, NoMemory>
     requires { (1 ≤ workers) × (workers ≤ 16) }
 {
-    let plain = program.shaped().program();
-    let sizes = sizes_of(alloc, plain)?;
-    let moves = if tend.is_some() { MOVES } else { 0 };
-    let device = Mutex::new(Device::new(alloc, program, 0, moves)?);
-    let bell = Condvar::new();
-    let numbers = Numbers {
-        workers: workers as usize,
-        queues: plain.queues.len() as u32,
-        tend,
-    };
-    let parts = numbers.workers + tend.is_some() as usize;
-    let ends = thread::map_indices(
-        rt,
-        alloc,
-        parts,
-        &|i: usize| -> Result<(), NoMemory>
-            requires { length sizes.now < 2 ^ 32 }
-        { part(rt, alloc, &device, &bell, i, numbers, &sizes, gate) },
-    )?;
-    let device = device.into_inner();
+    let run = Run::new(alloc, program, workers, tend)?;
+    let parts = run.workers + tend.is_some() as usize;
+    let ends = thread::map_indices(rt, alloc, parts, &|i| run.part(rt, alloc, i, gate))?;
+    let device = run.device.into_inner();
     if device.complete() || ends.iter().all(|end| end.is_ok()) {
         Ok(device)
     } else {
         Err(NoMemory)
     }
-}
-
-// What part i of a run does: one of the workers, or after them the tender.
-fn part<R: Threads + Wait + Sync, G: Gate>(
-    rt: &R,
-    alloc: Global,
-    device: &Mutex<Device>,
-    bell: &Condvar,
-    i: usize,
-    numbers: Numbers,
-    sizes: &[u32],
-    gate: &G,
-) -> Result<(), NoMemory>
-    requires queues { 1 ≤ numbers.queues }
-    requires few { length sizes.now < 2 ^ 32 }
-{
-    if i < numbers.workers {
-        let own_queue = i % numbers.queues as usize;
-        return work(rt, alloc, device, bell, own_queue as u32, gate);
-    }
-    if let Some(seed) = numbers.tend {
-        tend_through(
-            &mut Shared { rt, device, bell },
-            seed,
-            8 * numbers.queues,
-            sizes,
-        );
-    }
-    Ok(())
 }
