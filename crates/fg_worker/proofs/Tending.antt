@@ -57,7 +57,7 @@ module _ (d e f : Device) (seed left agents : ℕ) (sizes : List ℕ) (g : Lcg) 
   pub tends_on : ((events : List Event) → GoesOnByMove d e events event) → (made : Bool) → made ≡ true → TendsOn d e seed (suc left) g agents sizes → Tends e f event made → TendsOn d f seed left (after_five g) agents sizes
   tends_on on made is so_far hold known long enough =
       let t = so_far known long enough in
-      goes known long t (on t.events) (subst (λ b. f ≡ (if b then moved e event else e)) is hold.event)
+      goes known long t (on t.events) (subst (λ b. f ≡ (if b then moved e event else e)) is hold.effect)
 
   -- it can always make it
   pub never_fails : (made : Bool) → made ≡ false → TendsOn d e seed (suc left) g agents sizes → Tends e f event made → agents ≡ agents_of d.program → sizes ≡ sizes_of d.program → 256 ≤ d.moves → Went d f (moves_of seed 256 agents sizes)

@@ -11,7 +11,7 @@ use Rattle.fg_worker.specs.declared.turn.Turn.TheVariants.{Compute, Stepped, Com
 
 pub turned : (old new : Device) (own n : ℕ) (turn : Turn) → IsChosen old own n → Goes old new n turn → Turns old new own turn
 turned old new own n (Compute job) chosen begins =
-    let same = sym begins.job.node in
+    let same = sym begins.carries.node in
     (subst (λ k. IsChosen old own k) same chosen, subst (λ k. Begins old new k job) same begins)
 turned old new own n Stepped chosen steps = (n, (chosen, steps))
 turned old new own n Complete chosen goes = absurd goes

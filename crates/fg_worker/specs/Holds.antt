@@ -30,7 +30,7 @@ pub record MayMake (d : Device) (event : Event) : Type 0 where
 
 pub record Tends (old new : Device) (event : Event) (made : Bool) : Type 0 where
   pub may : (made ≡ true) ↔ MayMake old event
-  pub event : new ≡ (if made then moved old event else old)
+  pub effect : new ≡ (if made then moved old event else old)
 
 abbrev pub TendsTo : Option Device → Option Device → Event → Bool → Type 0
 TendsTo old new event made = Both old new (λ d e. Tends d e event made)

@@ -20,7 +20,7 @@ IsChosen d own n = IsNext d own n ⊎ ((NoneReady d own) × IsFirst d n)
 pub record Begins (old new : Device) (n : ℕ) (job : Command) : Type 0 where
   pub command : is_command (kind_at (view_in old) n) ≡ true
   pub event : new ≡ did old (Begin n)
-  pub job : Carries new n job
+  pub carries : Carries new n job
   pub begun : is_begun ((state_of new).phase n) ≡ true
 
 -- a barrier, wait or signal is done, or the host has read
