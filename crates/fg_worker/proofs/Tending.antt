@@ -12,7 +12,7 @@ use Rattle.fg_worker.specs.Code.Loops.{Tending, TendsOn}
 use Rattle.fg_worker.specs.Holds.{MayMake, Tends}
 
 pub opens : (d : Device) (seed agents : ℕ) (sizes : List ℕ) → GoesNowhere d → TendsOn d d seed 256 (seeded seed) agents sizes
-opens d seed agents sizes nowhere known long enough = record { events = []; went = nowhere; left = enough; moves = refl }
+opens d seed agents sizes nowhere known long enough = record { events = []; went = nowhere; room = enough; moves = refl }
 
 pub none_drawn : (agents : ℕ) (sizes : List ℕ) (g : Lcg) (left : ℕ) → may_draw agents sizes ≡ false → moves_from g left agents sizes ≡ []
 none_drawn agents sizes g zero may = refl
@@ -40,7 +40,7 @@ module _ (d e f : Device) (seed left agents : ℕ) (sizes : List ℕ) (g : Lcg) 
   module _ (known : agents ≡ agents_of d.program) (long : sizes ≡ sizes_of d.program) (so_far : Tending d e seed (suc left) g agents sizes) where
     pub may : MayMake e event
     may = record {
-      left = omega (arith, so_far.left);
+      left = omega (arith, so_far.room);
       move = subst (λ program. IsMove (agents_of program) (sizes_of program) event) (sym so_far.went.program)
           (subst (λ xs. IsMove (agents_of d.program) xs event) long (subst (λ n. IsMove n sizes event) known draws.inside));
     }
@@ -48,8 +48,8 @@ module _ (d e f : Device) (seed left agents : ℕ) (sizes : List ℕ) (g : Lcg) 
     goes : GoesOnByMove d e so_far.events event → f ≡ moved e event → Tending d f seed left (after_five g) agents sizes
     goes on is = record {
       events = so_far.events ++ event ∷ [];
-      went = subst (λ x. Went d x (so_far.events ++ event ∷ [])) (sym is) (on so_far.went draws.move (omega (arith, so_far.left)));
-      left = omega (arith, so_far.left, ap (λ (x : Device). x.moves) is);
+      went = subst (λ x. Went d x (so_far.events ++ event ∷ [])) (sym is) (on so_far.went draws.move (omega (arith, so_far.room)));
+      room = omega (arith, so_far.room, ap (λ (x : Device). x.moves) is);
       moves = append_assoc so_far.events (event ∷ []) (moves_from (after_five g) left agents sizes) ∙ ap (λ moves. so_far.events ++ moves) (sym next) ∙ so_far.moves;
     }
 

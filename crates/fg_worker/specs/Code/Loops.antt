@@ -11,7 +11,7 @@ use Rattle.fg_steps.specs.Histories.{Went}
 pub record Tending (old new : Device) (seed left : ℕ) (tender : Lcg) (agents : ℕ) (sizes : List ℕ) : Type 0 where
   pub events : List Event
   pub went : Went old new events
-  pub left : left ≤ new.moves
+  pub room : left ≤ new.moves
   pub moves : events ++ moves_from tender left agents sizes ≡ moves_of seed 256 agents sizes
 
 -- of a device with the agents and the sizes that the tender asks for
