@@ -1,12 +1,12 @@
 -- The facts of a compiled frame, put together.
-use Rattle.fg_compiled.specs.Laws.{Accessed, AreKept, AreOrdered, ComeBefore, HaveBarriers}
+use Rattle.fg_compiled.specs.Laws.{Accessed, AreUnreleased, AreOrdered, ComeBefore, HaveBarriers}
 use Rattle.fg_crossing.specs.Crossings.{IsFull}
 use Rattle.fg_crossing.specs.Facts.{Facts}
 use Rattle.fg_crossing.specs.Nodes.{Nodes, Places, Roles}
 use Rattle.fg_crossing.specs.Plans.{Plan, Grouped}
 use Rattle.fg_view.specs.Views.{View}
 
-pub facts : (F : Plan) (V : View) (N : Nodes) → IsFull V → Grouped F → Roles F V N → Places F V N → AreOrdered F V N → HaveBarriers F V N → ComeBefore F V N → AreKept F V N → Accessed F V N → Facts F V N
+pub facts : (F : Plan) (V : View) (N : Nodes) → IsFull V → Grouped F → Roles F V N → Places F V N → AreOrdered F V N → HaveBarriers F V N → ComeBefore F V N → AreUnreleased F V N → Accessed F V N → Facts F V N
 facts F V N full grouped roles places ordered barriers before kept A = record {
   full = full;
   local = record {

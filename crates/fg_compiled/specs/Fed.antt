@@ -51,6 +51,6 @@ OfFed IsSo =
     IsFed (grouping frame kept) →
     IsSo (plan_of (grouping frame kept) (heap_with ordered places)) (view_of (recorded frame kept ordered places)) (nodes_of (grouping frame kept) (heap_with ordered places))
 
--- one that breaks no rule is sound in its least order
+-- one whose view is shaped is sound in its least order
 abbrev pub IsSoundWhenShaped : Plan → View → Nodes → Type 0
 IsSoundWhenShaped F V N = ShapedView V → (order : List ℕ) → orders.IsLeast V.nodes order → Sound V order

@@ -46,8 +46,8 @@ abbrev pub HaveBarriers : Plan → View → Nodes → Type 0
 HaveBarriers F V N = (g h : ℕ) → F.over g h ≡ true → IsBarrier V (N.alias h) × UpTo V (N.alias h) (N.turn h)
 
 -- and the last group of the earlier one is not released
-abbrev pub AreKept : Plan → View → Nodes → Type 0
-AreKept F V N = (g h : ℕ) → F.over g h ≡ true → N.released g ≡ false
+abbrev pub AreUnreleased : Plan → View → Nodes → Type 0
+AreUnreleased F V N = (g h : ℕ) → F.over g h ≡ true → N.released g ≡ false
 
 -- what uses the earlier one comes before the barrier
 abbrev pub ComeBefore : Plan → View → Nodes → Type 0

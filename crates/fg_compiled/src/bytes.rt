@@ -12,8 +12,8 @@ use fg_recorder::script_laws;
 use fg_timeline::timeline_laws;
 
 /// Where commands load what others stored before them: which groups store is known, what loads from no import loads what an
-/// earlier group of its unit stored, and imports are let alone (`changed`). So a program that breaks no rule is sound in its
-/// least order (`sound`). It does nothing.
+/// earlier group of its unit stored, and imports are let alone (`changed`). So a program whose view is shaped is sound in
+/// its least order (`sound`). It does nothing.
 pub fn bytes_law()
     ensures changed { OfFed Changed }
     ensures sound { OfFed IsSoundWhenShaped }

@@ -1,6 +1,6 @@
 //! Laws of compiled programs.
 
-ghost use Rattle.fg_compiled.specs.Laws.{OfCompiled, IsGrouped, AreOrdered, HaveBarriers, ComeBefore, AreKept, ImportsAreAlone, IsSoundWith};
+ghost use Rattle.fg_compiled.specs.Laws.{OfCompiled, IsGrouped, AreOrdered, HaveBarriers, ComeBefore, AreUnreleased, ImportsAreAlone, IsSoundWith};
 ghost use Rattle.fg_crossing.specs.Nodes.{Places, Roles};
 
 use fg_crossing::crossing_laws;
@@ -28,7 +28,7 @@ pub fn aliases_law()
     ensures ordered { OfCompiled AreOrdered }
     ensures barriers { OfCompiled HaveBarriers }
     ensures before { OfCompiled ComeBefore }
-    ensures kept { OfCompiled AreKept }
+    ensures kept { OfCompiled AreUnreleased }
     ensures imports { OfCompiled ImportsAreAlone }
 {
     group_laws();

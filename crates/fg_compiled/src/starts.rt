@@ -18,7 +18,7 @@ pub fn starts_law()
     ensures fed { (frame : NumberedFrame) (kept : List Bool) → IsGood frame → AreKept frame kept → IsFed (grouping frame kept) }
 {}
 
-/// A program that is compiled of a good frame's kept passes is sound in its least order, where it breaks no rule. It does
+/// A program that is compiled of a good frame's kept passes is sound in its least order, where its view is shaped. It does
 /// nothing.
 pub fn kept_law()
     ensures { OfKept IsSoundWhenShaped }
