@@ -38,8 +38,8 @@ pub fn aliases_law()
     places_law();
 }
 
-/// A program that is compiled of a good frame is sound in its least order, with what is asked of its accesses, masks and states
-/// beside. It does nothing.
+/// A program that is compiled of a good frame and whose view is shaped is sound in its least order, with what is asked of its
+/// accesses, masks and states beside. It does nothing.
 pub fn sound_law()
     ensures { OfCompiled IsSoundWith }
 {
