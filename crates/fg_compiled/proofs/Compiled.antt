@@ -1,11 +1,13 @@
 -- What is known of each program that is compiled of a good frame.
 use Rattle.std.proofs.Common.{ℕ, Bool, List, length, refl}
+use Rattle.fg_base.specs.declared.shape.Family.{Family}
 use Rattle.fg_compiled.proofs.Commands.{buffers_plain, imports_plain, sorts}
 use Rattle.fg_compiled.proofs.Exports.{are_copied}
 use Rattle.fg_compiled.proofs.Imported.{imported_pieces}
 use Rattle.fg_compiled.proofs.Setting.{IsSet}
 use Rattle.fg_compiled.specs.Nodes.{steps}
 use Rattle.fg_cut.specs.Later.{AreSooner}
+use Rattle.fg_cut.specs.Laws.{OfCut, OfScript}
 use Rattle.fg_cut.specs.Standing.{AllStand, AreThese}
 use Rattle.fg_frame.specs.Good.{IsGood}
 use Rattle.fg_frame.specs.Numbered.{NumberedFrame}
@@ -18,6 +20,7 @@ use Rattle.fg_recorder.specs.Standing.{IsStanding}
 use Rattle.fg_subs.specs.declared.program.Program.{Program}
 use Rattle.fg_timeline.specs.Laws.{AreOfFamilies, Ends}
 use Rattle.fg_timeline.specs.Steps.{IsScript}
+use Rattle.fg_timeline.specs.declared.step.Step.{Step}
 use Rattle.fg_turns.specs.Under.{Heap}
 
 module _ (frame : NumberedFrame) (kept : List Bool) (ordered : ℕ → ℕ → Bool) (places : Places) where
@@ -30,7 +33,7 @@ module _ (frame : NumberedFrame) (kept : List Bool) (ordered : ℕ → ℕ → B
   abbrev P : Program
   P = recorded frame kept ordered places
 
-  pub is_set : IsGood frame → IsGrouped G → IsKnown G → IsScript (steps G heap) (length G.families) → IsStanding G heap → AllStand P (steps G heap) (length G.families) → AreThese P (steps G heap) (length G.families) → AreSooner P (steps G heap) (length G.families) → Ends (steps G heap) (length G.families) → AreOfFamilies (steps G heap) G.families → IsSet G heap P
+  is_set : IsGood frame → IsGrouped G → IsKnown G → IsScript (steps G heap) (length G.families) → IsStanding G heap → AllStand P (steps G heap) (length G.families) → AreThese P (steps G heap) (length G.families) → AreSooner P (steps G heap) (length G.families) → Ends (steps G heap) (length G.families) → AreOfFamilies (steps G heap) G.families → IsSet G heap P
   is_set good grouped known script standing stand all sooner ends families = record {
     grouped = grouped;
     known = known;
@@ -49,3 +52,11 @@ module _ (frame : NumberedFrame) (kept : List Bool) (ordered : ℕ → ℕ → B
     pieces = refl;
     readbacks = refl;
   }
+
+  -- by the laws of the crates below
+  pub set_by : IsGood frame → ((f : NumberedFrame) (k : List Bool) → IsGrouped (grouping f k)) → ((f : NumberedFrame) (k : List Bool) → IsGood f → IsKnown (grouping f k)) → ((f : NumberedFrame) (k : List Bool) (h : Heap) → IsGood f → IsScript (steps (grouping f k) h) (length f.queues)) → ((f : NumberedFrame) (k : List Bool) (h : Heap) → IsStanding (grouping f k) h) → OfCut AllStand → OfCut AreThese → OfScript AreSooner → ((list : List Step) (count : ℕ) → Ends list count) → ((list : List Step) (families : List Family) → AreOfFamilies list families) → IsSet G heap P
+  set_by good grouped known in_turn standing stand all sooner ends families =
+      let script = in_turn frame kept heap good in
+      is_set good (grouped frame kept) (known frame kept good) script (standing frame kept heap)
+      (stand P (steps G heap) G.families refl) (all P (steps G heap) G.families refl) (sooner P (steps G heap) G.families refl script)
+      (ends (steps G heap) (length G.families)) (families (steps G heap) G.families)

@@ -1,42 +1,19 @@
-use Rattle.std.proofs.Common.{length, refl}
-use Rattle.fg_compiled.proofs.Compiled.{is_set}
+use Rattle.fg_compiled.proofs.Compiled.{set_by}
 use Rattle.fg_compiled.proofs.HandedOn.{handed}
 use Rattle.fg_compiled.proofs.LaidBy.{laid}
 use Rattle.fg_compiled.proofs.OwnedBy.{owned}
 use Rattle.fg_compiled.proofs.states.states_law.Goals as goal
-use Rattle.fg_compiled.specs.Nodes.{steps}
 use Rattle.fg_groups.specs.Groups.{grouping}
 use Rattle.fg_recorder.specs.Recorded.{heap_with, recorded}
 
 pub returns-clause-laid : goal.returns-clause-laid
 returns-clause-laid c = λ frame kept ordered places good is_ordered least.
-    let G = grouping frame kept in
-    let heap = heap_with ordered places in
-    let P = recorded frame kept ordered places in
-    let K = c.script_laws.ensures.in_turn frame kept heap good in
-    laid G heap P (is_set frame kept ordered places good
-    (c.group_laws.ensures.grouped frame kept) (c.group_laws.ensures.known frame kept good) K (c.script_laws.ensures.standing frame kept heap)
-    (c.cut_laws.ensures.stand P (steps G heap) G.families refl) (c.cut_laws.ensures.all P (steps G heap) G.families refl) (c.cut_laws.ensures.sooner P (steps G heap) G.families refl K)
-    (c.timeline_laws.ensures.ends (steps G heap) (length G.families)) (c.timeline_laws.ensures.families (steps G heap) G.families))
+    laid (grouping frame kept) (heap_with ordered places) (recorded frame kept ordered places) (set_by frame kept ordered places good c.group_laws.ensures.grouped c.group_laws.ensures.known c.script_laws.ensures.in_turn c.script_laws.ensures.standing c.cut_laws.ensures.stand c.cut_laws.ensures.all c.cut_laws.ensures.sooner c.timeline_laws.ensures.ends c.timeline_laws.ensures.families)
 
 pub returns-clause-owned : goal.returns-clause-owned
 returns-clause-owned c = λ frame kept ordered places good is_ordered least.
-    let G = grouping frame kept in
-    let heap = heap_with ordered places in
-    let P = recorded frame kept ordered places in
-    let K = c.script_laws.ensures.in_turn frame kept heap good in
-    owned G heap P (is_set frame kept ordered places good
-    (c.group_laws.ensures.grouped frame kept) (c.group_laws.ensures.known frame kept good) K (c.script_laws.ensures.standing frame kept heap)
-    (c.cut_laws.ensures.stand P (steps G heap) G.families refl) (c.cut_laws.ensures.all P (steps G heap) G.families refl) (c.cut_laws.ensures.sooner P (steps G heap) G.families refl K)
-    (c.timeline_laws.ensures.ends (steps G heap) (length G.families)) (c.timeline_laws.ensures.families (steps G heap) G.families))
+    owned (grouping frame kept) (heap_with ordered places) (recorded frame kept ordered places) (set_by frame kept ordered places good c.group_laws.ensures.grouped c.group_laws.ensures.known c.script_laws.ensures.in_turn c.script_laws.ensures.standing c.cut_laws.ensures.stand c.cut_laws.ensures.all c.cut_laws.ensures.sooner c.timeline_laws.ensures.ends c.timeline_laws.ensures.families)
 
 pub returns-clause-handed : goal.returns-clause-handed
 returns-clause-handed c = λ frame kept ordered places good is_ordered least.
-    let G = grouping frame kept in
-    let heap = heap_with ordered places in
-    let P = recorded frame kept ordered places in
-    let K = c.script_laws.ensures.in_turn frame kept heap good in
-    handed G heap P (is_set frame kept ordered places good
-    (c.group_laws.ensures.grouped frame kept) (c.group_laws.ensures.known frame kept good) K (c.script_laws.ensures.standing frame kept heap)
-    (c.cut_laws.ensures.stand P (steps G heap) G.families refl) (c.cut_laws.ensures.all P (steps G heap) G.families refl) (c.cut_laws.ensures.sooner P (steps G heap) G.families refl K)
-    (c.timeline_laws.ensures.ends (steps G heap) (length G.families)) (c.timeline_laws.ensures.families (steps G heap) G.families))
+    handed (grouping frame kept) (heap_with ordered places) (recorded frame kept ordered places) (set_by frame kept ordered places good c.group_laws.ensures.grouped c.group_laws.ensures.known c.script_laws.ensures.in_turn c.script_laws.ensures.standing c.cut_laws.ensures.stand c.cut_laws.ensures.all c.cut_laws.ensures.sooner c.timeline_laws.ensures.ends c.timeline_laws.ensures.families)
