@@ -6,6 +6,19 @@ ghost use Rattle.fg_base.specs.Operands.{operands_of, mapped};
 use crate::{NoMemory, Op};
 use std::alloc::Global;
 
+// What `f` gives for two operands, in this order.
+fn both<R: Copy, S: Drop, F: Fn(R) -> Result<S, NoMemory>>(
+    f: &F,
+    first: R,
+    second: R,
+) -> Result<(S, S), NoMemory>
+    requires first { F.pre f.now first }
+    requires second { F.pre f.now second }
+    ensures { (g : R → S) → ((x : R) (y : S) → F.post f.now x (Ok y) → y ≡ g x) → IfOk result (λ pair. (pair.0 ≡ g first) × (pair.1 ≡ g second)) }
+{
+    Ok((f(first)?, f(second)?))
+}
+
 impl<R: Copy> Op<R> {
     /// The same operation on what `f` gives for each operand, the sources first.
     pub fn mapped<S: Drop, F: Fn(R) -> Result<S, NoMemory>>(
@@ -16,35 +29,38 @@ impl<R: Copy> Op<R> {
         requires { All (F.pre f) (operands_of self.now) }
         ensures { (g : R → S) → ((x : R) (y : S) → F.post f x (Ok y) → y ≡ g x) → IfOk result (λ op. op ≡ mapped g self.now) }
     {
-        Ok(match self {
+        match self {
             Op::FillBuffer {
                 dst,
                 offset,
                 size,
                 word,
-            } => Op::FillBuffer {
+            } => Ok(Op::FillBuffer {
                 dst: f(*dst)?,
                 offset: *offset,
                 size: *size,
                 word: *word,
-            },
-            Op::ClearImage { dst, value } => Op::ClearImage {
+            }),
+            Op::ClearImage { dst, value } => Ok(Op::ClearImage {
                 dst: f(*dst)?,
                 value: *value,
-            },
+            }),
             Op::CopyBuffer {
                 src,
                 dst,
                 src_offset,
                 dst_offset,
                 size,
-            } => Op::CopyBuffer {
-                src: f(*src)?,
-                dst: f(*dst)?,
-                src_offset: *src_offset,
-                dst_offset: *dst_offset,
-                size: *size,
-            },
+            } => {
+                let (src, dst) = both(&f, *src, *dst)?;
+                Ok(Op::CopyBuffer {
+                    src,
+                    dst,
+                    src_offset: *src_offset,
+                    dst_offset: *dst_offset,
+                    size: *size,
+                })
+            }
             Op::CopyImage {
                 src,
                 dst,
@@ -54,77 +70,91 @@ impl<R: Copy> Op<R> {
                 dst_y,
                 width,
                 height,
-            } => Op::CopyImage {
-                src: f(*src)?,
-                dst: f(*dst)?,
-                src_x: *src_x,
-                src_y: *src_y,
-                dst_x: *dst_x,
-                dst_y: *dst_y,
-                width: *width,
-                height: *height,
-            },
-            Op::BufferToImage { src, dst, offset } => Op::BufferToImage {
-                src: f(*src)?,
-                dst: f(*dst)?,
-                offset: *offset,
-            },
-            Op::ImageToBuffer { src, dst, offset } => Op::ImageToBuffer {
-                src: f(*src)?,
-                dst: f(*dst)?,
-                offset: *offset,
-            },
-            Op::Ramp { dst, base, dx, dy } => Op::Ramp {
+            } => {
+                let (src, dst) = both(&f, *src, *dst)?;
+                Ok(Op::CopyImage {
+                    src,
+                    dst,
+                    src_x: *src_x,
+                    src_y: *src_y,
+                    dst_x: *dst_x,
+                    dst_y: *dst_y,
+                    width: *width,
+                    height: *height,
+                })
+            }
+            Op::BufferToImage { src, dst, offset } => {
+                let (src, dst) = both(&f, *src, *dst)?;
+                Ok(Op::BufferToImage {
+                    src,
+                    dst,
+                    offset: *offset,
+                })
+            }
+            Op::ImageToBuffer { src, dst, offset } => {
+                let (src, dst) = both(&f, *src, *dst)?;
+                Ok(Op::ImageToBuffer {
+                    src,
+                    dst,
+                    offset: *offset,
+                })
+            }
+            Op::Ramp { dst, base, dx, dy } => Ok(Op::Ramp {
                 dst: f(*dst)?,
                 base: *base,
                 dx: *dx,
                 dy: *dy,
-            },
+            }),
             Op::Map {
                 src,
                 dst,
                 fun,
                 value,
-            } => Op::Map {
-                src: f(*src)?,
-                dst: f(*dst)?,
-                fun: *fun,
-                value: *value,
-            },
-            Op::Combine { a, b, dst, fun } => Op::Combine {
-                a: f(*a)?,
-                b: f(*b)?,
-                dst: f(*dst)?,
-                fun: *fun,
-            },
-            Op::Select { mask, a, b, dst } => Op::Select {
-                mask: f(*mask)?,
-                a: f(*a)?,
-                b: f(*b)?,
-                dst: f(*dst)?,
-            },
-            Op::Convert { src, dst } => Op::Convert {
-                src: f(*src)?,
-                dst: f(*dst)?,
-            },
-            Op::Box3 { src, dst } => Op::Box3 {
-                src: f(*src)?,
-                dst: f(*dst)?,
-            },
-            Op::Halve { src, dst } => Op::Halve {
-                src: f(*src)?,
-                dst: f(*dst)?,
-            },
-            Op::Histogram { src, dst } => Op::Histogram {
-                src: f(*src)?,
-                dst: f(*dst)?,
-            },
-            Op::Draw { dst, clear, rects } => Op::Draw {
+            } => {
+                let (src, dst) = both(&f, *src, *dst)?;
+                Ok(Op::Map {
+                    src,
+                    dst,
+                    fun: *fun,
+                    value: *value,
+                })
+            }
+            Op::Combine { a, b, dst, fun } => {
+                let (a, b) = both(&f, *a, *b)?;
+                Ok(Op::Combine {
+                    a,
+                    b,
+                    dst: f(*dst)?,
+                    fun: *fun,
+                })
+            }
+            Op::Select { mask, a, b, dst } => {
+                let (mask, a) = both(&f, *mask, *a)?;
+                let (b, dst) = both(&f, *b, *dst)?;
+                Ok(Op::Select { mask, a, b, dst })
+            }
+            Op::Convert { src, dst } => {
+                let (src, dst) = both(&f, *src, *dst)?;
+                Ok(Op::Convert { src, dst })
+            }
+            Op::Box3 { src, dst } => {
+                let (src, dst) = both(&f, *src, *dst)?;
+                Ok(Op::Box3 { src, dst })
+            }
+            Op::Halve { src, dst } => {
+                let (src, dst) = both(&f, *src, *dst)?;
+                Ok(Op::Halve { src, dst })
+            }
+            Op::Histogram { src, dst } => {
+                let (src, dst) = both(&f, *src, *dst)?;
+                Ok(Op::Histogram { src, dst })
+            }
+            Op::Draw { dst, clear, rects } => Ok(Op::Draw {
                 dst: f(*dst)?,
                 clear: *clear,
                 rects: rects.copy(alloc)?,
-            },
-        })
+            }),
+        }
     }
 
     /// An equal operation.

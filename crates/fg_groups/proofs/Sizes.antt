@@ -9,11 +9,11 @@ use Rattle.std.proofs.lemmas.List.Concat.{length-flat_map}
 use Rattle.std.proofs.lemmas.List.Elements.{All-filter, All-map}
 use Rattle.std.proofs.lemmas.List.FromFn.{length-range_with_len, get_or-range_with_len}
 use Rattle.std.proofs.lemmas.List.Sums.{sum_by-cons, length-filter, count_by-le-length}
+use Rattle.fg_base.proofs.Operands.{sources_few}
 use Rattle.fg_base.specs.Operands.{sources_of}
 use Rattle.fg_base.specs.Shapes.{shape_at, bytes_of}
 use Rattle.fg_base.specs.Touches.{touches_of, source_touch, destination_touch}
 use Rattle.fg_base.specs.declared.op.Op.{Op}
-use Rattle.fg_base.specs.declared.op.Op.TheVariants.{FillBuffer, ClearImage, CopyBuffer, CopyImage, BufferToImage, ImageToBuffer, Ramp, Map, Combine, Select, Convert, Box3, Halve, Histogram, Draw}
 use Rattle.fg_base.specs.declared.shape.Shape.{Shape}
 use Rattle.fg_base.specs.declared.shape.Shape.TheVariants.{Buffer}
 use Rattle.fg_base.specs.declared.touch.Touch.{Touch}
@@ -31,25 +31,8 @@ use Rattle.fg_groups.specs.declared.unit_use.Use.{Use}
 
 -- HOW MANY USES
 
-sources-few : (op : Op ℕ) → length (sources_of op) ≤ 3
-sources-few (FillBuffer dst offset size word) = omega arith
-sources-few (ClearImage dst value) = omega arith
-sources-few (CopyBuffer src dst src_offset dst_offset size) = omega arith
-sources-few (CopyImage src dst src_x src_y dst_x dst_y width height) = omega arith
-sources-few (BufferToImage src dst offset) = omega arith
-sources-few (ImageToBuffer src dst offset) = omega arith
-sources-few (Ramp dst base dx dy) = omega arith
-sources-few (Map src dst fun value) = omega arith
-sources-few (Combine a b dst fun) = omega arith
-sources-few (Select mask a b dst) = omega arith
-sources-few (Convert src dst) = omega arith
-sources-few (Box3 src dst) = omega arith
-sources-few (Halve src dst) = omega arith
-sources-few (Histogram src dst) = omega arith
-sources-few (Draw dst clear rects) = omega arith
-
 touches-few : (shapes : List Shape) (op : Op ℕ) → length (touches_of shapes op) ≤ 4
-touches-few shapes op = omega (arith, sources-few op, length-map (sources_of op) (source_touch shapes op), length-append (map (source_touch shapes op) (sources_of op)) (destination_touch shapes op ∷ []))
+touches-few shapes op = omega (arith, sources_few op, length-map (sources_of op) (source_touch shapes op), length-append (map (source_touch shapes op) (sources_of op)) (destination_touch shapes op ∷ []))
 
 operands-few : (shapes : List Shape) (units c q k : ℕ) (named : List ℕ) (touches : List Touch) → length (uses_from shapes units c q k named touches) ≤ length touches
 operands-few shapes units c q k named [] = omega arith

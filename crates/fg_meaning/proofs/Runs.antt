@@ -1,60 +1,25 @@
 -- Operations on the bytes of all units.
-use Rattle.std.proofs.Common.{subst, take, zero, suc, map, ◌≡◌, ◌≢◌, ℕ, ◌+◌, ◌<◌, ◌==◌, ◌++◌, List, [], ◌∷◌, length, get_or, slice_set, slice_index, slice_index_or, true, false, Option, refl, sym, ap, ap₂, ◌∙◌, arith, ⊎_elim}
+use Rattle.std.proofs.Common.{subst, take, zero, suc, map, ◌≡◌, ◌≢◌, ℕ, ◌+◌, ◌<◌, ◌==◌, ◌++◌, List, [], ◌∷◌, length, get_or, slice_set, slice_index, slice_index_or, true, false, refl, sym, ap, ap₂, ◌∙◌, arith, ⊎_elim}
 use Rattle.std.specs.List.{All}
 use Rattle.std.proofs.lemmas.Bool.Decides.{eqb_tells}
 use Rattle.std.proofs.lemmas.List.{length-set, length-append, get_or-set_same, get_or-set_other, get_or_append_left, set-set}
 use Rattle.std.proofs.Math.Seq.{get_or-append_seam, take-append_seam}
 use Rattle.std.proofs.lemmas.List.Elements.{All-head, All-tail}
 use Rattle.std.proofs.lemmas.List.Folds.{list_any_at}
+use Rattle.fg_base.proofs.Operands.{sources_mapped, destination_mapped}
 use Rattle.fg_base.specs.Applied.{applied, bytes_at, after_op}
 use Rattle.fg_base.specs.InPlace.{in_place}
 use Rattle.fg_base.specs.Operands.{sources_of, destination_of, operands_of, mapped}
 use Rattle.fg_base.specs.Shapes.{bytes_of, shape_at}
 use Rattle.fg_base.specs.declared.op.Op.{Op}
-use Rattle.fg_base.specs.declared.op.Op.TheVariants.{FillBuffer, ClearImage, CopyBuffer, CopyImage, BufferToImage, ImageToBuffer, Ramp, Map, Combine, Select, Convert, Box3, Halve, Histogram, Draw}
-use Rattle.fg_base.specs.declared.op.Rect.{Rect}
 use Rattle.fg_base.specs.declared.shape.Shape.{Shape}
 use Rattle.fg_meaning.specs.Code.Sizes.{AreSized}
-use Rattle.fg_pixels.specs.Sources.{source_bytes, is_draw}
+use Rattle.fg_pixels.specs.Sources.{source_bytes}
 
 no_some : false ≡ true → ⊥
 no_some e = cc
 
 -- OPERANDS
-
-sources_mapped : {R S : Type 0} (f : R → S) (op : Op R) → sources_of (mapped f op) ≡ map f (sources_of op)
-sources_mapped f (FillBuffer dst offset size word) = refl
-sources_mapped f (ClearImage dst value) = refl
-sources_mapped f (CopyBuffer src dst src_offset dst_offset size) = refl
-sources_mapped f (CopyImage src dst src_x src_y dst_x dst_y width height) = refl
-sources_mapped f (BufferToImage src dst offset) = refl
-sources_mapped f (ImageToBuffer src dst offset) = refl
-sources_mapped f (Ramp dst base dx dy) = refl
-sources_mapped f (Map src dst fun value) = refl
-sources_mapped f (Combine a b dst fun) = refl
-sources_mapped f (Select mask a b dst) = refl
-sources_mapped f (Convert src dst) = refl
-sources_mapped f (Box3 src dst) = refl
-sources_mapped f (Halve src dst) = refl
-sources_mapped f (Histogram src dst) = refl
-sources_mapped f (Draw dst clear rects) = refl
-
-pub destination_mapped : {R S : Type 0} (f : R → S) (op : Op R) → destination_of (mapped f op) ≡ f (destination_of op)
-destination_mapped f (FillBuffer dst offset size word) = refl
-destination_mapped f (ClearImage dst value) = refl
-destination_mapped f (CopyBuffer src dst src_offset dst_offset size) = refl
-destination_mapped f (CopyImage src dst src_x src_y dst_x dst_y width height) = refl
-destination_mapped f (BufferToImage src dst offset) = refl
-destination_mapped f (ImageToBuffer src dst offset) = refl
-destination_mapped f (Ramp dst base dx dy) = refl
-destination_mapped f (Map src dst fun value) = refl
-destination_mapped f (Combine a b dst fun) = refl
-destination_mapped f (Select mask a b dst) = refl
-destination_mapped f (Convert src dst) = refl
-destination_mapped f (Box3 src dst) = refl
-destination_mapped f (Halve src dst) = refl
-destination_mapped f (Histogram src dst) = refl
-destination_mapped f (Draw dst clear rects) = refl
 
 module _ (op : Op ℕ) where
   one_more : length (operands_of op) ≡ length (sources_of op) + 1
@@ -102,23 +67,6 @@ pub destination_long : (shapes : List Shape) (op : Op ℕ) (n : ℕ) → n ≡ b
 destination_long shapes op n is = is ∙ ap bytes_of (sym (destination_mapped (shape_at shapes) op))
 
 -- ONE OPERATION
-
-pub not_draw : (op : Op ℕ) → ((dst : ℕ) (clear : Option ℕ) (rects : List Rect) → op ≢ Draw dst clear rects) → is_draw op ≡ false
-not_draw (FillBuffer dst offset size word) other = refl
-not_draw (ClearImage dst value) other = refl
-not_draw (CopyBuffer src dst src_offset dst_offset size) other = refl
-not_draw (CopyImage src dst src_x src_y dst_x dst_y width height) other = refl
-not_draw (BufferToImage src dst offset) other = refl
-not_draw (ImageToBuffer src dst offset) other = refl
-not_draw (Ramp dst base dx dy) other = refl
-not_draw (Map src dst fun value) other = refl
-not_draw (Combine a b dst fun) other = refl
-not_draw (Select mask a b dst) other = refl
-not_draw (Convert src dst) other = refl
-not_draw (Box3 src dst) other = refl
-not_draw (Halve src dst) other = refl
-not_draw (Histogram src dst) other = refl
-not_draw (Draw dst clear rects) other = absurd (other dst clear rects refl)
 
 -- what a vector holds when its slice was written
 pub written_back : (count : ℕ) (new more : List ℕ) → length new ≡ count → take count (new ++ more) ≡ new

@@ -5,6 +5,7 @@ pub mod Rows
 pub mod Areas
 pub mod Pieces
 pub mod Counts
+pub mod Draws
 pub mod Fitting
 pub mod Pictures
 pub mod WholeLaw

@@ -9,12 +9,12 @@ use Rattle.std.proofs.lemmas.Option.{slice_get-get_or, slice_get_within}
 use Rattle.std.proofs.Math.Seq.{take-append_seam, get_or-append_seam}
 use Rattle.fg_base.proofs.Absence.{map_none}
 use Rattle.fg_base.proofs.Lists.{entry_of}
+use Rattle.fg_base.proofs.Operands.{destination_mapped}
 use Rattle.fg_base.specs.Applied.{applied, bytes_at, after_op}
 use Rattle.fg_base.specs.Operands.{sources_of, destination_of, operands_of, mapped}
 use Rattle.fg_base.specs.Shapes.{bytes_of, shape_at, is_buffer}
 use Rattle.fg_base.specs.Wholes.{is_whole}
 use Rattle.fg_base.specs.declared.op.Op.{Op}
-use Rattle.fg_base.specs.declared.op.Op.TheVariants.{FillBuffer, ClearImage, CopyBuffer, CopyImage, BufferToImage, ImageToBuffer, Ramp, Map, Combine, Select, Convert, Box3, Halve, Histogram, Draw}
 use Rattle.fg_base.specs.declared.shape.Shape.TheVariants.{Buffer}
 use Rattle.fg_caches.specs.Lines.{Bytes}
 use Rattle.fg_checker.specs.Apart.{op_in, op_at, zeros, begins_in, first_bytes, after_node}
@@ -56,23 +56,6 @@ use Rattle.fg_view.specs.AccessKinds.{loads, is_acquire}
 use Rattle.fg_view.specs.ShapedView.{ShapedView, Has}
 use Rattle.fg_view.specs.Views.{View, view_of, accesses_of, queue_at, no_piece, piece_at, imported_at, is_import, piece_imported}
 use Rattle.fg_view.specs.declared.access.Access.{Access}
-
-destination_mapped : {R S : Type 0} (f : R → S) (op : Op R) → destination_of (mapped f op) ≡ f (destination_of op)
-destination_mapped f (FillBuffer dst offset size word) = refl
-destination_mapped f (ClearImage dst value) = refl
-destination_mapped f (CopyBuffer src dst src_offset dst_offset size) = refl
-destination_mapped f (CopyImage src dst src_x src_y dst_x dst_y width height) = refl
-destination_mapped f (BufferToImage src dst offset) = refl
-destination_mapped f (ImageToBuffer src dst offset) = refl
-destination_mapped f (Ramp dst base dx dy) = refl
-destination_mapped f (Map src dst fun value) = refl
-destination_mapped f (Combine a b dst fun) = refl
-destination_mapped f (Select mask a b dst) = refl
-destination_mapped f (Convert src dst) = refl
-destination_mapped f (Box3 src dst) = refl
-destination_mapped f (Halve src dst) = refl
-destination_mapped f (Histogram src dst) = refl
-destination_mapped f (Draw dst clear rects) = refl
 
 map_map : {X Y Z : Type 0} (f : Y → Z) (g : X → Y) (xs : List X) → map (λ x. f (g x)) xs ≡ map f (map g xs)
 map_map f g [] = refl

@@ -1,5 +1,6 @@
-use Rattle.fg_meaning.proofs.Runs.{source_long, destination_long, not_draw}
+use Rattle.fg_meaning.proofs.Runs.{source_long, destination_long}
 use Rattle.fg_meaning.proofs.bytes.Bytes.store.Goals as goal
+use Rattle.fg_pixels.proofs.Draws.{not_draw}
 
 pub apply-requires : goal.apply-requires
 apply-requires c = record {
