@@ -53,10 +53,10 @@ within_more k count = ap (λ b. if b then Some (suc k) else None) (both_more k c
 further : {X : Type 0} (p : X → Bool) (x : X) (xs : List X) → p x ≡ false → position_or_len p (x ∷ xs) ≡ suc (position_or_len p xs)
 further p x xs e = rw e (omega arith)
 
-position_past : {X : Type 0} (p : X → Bool) (x : X) (xs : List X) → p x ≡ false → position p (x ∷ xs) ≡ option_map suc (position p xs)
+pub position_past : {X : Type 0} (p : X → Bool) (x : X) (xs : List X) → p x ≡ false → position p (x ∷ xs) ≡ option_map suc (position p xs)
 position_past p x xs e = ap (λ k. within k (suc (length xs))) (further p x xs e) ∙ within_more (position_or_len p xs) (length xs)
 
-position_here : {X : Type 0} (p : X → Bool) (x : X) (xs : List X) → p x ≡ true → position p (x ∷ xs) ≡ Some 0
+pub position_here : {X : Type 0} (p : X → Bool) (x : X) (xs : List X) → p x ≡ true → position p (x ∷ xs) ≡ Some 0
 position_here p x xs e =
     let first : position_or_len p (x ∷ xs) ≡ 0 = rw e refl in
     ap (λ k. within k (suc (length xs))) first ∙ ap (λ b. if b then Some 0 else None) ((Decides-ltb 0 (suc (length xs))).1 (omega arith))

@@ -1,5 +1,5 @@
 -- Names that a frame has get numbers of queues and units.
-use Rattle.std.proofs.Common.{subst, zero, suc, if◌then◌else◌, is_some, map, nat_lt, ◌≡◌, ℕ, ◌+◌, ◌-◌, ◌<◌, ◌≤◌, List, [], ◌∷◌, length, get_or, slice_get, not, Bool, true, false, Option, None, Some, refl, sym, ap, cond, arith}
+use Rattle.std.proofs.Common.{subst, zero, suc, if◌then◌else◌, is_some, nat_lt, ◌≡◌, ℕ, ◌+◌, ◌-◌, ◌<◌, ◌≤◌, List, [], ◌∷◌, length, get_or, slice_get, not, Bool, true, false, Option, None, Some, refl, sym, ap, cond, arith}
 use Rattle.std.specs.List.{position, position_or_len, All, flat_map, range_with_len}
 use Rattle.std.specs.Option.{option_or, option_map, option_map_or, option_and_then, unwrap_or}
 use Rattle.std.specs.Str.{bytes_eq}
@@ -9,10 +9,10 @@ use Rattle.std.proofs.lemmas.List.FromFn.{length-range_with_len, get_or-range_wi
 use Rattle.fg_base.proofs.Booleans.{clash}
 use Rattle.fg_base.proofs.Lists.{entry_of, each_of}
 use Rattle.fg_base.proofs.Absence.{or_first, or_second, map_none, first_none, has_it, all_pass}
+use Rattle.fg_base.proofs.Operands.{operands_mapped}
 use Rattle.fg_base.specs.Operands.{operands_of, mapped}
 use Rattle.fg_base.specs.Walks.{first_in}
 use Rattle.fg_base.specs.declared.op.Op.{Op}
-use Rattle.fg_base.specs.declared.op.Op.TheVariants.{FillBuffer, ClearImage, CopyBuffer, CopyImage, BufferToImage, ImageToBuffer, Ramp, Map, Combine, Select, Convert, Box3, Halve, Histogram, Draw}
 use Rattle.fg_frame.specs.Members.{member_at}
 use Rattle.fg_frame.specs.Numbered.{IsWithin, queue_number, writes_of, write_each, numbered_pass, uses_of, all_uses}
 use Rattle.fg_frame.specs.Units.{Numbering, numbering, stretches, layers_of, stretch_of, layer_unit, units_in, no_units, span_in, unit_in, units_of, unit_of}
@@ -108,25 +108,8 @@ entries_within n count spots holds none = each_of (λ unit. unit < count) (units
 writes_within : (n : Numbering) (count : ℕ) (writes : List (Write Spot)) → All (Holds count) n.stretches → position (λ w. not (is_known n w.what)) writes ≡ None → All (λ w. w.what < count) (flat_map (writes_of n) writes)
 writes_within n count writes holds none = each_of (λ w. w.what < count) (writes_of n) writes (λ k d lt. All-map (λ w. w.what < count) (write_each (get_or writes k d).fresh) (units_of n (get_or writes k d).what) (units_within n count (get_or writes k d).what holds (all_pass (λ w. is_known n w.what) writes none k d lt)))
 
-operands_numbered : {R S : Type 0} (f : R → S) (op : Op R) → map f (operands_of op) ≡ operands_of (mapped f op)
-operands_numbered f (FillBuffer dst offset size word) = refl
-operands_numbered f (ClearImage dst value) = refl
-operands_numbered f (CopyBuffer src dst src_offset dst_offset size) = refl
-operands_numbered f (CopyImage src dst src_x src_y dst_x dst_y width height) = refl
-operands_numbered f (BufferToImage src dst offset) = refl
-operands_numbered f (ImageToBuffer src dst offset) = refl
-operands_numbered f (Ramp dst base dx dy) = refl
-operands_numbered f (Map src dst fun value) = refl
-operands_numbered f (Combine a b dst fun) = refl
-operands_numbered f (Select mask a b dst) = refl
-operands_numbered f (Convert src dst) = refl
-operands_numbered f (Box3 src dst) = refl
-operands_numbered f (Halve src dst) = refl
-operands_numbered f (Histogram src dst) = refl
-operands_numbered f (Draw dst clear rects) = refl
-
 op_within : (n : Numbering) (count p k : ℕ) (op : Op Spot) → All (Holds count) n.stretches → unknown_operand n p k op ≡ None → All (λ unit. unit < count) (operands_of (mapped (unit_of n) op))
-op_within n count p k op holds none = subst (λ units. All (λ unit. unit < count) units) (operands_numbered (unit_of n) op) (All-map (λ unit. unit < count) (unit_of n) (operands_of op) (λ j d lt. unit_within n count (get_or (operands_of op) j d) holds (has_it (is_known_unit n (get_or (operands_of op) j d)) (at.Operand p k (member_at op (0 + j))) (first_none (unknown_at n p k op) 0 (operands_of op) none j d lt))))
+op_within n count p k op holds none = subst (λ units. All (λ unit. unit < count) units) (sym (operands_mapped (unit_of n) op)) (All-map (λ unit. unit < count) (unit_of n) (operands_of op) (λ j d lt. unit_within n count (get_or (operands_of op) j d) holds (has_it (is_known_unit n (get_or (operands_of op) j d)) (at.Operand p k (member_at op (0 + j))) (first_none (unknown_at n p k op) 0 (operands_of op) none j d lt))))
 
 pass_within : (frame : Frame) (n : Numbering) (count p : ℕ) (pass : Pass) → All (Holds count) n.stretches → unknown_in frame n p pass ≡ None → IsWithin (length frame.queues) count (numbered_pass frame n pass)
 pass_within frame n count p pass holds none =

@@ -1,9 +1,11 @@
 pub mod Clashing
 pub mod Exports
-pub mod Faultless
 pub mod Flat
 pub mod Known
+pub mod Lookups
 pub mod Marks
+pub mod Necessary
+pub mod Once
 pub mod Owned
 mod Rows
 pub mod Sizes
@@ -11,4 +13,5 @@ pub mod Small
 pub mod Spans
 pub mod Spread
 pub mod Stretches
+pub mod Sufficient
 pub mod Totals

@@ -173,6 +173,15 @@ limits_none frame none = or_first (limit_broken frame) (option_or (option_map (o
 pub unknown_none : (frame : Frame) → name_broken frame ≡ None → unknown frame ≡ None
 unknown_none frame none = map_none (of_rule rules.Unknown) (unknown frame) (or_second (option_map (of_rule rules.Repeated) (repeated frame)) (option_map (of_rule rules.Unknown) (unknown frame)) (or_second (limit_broken frame) (option_or (option_map (of_rule rules.Repeated) (repeated frame)) (option_map (of_rule rules.Unknown) (unknown frame))) none))
 
+pub repeated_none : (frame : Frame) → name_broken frame ≡ None → repeated frame ≡ None
+repeated_none frame none = map_none (of_rule rules.Repeated) (repeated frame) (or_first (option_map (of_rule rules.Repeated) (repeated frame)) (option_map (of_rule rules.Unknown) (unknown frame)) (or_second (limit_broken frame) (option_or (option_map (of_rule rules.Repeated) (repeated frame)) (option_map (of_rule rules.Unknown) (unknown frame))) none))
+
+pub few_layers : (frame : Frame) → name_broken frame ≡ None → layers_of frame.resources ≤ 256
+few_layers frame none = few_units frame (limits_none frame none)
+
+pub never_repeated : (frame : Frame) (place : Place) → name_broken frame ≡ None → repeated frame ≡ Some place → ⊥
+never_repeated frame place none is = no_fault place (sym is ∙ repeated_none frame none)
+
 pub some_queue : (frame : Frame) → name_broken frame ≡ None → 0 < length frame.queues
 some_queue frame none = queues_some frame (limits_none frame none)
 
@@ -264,6 +273,12 @@ pub family_got : (queues : List QueueDecl) (i : ℕ) (q : QueueDecl) → i < len
 family_got [] i q lt is = absurd (omega arith)
 family_got (x ∷ xs) zero q lt is = ap (λ y. Some y.family) (sym is)
 family_got (x ∷ xs) (suc i) q lt is = family_got xs i q (omega arith) is
+
+pub none_broken : (frame : Frame) → first_fault frame ≡ None → first_broken frame ≡ None
+none_broken frame none = map_none told (first_broken frame) none
+
+pub names_known : (frame : Frame) → first_fault frame ≡ None → name_broken frame ≡ None
+names_known frame none = names_good frame (none_broken frame none)
 
 pub faultless : (frame : Frame) → first_broken frame ≡ None → first_fault frame ≡ None
 faultless frame none = ap (option_map told) none

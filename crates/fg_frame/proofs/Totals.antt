@@ -7,10 +7,10 @@ use Rattle.std.proofs.lemmas.List.{length-map}
 use Rattle.std.proofs.lemmas.List.Folds.{sum_by-replicate}
 use Rattle.std.proofs.lemmas.List.Sums.{sum_by-append, sum_by-cons}
 use Rattle.fg_base.proofs.Absence.{or_first, or_second, map_none}
+use Rattle.fg_base.proofs.Operands.{rects_mapped}
 use Rattle.fg_base.specs.Operands.{mapped, rect_count}
 use Rattle.fg_base.specs.Shapes.{bytes_of}
 use Rattle.fg_base.specs.declared.op.Op.{Op}
-use Rattle.fg_base.specs.declared.op.Op.TheVariants.{FillBuffer, ClearImage, CopyBuffer, CopyImage, BufferToImage, ImageToBuffer, Ramp, Map, Combine, Select, Convert, Box3, Halve, Histogram, Draw}
 use Rattle.fg_frame.proofs.Small.{limits_none, names_good, ops_none, rects_none, total_none}
 use Rattle.fg_frame.specs.FirstFault.{first_broken}
 use Rattle.fg_frame.specs.Limits.{all_bytes, op_count, rects_over}
@@ -46,26 +46,9 @@ few_ops frame none = subst (λ m. m ≤ 256) (sym (ops_same frame (numbering fra
 
 -- RECTANGLES
 
-rects_same : (f : Spot → ℕ) (op : Op Spot) → rect_count (mapped f op) ≡ rect_count op
-rects_same f (FillBuffer dst offset size word) = refl
-rects_same f (ClearImage dst value) = refl
-rects_same f (CopyBuffer src dst src_offset dst_offset size) = refl
-rects_same f (CopyImage src dst src_x src_y dst_x dst_y width height) = refl
-rects_same f (BufferToImage src dst offset) = refl
-rects_same f (ImageToBuffer src dst offset) = refl
-rects_same f (Ramp dst base dx dy) = refl
-rects_same f (Map src dst fun value) = refl
-rects_same f (Combine a b dst fun) = refl
-rects_same f (Select mask a b dst) = refl
-rects_same f (Convert src dst) = refl
-rects_same f (Box3 src dst) = refl
-rects_same f (Halve src dst) = refl
-rects_same f (Histogram src dst) = refl
-rects_same f (Draw dst clear rects) = refl
-
 op_rects_same : (f : Spot → ℕ) (ops : List (Op Spot)) → sum_by rect_count (map (mapped f) ops) ≡ sum_by rect_count ops
 op_rects_same f [] = refl
-op_rects_same f (op ∷ ops) = sum_by-cons rect_count (mapped f op) (map (mapped f) ops) ∙ ap₂ (λ a b. a + b) (rects_same f op) (op_rects_same f ops) ∙ sym (sum_by-cons rect_count op ops)
+op_rects_same f (op ∷ ops) = sum_by-cons rect_count (mapped f op) (map (mapped f) ops) ∙ ap₂ (λ a b. a + b) (rects_mapped f op) (op_rects_same f ops) ∙ sym (sum_by-cons rect_count op ops)
 
 all_rects_same : (frame : Frame) (n : Numbering) (passes : List Pass) → sum_by (λ pass. sum_by rect_count pass.ops) (map (numbered_pass frame n) passes) ≡ sum_by (λ pass. sum_by rect_count pass.ops) passes
 all_rects_same frame n [] = refl

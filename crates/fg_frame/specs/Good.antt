@@ -1,6 +1,6 @@
 -- What holds of the numbered frame of a frame that breaks no rule.
-use Rattle.std.specs.Prelude.{◌≡◌, ◌<◌, ◌≤◌, ◌==◌, ◌&&◌, ◌||◌, ℕ, List, Bool, true, false, Some, None, map, take, length, is_some, slice_get, slice_index_or}
-use Rattle.std.specs.List.{All, list_any, sum_by}
+use Rattle.std.specs.Prelude.{◌≡◌, ◌≢◌, ◌<◌, ◌≤◌, ◌==◌, ◌&&◌, ◌||◌, ℕ, List, Bool, true, false, Some, None, map, take, length, is_some, slice_get, slice_index_or}
+use Rattle.std.specs.List.{All, AllPairs, list_any, sum_by}
 use Rattle.std.specs.Option.{option_map_or}
 use Rattle.fg_base.specs.Bounds.{sides_allowed, size_allowed}
 use Rattle.fg_base.specs.Fits.{fits}
@@ -74,3 +74,4 @@ pub record IsGood (frame : NumberedFrame) : Type 0 where
   pub passes_good : (p : ℕ) (d : NumberedPass) → p < length frame.passes → IsGoodPass frame (take p frame.passes) (slice_index_or frame.passes p d)
   pub exports_within : All (λ unit. unit < length frame.units) frame.exports
   pub exports_there : All (λ unit. has_contents frame.units frame.passes unit ≡ true) frame.exports
+  pub exports_once : AllPairs (λ unit other. unit ≢ other) frame.exports

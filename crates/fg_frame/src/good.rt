@@ -249,6 +249,49 @@ pub fn well_formed(alloc: Global, frame: Frame) -> Result<GoodFrame, FrameEnd>
     }
 }
 
+// The table of names where no limit and no rule on names is broken.
+#[tactic(auto, using(crate::proofs::Small::few_layers, crate::proofs::Small::never_repeated))]
+fn known_names(alloc: Global, frame: &Frame) -> Result<Table, NoMemory>
+    requires { name_broken frame.now ≡ None }
+    ensures { IfOk result (λ table. table ≡ numbering frame.now) }
+{
+    match table_of(alloc, frame)? {
+        Ok(table) => Ok(table),
+        Err(_) => unreachable!(),
+    }
+}
+
+// A frame's parts, and no rule judged.
+#[tactic(auto, using(crate::proofs::Small::few_queues, crate::proofs::Small::uses_by, crate::proofs::Small::spans_by))]
+fn unjudged_parts(alloc: Global, frame: &Frame, table: &Table) -> Result<Parts, NoMemory>
+    requires named { name_broken frame.now ≡ None }
+    requires table { table.now ≡ numbering frame.now }
+    ensures { IfOk result (λ parts. parts ≡ parts_of frame.now) }
+{
+    let shapes = shapes(alloc, frame)?;
+    let uses = all_uses(alloc, frame, table)?;
+    let exports = spans(alloc, table, &frame.exports)?;
+    collected(alloc, frame, shapes, uses, &exports)
+}
+
+fn numbered_parts(alloc: Global, frame: &Frame) -> Result<Parts, NoMemory>
+    requires { name_broken frame.now ≡ None }
+    ensures { IfOk result (λ parts. parts ≡ parts_of frame.now) }
+{
+    let table = known_names(alloc, frame)?;
+    unjudged_parts(alloc, frame, &table)
+}
+
+/// The frame with its names as numbers, for one who knows already that it breaks no rule: none is judged a second time.
+#[tactic(auto, using(crate::proofs::Small::names_known))]
+pub fn faultless(alloc: Global, frame: Frame) -> Result<GoodFrame, NoMemory>
+    requires { first_fault frame ≡ None }
+    ensures { IfOk result (λ good. good ≡ frame) }
+{
+    let parts = numbered_parts(alloc, &frame)?;
+    Ok(GoodFrame { frame, parts })
+}
+
 impl GoodFrame {
     pub fn frame(&self) -> &Frame
         ensures frame { result.now ≡ self.now }

@@ -23,6 +23,6 @@ pub use fault::FrameFault;
 pub use fg_base::{Limit, Path};
 pub use fg_bits::Sharing;
 pub use frame::{Frame, Pass, QueueDecl, Resource, Spot, Write};
-pub use good::{FrameEnd, GoodFrame, well_formed};
+pub use good::{FrameEnd, GoodFrame, faultless, well_formed};
 pub use laws::frame_laws;
 pub use numbered::NumberedPass;

@@ -1,6 +1,8 @@
 //! The path of a place.
 
-ghost use Rattle.std.specs.Prelude.{◌≡◌, IfOk};
+ghost use Rattle.std.specs.Prelude.{◌≡◌, IfOk, [], ◌∷◌, ◌++◌, codes};
+ghost use Rattle.fg_base.specs.Paths.{entry};
+ghost use Rattle.fg_base.specs.declared.path.Leg.TheVariants.{Member};
 ghost use Rattle.fg_frame.specs.Paths.{operand_name, in_op, path_of, told};
 
 use crate::FrameFault;
@@ -21,37 +23,63 @@ fn operand_name(member: Operand) -> &'static [u8]
     }
 }
 
+// A member of the frame.
+fn member(alloc: Global, name: &[u8]) -> Result<Path, NoMemory>
+    ensures { IfOk result (λ path. path ≡ Member name.now ∷ []) }
+{
+    let root: Path = List::new(alloc);
+    root.member(alloc, name)
+}
+
+// An entry of a list of the frame.
+fn entry(alloc: Global, list: &[u8], i: usize) -> Result<Path, NoMemory>
+    ensures { IfOk result (λ path. path ≡ entry list.now i) }
+{
+    let root: Path = List::new(alloc);
+    root.entry(alloc, list, i)
+}
+
+// A member of such an entry.
+fn member_in(alloc: Global, list: &[u8], i: usize, name: &[u8]) -> Result<Path, NoMemory>
+    ensures { IfOk result (λ path. path ≡ entry list.now i ++ Member name.now ∷ []) }
+{
+    entry(alloc, list, i)?.member(alloc, name)
+}
+
+// An entry of a list of a pass.
+fn entry_in(alloc: Global, p: usize, list: &[u8], k: usize) -> Result<Path, NoMemory>
+    ensures { IfOk result (λ path. path ≡ entry (codes "passes") p ++ entry list.now k) }
+{
+    entry(alloc, b"passes", p)?.entry(alloc, list, k)
+}
+
 // A member of an operation.
 fn in_op(alloc: Global, p: usize, k: usize, name: &[u8]) -> Result<Path, NoMemory>
     ensures { IfOk result (λ path. path ≡ in_op p k name.now) }
 {
-    let root: Path = List::new(alloc);
-    root.entry(alloc, b"passes", p)?
-        .entry(alloc, b"ops", k)?
-        .member(alloc, name)
+    entry_in(alloc, p, b"ops", k)?.member(alloc, name)
 }
 
 fn path_of(alloc: Global, place: Place) -> Result<Path, NoMemory>
     ensures { IfOk result (λ path. path ≡ path_of place) }
 {
-    let root: Path = List::new(alloc);
     match place {
-        Place::Queues => root.member(alloc, b"queues"),
-        Place::Resources => root.member(alloc, b"resources"),
-        Place::Passes => root.member(alloc, b"passes"),
-        Place::Exports => root.member(alloc, b"exports"),
-        Place::Queue(i) => root.entry(alloc, b"queues", i),
-        Place::Resource(i) => root.entry(alloc, b"resources", i),
-        Place::Import(i) => root.entry(alloc, b"resources", i)?.member(alloc, b"import"),
-        Place::Pass(p) => root.entry(alloc, b"passes", p),
-        Place::PassQueue(p) => root.entry(alloc, b"passes", p)?.member(alloc, b"queue"),
-        Place::Read(p, k) => root.entry(alloc, b"passes", p)?.entry(alloc, b"reads", k),
-        Place::Write(p, j) => root.entry(alloc, b"passes", p)?.entry(alloc, b"writes", j),
-        Place::Ops(p) => root.entry(alloc, b"passes", p)?.member(alloc, b"ops"),
+        Place::Queues => member(alloc, b"queues"),
+        Place::Resources => member(alloc, b"resources"),
+        Place::Passes => member(alloc, b"passes"),
+        Place::Exports => member(alloc, b"exports"),
+        Place::Queue(i) => entry(alloc, b"queues", i),
+        Place::Resource(i) => entry(alloc, b"resources", i),
+        Place::Import(i) => member_in(alloc, b"resources", i, b"import"),
+        Place::Pass(p) => entry(alloc, b"passes", p),
+        Place::PassQueue(p) => member_in(alloc, b"passes", p, b"queue"),
+        Place::Read(p, k) => entry_in(alloc, p, b"reads", k),
+        Place::Write(p, j) => entry_in(alloc, p, b"writes", j),
+        Place::Ops(p) => member_in(alloc, b"passes", p, b"ops"),
         Place::Op(p, k) => in_op(alloc, p, k, b"op"),
         Place::Rects(p, k) => in_op(alloc, p, k, b"rects"),
-        Place::Operand(p, k, member) => in_op(alloc, p, k, operand_name(member)),
-        Place::Export(i) => root.entry(alloc, b"exports", i),
+        Place::Operand(p, k, operand) => in_op(alloc, p, k, operand_name(operand)),
+        Place::Export(i) => entry(alloc, b"exports", i),
     }
 }
 

@@ -2,11 +2,13 @@
 
 ghost use Rattle.std.specs.Prelude.{◌≡◌, ◌≤◌, ◌<◌, map, length, is_some, IfOk, IfErr, None, Some, true};
 ghost use Rattle.std.specs.List.{list_any};
+ghost use Rattle.std.specs.Option.{option_or, option_map};
 ghost use Rattle.std.specs.Str.{bytes_eq};
 ghost use Rattle.fg_base.specs.Walks.{first_in};
 ghost use Rattle.fg_frame.specs.Clashes.{clash, first_clash};
 ghost use Rattle.fg_frame.specs.Repeats.{repeats_at, first_repeat, repeats_in, repeated};
 ghost use Rattle.fg_frame.specs.Units.{numbering, layers_of};
+ghost use Rattle.fg_frame.specs.declared.place.Place.TheVariants.{Export};
 
 use crate::place::Place;
 use crate::table::{Table, distinct};
@@ -176,6 +178,33 @@ fn repeats_in_passes(
     Ok(None)
 }
 
+fn repeated_queue(alloc: Global, frame: &Frame) -> Result<Option<usize>, NoMemory>
+    ensures { IfOk result (λ place. place ≡ first_repeat (map (λ q. q.name) frame.now.queues)) }
+{
+    let names = queue_names(alloc, frame)?;
+    first_repeat(alloc, &names)
+}
+
+fn repeated_in_passes(alloc: Global, frame: &Frame) -> Result<Option<Place>, NoMemory>
+    ensures { IfOk result (λ place. place ≡ first_in (repeats_in (map (λ p. p.name) frame.now.passes)) 0 frame.now.passes) }
+{
+    let names = pass_names(alloc, frame)?;
+    repeats_in_passes(alloc, &names, &frame.passes)
+}
+
+// An entry that repeats one, in the passes and then in the exports.
+fn repeated_entry(alloc: Global, frame: &Frame) -> Result<Option<Place>, NoMemory>
+    ensures { IfOk result (λ place. place ≡ option_or (first_in (repeats_in (map (λ p. p.name) frame.now.passes)) 0 frame.now.passes) (option_map (λ i. Export i) (first_clash frame.now.exports))) }
+{
+    if let Some(place) = repeated_in_passes(alloc, frame)? {
+        return Ok(Some(place));
+    }
+    match first_clash(alloc, &frame.exports)? {
+        Some(i) => Ok(Some(Place::Export(i))),
+        None => Ok(None),
+    }
+}
+
 /// The table of a frame's names, or the first name that stands twice, or entry that names a unit twice.
 pub(crate) fn table_of(alloc: Global, frame: &Frame) -> Result<Result<Table, Place>, NoMemory>
     requires { layers_of frame.now.resources ≤ 256 }
@@ -183,19 +212,15 @@ pub(crate) fn table_of(alloc: Global, frame: &Frame) -> Result<Result<Table, Pla
     ensures table { IfOk result (λ found. IfOk found (λ table. table ≡ numbering frame.now)) }
     ensures repeat { IfOk result (λ found. IfErr found (λ place. repeated frame.now ≡ Some place)) }
 {
-    if let Some(i) = first_repeat(alloc, &queue_names(alloc, frame)?)? {
+    if let Some(i) = repeated_queue(alloc, frame)? {
         return Ok(Err(Place::Queue(i)));
     }
     let table = match Table::new(alloc, frame)? {
         Ok(table) => table,
         Err(i) => return Ok(Err(Place::Resource(i))),
     };
-    let names = pass_names(alloc, frame)?;
-    if let Some(place) = repeats_in_passes(alloc, &names, &frame.passes)? {
-        return Ok(Err(place));
-    }
-    match first_clash(alloc, &frame.exports)? {
-        Some(i) => Ok(Err(Place::Export(i))),
+    match repeated_entry(alloc, frame)? {
+        Some(place) => Ok(Err(place)),
         None => Ok(Ok(table)),
     }
 }

@@ -1,4 +1,4 @@
-use Rattle.fg_frame.proofs.Faultless.{good}
+use Rattle.fg_frame.proofs.Necessary.{good}
 use Rattle.fg_frame.proofs.good.well_formed.Goals as goal
 
 pub invariant_of-result : goal.invariant_of-result

@@ -26,6 +26,7 @@ use Rattle.fg_frame.proofs.Known.{exports_within}
 use Rattle.fg_base.proofs.Booleans.{clash}
 use Rattle.fg_base.proofs.Lists.{each_of}
 use Rattle.fg_base.proofs.Absence.{all_pass, first_none, or_first, or_second, map_none, has_it, not_none, not_false, position-none}
+use Rattle.fg_frame.proofs.Once.{exports_once}
 use Rattle.fg_frame.proofs.Small.{names_good, then_uses, some_queue, few_queues, few_units, limits_none, unknown_none, some_layers, length_units, passes_few, layers_good, sides_good, sizes_allowed, passes_within, families_are}
 use Rattle.fg_frame.specs.FirstFault.{shapes_of, imports_of, rule_broken, misfit_broken, first_broken, first_fault}
 use Rattle.fg_frame.specs.Good.{is_import, renews, has_contents, IsGoodOp, IsGoodPass, IsDeclared, IsGood}
@@ -103,10 +104,10 @@ renews_same : (frame : Frame) (n : Numbering) (unit : ℕ) (passes : List Pass) 
 renews_same frame n unit [] = refl
 renews_same frame n unit (pass ∷ passes) = ap (λ b. renews unit (numbered_pass frame n pass) || b) (renews_same frame n unit passes)
 
-there_same : (frame : Frame) (unit : ℕ) (passes : List Pass) → is_there (imports_of frame) (map (uses_of frame (numbering frame)) passes) unit ≡ has_contents (units frame) (map (numbered_pass frame (numbering frame)) passes) unit
+pub there_same : (frame : Frame) (unit : ℕ) (passes : List Pass) → is_there (imports_of frame) (map (uses_of frame (numbering frame)) passes) unit ≡ has_contents (units frame) (map (numbered_pass frame (numbering frame)) passes) unit
 there_same frame unit passes = ap₂ (λ a b. a || b) (import_marked (units frame) unit) (renews_same frame (numbering frame) unit passes)
 
-there_before : (frame : Frame) (p unit : ℕ) → is_there (imports_of frame) (take p (all_uses frame)) unit ≡ has_contents (units frame) (take p (numbered frame).passes) unit
+pub there_before : (frame : Frame) (p unit : ℕ) → is_there (imports_of frame) (take p (all_uses frame)) unit ≡ has_contents (units frame) (take p (numbered frame).passes) unit
 there_before frame p unit =
     let n = numbering frame in
     ap (λ uses. is_there (imports_of frame) uses unit) (take-map (uses_of frame n) p frame.passes)
@@ -299,6 +300,7 @@ module _ (frame : Frame) (none : first_broken frame ≡ None) where
     passes_good = good_passes;
     exports_within = subst (λ m. All (λ unit. unit < m) (numbered frame).exports) (sym (length_units frame.resources)) (exports_within frame (some_layers frame (limits_none frame (names_good frame none))) (unknown_none frame (names_good frame none)));
     exports_there = good_exports;
+    exports_once = exports_once frame (names_good frame none);
   }
 
   pub declared : IsDeclared frame
