@@ -133,6 +133,15 @@ fn numbered(alloc: Global, program: Program) -> Result<Shaped, ShapeEnd>
 }
 
 impl Shaped {
+    /// A program that is known to break no rule, with its nodes numbered.
+    pub fn faultless(alloc: Global, program: Program) -> Result<Shaped, NoMemory>
+        requires { first_fault program ≡ None }
+        ensures { IfOk result (λ shaped. shaped ≡ program) }
+    {
+        let nodes = nodes_of(alloc, &program)?;
+        Ok(Shaped { program, nodes })
+    }
+
     #[tactic(auto, using(crate::proofs::Few::is_small))]
     pub fn program(&self) -> &Program
         ensures program { result.now ≡ self.now }
