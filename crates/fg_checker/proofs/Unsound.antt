@@ -1,6 +1,6 @@
 -- Two fills with a barrier between them: not sound where the barrier does not make the first one's store available, nor where it
 -- does not make memory visible to the second.
-use Rattle.std.proofs.Common.{◌≡◌, ℕ, zero, suc, true, false, List, [], ◌∷◌, None, refl, arith}
+use Rattle.std.proofs.Common.{◌≡◌, ℕ, zero, suc, true, [], ◌∷◌, None, refl, arith}
 use Rattle.std.proofs.lemmas.Bool.{false≢true}
 use Rattle.fg_base.specs.declared.op.Op.TheVariants.{FillBuffer}
 use Rattle.fg_base.specs.declared.shape.Family.TheVariants.{Graphics}
@@ -16,7 +16,7 @@ use Rattle.fg_subs.specs.declared.program.Memory.TheVariants.{Plain}
 use Rattle.fg_subs.specs.declared.program.Program.{Program}
 use Rattle.fg_ties.specs.Passing.{Passed}
 use Rattle.fg_view.specs.Effects.{access}
-use Rattle.fg_view.specs.Views.{View, view_of, makes_available, makes_visible}
+use Rattle.fg_view.specs.Views.{view_of, makes_available, makes_visible}
 use Rattle.fg_view.specs.declared.access.Access.{Access}
 use Rattle.fg_view.specs.declared.access.Agent.{Agent}
 use Rattle.fg_view.specs.declared.access.Agent.TheVariants.{Of}

@@ -4,10 +4,10 @@ use Rattle.std.proofs.Common.{◌≡◌, ℕ, ◌<◌, true, List, length, Some,
 use Rattle.fg_checker.specs.Code.Decided.{Clean, Decides, IsFound}
 use Rattle.fg_checker.specs.Code.Hazards.{of_flaw, of_untied, of_misstatement, of_unfed}
 use Rattle.fg_checker.specs.Hazards.{AllTied, HazardIn, IsHazard, FirstOfStated, FirstOfFed}
-use Rattle.fg_checker.specs.Sound.{Sound, IsSound}
+use Rattle.fg_checker.specs.Sound.{Sound}
 use Rattle.fg_checker.specs.Verdicts.{Unsound}
 use Rattle.fg_checker.specs.declared.hazard.Hazard.{Hazard}
-use Rattle.fg_checker.specs.declared.hazard.Hazard.TheVariants.{Stuck, Unordered, NotAvailable, NotVisible, BadLayout, BadOwner, Unmatched, Undefined, Aliased}
+use Rattle.fg_checker.specs.declared.hazard.Hazard.TheVariants.{Stuck}
 use Rattle.fg_checker.proofs.Least.{one_least}
 use Rattle.fg_hb.specs.Before.{Reached, happens}
 use Rattle.fg_hb.specs.Edges.{edge}

@@ -1,12 +1,14 @@
 //! Only sound programs are taken.
 
 ghost use Rattle.std.specs.Prelude.{◌≡◌, ◌↔◌, true, IfOk, IfErr};
-ghost use Rattle.fg_checker.specs.Sound.{IsSound};
+ghost use Rattle.fg_checker.specs.Sound.{IsSound, Sound};
 ghost use Rattle.fg_checker.specs.Verdicts.{Ends};
+ghost use Rattle.fg_view.specs.Views.{view_of};
 
 use crate::judge::{Verdict, judge};
 use crate::{Checked, Hazard};
-use fg_base::NoMemory;
+use fg_base::{List, NoMemory};
+use fg_hb::{Drain, direct, drain_of};
 use fg_subs::Shaped;
 use std::alloc::Global;
 use std::sync::Arc;
@@ -32,6 +34,31 @@ pub fn check(alloc: Global, program: Shaped) -> Result<Checked, CheckEnd>
         },
         Ok(Verdict::Unsound(hazard)) => Err(CheckEnd::Refused(hazard, program)),
         Err(NoMemory) => Err(CheckEnd::NoMemory),
+    }
+}
+
+/// Takes a program that is known to be sound. Nothing is checked: its least order is all that is made.
+pub fn taken(alloc: Global, program: Shaped) -> Result<Checked, NoMemory>
+    requires { IsSound program }
+    ensures { IfOk result (λ checked. checked.program ≡ program) }
+{
+    let order = order_of(alloc, &program)?;
+    match Arc::new(alloc, program) {
+        Ok(shaped) => Ok(Checked::new(shaped, order)),
+        Err(_) => Err(NoMemory),
+    }
+}
+
+// The least order of a sound program.
+#[tactic(auto, using(crate::proofs::Least::of_least))]
+fn order_of(alloc: Global, program: &Shaped) -> Result<List<u32>, NoMemory>
+    requires { IsSound program.now }
+    ensures { IfOk result (λ order. Sound (view_of program.now) order) }
+{
+    let edges = direct(alloc, program)?;
+    match drain_of(alloc, program, &edges)? {
+        Drain::Whole(order) => Ok(order),
+        Drain::Stuck { .. } => unreachable!(),
     }
 }
 

@@ -7,5 +7,5 @@ mod hazard;
 mod judge;
 
 pub use checked::Checked;
-pub use checking::{CheckEnd, check, sound};
+pub use checking::{CheckEnd, check, sound, taken};
 pub use hazard::Hazard;

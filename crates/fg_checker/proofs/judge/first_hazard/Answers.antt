@@ -1,7 +1,7 @@
-use Rattle.std.proofs.Common.{Some, None, sym, subst}
+use Rattle.std.proofs.Common.{Some, sym, subst}
 use Rattle.fg_checker.specs.Code.Decided.{Decides}
 use Rattle.fg_ties.specs.First.{DecidesTied, FindsFirst}
-use Rattle.fg_checker.proofs.Verdicts.{untied_found, misstatement_found, unfed_found, none_found}
+use Rattle.fg_checker.proofs.Verdicts.{untied_found}
 use Rattle.fg_checker.proofs.judge.first_hazard.Goals as goal
 
 pub returns-in-Some : goal.returns-in-Some
