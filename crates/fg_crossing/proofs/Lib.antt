@@ -4,6 +4,7 @@ pub mod KindTables
 pub mod Knit
 pub mod Lasts
 pub mod Layouts
+pub mod Leasts
 pub mod Levels
 pub mod Listed
 pub mod Listings

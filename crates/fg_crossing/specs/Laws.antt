@@ -30,3 +30,7 @@ HasOrder nodes level = Leveled nodes level → Order nodes (by_level level (leng
 -- and their queues get through
 abbrev pub IsNeverStuck : List Node → (ℕ → ℕ) → Type 0
 IsNeverStuck nodes level = Leveled nodes level → (q n : ℕ) → IsStuck nodes q n → ⊥
+
+-- of nodes that have an order one order is the least
+abbrev pub HasLeast : List Node → Type 0
+HasLeast nodes = (order : List ℕ) → Order nodes order → (least : List ℕ) × IsLeast nodes least

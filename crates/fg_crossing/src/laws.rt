@@ -1,7 +1,7 @@
 //! Laws of recorded programs.
 
 ghost use Rattle.std.specs.Prelude.{ℕ, List};
-ghost use Rattle.fg_crossing.specs.Laws.{Crosses, MakesSound, LowerFirst, HasOrder, IsNeverStuck};
+ghost use Rattle.fg_crossing.specs.Laws.{Crosses, MakesSound, LowerFirst, HasOrder, HasLeast, IsNeverStuck};
 ghost use Rattle.fg_crossing.specs.Nodes.{Nodes};
 ghost use Rattle.fg_crossing.specs.Plans.{Plan};
 ghost use Rattle.fg_hb.specs.declared.node.Node.{Node};
@@ -20,9 +20,10 @@ pub fn crossing_laws()
 }
 
 /// Numbers by their levels stand lower levels first (`lower_first`). Nodes with levels that no edge lowers are so in order
-/// (`order`), and the queues get through (`never_stuck`). It does nothing.
+/// (`order`), and the queues get through (`never_stuck`). Nodes that have an order have a least one (`least`). It does nothing.
 pub fn leveled_laws()
     ensures lower_first { (level : ℕ → ℕ) (count : ℕ) → LowerFirst level count }
     ensures order { (nodes : List Node) (level : ℕ → ℕ) → HasOrder nodes level }
+    ensures least { (nodes : List Node) → HasLeast nodes }
     ensures never_stuck { (nodes : List Node) (level : ℕ → ℕ) → IsNeverStuck nodes level }
 {}

@@ -6,7 +6,7 @@ use Rattle.fg_crossing.specs.Levels.{Leveled}
 use Rattle.fg_cut.specs.Levels.{level_of, IsByStep}
 use Rattle.fg_cut.specs.Standing.{IsCut}
 use Rattle.fg_hb.specs.Nodes.{program_nodes}
-use Rattle.fg_hb.specs.Orders.{IsStuck}
+use Rattle.fg_hb.specs.Orders.{IsLeast, IsStuck}
 use Rattle.fg_subs.specs.declared.program.Program.{Program}
 use Rattle.fg_timeline.specs.Steps.{IsScript}
 use Rattle.fg_timeline.specs.declared.step.Step.{Step}
@@ -31,6 +31,10 @@ IsLeveled program script count = Leveled (program_nodes program) (level_of scrip
 -- there is an order by steps
 abbrev pub HasOrder : Program → List Step → ℕ → Type 0
 HasOrder program script count = (order : List ℕ) × IsByStep program script count order
+
+-- and a least one
+abbrev pub HasLeast : Program → List Step → ℕ → Type 0
+HasLeast program script count = (order : List ℕ) × IsLeast (program_nodes program) order
 
 -- no queue is ever stuck
 abbrev pub IsNeverStuck : Program → List Step → ℕ → Type 0

@@ -2,7 +2,7 @@
 
 ghost use Rattle.std.specs.Prelude.{ℕ, List};
 ghost use Rattle.fg_cut.specs.Later.{AreSooner, AreCrossed};
-ghost use Rattle.fg_cut.specs.Laws.{OfCut, OfScript, IsAllFull, IsLeveled, HasOrder, IsNeverStuck};
+ghost use Rattle.fg_cut.specs.Laws.{OfCut, OfScript, IsAllFull, IsLeveled, HasOrder, HasLeast, IsNeverStuck};
 ghost use Rattle.fg_cut.specs.Levels.{AreSteps};
 ghost use Rattle.fg_cut.specs.Opens.{AreOpen};
 ghost use Rattle.fg_cut.specs.Standing.{AllStand, AreThese, ReadsAreLast};
@@ -16,8 +16,8 @@ use fg_timeline::timeline_laws;
 /// no other node (`all`), and host reads come last (`reads`). Signals and waits are of all commands (`full`), and commands and
 /// barriers wait for those waits and are waited for by those signals (`opens`). On one queue an item stands after those of
 /// earlier steps (`sooner`), and a signal and a wait lead to it from each item that its queue needs (`crossed`). No edge goes
-/// back by steps (`steps`, `leveled`), so there is an order of the nodes that takes them step by step (`order`), and no queue
-/// is ever stuck (`never_stuck`). It does nothing.
+/// back by steps (`steps`, `leveled`), so there is an order of the nodes that takes them step by step (`order`), hence a least
+/// one (`least`), and no queue is ever stuck (`never_stuck`). It does nothing.
 pub fn cut_laws()
     ensures stand { OfCut AllStand }
     ensures all { OfCut AreThese }
@@ -29,6 +29,7 @@ pub fn cut_laws()
     ensures steps { (script : List Step) (count : ℕ) → AreSteps script count }
     ensures leveled { OfScript IsLeveled }
     ensures order { OfScript HasOrder }
+    ensures least { OfScript HasLeast }
     ensures never_stuck { OfScript IsNeverStuck }
 {
     timeline_laws();

@@ -1,3 +1,4 @@
+use Rattle.fg_crossing.proofs.Leasts.{has_least}
 use Rattle.fg_crossing.proofs.Levels.{lower_first, leveled_order, never_stuck}
 use Rattle.fg_crossing.proofs.laws.leveled_laws.Goals as goal
 
@@ -9,3 +10,6 @@ returns-clause-order c = leveled_order
 
 pub returns-clause-never_stuck : goal.returns-clause-never_stuck
 returns-clause-never_stuck c = never_stuck
+
+pub returns-clause-least : goal.returns-clause-least
+returns-clause-least c = has_least

@@ -7,6 +7,7 @@ use Rattle.fg_cut.proofs.Opens.{are_open}
 use Rattle.fg_cut.proofs.Ordering.{by_step}
 use Rattle.fg_cut.proofs.Standing.{all_stand, are_these, reads_are_last}
 use Rattle.fg_cut.proofs.laws.cut_laws.Goals as goal
+use Rattle.fg_crossing.specs.Levels.{by_level}
 use Rattle.fg_cut.specs.Laws.{IsLeveled}
 use Rattle.fg_cut.specs.Levels.{level_of}
 use Rattle.fg_cut.specs.Standing.{IsCut}
@@ -67,6 +68,12 @@ returns-clause-order c = λ program script families cut K.
     by_step program script (length families) (all_stand program script (length families) (laws.parts script families program cut) (laws.there script (length families))) (are_steps script (length families) (laws.there script (length families))) K is_leveled
     (c.leveled_laws.ensures.order (program_nodes program) (level_of script (length families)))
     (c.leveled_laws.ensures.lower_first (level_of script (length families)) (length (program_nodes program)))
+
+pub returns-clause-least : goal.returns-clause-least
+returns-clause-least c = λ program script families cut K.
+    let level = level_of script (length families) in
+    let is_leveled = returns-clause-leveled c program script families cut K in
+    c.leveled_laws.ensures.least (program_nodes program) (by_level level (length (program_nodes program))) (c.leveled_laws.ensures.order (program_nodes program) level is_leveled)
 
 pub returns-clause-never_stuck : goal.returns-clause-never_stuck
 returns-clause-never_stuck c = λ program script families cut K.
