@@ -7,13 +7,13 @@ use Rattle.fg_bits.specs.Roles.{role_stage}
 use Rattle.fg_bits.specs.Sets.{meets}
 use Rattle.fg_bits.specs.Stages.{expand}
 use Rattle.fg_bits.specs.declared.masks.Masks.{Masks}
-use Rattle.fg_compiled.proofs.Bits.{Inside}
 use Rattle.fg_compiled.proofs.Roles.{IsBy, by_load, by_store, after_role, before_role, load_agent, store_agent}
 use Rattle.fg_crossing.specs.Crossings.{Flushes, Shows}
 use Rattle.fg_crossing.specs.Masks.{Takes, Gives}
 use Rattle.fg_groups.specs.declared.unit_use.Use.{Use}
 use Rattle.fg_hb.specs.Edges.{node_at}
 use Rattle.fg_hb.specs.Nodes.{barrier_node}
+use Rattle.fg_valid.proofs.Bits.{Inside}
 use Rattle.fg_view.specs.Views.{View, effect_at, queue_at, is_on}
 use Rattle.fg_view.specs.declared.access.Access.{Access}
 use Rattle.fg_view.specs.declared.access.AccessKind.{AccessKind}

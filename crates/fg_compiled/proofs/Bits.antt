@@ -1,42 +1,17 @@
 -- Sets of bits inside one another: more stages meet more, and more stages and accesses are those of more agents.
-use Rattle.std.proofs.Common.{◌≡◌, ◌≤◌, ◌*◌, ◌==◌, ◌&&◌, not, ℕ, zero, suc, Bool, true, false, List, [], ◌∷◌, if◌then◌else◌, bit_and, bit_or, refl, sym, ap, ◌∙◌, subst, ⊎_elim, eq-eqb, eqb-true, arith}
+use Rattle.std.proofs.Common.{◌≡◌, ◌*◌, ◌==◌, ◌&&◌, not, ℕ, Bool, true, false, List, [], ◌∷◌, if◌then◌else◌, bit_and, bit_or, refl, sym, ap, ◌∙◌, subst, ⊎_elim, eq-eqb, eqb-true, arith}
 use Rattle.std.specs.Int.{bit_at}
-use Rattle.std.specs.List.{All}
 use Rattle.std.proofs.lemmas.Bool.{and_from, cases_Bool}
-use Rattle.std.proofs.lemmas.Nat.Bits.{bit_at_and, bit_at_or, bit_at-zero, same_from_bits}
+use Rattle.std.proofs.lemmas.Nat.Bits.{bit_at_and, same_from_bits}
 use Rattle.fg_base.proofs.Booleans.{clash}
 use Rattle.fg_bits.specs.Accesses.{accesses, access_part, expand_accesses}
 use Rattle.fg_bits.specs.Agents.{Agent, agent_table, agents_from, agents}
-use Rattle.fg_bits.specs.Sets.{has, meets, union_from, union_over}
+use Rattle.fg_bits.specs.Sets.{has, meets}
 use Rattle.fg_bits.specs.Stages.{stages, stage_part, expand}
-
--- each bit of a is one of b
-abbrev pub Inside : ℕ → ℕ → Type 0
-Inside a b = (i : ℕ) → bit_at a i ≤ bit_at b i
-
-pub inside_self : (a : ℕ) → Inside a a
-inside_self a i = omega arith
-
-pub inside_then : (a b c : ℕ) → Inside a b → Inside b c → Inside a c
-inside_then a b c h k i = omega (arith, h i, k i)
-
-none_inside : (a : ℕ) → Inside 0 a
-none_inside a i = omega (arith, bit_at-zero i)
-
-pub inside_left : (a b : ℕ) → Inside a (bit_or a b)
-inside_left a b i = omega (arith, bit_at_or a b i)
-
-pub inside_right : (a b : ℕ) → Inside b (bit_or a b)
-inside_right a b i = omega (arith, bit_at_or a b i)
-
-inside_both : (a b c d : ℕ) → Inside a b → Inside c d → Inside (bit_or a c) (bit_or b d)
-inside_both a b c d h k i = omega (arith, h i, k i, bit_at_or a c i, bit_at_or b d i)
+use Rattle.fg_valid.proofs.Bits.{Inside, inside_self, none_inside, inside_both, empty_inside, over_more}
 
 inside_common : (a b c d : ℕ) → Inside a b → Inside c d → Inside (bit_and a c) (bit_and b d)
 inside_common a b c d h k i = omega (arith, h i, k i, bit_at_and a c i, bit_at_and b d i)
-
-pub empty_inside : (a b : ℕ) → Inside a b → b ≡ 0 → a ≡ 0
-empty_inside a b h e = same_from_bits a 0 (λ i. let none : bit_at b i ≡ bit_at 0 i = ap (λ n. bit_at n i) e in omega (arith, none, h i, bit_at-zero i))
 
 -- larger sets meet more
 pub meets_more : (a b c d : ℕ) → Inside a b → Inside c d → meets a c ≡ true → meets b d ≡ true
@@ -51,29 +26,6 @@ has_more a b bits h e = eq-eqb (bit_and b bits) bits (same_from_bits (bit_and b 
     omega (arith, same, h i, bit_at_and a bits i, bit_at_and b bits i)))
 
 -- UNIONS OVER ROWS
-
-from_more : {Row : Type 0} (f g : Row → ℕ) (a b : ℕ) (rows : List Row) → Inside a b → ((row : Row) → Inside (f row) (g row)) → Inside (union_from a f rows) (union_from b g rows)
-from_more f g a b [] h k = h
-from_more f g a b (row ∷ rows) h k = from_more f g (bit_or a (f row)) (bit_or b (g row)) rows (inside_both a b (f row) (g row) h (k row)) k
-
-over_more : {Row : Type 0} (f g : Row → ℕ) (rows : List Row) → ((row : Row) → Inside (f row) (g row)) → Inside (union_over f rows) (union_over g rows)
-over_more f g rows k = from_more f g 0 0 rows (none_inside 0) k
-
-from_start : {Row : Type 0} (f : Row → ℕ) (a : ℕ) (rows : List Row) → Inside a (union_from a f rows)
-from_start f a [] = inside_self a
-from_start f a (row ∷ rows) = inside_then a (bit_or a (f row)) (union_from (bit_or a (f row)) f rows) (inside_left a (f row)) (from_start f (bit_or a (f row)) rows)
-
-from_each : {Row : Type 0} (f : Row → ℕ) (a : ℕ) (rows : List Row) → All (λ row. Inside (f row) (union_from a f rows)) rows
-from_each f a [] = λ k d lt. absurd (omega (arith, lt))
-from_each f a (row ∷ rows) = each (from_each f (bit_or a (f row)) rows)
-  where
-    each : All (λ r. Inside (f r) (union_from (bit_or a (f row)) f rows)) rows → All (λ r. Inside (f r) (union_from (bit_or a (f row)) f rows)) (row ∷ rows)
-    each rest zero d lt = inside_then (f row) (bit_or a (f row)) (union_from (bit_or a (f row)) f rows) (inside_right a (f row)) (from_start f (bit_or a (f row)) rows)
-    each rest (suc k) d lt = rest k d (omega (arith, lt))
-
--- the union has each row
-pub over_each : {Row : Type 0} (f : Row → ℕ) (rows : List Row) → All (λ row. Inside (f row) (union_over f rows)) rows
-over_each f rows = from_each f 0 rows
 
 -- STAGES AND ACCESSES
 

@@ -1,12 +1,12 @@
 -- The commands of a frame: operations of passes on units, and for each export one copy of it.
-use Rattle.std.proofs.Common.{◌≡◌, ⊎_elim, ℕ, zero, suc, ◌+◌, ◌<◌, ◌≤◌, ◌==◌, ◌||◌, Bool, true, false, List, [], ◌∷◌, length, map, get_or, slice_get, if◌then◌else◌, Option, Some, None, refl, sym, ap, ◌∙◌, subst, ne_eqb, ap₂, eq-eqb, arith}
+use Rattle.std.proofs.Common.{◌≡◌, ⊎_elim, ℕ, zero, suc, ◌+◌, ◌<◌, ◌≤◌, ◌==◌, ◌||◌, Bool, true, false, List, [], ◌∷◌, length, map, get_or, slice_get, Option, Some, None, refl, sym, ap, ◌∙◌, subst, ne_eqb, ap₂, eq-eqb, arith}
 use Rattle.std.specs.List.{All}
 use Rattle.std.specs.Prelude.{is_some}
 use Rattle.std.proofs.lemmas.Bool.{cases_lt, false≢true}
 use Rattle.std.proofs.lemmas.List.{get_or-append-add, get_or-map, get_or_past, get_or_append_left, length-append, length-map}
-use Rattle.std.proofs.lemmas.List.Elements.{All-nil, All-append, All-map, All-head, All-tail}
+use Rattle.std.proofs.lemmas.List.Elements.{All-append}
 use Rattle.std.proofs.lemmas.Option.{get_or_from_slice_get}
-use Rattle.fg_base.proofs.Lists.{entry_of, one}
+use Rattle.fg_base.proofs.Lists.{entry_of}
 use Rattle.fg_base.specs.InPlace.{in_place}
 use Rattle.fg_base.specs.Operands.{sources_of, destination_of, operands_of, mapped}
 use Rattle.fg_base.specs.Shapes.{bytes_of, is_image, shape_at}
@@ -19,11 +19,12 @@ use Rattle.fg_frame.specs.Numbered.{NumberedFrame}
 use Rattle.fg_frame.specs.Units.{Unit}
 use Rattle.fg_frame.specs.Uses.{import_fits}
 use Rattle.fg_frame.specs.declared.numbered.NumberedPass.{NumberedPass}
-use Rattle.fg_groups.specs.Commands.{on_queue, pass_commands, kept_commands, copy_out, export_command, export_commands, readback_shape}
+use Rattle.fg_groups.specs.Commands.{kept_commands, copy_out, export_command, export_commands, readback_shape}
 use Rattle.fg_groups.specs.Groups.{grouping}
 use Rattle.fg_groups.specs.Placed.{is_import}
 use Rattle.fg_groups.specs.declared.command.Command.{Command}
 use Rattle.fg_groups.specs.declared.grouping.Grouping.{Grouping}
+use Rattle.fg_valid.proofs.Commands.{kept_each, exports_each}
 
 -- an operation of a pass, on units alone, or the copy of an export into the buffer after the units
 pub data Sort (G : Grouping) (command : Command) : Type 0 where
@@ -37,26 +38,6 @@ entry_there (x ∷ xs) zero lt = (x, refl)
 entry_there (x ∷ xs) (suc i) lt = entry_there xs i (omega (arith, lt))
 
 -- EACH COMMAND
-
-kept_each : (P : Command → Type 0) (passes : List NumberedPass) (kept : List Bool) → All (λ pass. All (λ op. P (on_queue pass.queue op)) pass.ops) passes → All P (kept_commands passes kept)
-kept_each P [] kept all = All-nil P
-kept_each P (pass ∷ passes) [] all = All-nil P
-kept_each P (pass ∷ passes) (keep ∷ kept) all =
-    All-append P (if keep then pass_commands pass else []) (kept_commands passes kept)
-    (own keep)
-    (kept_each P passes kept (All-tail (λ (x : NumberedPass). All (λ op. P (on_queue x.queue op)) x.ops) pass passes all))
-  where
-    own : (b : Bool) → All P (if b then pass_commands pass else [])
-    own true = All-map P (on_queue pass.queue) pass.ops (All-head (λ (x : NumberedPass). All (λ op. P (on_queue x.queue op)) x.ops) pass passes all)
-    own false = All-nil P
-
-exports_each : (P : Command → Type 0) (frame : NumberedFrame) (k : ℕ) (units : List ℕ) → ((j d : ℕ) → j < length units → P (export_command frame (k + j) (get_or units j d))) → All P (export_commands frame k units)
-exports_each P frame k [] each = All-nil P
-exports_each P frame k (unit ∷ units) each =
-    let z : k + 0 ≡ k = omega arith in
-    All-append P (export_command frame k unit ∷ []) (export_commands frame (suc k) units)
-    (one P (export_command frame k unit) (subst (λ n. P (export_command frame n unit)) z (each 0 unit (omega arith))))
-    (exports_each P frame (suc k) units (λ j d lt. let next : k + suc j ≡ suc k + j = omega arith in subst (λ n. P (export_command frame n (get_or units j d))) next (each (suc j) d (omega (arith, lt)))))
 
 none_some : (k : ℕ) → None ≡ Some k → ⊥
 none_some k e = cc

@@ -1,5 +1,5 @@
 -- How many of the first numbers pass a test.
-use Rattle.std.proofs.Common.{◌≡◌, ⊎_elim, ℕ, zero, suc, ◌+◌, ◌-◌, ◌<◌, ◌≤◌, ◌==◌, nat_le, Bool, true, false, List, [], ◌∷◌, ◌++◌, length, get_or, slice_get, if◌then◌else◌, Some, refl, sym, ap, ◌∙◌, subst, eq-eqb, arith}
+use Rattle.std.proofs.Common.{◌≡◌, ⊎_elim, ℕ, zero, suc, ◌+◌, ◌-◌, ◌<◌, ◌≤◌, ◌==◌, nat_le, Bool, true, false, [], ◌∷◌, ◌++◌, length, get_or, if◌then◌else◌, refl, sym, ap, ◌∙◌, subst, eq-eqb, arith}
 use Rattle.std.specs.List.{count_by, filter, position_or_len, range_with_len}
 use Rattle.std.proofs.lemmas.Bool.{cases_lt, cases_order, false≢true, le-leb, lt-leb}
 use Rattle.std.proofs.lemmas.List.Elements.{filter-append}
@@ -7,10 +7,7 @@ use Rattle.std.proofs.lemmas.List.Sums.{sum_by-append, sum_by-cons, count_by-le-
 use Rattle.std.proofs.lemmas.List.{get_or_append_left, get_or-append_right, length-append}
 use Rattle.std.proofs.lemmas.Option.{get_or_from_slice_get, slice_get_within}
 use Rattle.fg_base.proofs.Lists.{range_more}
-
--- whether one is counted
-abbrev hit : (ℕ → Bool) → ℕ → ℕ
-hit p x = if p x then 1 else 0
+use Rattle.fg_valid.proofs.Numbers.{hit, counted}
 
 pub count_next : (p : ℕ → Bool) (n : ℕ) → count_by p (range_with_len 0 (suc n)) ≡ count_by p (range_with_len 0 n) + hit p n
 count_next p n =
@@ -51,35 +48,6 @@ count_late m (suc n) = ⊎_elim
     (cases_lt n m)
 
 -- WHICH ONES PASS
-
-count_cons : (p : ℕ → Bool) (x : ℕ) (xs : List ℕ) → count_by p (x ∷ xs) ≡ hit p x + count_by p xs
-count_cons p x xs = sum_by-cons (hit p) x xs
-
-counted_from : (p : ℕ → Bool) (a n k : ℕ) → k < n → p (a + k) ≡ true → slice_get (filter p (range_with_len a n)) (count_by p (range_with_len a k)) ≡ Some (a + k)
-counted_from p a zero k lt e = absurd (omega (arith, lt))
-counted_from p a (suc n) zero lt e =
-    let z : a + 0 ≡ a = omega arith in
-    let here : p a ≡ true = subst (λ x. p x ≡ true) z e in
-    ap (λ b. slice_get (if b then a ∷ filter p (range_with_len (a + 1) n) else filter p (range_with_len (a + 1) n)) 0) here ∙ ap (λ x. Some x) (sym z)
-counted_from p a (suc n) (suc k) lt e =
-    let next : a + suc k ≡ a + 1 + k = omega arith in
-    go (counted_from p (a + 1) n k (omega (arith, lt)) (subst (λ x. p x ≡ true) next e) ∙ ap (λ x. Some x) (sym next)) (p a) refl
-  where
-    go : slice_get (filter p (range_with_len (a + 1) n)) (count_by p (range_with_len (a + 1) k)) ≡ Some (a + suc k) → (b : Bool) → p a ≡ b → slice_get (if b then a ∷ filter p (range_with_len (a + 1) n) else filter p (range_with_len (a + 1) n)) (count_by p (range_with_len a (suc k))) ≡ Some (a + suc k)
-    go rest true h =
-        let one : hit p a ≡ 1 = ap (λ b. if b then 1 else 0) h in
-        let number : count_by p (range_with_len a (suc k)) ≡ suc (count_by p (range_with_len (a + 1) k)) = omega (arith, one, count_cons p a (range_with_len (a + 1) k)) in
-        ap (slice_get (a ∷ filter p (range_with_len (a + 1) n))) number ∙ rest
-    go rest false h =
-        let none : hit p a ≡ 0 = ap (λ b. if b then 1 else 0) h in
-        let number : count_by p (range_with_len a (suc k)) ≡ count_by p (range_with_len (a + 1) k) = omega (arith, none, count_cons p a (range_with_len (a + 1) k)) in
-        ap (slice_get (filter p (range_with_len (a + 1) n))) number ∙ rest
-
--- the number that passes stands behind those that pass before it
-pub counted : (p : ℕ → Bool) (n k : ℕ) → k < n → p k ≡ true → slice_get (filter p (range_with_len 0 n)) (count_by p (range_with_len 0 k)) ≡ Some k
-counted p n k lt e =
-    let z : 0 + k ≡ k = omega arith in
-    counted_from p 0 n k lt (subst (λ x. p x ≡ true) (sym z) e) ∙ ap (λ x. Some x) z
 
 -- so it has a place among them
 pub place_within : (p : ℕ → Bool) (n k : ℕ) → k < n → p k ≡ true → position_or_len (λ u. u == k) (filter p (range_with_len 0 n)) < length (filter p (range_with_len 0 n))

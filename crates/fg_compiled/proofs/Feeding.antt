@@ -8,6 +8,7 @@ use Rattle.std.proofs.lemmas.List.{get_or_append_left, length-map}
 use Rattle.std.proofs.lemmas.List.Folds.{list_any_at}
 use Rattle.std.proofs.lemmas.Option.{get_or_from_slice_get, slice_get-map}
 use Rattle.fg_base.proofs.Lists.{entry_of}
+use Rattle.fg_base.proofs.Operands.{mapped_same}
 use Rattle.fg_base.specs.Operands.{destination_of, mapped, operands_of, touches}
 use Rattle.fg_base.specs.Shapes.{shape_at}
 use Rattle.fg_base.specs.Touches.{destination_role, destination_touch, touches_of}
@@ -19,7 +20,6 @@ use Rattle.fg_base.specs.declared.shape.Shape.TheVariants.{Buffer}
 use Rattle.fg_base.specs.declared.touch.Touch.{Touch}
 use Rattle.fg_bits.specs.Roles.{load_access, store_access}
 use Rattle.fg_compiled.proofs.Commands.{Sort, a_pass, a_copy, export_whole, not_in_place, sorts}
-use Rattle.fg_compiled.proofs.Ops.{mapped_same}
 use Rattle.fg_compiled.proofs.Started.{is_started}
 use Rattle.fg_compiled.proofs.Touches.{alike, destination_there, touch_operand}
 use Rattle.fg_compiled.specs.Fed.{DoesTo, IsFed, Loads, Stores}

@@ -10,7 +10,7 @@ use Rattle.fg_base.specs.Shapes.{is_buffer, is_image, shape_at}
 use Rattle.fg_base.specs.declared.shape.Shape.{Shape}
 use Rattle.fg_base.specs.declared.shape.Shape.TheVariants.{Buffer, Image}
 use Rattle.fg_compiled.proofs.Commands.{entry_there, imports_count, imports_plain}
-use Rattle.fg_compiled.proofs.Pieces.{counted, piece_there}
+use Rattle.fg_compiled.proofs.Pieces.{piece_there}
 use Rattle.fg_frame.specs.Good.{IsGood}
 use Rattle.fg_frame.specs.Numbered.{NumberedFrame}
 use Rattle.fg_frame.specs.Units.{Unit}
@@ -22,6 +22,7 @@ use Rattle.fg_groups.specs.declared.grouping.Grouping.{Grouping}
 use Rattle.fg_place.specs.Placing.{Places}
 use Rattle.fg_recorder.specs.Pieces.{has_memory, has_piece, imported, is_readback, memories, memory_of, own_memory, piece, piece_of, pieces, resources}
 use Rattle.fg_recorder.specs.Recorded.{recorded}
+use Rattle.fg_valid.proofs.Numbers.{counted}
 use Rattle.fg_view.specs.Views as views
 
 buffer_from : (shape : Shape) → is_image shape ≡ false → is_buffer shape ≡ true

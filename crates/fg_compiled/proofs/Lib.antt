@@ -29,7 +29,6 @@ pub mod Makers
 pub mod Masked
 pub mod Members
 pub mod Opened
-pub mod Ops
 pub mod OwnedBy
 pub mod Pieces
 pub mod Places

@@ -7,7 +7,7 @@ use Rattle.std.proofs.lemmas.Bool.{and_from, and_parts, cases_lt, cases_order, f
 use Rattle.std.proofs.lemmas.List.{get_or-map}
 use Rattle.std.proofs.lemmas.Option.{get_or_from_slice_get, slice_get-map}
 use Rattle.fg_base.specs.Shapes.{bytes_of, shape_at}
-use Rattle.fg_compiled.proofs.Counting.{count_same, counted, place_within}
+use Rattle.fg_compiled.proofs.Counting.{count_same, place_within}
 use Rattle.fg_compiled.proofs.Grouped.{late, resource_export, resource_piece, resource_unit}
 use Rattle.fg_compiled.proofs.Groups.{touched, unit_known}
 use Rattle.fg_compiled.proofs.TurnKinds.{placed_unit}
@@ -19,6 +19,7 @@ use Rattle.fg_groups.specs.declared.grouping.Grouping.{Grouping}
 use Rattle.fg_place.specs.Placing.{IsLeast, Places, goes_first, number_at, overlap}
 use Rattle.fg_recorder.specs.Pieces.{has_memory, has_piece, is_readback, memory_of, offset_of, piece, piece_of, pieces, resources}
 use Rattle.fg_turns.specs.Under.{place_of}
+use Rattle.fg_valid.proofs.Numbers.{counted}
 use Rattle.fg_view.specs.Views.{is_before_end, no_piece, pieces_overlap}
 
 -- LEAST PLACES

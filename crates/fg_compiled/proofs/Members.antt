@@ -5,18 +5,17 @@ use Rattle.std.specs.Option.{option_map_or}
 use Rattle.std.proofs.lemmas.Bool.{cases_lt, le-leb, or_left}
 use Rattle.std.proofs.lemmas.List.Elements.{All-contains, Contains-get_or}
 use Rattle.fg_base.proofs.Lists.{entry_of}
+use Rattle.fg_base.proofs.Operands.{destination_role_mapped}
 use Rattle.fg_base.specs.Operands.{operands_of, mapped}
 use Rattle.fg_base.specs.Shapes.{shape_at}
 use Rattle.fg_base.specs.Touches.{touches_of}
 use Rattle.fg_base.specs.declared.shape.Shape.{Shape}
 use Rattle.fg_base.specs.declared.touch.Touch.{Touch}
 use Rattle.fg_bits.specs.Roles.{role_stage, op_stage}
-use Rattle.fg_compiled.proofs.Bits.{Inside}
 use Rattle.fg_compiled.proofs.Commands.{Sort, not_in_place}
 use Rattle.fg_compiled.proofs.Counting.{count_same}
 use Rattle.fg_compiled.proofs.Groups.{Member, member_queue, sourced, unit_each, unit_piece}
 use Rattle.fg_compiled.proofs.Items.{item_stands}
-use Rattle.fg_compiled.proofs.Ops.{destination_role_mapped}
 use Rattle.fg_compiled.proofs.Pieces.{piece_shape}
 use Rattle.fg_compiled.proofs.Roles.{IsBy, by_load, by_store, loads_said, stores_said, writes_said}
 use Rattle.fg_compiled.proofs.Setting.{IsSet}
@@ -42,6 +41,7 @@ use Rattle.fg_subs.specs.Rules.{shapes_of}
 use Rattle.fg_subs.specs.declared.program.Item.TheVariants as item
 use Rattle.fg_subs.specs.declared.program.Program.{Program}
 use Rattle.fg_turns.specs.Under.{Heap}
+use Rattle.fg_valid.proofs.Bits.{Inside}
 use Rattle.fg_view.specs.AccessKinds.{wanted}
 use Rattle.fg_view.specs.Effects.{command_accesses, layout_wanted}
 use Rattle.fg_view.specs.ShapedView.{Has}

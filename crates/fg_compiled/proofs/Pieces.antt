@@ -1,11 +1,10 @@
 -- Each resource that is used has a piece of its shape, and the host reads those of the buffers of exports.
-use Rattle.std.proofs.Common.{◌≡◌, ℕ, zero, suc, ◌+◌, ◌-◌, ◌<◌, ◌≤◌, nat_le, Bool, true, false, List, ◌∷◌, length, map, slice_get, if◌then◌else◌, Some, refl, sym, ap, ◌∙◌, subst, arith}
-use Rattle.std.specs.List.{count_by, filter, range_with_len}
+use Rattle.std.proofs.Common.{◌≡◌, ℕ, zero, suc, ◌+◌, ◌-◌, ◌<◌, ◌≤◌, nat_le, true, List, ◌∷◌, length, map, slice_get, if◌then◌else◌, Some, refl, sym, ap, ◌∙◌, arith}
+use Rattle.std.specs.List.{filter, range_with_len}
 use Rattle.std.specs.Option.{option_map}
 use Rattle.std.proofs.lemmas.Bool.{le-leb, lt-leb}
 use Rattle.std.proofs.lemmas.List.FromFn.{length-range_with_len, get_or-map-range_with_len}
 use Rattle.std.proofs.lemmas.List.{length-map}
-use Rattle.std.proofs.lemmas.List.Sums.{sum_by-cons}
 use Rattle.std.proofs.lemmas.Option.{slice_get-map, slice_get-get_or, slice_get_within, get_or_from_slice_get}
 use Rattle.fg_base.specs.Shapes.{shape_at}
 use Rattle.fg_base.specs.declared.shape.Shape.{Shape}
@@ -13,40 +12,9 @@ use Rattle.fg_base.specs.declared.shape.Shape.TheVariants.{Buffer}
 use Rattle.fg_groups.specs.declared.grouping.Grouping.{Grouping}
 use Rattle.fg_recorder.specs.Pieces.{resources, is_readback, has_piece, piece_of, piece, pieces, readbacks}
 use Rattle.fg_subs.specs.declared.program.Piece.{Piece}
+use Rattle.fg_valid.proofs.Numbers.{counted}
 
 -- NUMBERS
-
-abbrev hit : (ℕ → Bool) → ℕ → ℕ
-hit p x = if p x then 1 else 0
-
--- the number that passes stands behind those that pass before it
-counted_from : (p : ℕ → Bool) (a n k : ℕ) → k < n → p (a + k) ≡ true → slice_get (filter p (range_with_len a n)) (count_by p (range_with_len a k)) ≡ Some (a + k)
-counted_from p a zero k lt e = absurd (omega (arith, lt))
-counted_from p a (suc n) zero lt e =
-    let z : a + 0 ≡ a = omega arith in
-    let here : p a ≡ true = subst (λ x. p x ≡ true) z e in
-    ap (λ b. slice_get (if b then a ∷ filter p (range_with_len (a + 1) n) else filter p (range_with_len (a + 1) n)) 0) here ∙ ap (λ x. Some x) (sym z)
-counted_from p a (suc n) (suc k) lt e =
-    let next : a + suc k ≡ a + 1 + k = omega arith in
-    go (counted_from p (a + 1) n k (omega (arith, lt)) (subst (λ x. p x ≡ true) next e) ∙ ap (λ x. Some x) (sym next)) (p a) refl
-  where
-    count : count_by p (range_with_len a (suc k)) ≡ hit p a + count_by p (range_with_len (a + 1) k)
-    count = sum_by-cons (hit p) a (range_with_len (a + 1) k)
-
-    go : slice_get (filter p (range_with_len (a + 1) n)) (count_by p (range_with_len (a + 1) k)) ≡ Some (a + suc k) → (b : Bool) → p a ≡ b → slice_get (if b then a ∷ filter p (range_with_len (a + 1) n) else filter p (range_with_len (a + 1) n)) (count_by p (range_with_len a (suc k))) ≡ Some (a + suc k)
-    go rest true h =
-        let one : hit p a ≡ 1 = ap (λ b. if b then 1 else 0) h in
-        let number : count_by p (range_with_len a (suc k)) ≡ suc (count_by p (range_with_len (a + 1) k)) = omega (arith, one, count) in
-        ap (slice_get (a ∷ filter p (range_with_len (a + 1) n))) number ∙ rest
-    go rest false h =
-        let none : hit p a ≡ 0 = ap (λ b. if b then 1 else 0) h in
-        let number : count_by p (range_with_len a (suc k)) ≡ count_by p (range_with_len (a + 1) k) = omega (arith, none, count) in
-        ap (slice_get (filter p (range_with_len (a + 1) n))) number ∙ rest
-
-pub counted : (p : ℕ → Bool) (n k : ℕ) → k < n → p k ≡ true → slice_get (filter p (range_with_len 0 n)) (count_by p (range_with_len 0 k)) ≡ Some k
-counted p n k lt e =
-    let z : 0 + k ≡ k = omega arith in
-    counted_from p 0 n k lt (subst (λ x. p x ≡ true) (sym z) e) ∙ ap (λ x. Some x) z
 
 -- those from number m on
 late_kept : (m a n : ℕ) → m ≤ a → filter (λ r. nat_le m r) (range_with_len a n) ≡ range_with_len a n

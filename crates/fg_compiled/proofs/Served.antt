@@ -15,7 +15,6 @@ use Rattle.fg_bits.specs.Roles.{role_stage}
 use Rattle.fg_bits.specs.Stages.{copy}
 use Rattle.fg_bits.specs.declared.masks.Masks.{Masks}
 use Rattle.fg_compiled.proofs.Barriers.{IsBarrierOf, IsTaken, IsGiven, takes, gives}
-use Rattle.fg_compiled.proofs.Bits.{Inside, inside_self}
 use Rattle.fg_compiled.proofs.Commands.{Sort, a_pass, a_copy, copy_destination, not_in_place}
 use Rattle.fg_compiled.proofs.Counting.{count_same}
 use Rattle.fg_compiled.proofs.ExportGroups.{IsExport, copy_parts, not_both}
@@ -58,6 +57,7 @@ use Rattle.fg_turns.specs.Turns.{earlier, turn_of}
 use Rattle.fg_turns.specs.Under.{Heap, place_of, uses_under}
 use Rattle.fg_turns.specs.declared.turn.TurnKind.{TurnKind}
 use Rattle.fg_turns.specs.declared.turn.TurnKind.TheVariants as kinds
+use Rattle.fg_valid.proofs.Bits.{Inside, inside_self}
 use Rattle.fg_view.specs.Views.{View, view_of}
 use Rattle.fg_view.specs.declared.access.Access.{Access}
 

@@ -7,6 +7,7 @@ use Rattle.std.proofs.lemmas.List.Elements.{All-nil, All-append, All-map, All-co
 use Rattle.std.proofs.lemmas.List.Folds.{flat_map-map, list_any_at}
 use Rattle.fg_base.proofs.Booleans.{clash}
 use Rattle.fg_base.proofs.Lists.{each_of, map_same, one}
+use Rattle.fg_base.proofs.Operands.{sources_mapped, destination_mapped, mapped_twice, mapped_same, source_role_mapped, destination_role_mapped}
 use Rattle.fg_base.specs.InPlace.{in_place}
 use Rattle.fg_base.specs.Operands.{sources_of, destination_of, operands_of, mapped}
 use Rattle.fg_base.specs.Shapes.{shape_at}
@@ -21,7 +22,6 @@ use Rattle.fg_base.specs.declared.shape.Shape.TheVariants.{Buffer, Image}
 use Rattle.fg_base.specs.declared.touch.Touch.{Touch}
 use Rattle.fg_bits.specs.Accesses.{transfer_read, transfer_write, shader_sampled_read, shader_storage_read, shader_storage_write, color_attachment_write}
 use Rattle.fg_bits.specs.Roles.{role_stage, op_stage, load_access, store_access}
-use Rattle.fg_compiled.proofs.Ops.{sources_mapped, destination_mapped, mapped_twice, mapped_same, source_role_mapped, destination_role_mapped}
 use Rattle.fg_view.specs.Effects.{access, role_agent, layout_wanted, touch_load, touch_store, touch_accesses, command_accesses}
 use Rattle.fg_view.specs.declared.access.Access.{Access}
 use Rattle.fg_view.specs.declared.access.AccessKind.TheVariants.{Load, Store}

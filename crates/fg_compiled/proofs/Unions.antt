@@ -4,10 +4,10 @@ use Rattle.std.specs.List.{Contains}
 use Rattle.std.proofs.lemmas.List.Elements.{All-contains}
 use Rattle.fg_compiled.proofs.Barriers.{IsTaken, IsGiven}
 use Rattle.fg_compiled.proofs.Contained.{contains_filter}
-use Rattle.fg_compiled.proofs.Bits.{Inside, inside_then, inside_left, over_each}
 use Rattle.fg_groups.specs.declared.unit_use.Use.{Use}
 use Rattle.fg_turns.specs.Masks.{barrier_masks, release_masks, entry_masks}
 use Rattle.fg_turns.specs.Unions.{on, stages_on, accesses_on, writes_on, is_elsewhere}
+use Rattle.fg_valid.proofs.Bits.{Inside, inside_then, inside_left, over_each}
 
 module _ (A : List Use) (q : ℕ) (u : Use) (h : Contains A u) (own : u.queue ≡ q) where
   has : Contains (on q A) u

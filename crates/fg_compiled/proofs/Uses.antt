@@ -1,10 +1,8 @@
 -- The uses of a command: each is by a touch of its operation, and each unit that it names has one.
-use Rattle.std.proofs.Common.{◌≡◌, ℕ, zero, suc, ◌+◌, ◌<◌, ◌==◌, ◌||◌, ◌++◌, nat_lt, not, Bool, true, false, List, [], ◌∷◌, length, slice_get, if◌then◌else◌, Some, refl, sym, ap, ◌∙◌, subst, eq-eqb, eqb-true, arith}
-use Rattle.std.specs.List.{All, Contains, list_any}
-use Rattle.std.proofs.lemmas.Bool.{and_from, lt-ltb, or_from}
+use Rattle.std.proofs.Common.{◌≡◌, ℕ, zero, suc, ◌+◌, ◌<◌, ◌++◌, Bool, true, false, List, [], ◌∷◌, length, slice_get, if◌then◌else◌, Some, refl, sym, ap, ◌∙◌, subst, eq-eqb, arith}
+use Rattle.std.specs.List.{All, Contains}
 use Rattle.std.proofs.lemmas.List.Elements.{All-nil, All-head, All-tail, All-append, All-contains, All-contains_itself, Contains-append_left, Contains-append_right}
-use Rattle.std.proofs.lemmas.List.Folds.{list_any_at, list_any-append}
-use Rattle.fg_base.proofs.Booleans.{clash}
+use Rattle.std.proofs.lemmas.List.Folds.{list_any_at}
 use Rattle.fg_base.proofs.Lists.{entry_of, one}
 use Rattle.fg_base.specs.Touches.{touches_of}
 use Rattle.fg_base.specs.declared.shape.Shape.{Shape}
@@ -15,6 +13,7 @@ use Rattle.fg_groups.specs.Uses.{is_first_named, use_of, uses_from, command_uses
 use Rattle.fg_groups.specs.declared.command.Command.{Command}
 use Rattle.fg_groups.specs.declared.grouping.Grouping.{Grouping}
 use Rattle.fg_groups.specs.declared.unit_use.Use.{Use}
+use Rattle.fg_valid.proofs.Touched.{IsUsed, names, named_used}
 
 -- a use by one of the touches
 pub record IsUseOf (shapes : List Shape) (c q : ℕ) (touches : List Touch) (u : Use) : Type 0 where
@@ -43,33 +42,6 @@ pub sourced_use : (G : Grouping) (u : Use) (S : IsSourced G u) → IsUseOf G.sha
 sourced_use G u S = entry_of (IsUseOf G.shapes u.command S.command.queue (touches_of G.shapes S.command.op)) (command_uses G.shapes (length G.sharings) u.command S.command) S.entry u (command_uses_are G.shapes (length G.sharings) u.command S.command) S.is
 
 -- THE USE OF A UNIT
-
-pub record IsUsed (r : ℕ) (uses : List Use) : Type 0 where
-  pub one : Use
-  pub unit : one.unit ≡ r
-  pub there : Contains uses one
-
-first_of : (shapes : List Shape) (units c q k : ℕ) (named : List ℕ) (touch : Touch) (r : ℕ) → r < units → list_any (λ unit. unit == r) named ≡ false → touch.what ≡ r → IsUsed r (if is_first_named units named touch.what then use_of shapes c q k touch ∷ [] else [])
-first_of shapes units c q k named touch r lt new is =
-    let own : is_first_named units named touch.what ≡ true = and_from (nat_lt touch.what units) (not (list_any (λ unit. unit == touch.what) named)) (subst (λ n. nat_lt n units ≡ true) (sym is) (lt-ltb r units lt)) (subst (λ n. not (list_any (λ unit. unit == n) named) ≡ true) (sym is) (ap not new)) in
-    record { one = use_of shapes c q k touch; unit = is; there = subst (λ b. Contains (if b then use_of shapes c q k touch ∷ [] else []) (use_of shapes c q k touch)) (sym own) (0, omega arith, refl) }
-
-abbrev names : ℕ → Touch → Bool
-names r touch = touch.what == r
-
-named_used : (shapes : List Shape) (units c q k : ℕ) (named : List ℕ) (touches : List Touch) (r : ℕ) → r < units → list_any (λ unit. unit == r) named ≡ false → list_any (names r) touches ≡ true → IsUsed r (uses_from shapes units c q k named touches)
-named_used shapes units c q k named [] r lt new e = absurd (clash e)
-named_used shapes units c q k named (touch ∷ touches) r lt new e = go (touch.what == r) refl (λ more none. named_used shapes units c q (suc k) (named ++ touch.what ∷ []) touches r lt none more)
-  where
-    go : (b : Bool) → (touch.what == r) ≡ b → (list_any (names r) touches ≡ true → list_any (λ unit. unit == r) (named ++ touch.what ∷ []) ≡ false → IsUsed r (uses_from shapes units c q (suc k) (named ++ touch.what ∷ []) touches)) → IsUsed r (uses_from shapes units c q k named (touch ∷ touches))
-    go true is later =
-        let U = first_of shapes units c q k named touch r lt new (eqb-true touch.what r is) in
-        record { one = U.one; unit = U.unit; there = Contains-append_left (if is_first_named units named touch.what then use_of shapes c q k touch ∷ [] else []) (uses_from shapes units c q (suc k) (named ++ touch.what ∷ []) touches) U.one U.there }
-    go false is later =
-        let more : list_any (names r) touches ≡ true = sym (ap (λ b. b || list_any (names r) touches) is) ∙ e in
-        let none : list_any (λ unit. unit == r) (named ++ touch.what ∷ []) ≡ false = list_any-append (λ unit. unit == r) named (touch.what ∷ []) ∙ or_from (list_any (λ unit. unit == r) named) ((touch.what == r) || false) new (or_from (touch.what == r) false is refl) in
-        let U = later more none in
-        record { one = U.one; unit = U.unit; there = Contains-append_right (if is_first_named units named touch.what then use_of shapes c q k touch ∷ [] else []) (uses_from shapes units c q (suc k) (named ++ touch.what ∷ []) touches) U.one U.there }
 
 pub command_used : (shapes : List Shape) (units c : ℕ) (command : Command) (t : Touch) → Contains (touches_of shapes command.op) t → t.what < units → IsUsed t.what (command_uses shapes units c command)
 command_used shapes units c command t h lt = named_used shapes units c command.queue 0 [] (touches_of shapes command.op) t.what lt refl

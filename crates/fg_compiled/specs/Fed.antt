@@ -4,7 +4,6 @@ use Rattle.std.specs.List.{Contains}
 use Rattle.fg_base.specs.Touches.{touches_of}
 use Rattle.fg_base.specs.declared.touch.Touch.{Touch}
 use Rattle.fg_bits.specs.Roles.{load_access, store_access}
-use Rattle.fg_checker.specs.Sound.{Sound}
 use Rattle.fg_compiled.specs.Nodes.{nodes_of}
 use Rattle.fg_compiled.specs.Plan.{plan_of}
 use Rattle.fg_crossing.specs.Nodes.{Nodes}
@@ -15,11 +14,9 @@ use Rattle.fg_groups.specs.Groups.{grouping}
 use Rattle.fg_groups.specs.Placed.{is_import, sizes}
 use Rattle.fg_groups.specs.declared.command.Command.{Command}
 use Rattle.fg_groups.specs.declared.grouping.Grouping.{Grouping}
-use Rattle.fg_hb.specs.Orders as orders
 use Rattle.fg_lifetimes.specs.Ordered.{IsOrdered}
 use Rattle.fg_place.specs.Placing.{Places, IsLeast}
 use Rattle.fg_recorder.specs.Recorded.{heap_with, recorded}
-use Rattle.fg_view.specs.ShapedView.{ShapedView}
 use Rattle.fg_view.specs.Views.{View, view_of}
 
 -- command c touches unit r, and so
@@ -50,7 +47,3 @@ OfFed IsSo =
     IsLeast (sizes (grouping frame kept)) ordered places →
     IsFed (grouping frame kept) →
     IsSo (plan_of (grouping frame kept) (heap_with ordered places)) (view_of (recorded frame kept ordered places)) (nodes_of (grouping frame kept) (heap_with ordered places))
-
--- one whose view is shaped is sound in its least order
-abbrev pub IsSoundWhenShaped : Plan → View → Nodes → Type 0
-IsSoundWhenShaped F V N = ShapedView V → (order : List ℕ) → orders.IsLeast V.nodes order → Sound V order

@@ -15,12 +15,10 @@ use Rattle.fg_frame.specs.Good.{IsGood}
 use Rattle.fg_frame.specs.Numbered.{NumberedFrame}
 use Rattle.fg_groups.specs.Groups.{grouping}
 use Rattle.fg_groups.specs.Placed.{sizes}
-use Rattle.fg_hb.specs.Orders as orders
 use Rattle.fg_lifetimes.specs.Ordered.{IsOrdered}
 use Rattle.fg_place.specs.Placing.{Places, IsLeast}
 use Rattle.fg_recorder.specs.Recorded.{heap_with, recorded}
 use Rattle.fg_ties.specs.Passing.{UpTo}
-use Rattle.fg_view.specs.ShapedView.{ShapedView}
 use Rattle.fg_view.specs.Views.{View, imported_at, overlap, view_of}
 
 -- of each program that is compiled of a good frame, by its plan and its nodes
@@ -69,6 +67,10 @@ pub record Accessed (F : Plan) (V : View) (N : Nodes) : Type 0 where
   pub handed : Handed F V N
   pub changed : Changed F V N
 
--- with these facts it is sound in its least order
+-- it is sound, in the least order of its nodes
+abbrev pub HasSoundOrder : Plan → View → Nodes → Type 0
+HasSoundOrder F V N = (order : List ℕ) × Sound V order
+
+-- it is with these facts
 abbrev pub IsSoundWith : Plan → View → Nodes → Type 0
-IsSoundWith F V N = ShapedView V → Accessed F V N → (order : List ℕ) → orders.IsLeast V.nodes order → Sound V order
+IsSoundWith F V N = Accessed F V N → HasSoundOrder F V N

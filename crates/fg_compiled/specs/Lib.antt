@@ -1,5 +1,4 @@
 pub mod Fed
-pub mod Kept
 pub mod Laws
 pub mod Nodes
 pub mod Plan

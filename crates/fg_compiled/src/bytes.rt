@@ -1,6 +1,7 @@
 //! Laws of the bytes of compiled programs.
 
-ghost use Rattle.fg_compiled.specs.Fed.{OfFed, IsSoundWhenShaped};
+ghost use Rattle.fg_compiled.specs.Fed.{OfFed};
+ghost use Rattle.fg_compiled.specs.Laws.{HasSoundOrder};
 ghost use Rattle.fg_crossing.specs.States.{Changed};
 
 use crate::accesses::accesses_law;
@@ -12,11 +13,10 @@ use fg_recorder::script_laws;
 use fg_timeline::timeline_laws;
 
 /// Where commands load what others stored before them: which groups store is known, what loads from no import loads what an
-/// earlier group of its unit stored, and imports are let alone (`changed`). So a program whose view is shaped is sound in
-/// its least order (`sound`). It does nothing.
+/// earlier group of its unit stored, and imports are let alone (`changed`). So the program is sound (`sound`). It does nothing.
 pub fn bytes_law()
     ensures changed { OfFed Changed }
-    ensures sound { OfFed IsSoundWhenShaped }
+    ensures sound { OfFed HasSoundOrder }
 {
     group_laws();
     script_laws();

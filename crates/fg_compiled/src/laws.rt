@@ -7,6 +7,8 @@ use fg_crossing::crossing_laws;
 use fg_cut::cut_laws;
 use fg_groups::group_laws;
 use fg_recorder::script_laws;
+use fg_valid::faultless_law;
+use fg_view::view_law;
 
 /// Of each program that is compiled of a good frame: the groups of its plan stand by their pieces (`grouped`). Commands, turns,
 /// releases and host reads are what they are called (`roles`), and a turn comes after the commands before it and before its
@@ -38,8 +40,8 @@ pub fn aliases_law()
     places_law();
 }
 
-/// A program that is compiled of a good frame and whose view is shaped is sound in its least order, with what is asked of its
-/// accesses, masks and states beside. It does nothing.
+/// A program that is compiled of a good frame is sound, with what is asked of its accesses, masks and states beside: it has no
+/// fault, so its view is shaped, and its nodes have a least order. It does nothing.
 pub fn sound_law()
     ensures { OfCompiled IsSoundWith }
 {
@@ -48,4 +50,6 @@ pub fn sound_law()
     crossing_laws();
     places_law();
     aliases_law();
+    faultless_law();
+    view_law();
 }

@@ -1,15 +1,12 @@
 //! What kept commands do first, and what follows of their bytes.
 
 ghost use Rattle.std.specs.Prelude.{List, Bool};
-ghost use Rattle.fg_compiled.specs.Fed.{IsFed, IsSoundWhenShaped};
-ghost use Rattle.fg_compiled.specs.Kept.{OfKept};
+ghost use Rattle.fg_compiled.specs.Fed.{IsFed};
 ghost use Rattle.fg_compiled.specs.Starts.{AreStarted};
 ghost use Rattle.fg_frame.specs.Good.{IsGood};
 ghost use Rattle.fg_frame.specs.Numbered.{NumberedFrame};
 ghost use Rattle.fg_groups.specs.Groups.{grouping};
 ghost use Rattle.fg_versions.specs.Culled.{AreKept};
-
-use crate::bytes::bytes_law;
 
 /// Of the commands of a good frame's kept passes and its exports the first that touches a unit, where that is no import, stores
 /// all of it (`started`). So what a command loads of such a unit, an earlier one stored to (`fed`). It does nothing.
@@ -17,12 +14,3 @@ pub fn starts_law()
     ensures started { (frame : NumberedFrame) (kept : List Bool) → IsGood frame → AreKept frame kept → AreStarted frame kept }
     ensures fed { (frame : NumberedFrame) (kept : List Bool) → IsGood frame → AreKept frame kept → IsFed (grouping frame kept) }
 {}
-
-/// A program that is compiled of a good frame's kept passes is sound in its least order, where its view is shaped. It does
-/// nothing.
-pub fn kept_law()
-    ensures { OfKept IsSoundWhenShaped }
-{
-    bytes_law();
-    starts_law();
-}

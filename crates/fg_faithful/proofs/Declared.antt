@@ -5,6 +5,7 @@ use Rattle.std.specs.Option.{option_map_or}
 use Rattle.std.proofs.lemmas.List.{length-map, map-append}
 use Rattle.std.proofs.lemmas.List.Elements.{All-map}
 use Rattle.std.proofs.lemmas.Option.{slice_get_within, get_or_from_slice_get}
+use Rattle.fg_base.proofs.Operands.{destination_mapped}
 use Rattle.fg_base.specs.Applied.{bytes_at, after_op}
 use Rattle.fg_base.specs.Operands.{operands_of, destination_of, mapped}
 use Rattle.fg_base.specs.Shapes.{bytes_of, shape_at}
@@ -17,7 +18,7 @@ use Rattle.fg_faithful.proofs.Exports.{kept_sized, kept_suffice}
 use Rattle.fg_faithful.proofs.Kept.{ops_of, kept_run, kept_within, all_left, all_right}
 use Rattle.fg_faithful.proofs.Lists.{map_map}
 use Rattle.fg_faithful.proofs.Mirrors.{Renumbers, Mirrors, ops_mirror}
-use Rattle.fg_faithful.proofs.Operations.{destination_mapped, at_destination}
+use Rattle.fg_faithful.proofs.Operations.{at_destination}
 use Rattle.fg_faithful.proofs.Pieces.{shape_of_unit, shape_of_readback, renumbers, begins_room, begins_alike, readback_long}
 use Rattle.fg_faithful.proofs.Readbacks.{readback_at}
 use Rattle.fg_faithful.proofs.States.{ops_joined, ops_keep, ops_count}

@@ -1,5 +1,5 @@
 -- Operations over other numbers, and their operands.
-use Rattle.std.proofs.Common.{◌≡◌, ◌≢◌, ℕ, ◌+◌, ◌==◌, true, false, [], ◌∷◌, length, map, get_or, refl, sym, ap, ap₂, ◌∙◌, subst, eq-eqb, arith}
+use Rattle.std.proofs.Common.{◌≡◌, ◌≢◌, ℕ, ◌+◌, ◌==◌, true, false, [], ◌∷◌, length, get_or, refl, sym, ap, ap₂, ◌∙◌, subst, eq-eqb, arith}
 use Rattle.std.specs.List.{All}
 use Rattle.std.proofs.Math.Seq.{get_or-append_seam}
 use Rattle.std.proofs.lemmas.Bool.{false≢true}
@@ -12,40 +12,6 @@ use Rattle.fg_base.specs.declared.op.Op.{Op}
 use Rattle.fg_base.specs.declared.op.Op.TheVariants.{FillBuffer, ClearImage, CopyBuffer, CopyImage, BufferToImage, ImageToBuffer, Ramp, Map, Combine, Select, Convert, Box3, Halve, Histogram, Draw}
 
 -- OVER OTHER NUMBERS
-
-pub sources_mapped : {R S : Type 0} (f : R → S) (op : Op R) → sources_of (mapped f op) ≡ map f (sources_of op)
-sources_mapped f (FillBuffer dst offset size word) = refl
-sources_mapped f (ClearImage dst value) = refl
-sources_mapped f (CopyBuffer src dst src_offset dst_offset size) = refl
-sources_mapped f (CopyImage src dst src_x src_y dst_x dst_y width height) = refl
-sources_mapped f (BufferToImage src dst offset) = refl
-sources_mapped f (ImageToBuffer src dst offset) = refl
-sources_mapped f (Ramp dst base dx dy) = refl
-sources_mapped f (Map src dst fun value) = refl
-sources_mapped f (Combine a b dst fun) = refl
-sources_mapped f (Select mask a b dst) = refl
-sources_mapped f (Convert src dst) = refl
-sources_mapped f (Box3 src dst) = refl
-sources_mapped f (Halve src dst) = refl
-sources_mapped f (Histogram src dst) = refl
-sources_mapped f (Draw dst clear rects) = refl
-
-pub destination_mapped : {R S : Type 0} (f : R → S) (op : Op R) → destination_of (mapped f op) ≡ f (destination_of op)
-destination_mapped f (FillBuffer dst offset size word) = refl
-destination_mapped f (ClearImage dst value) = refl
-destination_mapped f (CopyBuffer src dst src_offset dst_offset size) = refl
-destination_mapped f (CopyImage src dst src_x src_y dst_x dst_y width height) = refl
-destination_mapped f (BufferToImage src dst offset) = refl
-destination_mapped f (ImageToBuffer src dst offset) = refl
-destination_mapped f (Ramp dst base dx dy) = refl
-destination_mapped f (Map src dst fun value) = refl
-destination_mapped f (Combine a b dst fun) = refl
-destination_mapped f (Select mask a b dst) = refl
-destination_mapped f (Convert src dst) = refl
-destination_mapped f (Box3 src dst) = refl
-destination_mapped f (Halve src dst) = refl
-destination_mapped f (Histogram src dst) = refl
-destination_mapped f (Draw dst clear rects) = refl
 
 -- operands that are renumbered stand for what they stood for
 module _ {R S T : Type 0} (f : R → S) (g : S → T) (h : R → T) where

@@ -2,19 +2,19 @@
 #![tactic(auto)]
 
 mod block;
-mod compiled;
 mod items;
 mod laws;
 mod mark;
 mod needs;
 mod pieces;
 mod program;
+mod recording;
 mod resource;
 mod script;
 mod steps;
 mod table;
 mod used;
 
-pub use compiled::{Compiled, compile};
 pub use laws::script_laws;
 pub use mark::{Mark, Marked};
+pub use recording::{Recorded, record};

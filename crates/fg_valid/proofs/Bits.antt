@@ -19,10 +19,10 @@ Inside a b = (i : ℕ) → bit_at a i ≤ bit_at b i
 pub inside_self : (a : ℕ) → Inside a a
 inside_self a i = omega arith
 
-inside_then : (a b c : ℕ) → Inside a b → Inside b c → Inside a c
+pub inside_then : (a b c : ℕ) → Inside a b → Inside b c → Inside a c
 inside_then a b c h k i = omega (arith, h i, k i)
 
-none_inside : (a : ℕ) → Inside 0 a
+pub none_inside : (a : ℕ) → Inside 0 a
 none_inside a i = omega (arith, bit_at-zero i)
 
 pub inside_left : (a b : ℕ) → Inside a (bit_or a b)
@@ -34,7 +34,7 @@ inside_right a b i = omega (arith, bit_at_or a b i)
 inside_union : (a b c : ℕ) → Inside a c → Inside b c → Inside (bit_or a b) c
 inside_union a b c h k i = omega (arith, h i, k i, bit_at_or a b i)
 
-inside_both : (a b c d : ℕ) → Inside a b → Inside c d → Inside (bit_or a c) (bit_or b d)
+pub inside_both : (a b c d : ℕ) → Inside a b → Inside c d → Inside (bit_or a c) (bit_or b d)
 inside_both a b c d h k i = omega (arith, h i, k i, bit_at_or a c i, bit_at_or b d i)
 
 pub inside_from_has : (set bits : ℕ) → has set bits ≡ true → Inside bits set
@@ -63,11 +63,11 @@ meets_more a b c h m = ⊎_elim
 
 -- UNIONS OVER ROWS
 
-from_more : {Row : Type 0} (f g : Row → ℕ) (a b : ℕ) (rows : List Row) → Inside a b → ((row : Row) → Inside (f row) (g row)) → Inside (union_from a f rows) (union_from b g rows)
+pub from_more : {Row : Type 0} (f g : Row → ℕ) (a b : ℕ) (rows : List Row) → Inside a b → ((row : Row) → Inside (f row) (g row)) → Inside (union_from a f rows) (union_from b g rows)
 from_more f g a b [] h k = h
 from_more f g a b (row ∷ rows) h k = from_more f g (bit_or a (f row)) (bit_or b (g row)) rows (inside_both a b (f row) (g row) h (k row)) k
 
-over_more : {Row : Type 0} (f g : Row → ℕ) (rows : List Row) → ((row : Row) → Inside (f row) (g row)) → Inside (union_over f rows) (union_over g rows)
+pub over_more : {Row : Type 0} (f g : Row → ℕ) (rows : List Row) → ((row : Row) → Inside (f row) (g row)) → Inside (union_over f rows) (union_over g rows)
 over_more f g rows k = from_more f g 0 0 rows (none_inside 0) k
 
 from_inside : {Row : Type 0} (f : Row → ℕ) (a c : ℕ) (rows : List Row) → Inside a c → All (λ row. Inside (f row) c) rows → Inside (union_from a f rows) c
@@ -78,7 +78,7 @@ from_inside f a c (row ∷ rows) h all = from_inside f (bit_or a (f row)) c rows
 pub over_inside : {Row : Type 0} (f : Row → ℕ) (c : ℕ) (rows : List Row) → All (λ row. Inside (f row) c) rows → Inside (union_over f rows) c
 over_inside f c rows all = from_inside f 0 c rows (none_inside c) all
 
-from_start : {Row : Type 0} (f : Row → ℕ) (a : ℕ) (rows : List Row) → Inside a (union_from a f rows)
+pub from_start : {Row : Type 0} (f : Row → ℕ) (a : ℕ) (rows : List Row) → Inside a (union_from a f rows)
 from_start f a [] = inside_self a
 from_start f a (row ∷ rows) = inside_then a (bit_or a (f row)) (union_from (bit_or a (f row)) f rows) (inside_left a (f row)) (from_start f (bit_or a (f row)) rows)
 

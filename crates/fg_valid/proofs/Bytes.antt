@@ -1,6 +1,6 @@
 -- How many bytes all memories of a compiled program have together.
-use Rattle.std.proofs.Common.{◌≡◌, ◌≢◌, ℕ, zero, suc, ◌+◌, ◌<◌, ◌≤◌, ◌&&◌, ◌||◌, not, Bool, true, false, List, [], ◌∷◌, length, map, if◌then◌else◌, refl, ap, ◌∙◌, arith}
-use Rattle.std.specs.List.{AllPairs, filter, sum_by, range_with_len}
+use Rattle.std.proofs.Common.{◌≡◌, ℕ, zero, suc, ◌+◌, ◌<◌, ◌≤◌, ◌&&◌, ◌||◌, not, Bool, true, false, List, [], ◌∷◌, length, map, if◌then◌else◌, refl, ap, ◌∙◌, arith}
+use Rattle.std.specs.List.{filter, sum_by, range_with_len}
 use Rattle.std.proofs.lemmas.Bool.{lt-leb}
 use Rattle.std.proofs.lemmas.List.Sums.{sum_by-cons, sum_by-append}
 use Rattle.fg_base.specs.Shapes.{shape_at, bytes_of}
@@ -68,11 +68,11 @@ module _ (frame : NumberedFrame) (kept : List Bool) (good : IsGood frame) where
   all_bytes = sum_entries bytes_of G.shapes (Buffer 0) ∙ sum_by-append bytes_of (shapes_in frame) (map (readback_shape frame) frame.exports)
 
   -- each export once
-  exports_few : AllPairs (λ a b. a ≢ b) frame.exports → sum_by bytes_of (map (readback_shape frame) frame.exports) ≤ sum_by bytes_of (shapes_in frame)
-  exports_few once = omega (
+  exports_few : sum_by bytes_of (map (readback_shape frame) frame.exports) ≤ sum_by bytes_of (shapes_in frame)
+  exports_few = omega (
     arith,
     sum_mapped bytes_of (readback_shape frame) frame.exports,
-    sum_once (λ unit. bytes_of (shape_at (shapes_in frame) unit)) (length (shapes_in frame)) frame.exports once (λ k d lt. let c = units_count frame kept good in let w = good.exports_within k d lt in omega (arith, c, w)),
+    sum_once (λ unit. bytes_of (shape_at (shapes_in frame) unit)) (length (shapes_in frame)) frame.exports good.exports_once (λ k d lt. let c = units_count frame kept good in let w = good.exports_within k d lt in omega (arith, c, w)),
     sum_entries bytes_of (shapes_in frame) (Buffer 0),
   )
 
@@ -101,7 +101,7 @@ module _ (frame : NumberedFrame) (kept : List Bool) (good : IsGood frame) where
         sum_by-cons (λ r. bytes_of (shape_at (grouping frame kept).shapes r)) r rs,
       )
 
-  module _ (ordered : ℕ → ℕ → Bool) (places : Places) (least : IsLeast (sizes G) ordered places) (small : AreSmall (sizes G)) (once : AllPairs (λ a b. a ≢ b) frame.exports) where
+  module _ (ordered : ℕ → ℕ → Bool) (places : Places) (least : IsLeast (sizes G) ordered places) (small : AreSmall (sizes G)) where
     pub total : sum_by memory_bytes (memories frame G places.heap) ≤ 805306368
     total =
         let few = small.few in
@@ -121,7 +121,7 @@ module _ (frame : NumberedFrame) (kept : List Bool) (good : IsGood frame) where
           below_both lone heaped (length G.imports),
           below_le (λ k. lone (length G.imports + k)) (λ k. bytes (length G.imports + k)) (length frame.exports) (λ k lt. lone_few (length G.imports + k)),
           all_bytes,
-          exports_few once,
+          exports_few,
           sum_mapped bytes_of (λ (u : Unit). u.shape) frame.units,
           heap_few (sizes G) ordered places least,
           heap_sizes,

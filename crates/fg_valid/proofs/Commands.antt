@@ -6,6 +6,7 @@ use Rattle.std.proofs.lemmas.List.{get_or_append_left, get_or-map, length-append
 use Rattle.std.proofs.lemmas.List.Elements.{All-nil, All-append, All-map, All-head, All-tail}
 use Rattle.std.proofs.lemmas.Option.{slice_get-get_or}
 use Rattle.fg_base.proofs.Lists.{one}
+use Rattle.fg_base.proofs.Operands.{mapped_same}
 use Rattle.fg_base.specs.Bounds.{size_allowed}
 use Rattle.fg_base.specs.Fits.{fits, is_aligned}
 use Rattle.fg_base.specs.InPlace.{in_place}
@@ -25,12 +26,11 @@ use Rattle.fg_groups.specs.Commands.{on_queue, pass_commands, kept_commands, cop
 use Rattle.fg_groups.specs.Groups.{family_of, grouping}
 use Rattle.fg_groups.specs.declared.command.Command.{Command}
 use Rattle.fg_groups.specs.declared.grouping.Grouping.{Grouping}
-use Rattle.fg_valid.proofs.Ops.{mapped_same}
 use Rattle.fg_valid.proofs.Uses.{Runs}
 
 -- EACH COMMAND
 
-kept_each : (P : Command → Type 0) (passes : List NumberedPass) (kept : List Bool) → All (λ pass. All (λ op. P (on_queue pass.queue op)) pass.ops) passes → All P (kept_commands passes kept)
+pub kept_each : (P : Command → Type 0) (passes : List NumberedPass) (kept : List Bool) → All (λ pass. All (λ op. P (on_queue pass.queue op)) pass.ops) passes → All P (kept_commands passes kept)
 kept_each P [] kept all = All-nil P
 kept_each P (pass ∷ passes) [] all = All-nil P
 kept_each P (pass ∷ passes) (keep ∷ kept) all =
@@ -42,7 +42,7 @@ kept_each P (pass ∷ passes) (keep ∷ kept) all =
     own true = All-map P (on_queue pass.queue) pass.ops (All-head (λ (x : NumberedPass). All (λ op. P (on_queue x.queue op)) x.ops) pass passes all)
     own false = All-nil P
 
-exports_each : (P : Command → Type 0) (frame : NumberedFrame) (k : ℕ) (units : List ℕ) → ((j d : ℕ) → j < length units → P (export_command frame (k + j) (get_or units j d))) → All P (export_commands frame k units)
+pub exports_each : (P : Command → Type 0) (frame : NumberedFrame) (k : ℕ) (units : List ℕ) → ((j d : ℕ) → j < length units → P (export_command frame (k + j) (get_or units j d))) → All P (export_commands frame k units)
 exports_each P frame k [] each = All-nil P
 exports_each P frame k (unit ∷ units) each =
     let z : k + 0 ≡ k = omega arith in

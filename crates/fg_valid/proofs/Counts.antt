@@ -8,10 +8,10 @@ use Rattle.std.proofs.lemmas.Bool.{le-ltb}
 use Rattle.std.proofs.lemmas.Bool.Decides.{eqb_tells}
 use Rattle.std.proofs.lemmas.List.{length-append, length-map}
 use Rattle.std.proofs.lemmas.List.Sums.{sum_by-cons, sum_by-append, length-filter}
+use Rattle.fg_base.proofs.Operands.{sources_few}
 use Rattle.fg_base.specs.Operands.{mapped, sources_of, destination_of}
 use Rattle.fg_base.specs.Touches.{source_touch, destination_touch, touches_of}
 use Rattle.fg_base.specs.declared.op.Op.{Op}
-use Rattle.fg_base.specs.declared.op.Op.TheVariants.{FillBuffer, ClearImage, CopyBuffer, CopyImage, BufferToImage, ImageToBuffer, Ramp, Map, Combine, Select, Convert, Box3, Halve, Histogram, Draw}
 use Rattle.fg_base.specs.declared.shape.Shape.{Shape}
 use Rattle.fg_base.specs.declared.touch.Touch.{Touch}
 use Rattle.fg_bits.specs.declared.layout.Layout.TheVariants.{Undefined}
@@ -50,23 +50,6 @@ use Rattle.fg_turns.specs.declared.turn.TurnKind.TheVariants as kinds
 use Rattle.fg_valid.proofs.Sums.{sum_below, below_le, but_one, others, spread, at_one, length_all, sum_mapped, sum_range, sum_got, counted_once}
 
 -- USES OF COMMANDS
-
-sources_few : (op : Op ℕ) → length (sources_of op) ≤ 3
-sources_few (FillBuffer dst offset size word) = omega arith
-sources_few (ClearImage dst value) = omega arith
-sources_few (CopyBuffer src dst src_offset dst_offset size) = omega arith
-sources_few (CopyImage src dst src_x src_y dst_x dst_y width height) = omega arith
-sources_few (BufferToImage src dst offset) = omega arith
-sources_few (ImageToBuffer src dst offset) = omega arith
-sources_few (Ramp dst base dx dy) = omega arith
-sources_few (Map src dst fun value) = omega arith
-sources_few (Combine a b dst fun) = omega arith
-sources_few (Select mask a b dst) = omega arith
-sources_few (Convert src dst) = omega arith
-sources_few (Box3 src dst) = omega arith
-sources_few (Halve src dst) = omega arith
-sources_few (Histogram src dst) = omega arith
-sources_few (Draw dst clear rects) = omega arith
 
 touches_few : (shapes : List Shape) (op : Op ℕ) → length (touches_of shapes op) ≤ 4
 touches_few shapes op = omega (arith, sources_few op, length-map (sources_of op) (source_touch shapes op), length-append (map (source_touch shapes op) (sources_of op)) (destination_touch shapes op ∷ []))

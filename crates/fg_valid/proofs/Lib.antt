@@ -9,7 +9,6 @@ pub mod Limits
 pub mod Masks
 pub mod Members
 pub mod Numbers
-pub mod Once
 pub mod Ops
 pub mod Pieces
 pub mod Recorded

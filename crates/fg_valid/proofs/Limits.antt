@@ -3,6 +3,7 @@ use Rattle.std.proofs.Common.{◌≡◌, ℕ, zero, suc, ◌+◌, ◌-◌, ◌*�
 use Rattle.std.specs.List.{sum_by, range_with_len}
 use Rattle.std.proofs.lemmas.Bool.{le-ltb}
 use Rattle.std.proofs.lemmas.List.Sums.{sum_by-cons, sum_by-append}
+use Rattle.fg_base.proofs.Operands.{rects_mapped}
 use Rattle.fg_base.specs.Maxima.{max_rects}
 use Rattle.fg_base.specs.Operands.{rect_count}
 use Rattle.fg_base.specs.Rooms.{go_on, spend_in, not_lasting, take_size, first_over}
@@ -38,7 +39,6 @@ use Rattle.fg_timeline.specs.Steps.{queue_at, IsScript}
 use Rattle.fg_timeline.specs.declared.step.Step.{Step}
 use Rattle.fg_turns.specs.Under.{Heap}
 use Rattle.fg_valid.proofs.Counts.{AreLight, own, is_host, script_few, weight_at, steps_weigh, of_one, places_few}
-use Rattle.fg_valid.proofs.Ops.{rects_mapped}
 use Rattle.fg_valid.proofs.Sums.{sum_below, at_one, spread, sum_all, sum_range}
 
 -- SPENDING

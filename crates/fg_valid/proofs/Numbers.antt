@@ -7,10 +7,10 @@ use Rattle.std.proofs.lemmas.List.Sums.{sum_by-cons, length-filter, count_by-le-
 use Rattle.std.proofs.lemmas.List.Elements.{All-filter, filter_passes}
 
 -- whether one is counted
-abbrev hit : (ℕ → Bool) → ℕ → ℕ
+abbrev pub hit : (ℕ → Bool) → ℕ → ℕ
 hit p x = if p x then 1 else 0
 
-count_cons : (p : ℕ → Bool) (x : ℕ) (xs : List ℕ) → count_by p (x ∷ xs) ≡ hit p x + count_by p xs
+pub count_cons : (p : ℕ → Bool) (x : ℕ) (xs : List ℕ) → count_by p (x ∷ xs) ≡ hit p x + count_by p xs
 count_cons p x xs = sum_by-cons (hit p) x xs
 
 -- the number that passes stands behind those that pass before it

@@ -9,6 +9,7 @@ use Rattle.std.proofs.lemmas.List.Elements.{All-nil, All-append, All-map, All-fi
 use Rattle.std.proofs.lemmas.List.Sums.{list_all-from_AllPass}
 use Rattle.std.proofs.lemmas.Option.{slice_get_within, get_or_from_slice_get}
 use Rattle.fg_base.proofs.Lists.{one, each_of}
+use Rattle.fg_base.proofs.Operands.{operands_mapped, mapped_twice, mapped_same, runs_mapped}
 use Rattle.fg_base.specs.Fits.{fits}
 use Rattle.fg_base.specs.InPlace.{in_place}
 use Rattle.fg_base.specs.Operands.{sources_of, destination_of, operands_of, mapped}
@@ -46,7 +47,7 @@ use Rattle.fg_valid.proofs.Items.{HasShape, buffer_obeys, command_obeys}
 use Rattle.fg_valid.proofs.Masks.{host_good}
 use Rattle.fg_valid.proofs.Members.{group_fit, under_fit, some_use, next_within, next_unit, family_kept}
 use Rattle.fg_valid.proofs.Numbers.{apart}
-use Rattle.fg_valid.proofs.Ops.{runs_mapped, mapped_twice, mapped_same, operands_mapped, not_in_place}
+use Rattle.fg_valid.proofs.Ops.{not_in_place}
 use Rattle.fg_valid.proofs.Pieces.{piece_shapes, shaped, buffers_read, imports_count}
 use Rattle.fg_valid.proofs.Touched.{operand_piece, member_piece}
 use Rattle.fg_valid.proofs.Turns.{MarkedObeys, AreAfter, release_right, turn_right}

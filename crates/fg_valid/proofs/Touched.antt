@@ -20,20 +20,20 @@ use Rattle.fg_recorder.specs.Pieces.{is_readback, has_piece}
 
 -- THE USE OF A UNIT
 
-abbrev names : ℕ → Touch → Bool
+abbrev pub names : ℕ → Touch → Bool
 names r touch = touch.what == r
 
-record IsUsed (r : ℕ) (uses : List Use) : Type 0 where
-  one : Use
-  unit : one.unit ≡ r
-  there : Contains uses one
+pub record IsUsed (r : ℕ) (uses : List Use) : Type 0 where
+  pub one : Use
+  pub unit : one.unit ≡ r
+  pub there : Contains uses one
 
 first_of : (shapes : List Shape) (units c q k : ℕ) (named : List ℕ) (touch : Touch) (r : ℕ) → r < units → list_any (λ unit. unit == r) named ≡ false → touch.what ≡ r → IsUsed r (if is_first_named units named touch.what then use_of shapes c q k touch ∷ [] else [])
 first_of shapes units c q k named touch r lt new is =
     let own : is_first_named units named touch.what ≡ true = and_from (nat_lt touch.what units) (not (list_any (λ unit. unit == touch.what) named)) (subst (λ n. nat_lt n units ≡ true) (sym is) (lt-ltb r units lt)) (subst (λ n. not (list_any (λ unit. unit == n) named) ≡ true) (sym is) (ap not new)) in
     record { one = use_of shapes c q k touch; unit = is; there = subst (λ b. Contains (if b then use_of shapes c q k touch ∷ [] else []) (use_of shapes c q k touch)) (sym own) (0, omega arith, refl) }
 
-named_used : (shapes : List Shape) (units c q k : ℕ) (named : List ℕ) (touches : List Touch) (r : ℕ) → r < units → list_any (λ unit. unit == r) named ≡ false → list_any (names r) touches ≡ true → IsUsed r (uses_from shapes units c q k named touches)
+pub named_used : (shapes : List Shape) (units c q k : ℕ) (named : List ℕ) (touches : List Touch) (r : ℕ) → r < units → list_any (λ unit. unit == r) named ≡ false → list_any (names r) touches ≡ true → IsUsed r (uses_from shapes units c q k named touches)
 named_used shapes units c q k named [] r lt new e = absurd (clash e)
 named_used shapes units c q k named (touch ∷ touches) r lt new e = go (touch.what == r) refl (λ more none. named_used shapes units c q (suc k) (named ++ touch.what ∷ []) touches r lt none more)
   where

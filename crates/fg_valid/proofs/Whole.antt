@@ -1,6 +1,6 @@
 -- A compiled program obeys each rule, and goes over no limit.
-use Rattle.std.proofs.Common.{◌≡◌, ◌≢◌, ℕ, zero, suc, ◌<◌, ◌≤◌, Bool, true, List, [], ◌∷◌, length, take, map, slice_get, Some, None, IfSome, refl, sym, ap, ◌∙◌, subst, arith}
-use Rattle.std.specs.List.{All, AllPairs, filter}
+use Rattle.std.proofs.Common.{◌≡◌, ℕ, zero, suc, ◌<◌, ◌≤◌, Bool, true, List, [], ◌∷◌, length, take, map, slice_get, Some, None, IfSome, refl, sym, ap, ◌∙◌, subst, arith}
+use Rattle.std.specs.List.{All, filter}
 use Rattle.std.proofs.lemmas.List.{length-append, length-map}
 use Rattle.std.proofs.lemmas.List.Elements.{All-map}
 use Rattle.std.proofs.lemmas.Option.{slice_get_within, get_or_from_slice_get}
@@ -122,7 +122,7 @@ module _ (frame : NumberedFrame) (kept : List Bool) (good : IsGood frame) (L : g
         let late = kept_late (length G.imports) (length G.shapes) (omega (arith, imports, shapes)) in
         omega (arith, few, shapes, imports, length-map (filter (is_readback G) (resources G)) (piece_of G), late)
 
-    module _ (small : groups.IsSmall (grouping frame kept)) (S : IsScript list (length G.families)) (laid : AreParts list G.families) (once : AllPairs (λ a b. a ≢ b) frame.exports) where
+    module _ (small : groups.IsSmall (grouping frame kept)) (S : IsScript list (length G.families)) (laid : AreParts list G.families) where
       entries_few : length (entries_of program) ≤ 20000
       entries_few = omega (
         arith,
@@ -144,7 +144,7 @@ module _ (frame : NumberedFrame) (kept : List Bool) (good : IsGood frame) (L : g
         readbacks = readbacks_few;
         sides = All-map (λ (p : Piece). sides_allowed p.shape ≡ true) (piece G places.offsets) (filter (has_piece G) (resources G)) (kept_numbers (λ r. sides_allowed (shape_at G.shapes r) ≡ true) (has_piece G) (length G.shapes) (λ r lt has. all_sides frame kept good r (Buffer 0) lt));
         sizes = All-map (λ (p : Piece). size_allowed p.shape ≡ true) (piece G places.offsets) (filter (has_piece G) (resources G)) (kept_numbers (λ r. size_allowed (shape_at G.shapes r) ≡ true) (has_piece G) (length G.shapes) (λ r lt has. all_sizes frame kept good r (Buffer 0) lt));
-        bytes = let same = bytes_sum (memories frame G places.heap) in let few = total frame kept good ordered places least small.sizes once in omega (arith, same, few);
+        bytes = let same = bytes_sum (memories frame G places.heap) in let few = total frame kept good ordered places least small.sizes in omega (arith, same, few);
       }
 
       pub whole : first_fault program ≡ None

@@ -3,4 +3,4 @@
 
 mod laws;
 
-pub use laws::{compiled_law, shaped_law};
+pub use laws::faultless_law;

@@ -10,8 +10,8 @@ returns-clause-changed c = λ frame kept ordered places good is_ordered least fe
     fed (c.aliases_law.ensures.imports frame kept ordered places good is_ordered least)
 
 pub returns-clause-sound : goal.returns-clause-sound
-returns-clause-sound c = λ frame kept ordered places good is_ordered least fed shaped order is.
-    c.sound_law.ensures frame kept ordered places good is_ordered least shaped (record {
+returns-clause-sound c = λ frame kept ordered places good is_ordered least fed.
+    c.sound_law.ensures frame kept ordered places good is_ordered least (record {
       spots = c.accesses_law.ensures.spots frame kept ordered places good is_ordered least;
       masks = c.accesses_law.ensures.masks frame kept ordered places good is_ordered least;
       aliases = c.accesses_law.ensures.aliases frame kept ordered places good is_ordered least;
@@ -19,4 +19,4 @@ returns-clause-sound c = λ frame kept ordered places good is_ordered least fed 
       owned = c.states_law.ensures.owned frame kept ordered places good is_ordered least;
       handed = c.states_law.ensures.handed frame kept ordered places good is_ordered least;
       changed = returns-clause-changed c frame kept ordered places good is_ordered least fed;
-    }) order is
+    })

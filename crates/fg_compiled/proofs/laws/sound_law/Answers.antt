@@ -8,20 +8,24 @@ use Rattle.fg_recorder.specs.Recorded.{heap_with, recorded}
 use Rattle.fg_view.specs.Views.{view_of}
 
 pub returns : goal.returns
-returns c = λ frame kept ordered places good is_ordered least shaped accessed order is_least.
+returns c = λ frame kept ordered places good is_ordered least accessed.
     let G = grouping frame kept in
     let heap = heap_with ordered places in
     let program = recorded frame kept ordered places in
     let P = c.places_law.ensures in
     let A = c.aliases_law.ensures in
-    c.crossing_laws.ensures.sound (plan_of G heap) (view_of program) (nodes_of G heap) shaped
-    (facts (plan_of G heap) (view_of program) (nodes_of G heap) (c.cut_laws.ensures.full program (steps G heap) G.families refl)
-    (P.grouped frame kept ordered places good is_ordered least)
-    (P.roles frame kept ordered places good is_ordered least)
-    (P.placed frame kept ordered places good is_ordered least)
-    (A.ordered frame kept ordered places good is_ordered least)
-    (A.barriers frame kept ordered places good is_ordered least)
-    (A.before frame kept ordered places good is_ordered least)
-    (A.kept frame kept ordered places good is_ordered least)
-    accessed)
-    order is_least
+    let found = c.cut_laws.ensures.least program (steps G heap) G.families refl (c.script_laws.ensures.in_turn frame kept heap good) in
+    let none = c.faultless_law.ensures frame kept places program good (record { ordered = ordered; is_ordered = is_ordered; least = least; recorded = refl }) in (
+      found.0,
+      c.crossing_laws.ensures.sound (plan_of G heap) (view_of program) (nodes_of G heap) (c.view_law.ensures program none)
+          (facts (plan_of G heap) (view_of program) (nodes_of G heap) (c.cut_laws.ensures.full program (steps G heap) G.families refl)
+          (P.grouped frame kept ordered places good is_ordered least)
+          (P.roles frame kept ordered places good is_ordered least)
+          (P.placed frame kept ordered places good is_ordered least)
+          (A.ordered frame kept ordered places good is_ordered least)
+          (A.barriers frame kept ordered places good is_ordered least)
+          (A.before frame kept ordered places good is_ordered least)
+          (A.kept frame kept ordered places good is_ordered least)
+          accessed)
+          found.0 found.1,
+    )

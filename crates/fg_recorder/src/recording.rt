@@ -21,9 +21,9 @@ use fg_subs::Program;
 use fg_versions::{Kept, Versions, cull, versions_of};
 use std::alloc::Global;
 
-/// What a frame is compiled to, with what was decided on the way.
+/// What is recorded of a frame, with what was decided on the way.
 #[derive(Drop)]
-pub struct Compiled {
+pub struct Recorded {
     pub program: Program,
     /// The passes whose commands are submitted.
     pub kept: Kept,
@@ -78,14 +78,14 @@ fn of_kept(
     of_groups(alloc, frame, &groups)
 }
 
-fn of_versions(alloc: Global, frame: &GoodFrame, versions: &Versions) -> Result<Compiled, NoMemory>
+fn of_versions(alloc: Global, frame: &GoodFrame, versions: &Versions) -> Result<Recorded, NoMemory>
     requires { versions.now ≡ numbers_of (numbered frame.now) }
-    ensures kept { IfOk result (λ c. AreKept (numbered frame.now) c.kept) }
-    ensures compiled { IfOk result (λ c. IsCompiled (numbered frame.now) c.kept c.placement c.program) }
+    ensures kept { IfOk result (λ r. AreKept (numbered frame.now) r.kept) }
+    ensures compiled { IfOk result (λ r. IsCompiled (numbered frame.now) r.kept r.placement r.program) }
 {
     let kept = cull(alloc, frame, versions)?;
     let (placement, program) = of_kept(alloc, frame, versions, &kept)?;
-    Ok(Compiled {
+    Ok(Recorded {
         program,
         kept,
         placement,
@@ -94,9 +94,9 @@ fn of_versions(alloc: Global, frame: &GoodFrame, versions: &Versions) -> Result<
 
 /// The submissions of a frame: what its kept passes do, and the barriers, transfers, waits and signals that this needs. Want
 /// of memory is its one refusal.
-pub fn compile(alloc: Global, frame: &GoodFrame) -> Result<Compiled, NoMemory>
-    ensures kept { IfOk result (λ c. AreKept (numbered frame.now) c.kept) }
-    ensures compiled { IfOk result (λ c. IsCompiled (numbered frame.now) c.kept c.placement c.program) }
+pub fn record(alloc: Global, frame: &GoodFrame) -> Result<Recorded, NoMemory>
+    ensures kept { IfOk result (λ r. AreKept (numbered frame.now) r.kept) }
+    ensures compiled { IfOk result (λ r. IsCompiled (numbered frame.now) r.kept r.placement r.program) }
 {
     let versions = versions_of(alloc, frame)?;
     of_versions(alloc, frame, &versions)

@@ -1,7 +1,7 @@
 use Rattle.fg_frame.specs.Numbered.{numbered}
 use Rattle.fg_place.specs.Pairs.{has}
 use Rattle.fg_recorder.proofs.Compiling.{offsets_count, laid}
-use Rattle.fg_recorder.proofs.compiled.laid.Goals as goal
+use Rattle.fg_recorder.proofs.recording.laid.Goals as goal
 
 pub program_of-requires-clause-placement : goal.program_of-requires-clause-placement
 program_of-requires-clause-placement c = offsets_count c.args.groups.now c.sizes.result.now (has c.args.ordered.now) c.in_ok-placement.placement c.sizes.ensures.sizes c.in_ok-placement.ensures.least

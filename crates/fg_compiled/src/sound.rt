@@ -1,0 +1,21 @@
+//! What is compiled is sound.
+
+ghost use Rattle.std.specs.Prelude.{List, Bool};
+ghost use Rattle.fg_checker.specs.Sound.{IsSound};
+ghost use Rattle.fg_frame.specs.Good.{IsGood};
+ghost use Rattle.fg_frame.specs.Numbered.{NumberedFrame};
+ghost use Rattle.fg_place.specs.Placing.{Places};
+ghost use Rattle.fg_recorder.specs.Recorded.{IsCompiled};
+ghost use Rattle.fg_subs.specs.declared.program.Program.{Program};
+ghost use Rattle.fg_versions.specs.Culled.{AreKept};
+
+use crate::bytes::bytes_law;
+use crate::starts::starts_law;
+
+/// A program that is compiled of a good frame's kept passes is sound. It does nothing.
+pub fn sound_program_law()
+    ensures { (frame : NumberedFrame) (kept : List Bool) (places : Places) (program : Program) → IsGood frame → AreKept frame kept → IsCompiled frame kept places program → IsSound program }
+{
+    bytes_law();
+    starts_law();
+}
