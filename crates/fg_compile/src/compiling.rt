@@ -1,0 +1,76 @@
+//! From a frame to a sound program.
+
+ghost use Rattle.std.specs.Prelude.{◌≡◌, List, Bool, length, None, IfOk};
+ghost use Rattle.fg_checker.specs.Sound.{IsSound};
+ghost use Rattle.fg_compile.specs.Right.{IsRightFor};
+ghost use Rattle.fg_faithful.specs.Laws.{IsReadMeant};
+ghost use Rattle.fg_frame.specs.Numbered.{numbered};
+ghost use Rattle.fg_place.specs.Placing.{Places};
+ghost use Rattle.fg_recorder.specs.Recorded.{IsCompiled};
+ghost use Rattle.fg_subs.specs.FirstFault.{first_fault};
+ghost use Rattle.fg_subs.specs.declared.program.Program as subs;
+ghost use Rattle.fg_versions.specs.Culled.{AreKept};
+
+use crate::laws::compile_law;
+use fg_base::NoMemory;
+use fg_checker::{Checked, taken};
+use fg_frame::GoodFrame;
+use fg_place::Placement;
+use fg_recorder::{Recorded, record};
+use fg_subs::{Program, Shaped};
+use fg_versions::Kept;
+use std::alloc::Global;
+
+/// What a frame is compiled to, with what was decided on the way.
+#[derive(Drop)]
+pub struct Compiled {
+    /// What is submitted, with an order in which it may run.
+    pub program: Checked,
+    /// The passes whose commands are submitted.
+    pub kept: Kept,
+    /// Where transient units lie in the heap.
+    pub placement: Placement,
+}
+
+// Whatever is compiled of the frame is right for it. It does nothing.
+fn right_for(frame: &GoodFrame)
+    ensures { (kept : List Bool) (places : Places) (program : subs.Program) → AreKept (numbered frame.now) kept → IsCompiled (numbered frame.now) kept places program → IsRightFor (numbered frame.now) program }
+{
+    frame.frame();
+    compile_law();
+}
+
+// The program, with its nodes numbered and their least order.
+fn taken_unchecked(alloc: Global, program: Program) -> Result<Checked, NoMemory>
+    requires faultless { first_fault program ≡ None }
+    requires sound { IsSound program }
+    ensures { IfOk result (λ checked. checked.program ≡ program) }
+{
+    let shaped = Shaped::faultless(alloc, program)?;
+    taken(alloc, shaped)
+}
+
+/// The submissions of a frame: what its kept passes do, and the barriers, transfers, waits and signals that this needs. They
+/// are sound and leave what the frame means, as the law of the compiler says, so that nothing is checked. Want of memory is
+/// the one refusal.
+pub fn compile(alloc: Global, frame: &GoodFrame) -> Result<Compiled, NoMemory>
+    ensures kept { IfOk result (λ c. AreKept (numbered frame.now) c.kept) }
+    ensures compiled { IfOk result (λ c. IsCompiled (numbered frame.now) c.kept c.placement c.program.program) }
+    ensures faultless { IfOk result (λ c. first_fault c.program.program ≡ None) }
+    ensures sound { IfOk result (λ c. IsSound c.program.program) }
+    ensures means { IfOk result (λ c. IsReadMeant (numbered frame.now) c.program.program) }
+    ensures readbacks { IfOk result (λ c. length c.program.program.readbacks ≡ length (numbered frame.now).exports) }
+{
+    right_for(frame);
+    let Recorded {
+        program,
+        kept,
+        placement,
+    } = record(alloc, frame)?;
+    let program = taken_unchecked(alloc, program)?;
+    Ok(Compiled {
+        program,
+        kept,
+        placement,
+    })
+}
