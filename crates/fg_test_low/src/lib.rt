@@ -10,6 +10,8 @@ mod bits;
 #[cfg(test)]
 mod draw;
 #[cfg(test)]
+mod lanes;
+#[cfg(test)]
 mod lines;
 #[cfg(test)]
 mod pixels;

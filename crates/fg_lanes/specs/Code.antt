@@ -1,0 +1,3 @@
+-- What clauses of private functions cite.
+pub mod Blocks
+pub mod Painters

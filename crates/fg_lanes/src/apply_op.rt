@@ -1,0 +1,100 @@
+//! One operation, on the bytes of its operands, by lanes and bands.
+
+ghost use Rattle.std.specs.Prelude.{◌≡◌, ◌<◌, true, false, [], ◌∷◌, length, All};
+ghost use Rattle.fg_base.specs.Applied.{applied};
+ghost use Rattle.fg_base.specs.Fits.{fits};
+ghost use Rattle.fg_base.specs.Operands.{operands_of, destination_of, mapped};
+ghost use Rattle.fg_base.specs.Shapes.{bytes_of, shape_at};
+ghost use Rattle.fg_pixels.specs.Sources.{source_bytes, is_draw};
+
+use crate::whole;
+use fg_base::{Op, Shape, shape_at};
+use fg_pixels::apply;
+use std::thread::Threads;
+
+/// What an operation other than a draw leaves in `out`, as `apply` of `fg_pixels` does under the same conditions. Fills
+/// of buffers, ramps, maps, combinations and selections go by vector lanes; these but the fills, and convert, box3 and
+/// halve, go by bands of rows in threads of their own where the destination is large. It takes no memory.
+pub fn apply_fast<R: Threads + Sync>(
+    rt: &R,
+    op: &Op<u32>,
+    shapes: &[Shape],
+    first: &[u8],
+    second: &[u8],
+    third: &[u8],
+    out: &mut [u8],
+)
+    requires operands { All (λ r. r < length shapes.now) (operands_of op.now) }
+    requires fits { fits (mapped (shape_at shapes.now) op.now) ≡ true }
+    requires kind { is_draw op.now ≡ false }
+    requires first { length first.now ≡ source_bytes (mapped (shape_at shapes.now) op.now) 0 }
+    requires second { length second.now ≡ source_bytes (mapped (shape_at shapes.now) op.now) 1 }
+    requires third { length third.now ≡ source_bytes (mapped (shape_at shapes.now) op.now) 2 }
+    requires out { length out.old ≡ bytes_of (destination_of (mapped (shape_at shapes.now) op.now)) }
+    ensures { out.new ≡ applied shapes.now op.now (first.now ∷ second.now ∷ third.now ∷ []) out.old }
+{
+    match op {
+        Op::FillBuffer {
+            dst,
+            offset,
+            size,
+            word,
+        } => whole::fill_buffer(shape_at(shapes, *dst), *offset, *size, *word, out),
+        Op::Ramp { dst, base, dx, dy } => whole::ramp(
+            rt,
+            shape_at(shapes, *dst),
+            *base,
+            *dx,
+            *dy,
+            out,
+        ),
+        Op::Map {
+            src,
+            dst,
+            fun,
+            value,
+        } => whole::map(
+            rt,
+            shape_at(shapes, *src),
+            shape_at(shapes, *dst),
+            *fun,
+            *value,
+            first,
+            out,
+        ),
+        Op::Combine { a, b, dst, fun } => {
+            let from = (shape_at(shapes, *a), shape_at(shapes, *b));
+            whole::combine(rt, from, shape_at(shapes, *dst), *fun, first, second, out)
+        }
+        Op::Select { mask, a, b, dst } => {
+            let from = (
+                shape_at(shapes, *mask),
+                shape_at(shapes, *a),
+                shape_at(shapes, *b),
+            );
+            whole::select(rt, from, shape_at(shapes, *dst), first, second, third, out)
+        }
+        Op::Convert { src, dst } => whole::convert(
+            rt,
+            shape_at(shapes, *src),
+            shape_at(shapes, *dst),
+            first,
+            out,
+        ),
+        Op::Box3 { src, dst } => whole::box3(
+            rt,
+            shape_at(shapes, *src),
+            shape_at(shapes, *dst),
+            first,
+            out,
+        ),
+        Op::Halve { src, dst } => whole::halve(
+            rt,
+            shape_at(shapes, *src),
+            shape_at(shapes, *dst),
+            first,
+            out,
+        ),
+        _ => apply(op, shapes, first, second, third, out),
+    }
+}

@@ -1,0 +1,112 @@
+//! Bands of rows, painted side by side.
+
+ghost use Rattle.std.specs.Prelude.{◌≡◌, ℕ, ◌+◌, ◌*◌, ◌^◌, ◌<◌, ◌≤◌, length};
+ghost use Rattle.std.specs.Thread.{IsSync};
+ghost use Rattle.fg_base.specs.Shapes.{texel_bytes};
+ghost use Rattle.fg_base.specs.Texels.{band};
+ghost use Rattle.fg_lanes.specs.Code.Painters.{AcceptsBands, Paints};
+
+use crate::rows::size_of;
+use fg_base::Texel;
+use rayon::{current_num_threads, join_mut};
+use std::marker::Sync;
+use std::thread::Threads;
+
+/// The least bytes for which a thread is started.
+const LEAST: usize = 1 << 19;
+
+// How many bands are painted side by side: no more than there are processors.
+fn band_count(rt: &impl Threads, bytes: usize) -> usize {
+    let wanted = bytes / LEAST;
+    if wanted < 2 {
+        1
+    } else {
+        wanted.min(current_num_threads(rt))
+    }
+}
+
+// The rows are halved until there are as many bands, and one half goes to a new thread where one can be made.
+#[cycle(halving)]
+fn halve<R: Threads + Sync, F: Fn(u32, u32, &mut [u8]) + Sync>(
+    rt: &R,
+    f: &F,
+    texel: Texel,
+    width: u32,
+    bands: usize,
+    first: u32,
+    count: u32,
+    out: &mut [u8],
+)
+    requires size { length out.old ≡ texel_bytes texel * (width * count) }
+    requires rows { first + count < 2 ^ 32 }
+    requires calls { AcceptsBands (F.pre f.now) texel width first count }
+    ensures { (p : ℕ → ℕ → ℕ) → Paints (F.post f.now) texel width first count p → out.new ≡ band texel width first count p }
+{
+    if bands < 2 || count < 2 {
+        f(first, count, out);
+        return;
+    }
+    let top = count / 2;
+    let (front, back) = out.split_at_mut(size_of(texel) * (width as usize * top as usize));
+    both(
+        rt,
+        f,
+        texel,
+        width,
+        bands / 2,
+        first,
+        top,
+        front,
+        count - top,
+        back,
+    );
+}
+
+#[cycle(halving)]
+fn both<R: Threads + Sync, F: Fn(u32, u32, &mut [u8]) + Sync>(
+    rt: &R,
+    f: &F,
+    texel: Texel,
+    width: u32,
+    bands: usize,
+    first: u32,
+    top: u32,
+    front: &mut [u8],
+    bottom: u32,
+    back: &mut [u8],
+)
+    requires front { length front.old ≡ texel_bytes texel * (width * top) }
+    requires back { length back.old ≡ texel_bytes texel * (width * bottom) }
+    requires rows { first + top + bottom < 2 ^ 32 }
+    requires calls_front { AcceptsBands (F.pre f.now) texel width first top }
+    requires calls_back { AcceptsBands (F.pre f.now) texel width (first + top) bottom }
+    ensures front { (p : ℕ → ℕ → ℕ) → Paints (F.post f.now) texel width first top p → front.new ≡ band texel width first top p }
+    ensures back { (p : ℕ → ℕ → ℕ) → Paints (F.post f.now) texel width (first + top) bottom p → back.new ≡ band texel width (first + top) bottom p }
+{
+    let mut upper = ||
+        requires { IsSync R.row × IsSync F.row × (length front.now ≡ texel_bytes texel * (width * top)) × (first + top < 2 ^ 32) × AcceptsBands (F.pre f.now) texel width first top }
+        ensures { (p : ℕ → ℕ → ℕ) → Paints (F.post f.entry.now) texel width first top p → front.exit.now ≡ band texel width first top p }
+    { halve(rt, f, texel, width, bands, first, top, front) };
+    let mut lower = ||
+        requires { IsSync R.row × IsSync F.row × (length back.now ≡ texel_bytes texel * (width * bottom)) × (first + top + bottom < 2 ^ 32) × AcceptsBands (F.pre f.now) texel width (first + top) bottom }
+        ensures { (p : ℕ → ℕ → ℕ) → Paints (F.post f.entry.now) texel width (first + top) bottom p → back.exit.now ≡ band texel width (first + top) bottom p }
+    { halve(rt, f, texel, width, bands, first + top, bottom, back) };
+    join_mut(rt, &mut upper, &mut lower);
+}
+
+/// Calls `f(first, count, rows)` with bands of the rows of `out`, each in a thread of its own where one can be made.
+pub(crate) fn paint_bands<R: Threads + Sync, F: Fn(u32, u32, &mut [u8]) + Sync>(
+    rt: &R,
+    texel: Texel,
+    width: u32,
+    height: u32,
+    out: &mut [u8],
+    f: F,
+)
+    requires size { length out.old ≡ texel_bytes texel * (width * height) }
+    requires calls { AcceptsBands (F.pre f) texel width 0 height }
+    ensures { (p : ℕ → ℕ → ℕ) → Paints (F.post f) texel width 0 height p → out.new ≡ band texel width 0 height p }
+{
+    let bands = band_count(rt, out.len());
+    halve(rt, &f, texel, width, bands, 0, height, out);
+}

@@ -1,0 +1,19 @@
+//! What operations leave in the bytes of their destination, by vector lanes and by bands of rows in threads of their own.
+#![tactic(auto)]
+
+mod apply_op;
+mod bands;
+mod block;
+mod bytes;
+mod combine;
+mod constants;
+mod fill;
+mod laying;
+mod map;
+mod ramp;
+mod rows;
+mod select;
+mod whole;
+mod words;
+
+pub use apply_op::apply_fast;
