@@ -1,69 +1,17 @@
 -- The sources of an operation among the bytes that were loaded.
-use Rattle.std.proofs.Common.{◌≡◌, ◌≢◌, ℕ, ◌+◌, ◌<◌, ◌≤◌, ◌++◌, List, [], ◌∷◌, length, map, take, get_or, false, Option, refl, sym, ap, ◌∙◌, subst, ⊎_elim, arith}
+use Rattle.std.proofs.Common.{◌≡◌, ℕ, ◌+◌, ◌<◌, ◌≤◌, ◌++◌, List, [], ◌∷◌, length, map, take, get_or, sym, ap, ◌∙◌, subst, ⊎_elim, arith}
 use Rattle.std.specs.Prelude.{slice_index, slice_index_or}
 use Rattle.std.proofs.lemmas.Bool.{cases_lt}
 use Rattle.std.proofs.lemmas.List.{get_or-map, get_or-take, get_or_past, get_or_append_left, length-append, length-map, length-take-le}
 use Rattle.std.proofs.Math.Seq.{get_or-append_seam, take-append_seam}
+use Rattle.fg_base.proofs.Operands.{sources_mapped, destination_mapped}
 use Rattle.fg_base.specs.Operands.{sources_of, destination_of, operands_of, mapped}
 use Rattle.fg_base.specs.Shapes.{bytes_of, shape_at}
 use Rattle.fg_base.specs.declared.op.Op.{Op}
-use Rattle.fg_base.specs.declared.op.Op.TheVariants.{FillBuffer, ClearImage, CopyBuffer, CopyImage, BufferToImage, ImageToBuffer, Ramp, Map, Combine, Select, Convert, Box3, Halve, Histogram, Draw}
-use Rattle.fg_base.specs.declared.op.Rect.{Rect}
 use Rattle.fg_base.specs.declared.shape.Shape.{Shape}
 use Rattle.fg_base.specs.declared.shape.Shape.TheVariants.{Buffer}
 use Rattle.fg_device.specs.Code.Loads.{IsRunnable}
-use Rattle.fg_pixels.specs.Sources.{source_bytes, is_draw}
-
-sources_mapped : {R S : Type 0} (f : R → S) (op : Op R) → sources_of (mapped f op) ≡ map f (sources_of op)
-sources_mapped f (FillBuffer dst offset size word) = refl
-sources_mapped f (ClearImage dst value) = refl
-sources_mapped f (CopyBuffer src dst src_offset dst_offset size) = refl
-sources_mapped f (CopyImage src dst src_x src_y dst_x dst_y width height) = refl
-sources_mapped f (BufferToImage src dst offset) = refl
-sources_mapped f (ImageToBuffer src dst offset) = refl
-sources_mapped f (Ramp dst base dx dy) = refl
-sources_mapped f (Map src dst fun value) = refl
-sources_mapped f (Combine a b dst fun) = refl
-sources_mapped f (Select mask a b dst) = refl
-sources_mapped f (Convert src dst) = refl
-sources_mapped f (Box3 src dst) = refl
-sources_mapped f (Halve src dst) = refl
-sources_mapped f (Histogram src dst) = refl
-sources_mapped f (Draw dst clear rects) = refl
-
-pub destination_mapped : {R S : Type 0} (f : R → S) (op : Op R) → destination_of (mapped f op) ≡ f (destination_of op)
-destination_mapped f (FillBuffer dst offset size word) = refl
-destination_mapped f (ClearImage dst value) = refl
-destination_mapped f (CopyBuffer src dst src_offset dst_offset size) = refl
-destination_mapped f (CopyImage src dst src_x src_y dst_x dst_y width height) = refl
-destination_mapped f (BufferToImage src dst offset) = refl
-destination_mapped f (ImageToBuffer src dst offset) = refl
-destination_mapped f (Ramp dst base dx dy) = refl
-destination_mapped f (Map src dst fun value) = refl
-destination_mapped f (Combine a b dst fun) = refl
-destination_mapped f (Select mask a b dst) = refl
-destination_mapped f (Convert src dst) = refl
-destination_mapped f (Box3 src dst) = refl
-destination_mapped f (Halve src dst) = refl
-destination_mapped f (Histogram src dst) = refl
-destination_mapped f (Draw dst clear rects) = refl
-
-pub not_draw : (op : Op ℕ) → ((dst : ℕ) (clear : Option ℕ) (rects : List Rect) → op ≢ Draw dst clear rects) → is_draw op ≡ false
-not_draw (FillBuffer dst offset size word) other = refl
-not_draw (ClearImage dst value) other = refl
-not_draw (CopyBuffer src dst src_offset dst_offset size) other = refl
-not_draw (CopyImage src dst src_x src_y dst_x dst_y width height) other = refl
-not_draw (BufferToImage src dst offset) other = refl
-not_draw (ImageToBuffer src dst offset) other = refl
-not_draw (Ramp dst base dx dy) other = refl
-not_draw (Map src dst fun value) other = refl
-not_draw (Combine a b dst fun) other = refl
-not_draw (Select mask a b dst) other = refl
-not_draw (Convert src dst) other = refl
-not_draw (Box3 src dst) other = refl
-not_draw (Halve src dst) other = refl
-not_draw (Histogram src dst) other = refl
-not_draw (Draw dst clear rects) other = absurd (other dst clear rects refl)
+use Rattle.fg_pixels.specs.Sources.{source_bytes}
 
 -- what a vector holds when its slice was written
 pub written_back : (count : ℕ) (new more : List ℕ) → length new ≡ count → take count (new ++ more) ≡ new

@@ -6,7 +6,7 @@ ghost use Rattle.fg_device.specs.Code.Results.{IsResult};
 ghost use Rattle.fg_steps.specs.Outputs.{no_old, stored_by};
 
 use crate::buffer::Buffer;
-use crate::running::stored_by;
+use crate::running::stored_fast;
 use fg_base::{List, Op, Shape};
 use std::marker::Model;
 use std::thread::Threads;
@@ -78,12 +78,12 @@ impl Job {
         &self.command
     }
 
-    /// Runs the operation. It has no part in the device.
-    pub fn compute<R: Threads + Sync>(self, _rt: &R) -> Finished
+    /// Runs the operation, by lanes and by bands. It has no part in the device.
+    pub fn compute<R: Threads + Sync>(self, rt: &R) -> Finished
         ensures { result ≡ self }
     {
         let Job { command, room } = self;
-        let bytes = stored_by(&command.op, &command.shapes, &command.loaded, room);
+        let bytes = stored_fast(rt, &command.op, &command.shapes, &command.loaded, room);
         Finished { command, bytes }
     }
 }

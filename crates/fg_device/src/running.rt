@@ -10,7 +10,9 @@ ghost use Rattle.fg_steps.specs.Outputs.{no_old, stored_by};
 use crate::buffer::Buffer;
 use fg_base::{List, Op, Shape};
 use fg_draw::draw;
+use fg_lanes::apply_fast;
 use fg_pixels::apply;
+use std::thread::Threads;
 
 // How many sources an operation has.
 #[tactic(auto, using(crate::proofs::Sources::one_more))]
@@ -53,6 +55,33 @@ fn run(op: &Op<u32>, shapes: &[Shape], loaded: &[List<u8>], out: &mut [u8])
     }
 }
 
+// The same, by lanes and by bands.
+fn run_fast<R: Threads + Sync>(
+    rt: &R,
+    op: &Op<u32>,
+    shapes: &[Shape],
+    loaded: &[List<u8>],
+    out: &mut [u8],
+)
+    requires runnable { IsRunnable shapes.now op.now loaded.now }
+    requires out { length out.old ≡ bytes_of (shape_at shapes.now (destination_of op.now)) }
+    ensures { out.new ≡ applied shapes.now op.now (take (length (sources_of op.now)) loaded.now) out.old }
+{
+    if let Op::Draw { dst, clear, rects } = op {
+        draw(shapes[*dst as usize], *clear, rects, out)
+    } else {
+        apply_fast(
+            rt,
+            op,
+            shapes,
+            source(op, loaded, 0),
+            source(op, loaded, 1),
+            source(op, loaded, 2),
+            out,
+        )
+    }
+}
+
 // The old bytes of the destination, if they were loaded after the sources.
 fn lay_old(op: &Op<u32>, loaded: &[List<u8>], out: &mut [u8])
     requires { (bytes : List ℕ) → slice_get loaded.now (length (sources_of op.now)) ≡ Some bytes → length bytes ≡ length out.old }
@@ -73,6 +102,22 @@ fn store_in(op: &Op<u32>, shapes: &[Shape], loaded: &[List<u8>], out: &mut [u8])
     run(op, shapes, loaded, out);
 }
 
+// The same, by lanes and by bands.
+fn store_fast_in<R: Threads + Sync>(
+    rt: &R,
+    op: &Op<u32>,
+    shapes: &[Shape],
+    loaded: &[List<u8>],
+    out: &mut [u8],
+)
+    requires runnable { IsRunnable shapes.now op.now loaded.now }
+    requires room { out.old ≡ no_old shapes.now op.now }
+    ensures { out.new ≡ stored_by shapes.now op.now loaded.now }
+{
+    lay_old(op, loaded, out);
+    run_fast(rt, op, shapes, loaded, out);
+}
+
 /// What a command stores. The room holds zeros, and takes the old bytes where these were loaded.
 pub(crate) fn stored_by(
     op: &Op<u32>,
@@ -87,5 +132,23 @@ pub(crate) fn stored_by(
 {
     let mut out = room.into_vec();
     store_in(op, shapes, loaded, &mut out);
+    List::from_vec(out)
+}
+
+/// The same, by lanes and by bands.
+pub(crate) fn stored_fast<R: Threads + Sync>(
+    rt: &R,
+    op: &Op<u32>,
+    shapes: &[Shape],
+    loaded: &[List<u8>],
+    room: Buffer,
+) -> List<u8>
+    requires runnable { IsRunnable shapes.now op.now loaded.now }
+    requires room { room ≡ no_old shapes.now op.now }
+    ensures stored { result ≡ stored_by shapes.now op.now loaded.now }
+    ensures long { length result ≡ bytes_of (shape_at shapes.now (destination_of op.now)) }
+{
+    let mut out = room.into_vec();
+    store_fast_in(rt, op, shapes, loaded, &mut out);
     List::from_vec(out)
 }

@@ -1,5 +1,6 @@
-use Rattle.fg_device.proofs.Sources.{source_long, destination_long, not_draw}
+use Rattle.fg_device.proofs.Sources.{source_long, destination_long}
 use Rattle.fg_device.proofs.running.run.Goals as goal
+use Rattle.fg_pixels.proofs.Draws.{not_draw}
 
 pub apply-requires : goal.apply-requires
 apply-requires c =
