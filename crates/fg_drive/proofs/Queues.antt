@@ -4,12 +4,11 @@ use Rattle.std.proofs.lemmas.Bool.{false≢true}
 use Rattle.std.proofs.lemmas.List.{get_or-map, length-map}
 use Rattle.std.proofs.lemmas.Option.{slice_get-get_or}
 use Rattle.fg_checker.specs.Sound.{IsSound}
+use Rattle.fg_drive.specs.Firsts.{IsFirst, NothingReady}
 use Rattle.fg_hb.specs.Edges.{node_at, is_host}
 use Rattle.fg_hb.specs.Nodes.{entry_node, item_node, no_node}
-use Rattle.fg_steps.specs.Devices.{Device, state_of, view_in, is_ready, NoneReady, IsComplete, NoneBegun}
+use Rattle.fg_steps.specs.Devices.{Device, IsNext, NoneReady, IsComplete, NoneBegun, NeverStands}
 use Rattle.fg_steps.specs.Ready.{kind_at, read_node}
-use Rattle.fg_steps.specs.Runs.{Runs}
-use Rattle.fg_steps.proofs.Control.{ready_within}
 use Rattle.fg_subs.specs.Entries.{Entry, OfWait, OfItem, OfSignal, OfHost, entries_of, queue_of, first_node, ByQueue}
 use Rattle.fg_subs.specs.declared.program.Item.{Item}
 use Rattle.fg_subs.specs.declared.program.Item.TheVariants.{Command, Global, BufferBarrier, ImageBarrier, Release, Acquire}
@@ -76,12 +75,16 @@ module _ (program : Program) (queued : ByQueue program) where
           read = omega (arith, from, is);
         }
 
--- where no queue has a ready node, all is done
-pub all_done : (d : Device) → Runs d → IsSound d.program → ByQueue d.program → NoneBegun d → ((queue : ℕ) → queue < length d.program.queues + 1 → NoneReady d queue) → IsComplete d
-all_done d runs sound queued idle quiet = ⊎_elim (λ all. all) (λ goes. absurd (stuck goes.0 goes.1)) (runs.next sound idle)
-  where
-    stuck : (n : ℕ) → is_ready d n ≡ true → ⊥
-    stuck n ready =
-        let inside = ready_within (view_in d) (state_of d) n ready in
-        let low = queue_low d.program queued n inside in
-        false≢true (sym (quiet (node_at (view_in d).nodes n).queue (omega (arith, low)) n inside refl) ∙ ready)
+-- a node is of a queue, or of the number after the last one
+pub nothing_ready : (d : Device) → ByQueue d.program → ((queue : ℕ) → queue < length d.program.queues + 1 → NoneReady d queue) → NothingReady d
+nothing_ready d queued quiet queue n lt on = quiet queue (omega (arith, queue_low d.program queued n lt, on)) n lt on
+
+pub first : (d : Device) (queue n : ℕ) → ((r : ℕ) → r < queue → NoneReady d r) → IsNext d queue n → IsFirst d n
+first d queue n quiet next = record {
+  next = subst (λ q. IsNext d q n) (sym next.on) next;
+  first = λ r lt. quiet r (subst (λ q. r < q) next.on lt);
+}
+
+-- where nothing is ready and no command is begun, all is done
+pub all_done : (d : Device) → NeverStands d → IsSound d.program → NoneBegun d → NothingReady d → IsComplete d
+all_done d stands sound idle quiet = ⊎_elim (λ all. all) (λ begun. absurd (false≢true (sym (idle begun.0) ∙ begun.1))) (stands sound quiet)

@@ -4,10 +4,10 @@ ghost use Rattle.std.specs.Prelude.{◌≡◌, ◌<◌, ◌+◌, ◌^◌, ℕ, s
 ghost use Rattle.std.specs.Option.{option_map};
 ghost use Rattle.fg_caches.specs.Draws.{seeded, IsMove};
 ghost use Rattle.fg_drive.specs.Code.Keepers.{to_come, Advanced, AsksAlike, Calm, Keeps};
-ghost use Rattle.fg_drive.specs.Tended.{agents_of, sizes_of, tended_moves};
-ghost use Rattle.fg_steps.specs.Histories.{moved};
+ghost use Rattle.fg_drive.specs.Tended.{tended_moves};
 ghost use Rattle.fg_subs.specs.Obeys.{IsSmall};
 
+use crate::moves::make_move;
 use crate::sizes::sizes_of;
 use fg_base::{Event, List, NoMemory};
 use fg_caches::Tender;
@@ -73,38 +73,7 @@ impl Keeper {
         let Some(event) = self.next() else {
             return false;
         };
-        make(device, event);
+        make_move(device, event);
         true
-    }
-}
-
-// Makes a cache move.
-fn make(device: &mut Device, event: Event)
-    requires left { 0 < device.old.moves }
-    requires inside { IsMove (agents_of device.old.program) (sizes_of device.old.program) event }
-    ensures { device.new ≡ moved device.old event }
-{
-    match event {
-        Event::WriteBack {
-            agent,
-            memory,
-            start,
-            len,
-        } => device.write_back(agent, memory, start, len),
-        Event::Fill {
-            agent,
-            memory,
-            start,
-            len,
-        } => {
-            let _ = device.fill(agent, memory, start, len);
-        }
-        Event::DropLine {
-            agent,
-            memory,
-            start,
-            len,
-        } => device.drop_line(agent, memory, start, len),
-        _ => unreachable!(),
     }
 }

@@ -2,10 +2,14 @@
 #![tactic(auto)]
 
 mod keeper;
+mod moves;
 mod round;
 mod run;
 mod sizes;
 mod tending;
 
+pub use moves::{is_move_of, make_move, move_laws};
+pub use round::{next_node, readback_of};
 pub use run::drive;
+pub use sizes::sizes_of;
 pub use tending::tended;

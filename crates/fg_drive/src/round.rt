@@ -1,10 +1,10 @@
 //! One node after another.
 
 ghost use Rattle.std.specs.Prelude.{◌≡◌, ◌<◌, length, true, IfSome, IfNone, OnOk};
-ghost use Rattle.fg_checker.specs.Sound.{IsSound};
 ghost use Rattle.fg_drive.specs.Code.Keepers.{Advanced, Keeps};
+ghost use Rattle.fg_drive.specs.Firsts.{IsFirst, NothingReady};
 ghost use Rattle.fg_hb.specs.Edges.{is_host, is_sync};
-ghost use Rattle.fg_steps.specs.Devices.{is_ready, IsComplete, NoneBegun};
+ghost use Rattle.fg_steps.specs.Devices.{is_ready, NeverStands, NoneBegun};
 ghost use Rattle.fg_steps.specs.Ready.{is_command, read_node};
 ghost use Rattle.fg_steps.specs.Rounds.{MayGo, Round};
 
@@ -16,12 +16,11 @@ use fg_steps::device_laws;
 use std::alloc::Global;
 use std::thread::Threads;
 
-/// The least ready node of the first queue that has one; host reads come after all queues. None where all is done.
-pub(crate) fn next_node(device: &Device) -> Option<u32>
-    requires idle { NoneBegun device.now }
-    requires sound { IsSound device.now.program }
-    ensures some { IfSome result (λ node. is_ready device.now node ≡ true) }
-    ensures none { IfNone result (IsComplete device.now) }
+/// The least ready node of the first queue that has one; host reads come after all queues.
+pub fn next_node(device: &Device) -> Option<u32>
+    ensures some { IfSome result (IsFirst device.now) }
+    ensures none { IfNone result (NothingReady device.now) }
+    ensures stands { NeverStands device.now }
 {
     device_laws();
     let queues = device.program().program().queues.len() as u32;
@@ -69,8 +68,8 @@ fn run_sync(device: &mut Device, keeper: &mut Keeper, node: u32)
     device.sync(node);
 }
 
-// The number of the read-back of a host read.
-fn readback_of(device: &Device, node: u32) -> u32
+/// The number of the read-back of a ready host read.
+pub fn readback_of(device: &Device, node: u32) -> u32
     requires { MayGo is_host device.now node }
     ensures there { result < length device.now.program.readbacks }
     ensures read { read_node device.now.program result ≡ node }

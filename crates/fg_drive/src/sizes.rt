@@ -1,6 +1,6 @@
 //! The sizes of memories.
 
-ghost use Rattle.std.specs.Prelude.{◌≡◌, ◌<◌, ◌^◌, IfOk};
+ghost use Rattle.std.specs.Prelude.{◌≡◌, IfOk};
 ghost use Rattle.fg_drive.specs.Tended.{sizes_of};
 ghost use Rattle.fg_subs.specs.Limits.{memory_bytes};
 ghost use Rattle.fg_subs.specs.Obeys.{IsSmall};
@@ -9,24 +9,24 @@ use fg_base::{List, NoMemory};
 use fg_subs::{Memory, Program};
 use std::alloc::Global;
 
-fn size_of(memory: &Memory) -> u32
-    requires { memory_bytes memory.now < 2 ^ 32 }
+/// The size of a memory, in bytes.
+pub(crate) fn size_of(memory: &Memory) -> usize
     ensures { result ≡ memory_bytes memory.now }
 {
     match memory {
-        Memory::Plain { size } => *size,
-        Memory::Import { bytes } => bytes.len() as u32,
+        Memory::Plain { size } => *size as usize,
+        Memory::Import { bytes } => bytes.len(),
     }
 }
 
 /// The sizes of the memories, in bytes.
-pub(crate) fn sizes_of(alloc: Global, program: &Program) -> Result<List<u32>, NoMemory>
+pub fn sizes_of(alloc: Global, program: &Program) -> Result<List<u32>, NoMemory>
     requires { IsSmall program.now }
     ensures { IfOk result (λ sizes. sizes ≡ sizes_of program.now) }
 {
     let mut sizes = List::new(alloc);
     for memory in program.memories.as_slice() {
-        sizes.push(size_of(memory))?;
+        sizes.push(size_of(memory) as u32)?;
     }
     Ok(sizes)
 }

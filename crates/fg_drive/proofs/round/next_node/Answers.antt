@@ -1,6 +1,6 @@
 use Rattle.std.proofs.Common.{◌≡◌, ℕ, Option, None, length, below_more, ap, ◌∙◌, subst, arith}
 use Rattle.std.specs.Prelude.{IfNone}
-use Rattle.fg_drive.proofs.Queues.{all_done}
+use Rattle.fg_drive.proofs.Queues.{nothing_ready}
 use Rattle.fg_drive.proofs.round.next_node.Goals as goal
 use Rattle.fg_steps.specs.Devices.{NoneReady}
 use Rattle.fg_subs.specs.Entries.{ByQueue}
@@ -19,9 +19,10 @@ returns-clause-none c =
     let d = c.args.device.now in
     let same : c.deref.result.now ≡ d.program = c.deref.ensures ∙ c.program.ensures in
     let count : length c.program-2.result.now.queues ≡ length d.program.queues = ap (λ (p : Program). length p.queues) (c.program-2.ensures.program ∙ same) in
-    all_done d
-    (c.device_laws.ensures.runs d (subst (λ (p : Program). first_fault p ≡ None) same c.program-2.ensures.shaped))
-    c.requires.sound
-    (subst ByQueue same c.program-2.ensures.numbered)
-    c.requires.idle
-    (λ r lt. c.loop-queue.invariant r (omega (arith, lt, count)))
+    nothing_ready d (subst ByQueue same c.program-2.ensures.numbered) (λ r lt. c.loop-queue.invariant r (omega (arith, lt, count)))
+
+pub returns-clause-stands : goal.returns-clause-stands
+returns-clause-stands c =
+    let d = c.args.device.now in
+    let same : c.deref.result.now ≡ d.program = c.deref.ensures ∙ c.program.ensures in
+    (c.device_laws.ensures.runs d (subst (λ (p : Program). first_fault p ≡ None) same c.program-2.ensures.shaped)).stands

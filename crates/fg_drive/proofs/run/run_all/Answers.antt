@@ -1,14 +1,14 @@
-use Rattle.std.proofs.Common.{◌<◌, sym, subst, arith}
+use Rattle.std.proofs.Common.{◌<◌, ℕ, Option, sym, subst, arith}
+use Rattle.std.specs.Prelude.{IfNone}
 use Rattle.fg_checker.specs.Sound.{IsSound}
+use Rattle.fg_drive.proofs.Queues.{all_done}
 use Rattle.fg_drive.proofs.Advancing.{unmoved, joined, keeps_on}
 use Rattle.fg_drive.proofs.run.run_all.Goals as goal
+use Rattle.fg_drive.specs.Firsts.{NothingReady}
 use Rattle.fg_steps.specs.Rounds.{to_do}
 
 pub loop-node-init : goal.loop-node-init
 loop-node-init g c = record { advanced = unmoved c.args.device.now c.args.keeper.now; idle = c.requires.idle }
-
-pub next_node-requires-clause-sound : goal.next_node-requires-clause-sound
-next_node-requires-clause-sound g c = subst IsSound (sym c.loop-node.invariant.advanced.went.program) c.requires.sound
 
 pub run_node-requires-clause-keeps : goal.run_node-requires-clause-keeps
 run_node-requires-clause-keeps g c κs within = keeps_on c.args.device.now c.loop-node.device c.args.keeper.now c.loop-node.keeper c.loop-node.invariant.advanced c.requires.keeps
@@ -24,3 +24,9 @@ loop-node-preserved g c = record {
 
 pub returns-in_err-run_node-clause-advanced : goal.returns-in_err-run_node-clause-advanced
 returns-in_err-run_node-clause-advanced g c = joined c.args.device.now c.loop-node.device c.run_node.new.device c.args.keeper.now c.loop-node.keeper c.run_node.new.keeper c.loop-node.invariant.advanced c.run_node.ensures.advanced
+
+pub returns-clause-complete : goal.returns-clause-complete
+returns-clause-complete g c =
+    let d = c.loop-node.device in
+    let quiet : NothingReady d = subst (λ (found : Option ℕ). IfNone found (NothingReady d)) c.in_default.is c.next_node.ensures.none in
+    all_done d c.next_node.ensures.stands (subst IsSound (sym c.loop-node.invariant.advanced.went.program) c.requires.sound) c.loop-node.invariant.idle quiet

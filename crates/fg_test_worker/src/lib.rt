@@ -1,0 +1,11 @@
+//! Tests of workers and their tender.
+#![tactic(auto)]
+
+#[cfg(test)]
+mod alone;
+#[cfg(test)]
+mod meeting;
+#[cfg(test)]
+mod programs;
+#[cfg(test)]
+mod workers;

@@ -1,0 +1,4 @@
+pub mod Holding
+pub mod Moving
+pub mod Turning
+pub mod Working

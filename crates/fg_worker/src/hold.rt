@@ -1,0 +1,87 @@
+//! Who holds a device, for one event at a time.
+
+ghost use Rattle.std.specs.Prelude.{◌≡◌, IfOk, OnErr, Option, Some, None};
+ghost use Rattle.fg_worker.specs.Holds.{TurnsTo, LandsTo, TendsTo};
+
+use crate::tending::tend_once;
+use crate::turn::{Turn, take_turn};
+use fg_base::{Event, NoMemory};
+use fg_device::{Device, Finished};
+use std::alloc::Global;
+use std::sync::{Condvar, Mutex, Wait};
+
+/// A holder of a device. Each call is one hold. A holder that tells which device it has is told what each hold does to it.
+pub trait Hold {
+    ghost use Rattle.fg_steps.specs.Devices.{Device};
+
+    ghost told: { Self → Option Device };
+
+    /// A hold of the worker of a queue. Where no node is ready and not all are done, it waits in the same hold.
+    fn turn(&mut self, alloc: Global, own_queue: u32) -> Result<Turn, NoMemory>
+        ensures ok { IfOk result (TurnsTo (told self.old) (told self.new) own_queue) }
+        ensures err { OnErr result (told self.new ≡ told self.old) };
+
+    /// A hold in which a command ends.
+    fn land(&mut self, done: Finished)
+        ensures { LandsTo (told self.old) (told self.new) done.node };
+
+    /// A hold of a tender: it makes a cache move where the device has that agent and range and a move is left, and tells whether
+    /// it did.
+    fn tend(&mut self, event: Event) -> bool
+        ensures { TendsTo (told self.old) (told self.new) event result };
+}
+
+/// A device under a lock that others share, with a bell that is rung when it has changed. It tells nothing.
+#[derive(Drop)]
+pub struct Shared<'a, R: Wait> {
+    pub rt: &'a R,
+    pub device: &'a Mutex<Device>,
+    pub bell: &'a Condvar,
+}
+
+impl<'a, R: Wait> Hold for Shared<'a, R> {
+    ghost told = { λ _. None };
+
+    fn turn(&mut self, alloc: Global, own_queue: u32) -> Result<Turn, NoMemory> {
+        let mut held = self.device.lock(self.rt);
+        let turn = take_turn(&mut held, alloc, own_queue);
+        match &turn {
+            Ok(Turn::Wait) => drop(self.bell.wait(self.rt, held)),
+            Ok(Turn::Compute(_)) => {}
+            _ => self.bell.notify_all(),
+        }
+        turn
+    }
+
+    fn land(&mut self, done: Finished) {
+        let _landed = self.device.lock(self.rt).end(done);
+        self.bell.notify_all();
+    }
+
+    fn tend(&mut self, event: Event) -> bool {
+        let mut held = self.device.lock(self.rt);
+        tend_once(&mut held, event)
+    }
+}
+
+/// A device of one's own. It tells the device.
+#[derive(Drop)]
+pub struct Alone {
+    pub device: Device,
+}
+
+impl Hold for Alone {
+    ghost told = { λ alone. Some alone.device };
+
+    fn turn(&mut self, alloc: Global, own_queue: u32) -> Result<Turn, NoMemory> {
+        take_turn(&mut self.device, alloc, own_queue)
+    }
+
+    fn land(&mut self, done: Finished) {
+        let _landed = self.device.end(done);
+    }
+
+    fn tend(&mut self, event: Event) -> bool {
+        tend_once(&mut self.device, event)
+    }
+}

@@ -1,0 +1,40 @@
+//! The tender beside the workers.
+
+ghost use Rattle.std.specs.Prelude.{◌<◌, ◌^◌, length};
+ghost use Rattle.fg_worker.specs.Holds.{Tends, TendsAll};
+
+use crate::hold::Hold;
+use fg_base::Event;
+use fg_caches::{MOVES, Tender};
+use fg_device::Device;
+use fg_drive::{is_move_of, make_move, move_laws};
+use fg_steps::history_laws;
+
+/// One hold of a tender: it makes the move if one is left and the device has that agent and range, and tells whether it did.
+pub fn tend_once(device: &mut Device, event: Event) -> bool
+    ensures { Tends device.old device.new event result }
+{
+    if device.moves_left() == 0 || !is_move_of(device, &event) {
+        return false;
+    }
+    make_move(device, event);
+    true
+}
+
+/// Makes the first `MOVES` moves of the seed's tender, one in each hold, or none where it gives none.
+pub fn tend_through<H: Hold>(hold: &mut H, seed: u64, agents: u32, sizes: &[u32])
+    requires few { length sizes.now < 2 ^ 32 }
+    ensures { TendsAll (H.told hold.old) (H.told hold.new) seed agents sizes.now }
+{
+    history_laws();
+    move_laws();
+    let mut tender = Tender::new(seed);
+    for _move in 0..MOVES {
+        let Some(event) = tender.next(agents, sizes) else {
+            return;
+        };
+        if !hold.tend(event) {
+            return;
+        }
+    }
+}
