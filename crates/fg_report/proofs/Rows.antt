@@ -12,6 +12,7 @@ use Rattle.fg_report.specs.Exports.{export_lines}
 use Rattle.fg_report.specs.Faults.{frame_fault_text, sub_fault_text}
 use Rattle.fg_report.specs.Hazards.{hazard_text, check_text}
 use Rattle.fg_report.specs.Readbacks.{readback_text}
+use Rattle.fg_report.specs.Summaries.{summary_text}
 use Rattle.fg_report.specs.Traces.{trace_text}
 use Rattle.fg_subs.specs.Faults as subs
 use Rattle.fg_checker.specs.declared.hazard.Hazard.TheVariants.{Stuck, NotVisible, BadLayout, BadOwner, Unmatched, Aliased}
@@ -87,3 +88,7 @@ traced = refl
 cache_moves : trace_text (Fill 1 2 3 4 ∷ DropLine 4 3 2 1 ∷ []) ≡ codes "events 2\nfill 1 2 3 4\ndrop 4 3 2 1\n"
 unfolding digits
 cache_moves = refl
+
+summed : summary_text 1 0 7 16384 16384 1 16384 552960 ≡ codes "kept 1 culled 0\nnodes 7\nheap 16384 separate 16384\nexports 1 bytes 16384 sum 552960\n"
+unfolding digits
+summed = refl

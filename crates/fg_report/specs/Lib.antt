@@ -1,3 +1,4 @@
+pub mod Audits
 pub mod Exports
 pub mod Faults
 pub mod Hazards
@@ -5,5 +6,6 @@ pub mod KeptLines
 pub mod Paths
 pub mod PlaceLines
 pub mod Readbacks
+pub mod Summaries
 pub mod Traces
 pub mod UnitNames

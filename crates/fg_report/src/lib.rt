@@ -1,6 +1,7 @@
 //! The texts that the program prints.
 #![tactic(auto)]
 
+mod audit;
 mod export;
 mod fault;
 mod hazard;
@@ -9,15 +10,18 @@ mod key;
 mod path;
 mod place;
 mod readback;
+mod summary;
 mod trace;
 mod unit;
 
+pub use audit::{AuditLine, audit_text};
 pub use export::export_text;
 pub use fault::{frame_fault_text, sub_fault_text};
 pub use hazard::{check_text, hazard_text};
 pub use kept::{cull_text, run_text};
 pub use place::place_text;
 pub use readback::readback_text;
+pub use summary::summary_text;
 pub use trace::trace_text;
 
 #[cfg(test)]
