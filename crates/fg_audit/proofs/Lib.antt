@@ -1,0 +1,9 @@
+pub mod Again
+pub mod Coming
+pub mod Digits
+pub mod Ending
+pub mod Holding
+pub mod Made
+pub mod Reading
+pub mod Saying
+mod WorkedTraces

@@ -1,0 +1,24 @@
+-- That a trace which is printed is read again.
+use Rattle.std.specs.Prelude.{◌≡◌, ◌<◌, ◌≤◌, ◌^◌, List, [], ◌∷◌, length, Ok}
+use Rattle.fg_audit.specs.Trace.{trace_of}
+use Rattle.fg_base.specs.declared.event.Event.{Event}
+use Rattle.fg_base.specs.declared.event.Event.TheVariants.{Begin, End, Sync, WriteBack, Fill, DropLine, Host}
+use Rattle.fg_report.specs.Traces.{trace_text}
+
+-- its numbers are those of an event that there is
+abbrev pub HasNumbers : Event → Type 0
+HasNumbers (Begin node) = node < 2 ^ 32
+HasNumbers (End node) = node < 2 ^ 32
+HasNumbers (Sync node) = node < 2 ^ 32
+HasNumbers (Host node) = node < 2 ^ 32
+HasNumbers (WriteBack agent memory start len) = (agent < 2 ^ 32) × (memory < 2 ^ 32) × (start < 2 ^ 32) × (len < 2 ^ 32)
+HasNumbers (Fill agent memory start len) = (agent < 2 ^ 32) × (memory < 2 ^ 32) × (start < 2 ^ 32) × (len < 2 ^ 32)
+HasNumbers (DropLine agent memory start len) = (agent < 2 ^ 32) × (memory < 2 ^ 32) × (start < 2 ^ 32) × (len < 2 ^ 32)
+
+abbrev pub HaveNumbers : List Event → Type 0
+HaveNumbers [] = Unit {0}
+HaveNumbers (event ∷ events) = HasNumbers event × HaveNumbers events
+
+-- what is printed of a history is read again as that history
+abbrev pub ReadsAgain : Type 0
+ReadsAgain = (events : List Event) → length events ≤ 65536 → HaveNumbers events → trace_of (trace_text events) ≡ Ok events

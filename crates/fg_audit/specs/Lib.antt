@@ -1,0 +1,6 @@
+pub mod Again
+pub mod Code
+pub mod Lines
+pub mod Runs
+pub mod Trace
+pub mod Verdicts

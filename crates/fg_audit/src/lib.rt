@@ -1,0 +1,19 @@
+//! A recorded run is judged.
+#![tactic(auto)]
+
+mod enabled;
+mod follower;
+mod following;
+mod judging;
+mod law;
+mod lines;
+mod making;
+mod numbers;
+mod trace;
+mod undone;
+mod verdict;
+
+pub use judging::audit;
+pub use law::trace_law;
+pub use trace::{TraceEnd, read_trace};
+pub use verdict::Verdict;

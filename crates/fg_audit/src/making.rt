@@ -1,0 +1,138 @@
+//! Events that begin no command, made on a device where they are enabled.
+
+ghost use Rattle.std.specs.Prelude.{◌≡◌, ◌<◌, length, true};
+ghost use Rattle.fg_audit.specs.Code.Following.{is_quiet, Follows, Holds, Lands, Quiet};
+ghost use Rattle.fg_base.specs.declared.event.Event.TheVariants as events;
+ghost use Rattle.fg_steps.specs.Devices.{IsComplete};
+ghost use Rattle.fg_steps.specs.Histories.{is_move};
+
+use crate::enabled::{may_move, may_read, may_sync};
+use fg_base::Event;
+use fg_device::{Device, Finished, Landed};
+use fg_drive::readback_of;
+use fg_steps::{event_laws, round_laws};
+
+/// The event End of a computed command.
+pub(crate) fn end(device: &mut Device, done: Finished) -> bool
+    ensures follows { Follows device.old device.new (events.End done.node) result }
+    ensures lands { Lands device.old device.new done.node }
+{
+    event_laws();
+    match device.end(done) {
+        Landed::Done => true,
+        Landed::NotBegun => false,
+    }
+}
+
+// The event Sync.
+fn sync(device: &mut Device, node: u32) -> bool
+    ensures follows { Follows device.old device.new (events.Sync node) result }
+    ensures quiet { Quiet device.old device.new }
+{
+    event_laws();
+    if !may_sync(device, node) {
+        return false;
+    }
+    device.sync(node);
+    true
+}
+
+// The event Host.
+fn host(device: &mut Device, node: u32) -> bool
+    ensures follows { Follows device.old device.new (events.Host node) result }
+    ensures quiet { Quiet device.old device.new }
+{
+    event_laws();
+    if !may_read(device, node) {
+        return false;
+    }
+    let readback = readback_of(device, node);
+    device.host(readback);
+    true
+}
+
+// The event WriteBack.
+fn write_back(device: &mut Device, agent: u32, memory: u32, start: u32, len: u32) -> bool
+    requires { 0 < device.old.moves }
+    ensures follows { Follows device.old device.new (events.WriteBack agent memory start len) result }
+    ensures quiet { Quiet device.old device.new }
+{
+    round_laws();
+    if !may_move(device, agent, memory, start, len) {
+        return false;
+    }
+    device.write_back(agent, memory, start, len);
+    true
+}
+
+// The event Fill.
+fn fill(device: &mut Device, agent: u32, memory: u32, start: u32, len: u32) -> bool
+    requires { 0 < device.old.moves }
+    ensures follows { Follows device.old device.new (events.Fill agent memory start len) result }
+    ensures quiet { Quiet device.old device.new }
+{
+    round_laws();
+    if !may_move(device, agent, memory, start, len) {
+        return false;
+    }
+    let _filled = device.fill(agent, memory, start, len);
+    true
+}
+
+// The event DropLine.
+fn drop_line(device: &mut Device, agent: u32, memory: u32, start: u32, len: u32) -> bool
+    requires { 0 < device.old.moves }
+    ensures follows { Follows device.old device.new (events.DropLine agent memory start len) result }
+    ensures quiet { Quiet device.old device.new }
+{
+    round_laws();
+    if !may_move(device, agent, memory, start, len) {
+        return false;
+    }
+    device.drop_line(agent, memory, start, len);
+    true
+}
+
+/// An event that begins no command, and ends none.
+pub(crate) fn make(device: &mut Device, event: &Event) -> bool
+    requires quiet { is_quiet event.now ≡ true }
+    requires moves { is_move event.now ≡ true → 0 < device.old.moves }
+    ensures follows { Follows device.old device.new event.now result }
+    ensures quiet { Quiet device.old device.new }
+{
+    match *event {
+        Event::Begin { .. } | Event::End { .. } => unreachable!(),
+        Event::Sync { node } => sync(device, node),
+        Event::Host { node } => host(device, node),
+        Event::WriteBack {
+            agent,
+            memory,
+            start,
+            len,
+        } => write_back(device, agent, memory, start, len),
+        Event::Fill {
+            agent,
+            memory,
+            start,
+            len,
+        } => fill(device, agent, memory, start, len),
+        Event::DropLine {
+            agent,
+            memory,
+            start,
+            len,
+        } => drop_line(device, agent, memory, start, len),
+    }
+}
+
+/// Ends all that is begun, so that the device may be let go. Where all is done nothing changes.
+pub(crate) fn end_all(device: &mut Device, mut begun: Vec<Finished>)
+    requires { Holds device.old begun.items }
+    ensures program { device.new.program ≡ device.old.program }
+    ensures same { IsComplete device.old → device.new ≡ device.old }
+{
+    while let Some(done) = begun.pop() {
+        let _ended = end(device, done);
+    }
+    begun.destroy_empty();
+}
