@@ -1,10 +1,10 @@
 -- The command line, as `clap` reads it.
-use Rattle.std.specs.Prelude.{◌≡◌, true, List, [], ◌∷◌, Option, Some, None, Result, Ok, Err, codes, option_and_then}
-use Rattle.clap.specs.Words.{App, Rule, Text, Kinds, new_app, new_rule, with_rule, first_of, matches_of, rows_of, found_of, fault_of}
+use Rattle.std.specs.Prelude.{◌≡◌, true, List, [], ◌∷◌, Option, Some, None, Result, Ok, Err, codes}
+use Rattle.clap.specs.Words.{App, Rule, Text, Kinds, new_app, new_rule, with_rule, matches_of, rows_of, found_of, fault_of}
 use Rattle.clap.specs.Simple.{on_top}
-use Rattle.clap.specs.declared.builder.action.ArgAction.TheVariants.{Set}
+use Rattle.clap.specs.declared.builder.action.ArgAction.TheVariants.{Set, SetTrue}
 use Rattle.clap.specs.declared.parser.matches.ArgMatches.{ArgMatches}
-use Rattle.fg_words.specs.Commands.{named}
+use Rattle.fg_words.specs.Commands.{command_in}
 use Rattle.fg_words.specs.declared.command.Command.{Command}
 use Rattle.fg_words.specs.declared.matching.Unmatched.{Unmatched}
 use Rattle.fg_words.specs.declared.matching.Unmatched.TheVariants.{NoLine, NoMemory}
@@ -13,18 +13,26 @@ use Rattle.fg_words.specs.declared.matching.Unmatched.TheVariants.{NoLine, NoMem
 abbrev pub word_rule : Rule
 word_rule = record (new_rule (codes "command")) { required = true; action = Some Set }
 
+-- `--name` with one word behind it
+abbrev pub option_rule : Text → Rule
+option_rule name = record (new_rule name) { long = Some name; action = Some Set }
+
+-- `--name` alone
+abbrev pub flag_rule : Text → Rule
+flag_rule name = record (new_rule name) { long = Some name; action = Some SetTrue }
+
 -- neither `--help` nor `--version`
 abbrev pub bare_app : App
 bare_app = on_top (λ s. record s { disable_help_flag = true; disable_version_flag = true }) (new_app (codes "framec"))
 
 abbrev pub framec : App
-framec = with_rule bare_app word_rule
+framec = with_rule (with_rule (with_rule (with_rule bare_app word_rule) (option_rule (codes "workers"))) (option_rule (codes "tend"))) (flag_rule (codes "trace"))
 
 -- a line, of which the program's own name is the first word: nothing in it is refused
 abbrev pub IsLine : List Text → Type 0
 IsLine line = fault_of framec line ≡ []
 
--- the command that a line's word names, where `clap` refuses nothing
+-- the command of a line, where `clap` refuses nothing
 abbrev pub unless_refused : Kinds → Option Command → Option Command
 unless_refused [] command = command
 unless_refused faults command = None
@@ -33,7 +41,7 @@ unless_refused faults command = None
 abbrev pub command_of : List Text → Option Command
 command_of words =
     let line = codes "framec" ∷ words in
-    unless_refused (fault_of framec line) (option_and_then named (first_of (codes "command") (matches_of framec line)))
+    unless_refused (fault_of framec line) (command_in (matches_of framec line))
 
 abbrev pub Matches : List Text → Result ArgMatches Unmatched → Type 0
 Matches line (Ok matches) = IsLine line × (rows_of (found_of matches) ≡ matches_of framec line)

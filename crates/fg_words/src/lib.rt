@@ -4,6 +4,9 @@
 mod command;
 mod line;
 mod matching;
+mod number;
+mod options;
 
 pub use command::{Command, FrameCommand, SubmissionCommand};
 pub use line::command_of;
+pub use options::Options;

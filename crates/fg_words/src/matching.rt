@@ -2,7 +2,7 @@
 
 ghost use Rattle.std.specs.Prelude.{◌≡◌, IfOk, map, false};
 ghost use Rattle.clap.specs.Words.{app_of, rule_of};
-ghost use Rattle.fg_words.specs.Lines.{framec, bare_app, word_rule, Matches};
+ghost use Rattle.fg_words.specs.Lines.{framec, bare_app, flag_rule, option_rule, word_rule, Matches};
 
 use clap::error::ErrorKind;
 use clap::{Arg, ArgAction, ArgMatches, Command};
@@ -24,6 +24,21 @@ fn word<'a>(alloc: Global) -> Arg<'a>
         .action(ArgAction::Set)
 }
 
+// An option with a number behind it.
+fn option<'a>(alloc: Global, name: &'a str) -> Arg<'a>
+    ensures rule { rule_of result ≡ option_rule name.entry.now }
+    ensures own { result.global ≡ false }
+{
+    Arg::new(alloc, name).long(name).action(ArgAction::Set)
+}
+
+fn flag<'a>(alloc: Global, name: &'a str) -> Arg<'a>
+    ensures rule { rule_of result ≡ flag_rule name.entry.now }
+    ensures own { result.global ≡ false }
+{
+    Arg::new(alloc, name).long(name).action(ArgAction::SetTrue)
+}
+
 fn bare<'a>(alloc: Global) -> Command<'a>
     ensures { app_of result ≡ bare_app }
 {
@@ -35,7 +50,10 @@ fn bare<'a>(alloc: Global) -> Command<'a>
 fn framec<'a>(alloc: Global) -> Result<Command<'a>, AllocError>
     ensures { IfOk result (λ command. app_of command ≡ framec) }
 {
-    let command = bare(alloc).arg(word(alloc))?;
+    let worded = bare(alloc).arg(word(alloc))?;
+    let working = worded.arg(option(alloc, "workers"))?;
+    let tended = working.arg(option(alloc, "tend"))?;
+    let command = tended.arg(flag(alloc, "trace"))?;
     Ok(command)
 }
 
