@@ -13,13 +13,13 @@ use std::sync::Wait;
 use std::test::Fail;
 use std::thread::Threads;
 
-const FILL: &str =
+pub(crate) const FILL: &str =
     "{\"format\":1,\"queues\":[{\"name\":\"g\",\"family\":\"graphics\"}],\"resources\":[{\"name\":\"b\",\"buffer\":16}],\"passes\":[{\"name\":\"p\",\"queue\":\"g\",\"writes\":[{\"new\":\"b\"}],\"ops\":[{\"op\":\"fill_buffer\",\"dst\":\"b\",\"offset\":0,\"size\":16,\"word\":7}]}],\"exports\":[\"b\"]}";
 
 const FILL_TEXT: &str = "kept 1 culled 0\nexport b 16\n07000000070000000700000007000000\n";
 
 // The words of a command line.
-fn words_of(alloc: Global, line: &str) -> Result<Vec<String>, AllocError> {
+pub(crate) fn words_of(alloc: Global, line: &str) -> Result<Vec<String>, AllocError> {
     let mut words = Vec::new(alloc);
     for word in line.split_whitespace() {
         words.push(String::from_str(alloc, word)?)?;
@@ -310,12 +310,14 @@ fn rests(
 }
 
 #[test]
-fn at_rest_leaves_run(rt: HostRuntime) -> Result<(), Fail> {
+fn at_rest_answers(rt: HostRuntime) -> Result<(), Fail> {
     let alloc = rt.alloc();
     let mut source = SteadySource::new(bytes_of(alloc, CHAIN)?, 9);
     let mut sink = MemorySink::new(alloc, 1000, 9, List::new(alloc))?;
-    let left = rests(alloc, "run", &mut source, &mut sink)?;
-    assert!(&rt; left == None && sink.bytes().is_empty());
+    for line in &["run --workers 3", "exec --trace"] {
+        let left = rests(alloc, line, &mut source, &mut sink)?;
+        assert!(&rt; left == None && sink.bytes().is_empty(), "{line}");
+    }
     let status = rests(alloc, "cull", &mut source, &mut sink)?;
     assert!(&rt; status == Some(Status::Done) && sink.bytes() == CULLED.as_bytes());
     Ok(())

@@ -8,6 +8,8 @@ mod checking;
 #[cfg(test)]
 mod compiling;
 #[cfg(test)]
+mod executing;
+#[cfg(test)]
 mod operations;
 #[cfg(test)]
 mod placing;

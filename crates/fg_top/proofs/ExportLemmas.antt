@@ -1,17 +1,23 @@
--- Exports, one after another.
-use Rattle.std.proofs.Common.{◌≡◌, ℕ, suc, ◌+◌, ◌<◌, ◌++◌, List, [], length, get_or, drop, Some, sym, ap, ◌∙◌, ◌∷◌, add-one, drop-cons, append_assoc, unwrap_or}
+-- Exports with their bytes.
+use Rattle.std.proofs.Common.{◌≡◌, ℕ, List, get_or, Some, ap, subst}
+use Rattle.std.proofs.lemmas.List.Elements.{All-get_or}
+use Rattle.std.proofs.lemmas.Option.{slice_get_within, get_or_from_slice_get}
+use Rattle.std.specs.List.{All}
 use Rattle.fg_base.specs.Applied.{bytes_at}
 use Rattle.fg_frame.specs.Numbered.{numbered}
 use Rattle.fg_frame.specs.declared.frame.Frame.{Frame}
 use Rattle.fg_meaning.specs.Meaning.{meaning}
-use Rattle.fg_report.specs.Exports.{export_text}
-use Rattle.fg_top.specs.Texts.{exports_from}
+use Rattle.fg_top.specs.Answers.{MeansFrame, done}
+use Rattle.fg_top.specs.Code.Stages.{bytes_in}
+use Rattle.fg_top.specs.Texts.{exports_text}
 
--- one unit more
-pub export_on : (frame : Frame) (units : List ℕ) (exports : List (List ℕ)) (k : ℕ) (bytes text text' total : List ℕ) → k < length units → meaning (numbered frame) (get_or units k 0) ≡ Some (bytes_at exports (get_or units k 0)) → bytes ≡ bytes_at exports (get_or units k 0) → text' ≡ text ++ export_text frame k bytes → text ++ exports_from frame k (drop k units) ≡ total → text' ++ exports_from frame (k + 1) (drop (k + 1) units) ≡ total
-export_on frame units exports k bytes text text' total lt means found grows so_far =
-    let unit : ℕ = get_or units k 0 in
-    let at : drop k units ≡ unit ∷ drop (suc k) units = drop-cons units k 0 lt in
-    let whole : bytes ≡ unwrap_or (meaning (numbered frame) unit) [] = found ∙ sym (ap (λ o. unwrap_or o []) means) in
-    let here : List ℕ = export_text frame k (unwrap_or (meaning (numbered frame) unit) []) in
-    rw add-one (ap (λ t. t ++ exports_from frame (suc k) (drop (suc k) units)) (grows ∙ ap (λ b. text ++ export_text frame k b) whole) ∙ append_assoc text here (exports_from frame (suc k) (drop (suc k) units)) ∙ ap (λ us. text ++ exports_from frame k us) (sym at) ∙ so_far)
+-- what the exported units hold is printed
+pub means_frame : (frame : Frame) (units : List (List ℕ)) (text : List ℕ) → All (λ unit. meaning (numbered frame) unit ≡ Some (bytes_at units unit)) (numbered frame).exports → text ≡ exports_text frame (bytes_in frame units) → MeansFrame frame (done text)
+means_frame frame units text hold is = record {
+  bytes = bytes_in frame units;
+  meant = λ k unit at.
+      let exports : List ℕ = (numbered frame).exports in
+      let here : get_or exports k 0 ≡ unit = get_or_from_slice_get exports k unit 0 at in
+      subst (λ (u : ℕ). meaning (numbered frame) u ≡ Some (bytes_at units (get_or exports k 0))) here (All-get_or (λ u. meaning (numbered frame) u ≡ Some (bytes_at units u)) exports k 0 (slice_get_within exports k unit at) hold);
+  whole = ap done is;
+}

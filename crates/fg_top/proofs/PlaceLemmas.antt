@@ -10,9 +10,8 @@ use Rattle.fg_groups.specs.declared.grouping.Grouping.{Grouping}
 use Rattle.fg_lifetimes.specs.Ordered.{IsOrdered}
 use Rattle.fg_place.specs.Placing.{Places, IsLeast}
 use Rattle.fg_report.specs.PlaceLines.{place_text}
-use Rattle.fg_top.specs.Answers.{PlacesFrame}
+use Rattle.fg_top.specs.Answers.{PlacesFrame, done}
 use Rattle.fg_top.specs.Code.Stages.{AreGrouped, ArePlaced, ArePlaceLines}
-use Rattle.fg_top.specs.declared.ended.Status.TheVariants.{Done}
 
 -- the placed units have an offset each
 pub as_many : (G : Grouping) (places : Places) → ArePlaced G places → length places.offsets ≡ length (placed G)
@@ -26,7 +25,7 @@ known_units frame G are =
     omega (arith, here, same)
 
 -- the lines of least places are what the command answers
-pub placed_frame : (frame : Frame) (G : Grouping) (text : List ℕ) → AreGrouped (numbered frame) G → ArePlaceLines frame G text → PlacesFrame frame (record { status = Done; text = text })
+pub placed_frame : (frame : Frame) (G : Grouping) (text : List ℕ) → AreGrouped (numbered frame) G → ArePlaceLines frame G text → PlacesFrame frame (done text)
 placed_frame frame G text grouped are = let placed = are.are_placed in record {
   kept = grouped.kept;
   are_kept = grouped.are_kept;
@@ -34,5 +33,5 @@ placed_frame frame G text grouped are = let placed = are.are_placed in record {
   is_ordered = subst (λ H. IsOrdered H placed.ordered) grouped.groups placed.is_ordered;
   places = are.places;
   least = subst (λ H. IsLeast (sizes H) placed.ordered are.places) grouped.groups placed.least;
-  whole = ap (λ t. record { status = Done; text = t }) (are.lines ∙ ap (λ H. place_text frame H are.places) grouped.groups);
+  whole = ap done (are.lines ∙ ap (λ H. place_text frame H are.places) grouped.groups);
 }

@@ -10,8 +10,10 @@ use Rattle.fg_bits.specs.declared.sharing.Sharing.TheVariants.{Exclusive}
 use Rattle.fg_frame.specs.Numbered.{numbered}
 use Rattle.fg_frame.specs.declared.frame.Frame.{Frame}
 use Rattle.fg_frame.specs.declared.frame.Spot.{Spot}
+use Rattle.fg_meaning.specs.Meaning.{all_bytes}
+use Rattle.fg_top.specs.Code.Stages.{bytes_in}
 use Rattle.fg_top.specs.Outcomes.{TakesAtMost, TakesWhole}
-use Rattle.fg_top.specs.Texts.{exports_from}
+use Rattle.fg_top.specs.Texts.{exports_text}
 
 whole : Spot
 whole = record { name = codes "b"; layer = None }
@@ -25,7 +27,7 @@ one_fill = record {
   exports = whole ∷ [];
 }
 
-one_fill_exported : exports_from one_fill 0 (numbered one_fill).exports ≡ codes "export b 16\n07000000070000000700000007000000\n"
+one_fill_exported : exports_text one_fill (bytes_in one_fill (all_bytes (numbered one_fill))) ≡ codes "export b 16\n07000000070000000700000007000000\n"
 unfolding one_fill whole band low_bytes hex_on_literals digits
 one_fill_exported = refl
 

@@ -1,7 +1,16 @@
--- Words that are left alone, because what they ask for will run on a device.
-use Rattle.std.specs.Prelude.{Option, Some, None}
+-- Words that are left alone at rest, because what they ask for runs on a device.
+use Rattle.std.specs.Prelude.{Bool, true, false, Option, Some, None}
 use Rattle.fg_top.specs.declared.ended.Status.{Status}
 use Rattle.fg_top.specs.declared.ended.Status.TheVariants.{NoMemory}
+use Rattle.fg_words.specs.declared.command.Command.{Command}
+use Rattle.fg_words.specs.declared.command.Command.TheVariants.{Frame, Submission, Run, Exec}
+
+abbrev pub needs_device : Option Command → Bool
+needs_device None = false
+needs_device (Some (Frame asked)) = false
+needs_device (Some (Submission asked)) = false
+needs_device (Some (Run options)) = true
+needs_device (Some (Exec options)) = true
 
 -- no status, unless memory ran out before the words were known
 abbrev pub IsLeft : Option Status → Type 0

@@ -6,7 +6,9 @@ pub mod Code
 pub mod Complete
 pub mod Ends
 pub mod Files
+pub mod Headline
 pub mod Outcomes
+pub mod Runs
 pub mod Statuses
 pub mod Texts
 pub mod Told

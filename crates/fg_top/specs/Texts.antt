@@ -1,17 +1,31 @@
--- The exports of a frame, as they are printed.
-use Rattle.std.specs.Prelude.{◌≡◌, ℕ, suc, true, List, [], ◌∷◌, ◌++◌, is_some, unwrap_or}
-use Rattle.std.specs.List.{All}
-use Rattle.fg_frame.specs.Numbered.{numbered}
+-- What is printed of exports, of read-backs and of a history.
+use Rattle.std.specs.Prelude.{◌≡◌, ℕ, zero, suc, List, [], ◌++◌, length, slice_get, Bool, true, false, Some}
+use Rattle.fg_base.specs.declared.event.Event.{Event}
+use Rattle.fg_frame.specs.Numbered.{NumberedFrame, numbered}
 use Rattle.fg_frame.specs.declared.frame.Frame.{Frame}
 use Rattle.fg_meaning.specs.Meaning.{meaning}
 use Rattle.fg_report.specs.Exports.{export_text}
+use Rattle.fg_report.specs.Readbacks.{readback_text}
+use Rattle.fg_report.specs.Traces.{trace_text}
 
--- exports number k and on, which are these units, each with the bytes that it has after all passes
-abbrev pub exports_from : Frame → ℕ → List ℕ → List ℕ
-exports_from frame k [] = []
-exports_from frame k (unit ∷ units) = export_text frame k (unwrap_or (meaning (numbered frame) unit) []) ++ exports_from frame (suc k) units
+-- text 0, text 1 and so on, so many of them
+abbrev pub in_turn : (ℕ → List ℕ) → ℕ → List ℕ
+in_turn text zero = []
+in_turn text (suc k) = in_turn text k ++ text k
 
--- the exports in their order; each is a unit with contents
-pub record AreExported (frame : Frame) (text : List ℕ) : Type 0 where
-  pub contents : All (λ unit. is_some (meaning (numbered frame) unit) ≡ true) (numbered frame).exports
-  pub whole : text ≡ exports_from frame 0 (numbered frame).exports
+-- the exports of a frame; export k has the bytes of k
+abbrev pub exports_text : Frame → (ℕ → List ℕ) → List ℕ
+exports_text frame bytes = in_turn (λ k. export_text frame k (bytes k)) (length (numbered frame).exports)
+
+-- each export has the bytes that its unit has after all passes, one after another, each unit having bytes of its own
+abbrev pub AreMeant : NumberedFrame → (ℕ → List ℕ) → Type 0
+AreMeant frame bytes = (k unit : ℕ) → slice_get frame.exports k ≡ Some unit → meaning frame unit ≡ Some (bytes k)
+
+-- so many read-backs; read-back k has the bytes of k
+abbrev pub readbacks_text : (ℕ → List ℕ) → ℕ → List ℕ
+readbacks_text bytes count = in_turn (λ k. readback_text k (bytes k)) count
+
+-- the history, where it is asked for
+abbrev pub traced : Bool → List Event → List ℕ
+traced false history = []
+traced true history = trace_text history

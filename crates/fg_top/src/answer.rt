@@ -1,20 +1,45 @@
 //! What a command answers, before it is written.
 
 ghost use Rattle.std.specs.Prelude.{◌≡◌, IfOk};
-ghost use Rattle.fg_top.specs.Answers.{refusal, program_refusal};
+ghost use Rattle.fg_top.specs.Answers.{done, refusal, program_refusal};
+ghost use Rattle.fg_top.specs.Headline.{ran};
 
 use crate::Status;
 use fg_base::{NoMemory, Text};
+use fg_device::Device;
 use fg_frame::FrameFault;
 use fg_report::{frame_fault_text, sub_fault_text};
 use fg_subs::SubFault;
 use std::alloc::Global;
 
-/// A status and the whole text that goes with it.
+/// A status, the whole text that goes with it, and the device that ran for it, whose history taps are told.
 #[derive(Drop)]
 pub struct Answer {
     pub status: Status,
     pub text: Text,
+    pub device: Option<Device>,
+}
+
+/// The whole text of a command that ran no device.
+pub fn done(text: Text) -> Answer
+    ensures { result ≡ done text }
+{
+    Answer {
+        status: Status::Done,
+        text,
+        device: None,
+    }
+}
+
+/// The whole text of a command that ran this device.
+pub fn ran(device: Device, text: Text) -> Answer
+    ensures { result ≡ ran device text }
+{
+    Answer {
+        status: Status::Done,
+        text,
+        device: Some(device),
+    }
 }
 
 /// The answer to a frame file with a fault.
@@ -24,6 +49,7 @@ pub fn refusal(alloc: Global, fault: &FrameFault) -> Result<Answer, NoMemory>
     Ok(Answer {
         status: Status::Refused,
         text: frame_fault_text(alloc, fault)?,
+        device: None,
     })
 }
 
@@ -34,5 +60,6 @@ pub fn program_refusal(alloc: Global, fault: &SubFault) -> Result<Answer, NoMemo
     Ok(Answer {
         status: Status::Refused,
         text: sub_fault_text(alloc, fault)?,
+        device: None,
     })
 }

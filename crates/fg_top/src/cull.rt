@@ -6,8 +6,7 @@ ghost use Rattle.fg_top.specs.Answers.{CullsFrame};
 ghost use Rattle.fg_top.specs.Code.Steps.{HasText};
 ghost use Rattle.fg_versions.specs.Culled.{AreKept};
 
-use crate::Status;
-use crate::answer::Answer;
+use crate::answer::{Answer, done};
 use fg_base::NoMemory;
 use fg_frame::GoodFrame;
 use fg_report::cull_text;
@@ -30,8 +29,5 @@ pub fn cull_frame(alloc: Global, good: &GoodFrame) -> Result<Answer, NoMemory>
 {
     let kept = kept_of(alloc, good)?;
     let text = cull_text(alloc, good, &kept)?;
-    Ok(Answer {
-        status: Status::Done,
-        text,
-    })
+    Ok(done(text))
 }

@@ -12,7 +12,6 @@ use crate::cull::cull_frame;
 use crate::meaning::mean_frame;
 use crate::migrate::migrate_frame;
 use crate::place::place_frame;
-use crate::run::run_frame;
 use fg_base::NoMemory;
 use fg_frame::{FrameEnd, GoodFrame, well_formed};
 use fg_framefile::{FrameReadEnd, read_frame};
@@ -40,7 +39,6 @@ fn answer_frame(alloc: Global, asked: FrameCommand, good: &GoodFrame) -> Result<
     ensures has_text { IfOk result (λ answer. HasText answer.status) }
 {
     match asked {
-        FrameCommand::Run => run_frame(alloc, good),
         FrameCommand::Cull => cull_frame(alloc, good),
         FrameCommand::Place => place_frame(alloc, good),
         FrameCommand::Compile => compile_frame(alloc, good),
@@ -49,8 +47,8 @@ fn answer_frame(alloc: Global, asked: FrameCommand, good: &GoodFrame) -> Result<
     }
 }
 
-// The good frame that bytes are, or their first fault.
-fn good_frame(alloc: Global, bytes: &[u8]) -> Result<GoodFrame, FrameReadEnd>
+/// The good frame that bytes are, or their first fault.
+pub fn good_frame(alloc: Global, bytes: &[u8]) -> Result<GoodFrame, FrameReadEnd>
     ensures { FrameGives result (frame_file bytes.now) }
 {
     match well_formed(alloc, read_frame(alloc, bytes)?) {

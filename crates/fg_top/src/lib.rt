@@ -4,8 +4,9 @@
 mod answer;
 mod compile;
 mod cull;
+mod devices;
 mod ended;
-mod exports;
+mod exec;
 mod files;
 mod frames;
 mod groups;
@@ -15,8 +16,11 @@ mod migrate;
 mod output;
 mod place;
 mod programs;
+mod readbacks;
 mod rest;
 mod run;
+mod running;
+mod telling;
 mod top;
 
 pub use ended::{Ended, Status};

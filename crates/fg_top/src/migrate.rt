@@ -4,8 +4,7 @@ ghost use Rattle.std.specs.Prelude.{IfOk};
 ghost use Rattle.fg_top.specs.Answers.{MigratesFrame};
 ghost use Rattle.fg_top.specs.Code.Steps.{HasText};
 
-use crate::Status;
-use crate::answer::Answer;
+use crate::answer::{Answer, done};
 use fg_base::NoMemory;
 use fg_frame::GoodFrame;
 use fg_framefile::write_frame;
@@ -19,8 +18,5 @@ pub fn migrate_frame(alloc: Global, good: &GoodFrame) -> Result<Answer, NoMemory
 {
     let mut text = write_frame(alloc, good.frame())?;
     text.end_line()?;
-    Ok(Answer {
-        status: Status::Done,
-        text,
-    })
+    Ok(done(text))
 }

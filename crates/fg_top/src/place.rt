@@ -6,8 +6,7 @@ ghost use Rattle.fg_top.specs.Answers.{PlacesFrame};
 ghost use Rattle.fg_top.specs.Code.Stages.{AreGrouped, ArePlaced, ArePlaceLines};
 ghost use Rattle.fg_top.specs.Code.Steps.{HasText};
 
-use crate::Status;
-use crate::answer::Answer;
+use crate::answer::{Answer, done};
 use crate::groups::kept_groups;
 use fg_base::{NoMemory, Text};
 use fg_frame::GoodFrame;
@@ -39,10 +38,7 @@ fn place_answer(alloc: Global, good: &GoodFrame, groups: &Groups) -> Result<Answ
     ensures frame { IfOk result (PlacesFrame good.now) }
     ensures has_text { IfOk result (λ answer. HasText answer.status) }
 {
-    Ok(Answer {
-        status: Status::Done,
-        text: place_lines(alloc, good, groups)?,
-    })
+    Ok(done(place_lines(alloc, good, groups)?))
 }
 
 /// The answer to the command on a good frame.

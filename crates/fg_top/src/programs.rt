@@ -1,15 +1,16 @@
 //! The commands that read a submission.
 
-ghost use Rattle.std.specs.Prelude.{◌≡◌, IfOk};
+ghost use Rattle.std.specs.Prelude.{◌≡◌, IfOk, IfErr};
+ghost use Rattle.fg_checker.specs.Sound.{IsSound};
 ghost use Rattle.fg_subfile.specs.Files.{ProgramGives};
-ghost use Rattle.fg_top.specs.Answers.{AnswersProgram, AnswersProgramFile, rejection};
+ghost use Rattle.fg_top.specs.Answers.{AnswersProgram, AnswersProgramFile, Rejects, rejection};
 ghost use Rattle.fg_top.specs.Code.Steps.{HasText};
 ghost use Rattle.fg_top.specs.Files.{program_file};
 
 use crate::Status;
-use crate::answer::{Answer, program_refusal};
+use crate::answer::{Answer, done, program_refusal};
 use fg_base::NoMemory;
-use fg_checker::{CheckEnd, Hazard, check};
+use fg_checker::{CheckEnd, Checked, Hazard, check};
 use fg_report::{check_text, hazard_text};
 use fg_subfile::{SubReadEnd, read_program};
 use fg_subs::{ShapeEnd, Shaped, shape};
@@ -52,26 +53,38 @@ fn check_program(alloc: Global, program: Shaped) -> Result<Answer, NoMemory>
 {
     let nodes = program.node_count();
     match check(alloc, program) {
-        Ok(_) => Ok(Answer {
-            status: Status::Done,
-            text: check_text(alloc, nodes)?,
-        }),
+        Ok(_) => Ok(done(check_text(alloc, nodes)?)),
         Err(CheckEnd::Refused(hazard, _)) => rejection(alloc, &hazard),
         Err(CheckEnd::NoMemory) => Err(NoMemory),
     }
 }
 
-fn rejection(alloc: Global, hazard: &Hazard) -> Result<Answer, NoMemory>
+/// The program, where it is sound, or else the answer to it.
+pub fn checked(alloc: Global, program: Shaped) -> Result<Checked, Result<Answer, NoMemory>>
+    ensures ok { IfOk result (λ checked. (checked.program ≡ program) × IsSound program) }
+    ensures err { IfErr result (λ end. IfOk end (Rejects program)) }
+    ensures has_text { IfErr result (λ end. IfOk end (λ answer. HasText answer.status)) }
+{
+    match check(alloc, program) {
+        Ok(checked) => Ok(checked),
+        Err(CheckEnd::Refused(hazard, _)) => Err(rejection(alloc, &hazard)),
+        Err(CheckEnd::NoMemory) => Err(Err(NoMemory)),
+    }
+}
+
+/// The answer to a program that is not sound.
+pub fn rejection(alloc: Global, hazard: &Hazard) -> Result<Answer, NoMemory>
     ensures { IfOk result (λ answer. answer ≡ rejection hazard.now) }
 {
     Ok(Answer {
         status: Status::Rejected,
         text: hazard_text(alloc, hazard)?,
+        device: None,
     })
 }
 
-// The program that bytes are, or their first fault.
-fn shaped(alloc: Global, bytes: &[u8]) -> Result<Shaped, SubReadEnd>
+/// The program that bytes are, or their first fault.
+pub fn shaped(alloc: Global, bytes: &[u8]) -> Result<Shaped, SubReadEnd>
     ensures { ProgramGives result (program_file bytes.now) }
 {
     match shape(alloc, read_program(alloc, bytes)?) {

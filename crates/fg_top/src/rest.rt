@@ -1,21 +1,89 @@
 //! The part of the top call that needs no device.
 
-ghost use Rattle.std.specs.Prelude.{◌≡◌, map, string_bytes, Some, None, IfSome, IfNone};
-ghost use Rattle.fg_top.specs.AtRest.{IsLeft};
+ghost use Rattle.std.specs.Prelude.{◌≡◌, ◌+◌, ◌⊎◌, IfOk, IfErr, map, string_bytes, Some, None, IfSome, IfNone, true};
+ghost use Rattle.fg_top.specs.Answers.{AnswersBytes, AnswersLeft, IsAnswered, input_limit};
+ghost use Rattle.fg_top.specs.AtRest.{IsLeft, needs_device};
 ghost use Rattle.fg_top.specs.Calls.{Call};
+ghost use Rattle.fg_top.specs.Causes.{ReadCause, WriteCause};
+ghost use Rattle.fg_top.specs.Code.Served.{IsAtRest};
+ghost use Rattle.fg_top.specs.Code.Steps.{HasText, ReadsAnswer};
 ghost use Rattle.fg_top.specs.Ends.{ends};
-ghost use Rattle.fg_top.specs.Outcomes.{IsUnanswered};
+ghost use Rattle.fg_top.specs.Outcomes.{IsUnanswered, TakesAtMost, TakesWhole};
 ghost use Rattle.fg_words.specs.Lines.{command_of};
 
 use crate::Status;
-use crate::files::answer;
+use crate::answer::Answer;
+use crate::files::{input_limit, over_input};
+use crate::frames::answer_frame_file;
+use crate::intake::{Intake, read_input};
 use crate::output::put;
+use crate::programs::answer_program_file;
 use fg_base::{NoMemory, Sink, Source};
-use fg_words::{Command, FrameCommand, command_of};
+use fg_words::{Command, command_of};
 use std::alloc::Global;
 
-/// Does the whole work of the top call for all words but `run`, which will run on a device: for that it answers none,
-/// or that memory ran out, and has read and written nothing. For other words all holds that holds of the top call.
+fn needs_device(command: Command) -> bool
+    ensures { result ≡ needs_device (Some command) }
+{
+    match command {
+        Command::Frame(_) | Command::Submission(_) => false,
+        Command::Run(_) | Command::Exec(_) => true,
+    }
+}
+
+fn answer_bytes(alloc: Global, command: Command, bytes: &[u8]) -> Result<Answer, NoMemory>
+    requires { IsAtRest command }
+    ensures answer { IfOk result (AnswersBytes command bytes.now) }
+    ensures has_text { IfOk result (λ answer. HasText answer.status) }
+{
+    match command {
+        Command::Frame(asked) => answer_frame_file(alloc, asked, bytes),
+        Command::Submission(asked) => answer_program_file(alloc, asked, bytes),
+        Command::Run(_) | Command::Exec(_) => unreachable!(),
+    }
+}
+
+// The answer to the file that is read, or the status where there is none.
+fn answer_input<I: Source>(alloc: Global, command: Command, input: &mut I) -> Result<Answer, Status>
+    requires { IsAtRest command }
+    ensures answer { IfOk result (AnswersLeft command (I.left input.old)) }
+    ensures has_text { IfOk result (λ answer. HasText answer.status) }
+    ensures none { IfErr result (λ status. (status ≡ Status.ReadFault) ⊎ (status ≡ Status.NoMemory)) }
+    ensures read { ReadsAnswer (I.faults input.old) (I.faults input.new) result }
+    ensures taken { TakesAtMost (input_limit command + 1) (I.left input.old) (I.left input.new) }
+    ensures whole { IfOk result (λ _. TakesWhole (input_limit command) (I.left input.old) (I.left input.new)) }
+{
+    match read_input(alloc, input, input_limit(command)) {
+        Intake::Whole(bytes) => Ok(answer_bytes(alloc, command, bytes.as_slice())?),
+        Intake::Over => Ok(over_input(alloc, command)?),
+        Intake::Fault => Err(Status::ReadFault),
+        Intake::NoMemory => Err(Status::NoMemory),
+    }
+}
+
+// Reads a file, does what the command says, and writes its text.
+fn answer<I: Source, O: Sink>(
+    alloc: Global,
+    command: Command,
+    input: &mut I,
+    output: &mut O,
+) -> Status
+    requires { IsAtRest command }
+    ensures answered { IsAnswered command (I.left input.old) (O.taken output.old) (O.taken output.new) (λ device. device ≡ None) result }
+    ensures read { ReadCause (I.faults input.old) (I.faults input.new) result }
+    ensures write { WriteCause (O.faults output.old) (O.faults output.new) result }
+    ensures taken { TakesAtMost (input_limit command + 1) (I.left input.old) (I.left input.new) }
+    ensures whole { ¬ IsUnanswered result → TakesWhole (input_limit command) (I.left input.old) (I.left input.new) }
+    ensures unwritten { IsUnanswered result → output.new ≡ output.old }
+{
+    match answer_input(alloc, command, input) {
+        Ok(answer) => put(output, answer.status, answer.text.as_slice()),
+        Err(status) => status,
+    }
+}
+
+/// Does the whole work of the top call for all words but those of `run` and `exec`, which need a device: for these it
+/// answers none, or that memory ran out, and has read and written nothing. For other words all holds that holds of the top call.
 pub fn at_rest<I: Source, O: Sink>(
     alloc: Global,
     words: &[String],
@@ -23,19 +91,23 @@ pub fn at_rest<I: Source, O: Sink>(
     output: &mut O,
 ) -> Option<Status>
     // The words that are left alone.
-    ensures left { command_of (map string_bytes words.now) ≡ Some (Command.Frame FrameCommand.Run) →
+    ensures left { needs_device (command_of (map string_bytes words.now)) ≡ true →
         IsLeft result × (input.new ≡ input.old) × (output.new ≡ output.old) }
-    ensures none { IfNone result (command_of (map string_bytes words.now) ≡ Some (Command.Frame FrameCommand.Run)) }
+    ensures none { IfNone result (needs_device (command_of (map string_bytes words.now)) ≡ true) }
 
     // All others.
     ensures call { let seen = ends I.left I.faults O.taken O.faults in
-        IfSome result (Call (command_of (map string_bytes words.now)) (seen input.old output.old) (seen input.new output.new)) }
+        IfSome result (Call (command_of (map string_bytes words.now)) (seen input.old output.old) (seen input.new output.new) (λ device. device ≡ None)) }
     ensures unread { command_of (map string_bytes words.now) ≡ None → input.new ≡ input.old }
     ensures unwritten { IfSome result (λ status. IsUnanswered status → output.new ≡ output.old) }
 {
     match command_of(alloc, words) {
-        Ok(Some(Command::Frame(FrameCommand::Run))) => None,
-        Ok(Some(command)) => Some(answer(alloc, command, input, output)),
+        Ok(Some(command)) => {
+            if needs_device(command) {
+                return None;
+            }
+            Some(answer(alloc, command, input, output))
+        }
         Ok(None) => Some(put(output, Status::Words, b"words\n")),
         Err(NoMemory) => Some(Status::NoMemory),
     }

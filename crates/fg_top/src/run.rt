@@ -1,29 +1,78 @@
 //! The command `run`.
 
-ghost use Rattle.std.specs.Prelude.{IfOk};
-ghost use Rattle.fg_top.specs.Answers.{RunsFrame};
+ghost use Rattle.std.specs.Prelude.{◌≤◌, IfOk};
+ghost use Rattle.fg_frame.specs.Numbered.{numbered};
+ghost use Rattle.fg_top.specs.Answers.{RunsFile};
 ghost use Rattle.fg_top.specs.Code.Steps.{HasText};
+ghost use Rattle.fg_top.specs.Files.{frame_file};
+ghost use Rattle.fg_top.specs.Headline.{Compiles, RunsFrame};
 
-use crate::Status;
-use crate::answer::Answer;
-use crate::cull::kept_of;
-use crate::exports::add_exports;
-use fg_base::NoMemory;
+use crate::answer::{Answer, ran, refusal};
+use crate::compile::compiled;
+use crate::frames::good_frame;
+use crate::readbacks::frame_text;
+use crate::running::run_program;
+use fg_base::{Gate, NoMemory};
+use fg_compile::Compiled;
 use fg_frame::GoodFrame;
-use fg_report::run_text;
+use fg_framefile::FrameReadEnd;
+use fg_words::Options;
 use std::alloc::Global;
+use std::sync::Wait;
+use std::thread::Threads;
 
-/// The answer to the command on a good frame.
 #[tactic(auto, using(crate::proofs::KeptLemmas::one_each))]
-pub fn run_frame(alloc: Global, good: &GoodFrame) -> Result<Answer, NoMemory>
-    ensures frame { IfOk result (RunsFrame good.now) }
+fn run_compiled<R: Threads + Wait + Sync, G: Gate + Sync>(
+    rt: &R,
+    alloc: Global,
+    options: Options,
+    good: &GoodFrame,
+    made: &Compiled,
+    gate: &G,
+) -> Result<Answer, NoMemory>
+    requires least { 1 ≤ options.workers }
+    requires most { options.workers ≤ 16 }
+    requires compiles { Compiles (numbered good.now) made.now.kept made.now.program.program }
+    ensures frame { IfOk result (RunsFrame options good.now) }
     ensures has_text { IfOk result (λ answer. HasText answer.status) }
 {
-    let kept = kept_of(alloc, good)?;
-    let mut text = run_text(alloc, good, &kept)?;
-    add_exports(alloc, &mut text, good)?;
-    Ok(Answer {
-        status: Status::Done,
-        text,
-    })
+    let device = run_program(rt, alloc, &made.program, options, gate)?;
+    let text = frame_text(alloc, good, &made.kept, &device, options.trace)?;
+    Ok(ran(device, text))
+}
+
+fn run_frame<R: Threads + Wait + Sync, G: Gate + Sync>(
+    rt: &R,
+    alloc: Global,
+    options: Options,
+    good: &GoodFrame,
+    gate: &G,
+) -> Result<Answer, NoMemory>
+    requires least { 1 ≤ options.workers }
+    requires most { options.workers ≤ 16 }
+    ensures frame { IfOk result (RunsFrame options good.now) }
+    ensures has_text { IfOk result (λ answer. HasText answer.status) }
+{
+    let made = compiled(alloc, good)?;
+    run_compiled(rt, alloc, options, good, &made, gate)
+}
+
+/// The answer to the bytes of a frame file.
+pub fn run_file<R: Threads + Wait + Sync, G: Gate + Sync>(
+    rt: &R,
+    alloc: Global,
+    options: Options,
+    bytes: &[u8],
+    gate: &G,
+) -> Result<Answer, NoMemory>
+    requires least { 1 ≤ options.workers }
+    requires most { options.workers ≤ 16 }
+    ensures file { IfOk result (RunsFile options (frame_file bytes.now)) }
+    ensures has_text { IfOk result (λ answer. HasText answer.status) }
+{
+    match good_frame(alloc, bytes) {
+        Ok(good) => run_frame(rt, alloc, options, &good, gate),
+        Err(FrameReadEnd::Refused(fault)) => refusal(alloc, &fault),
+        Err(FrameReadEnd::NoMemory) => Err(NoMemory),
+    }
 }

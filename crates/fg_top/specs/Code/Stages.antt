@@ -1,6 +1,7 @@
 -- What the stages of a command on a good frame come to, one after another.
-use Rattle.std.specs.Prelude.{◌≡◌, ℕ, List, Bool}
-use Rattle.fg_frame.specs.Numbered.{NumberedFrame}
+use Rattle.std.specs.Prelude.{◌≡◌, ℕ, List, Bool, get_or}
+use Rattle.fg_base.specs.Applied.{bytes_at}
+use Rattle.fg_frame.specs.Numbered.{NumberedFrame, numbered}
 use Rattle.fg_frame.specs.declared.frame.Frame.{Frame}
 use Rattle.fg_groups.specs.Groups.{grouping}
 use Rattle.fg_groups.specs.Placed.{sizes}
@@ -21,6 +22,10 @@ pub record ArePlaced (G : Grouping) (places : Places) : Type 0 where
   pub ordered : ℕ → ℕ → Bool
   pub is_ordered : IsOrdered G ordered
   pub least : IsLeast (sizes G) ordered places
+
+-- what the units hold that are exported: export k
+abbrev pub bytes_in : Frame → List (List ℕ) → ℕ → List ℕ
+bytes_in frame units k = bytes_at units (get_or (numbered frame).exports k 0)
 
 -- the lines of such places
 pub record ArePlaceLines (frame : Frame) (G : Grouping) (text : List ℕ) : Type 0 where

@@ -1,0 +1,6 @@
+use Rattle.fg_top.proofs.CallLemmas.{called}
+use Rattle.fg_top.proofs.devices.answer_words.Goals as goal
+
+pub returns-clause-call : goal.returns-clause-call
+returns-clause-call g c =
+    called _ c.in-Ok.command _ _ _ c.answer.result.status c.in-Ok.ensures.command c.answer.ensures.answered c.answer.ensures.read c.answer.ensures.write c.answer.ensures.taken c.answer.ensures.whole

@@ -1,0 +1,13 @@
+use Rattle.std.proofs.Common.{subst, sym, inl}
+use Rattle.fg_checker.specs.Sound.{IsSound}
+use Rattle.fg_subs.specs.declared.program.Program.{Program}
+use Rattle.fg_top.proofs.AnswerLemmas.{if_ok}
+use Rattle.fg_top.proofs.exec.execute_program.Goals as goal
+use Rattle.fg_top.specs.Headline.{Executes}
+
+pub execute_checked-requires-clause-sound : goal.execute_checked-requires-clause-sound
+execute_checked-requires-clause-sound g c κs lives = subst IsSound (sym c.in-Ok.ensures.ok.0) c.in-Ok.ensures.ok.1
+
+pub returns-in-Ok-clause-program : goal.returns-in-Ok-clause-program
+returns-in-Ok-clause-program g c =
+    if_ok c.execute_checked.result (λ answer is. inl (subst (λ (p : Program). Executes c.args.options p answer) c.in-Ok.ensures.ok.0 is)) c.execute_checked.ensures.program

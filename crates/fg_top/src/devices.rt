@@ -1,0 +1,133 @@
+//! The commands that run a program on a device.
+
+ghost use Rattle.std.specs.Prelude.{◌≡◌, ◌≤◌, ◌+◌, ◌⊎◌, [], vec_len, vec_capacity, map, string_bytes, Some, true, IfOk, IfErr};
+ghost use Rattle.fg_top.specs.Answers.{AnswersBytes, AnswersLeft, IsAnswered, input_limit};
+ghost use Rattle.fg_top.specs.AtRest.{needs_device};
+ghost use Rattle.fg_top.specs.Calls.{Call};
+ghost use Rattle.fg_top.specs.Causes.{ReadCause, WriteCause};
+ghost use Rattle.fg_top.specs.Code.Served.{RunsOnDevice};
+ghost use Rattle.fg_top.specs.Code.Steps.{HasText, ReadsAnswer};
+ghost use Rattle.fg_top.specs.Ends.{ends};
+ghost use Rattle.fg_top.specs.Outcomes.{IsUnanswered, TakesAtMost, TakesWhole};
+ghost use Rattle.fg_top.specs.Told.{AreTold};
+ghost use Rattle.fg_words.specs.Lines.{command_of};
+
+use crate::answer::Answer;
+use crate::exec::execute_file;
+use crate::files::{input_limit, over_input};
+use crate::intake::{Intake, read_input};
+use crate::run::run_file;
+use crate::telling::{deliver, reserved, untold};
+use crate::{Ended, Status};
+use fg_base::{Gate, NoMemory, Sink, Source, Tap};
+use fg_words::{Command, command_of};
+use std::alloc::Global;
+use std::sync::Wait;
+use std::thread::Threads;
+
+fn answer_bytes<R: Threads + Wait + Sync, G: Gate + Sync>(
+    rt: &R,
+    alloc: Global,
+    command: Command,
+    bytes: &[u8],
+    gate: &G,
+) -> Result<Answer, NoMemory>
+    requires { RunsOnDevice command }
+    ensures answer { IfOk result (AnswersBytes command bytes.now) }
+    ensures has_text { IfOk result (λ answer. HasText answer.status) }
+{
+    match command {
+        Command::Run(options) => run_file(rt, alloc, options, bytes, gate),
+        Command::Exec(options) => execute_file(rt, alloc, options, bytes, gate),
+        Command::Frame(_) | Command::Submission(_) => unreachable!(),
+    }
+}
+
+// The answer to the file that is read, or the status where there is none.
+fn answer_input<R: Threads + Wait + Sync, G: Gate + Sync, I: Source>(
+    rt: &R,
+    alloc: Global,
+    command: Command,
+    input: &mut I,
+    gate: &G,
+) -> Result<Answer, Status>
+    requires { RunsOnDevice command }
+    ensures answer { IfOk result (AnswersLeft command (I.left input.old)) }
+    ensures has_text { IfOk result (λ answer. HasText answer.status) }
+    ensures none { IfErr result (λ status. (status ≡ Status.ReadFault) ⊎ (status ≡ Status.NoMemory)) }
+    ensures read { ReadsAnswer (I.faults input.old) (I.faults input.new) result }
+    ensures taken { TakesAtMost (input_limit command + 1) (I.left input.old) (I.left input.new) }
+    ensures whole { IfOk result (λ _. TakesWhole (input_limit command) (I.left input.old) (I.left input.new)) }
+{
+    match read_input(alloc, input, input_limit(command)) {
+        Intake::Whole(bytes) => Ok(answer_bytes(rt, alloc, command, bytes.as_slice(), gate)?),
+        Intake::Over => Ok(over_input(alloc, command)?),
+        Intake::Fault => Err(Status::ReadFault),
+        Intake::NoMemory => Err(Status::NoMemory),
+    }
+}
+
+// With room for all taps.
+fn answer<R: Threads + Wait + Sync, I: Source, O: Sink, G: Gate + Sync>(
+    rt: &R,
+    alloc: Global,
+    command: Command,
+    input: &mut I,
+    output: &mut O,
+    gate: &G,
+    taps: &mut Vec<Box<dyn Tap>>,
+    room: Ended,
+) -> Ended
+    requires served { RunsOnDevice command }
+    requires spent { (room.spent.items ≡ []) × (vec_len taps.old ≤ vec_capacity room.spent) }
+    requires places { (room.places.items ≡ []) × (vec_len taps.old ≤ vec_capacity room.places) }
+    ensures answered { IsAnswered command (I.left input.old) (O.taken output.old) (O.taken output.new) (AreTold (λ b. heard b) (λ b. finished b) taps.old.items taps.new.items result.spent.items result.places.items) result.status }
+    ensures read { ReadCause (I.faults input.old) (I.faults input.new) result.status }
+    ensures write { WriteCause (O.faults output.old) (O.faults output.new) result.status }
+    ensures taken { TakesAtMost (input_limit command + 1) (I.left input.old) (I.left input.new) }
+    ensures whole { ¬ IsUnanswered result.status → TakesWhole (input_limit command) (I.left input.old) (I.left input.new) }
+    ensures unwritten { IsUnanswered result.status → output.new ≡ output.old }
+{
+    match answer_input(rt, alloc, command, input, gate) {
+        Ok(answer) => deliver(&answer, output, taps, room),
+        Err(status) => untold(alloc, status),
+    }
+}
+
+// The command of the words.
+fn command_in(alloc: Global, words: &[String]) -> Result<Command, NoMemory>
+    requires { needs_device (command_of (map string_bytes words.now)) ≡ true }
+    ensures command { IfOk result (λ command. command_of (map string_bytes words.now) ≡ Some command) }
+    ensures served { IfOk result RunsOnDevice }
+{
+    match command_of(alloc, words) {
+        Ok(Some(command)) => Ok(command),
+        Ok(None) => unreachable!(),
+        Err(NoMemory) => Err(NoMemory),
+    }
+}
+
+#[tactic(auto, using(crate::proofs::CallLemmas::called, crate::proofs::CallLemmas::nothing))]
+/// Does the work of words that need a device: room for all taps is taken before anything is read.
+pub fn answer_words<R: Threads + Wait + Sync, I: Source, O: Sink, G: Gate + Sync>(
+    rt: &R,
+    alloc: Global,
+    words: &[String],
+    input: &mut I,
+    output: &mut O,
+    gate: &G,
+    taps: &mut Vec<Box<dyn Tap>>,
+) -> Ended
+    requires { needs_device (command_of (map string_bytes words.now)) ≡ true }
+    ensures call { let seen = ends I.left I.faults O.taken O.faults in
+        Call (command_of (map string_bytes words.now)) (seen input.old output.old) (seen input.new output.new) (AreTold (λ b. heard b) (λ b. finished b) taps.old.items taps.new.items result.spent.items result.places.items) result.status }
+    ensures unwritten { IsUnanswered result.status → output.new ≡ output.old }
+{
+    let Ok(command) = command_in(alloc, words) else {
+        return untold(alloc, Status::NoMemory);
+    };
+    let Ok(room) = reserved(alloc, taps.len()) else {
+        return untold(alloc, Status::NoMemory);
+    };
+    answer(rt, alloc, command, input, output, gate, taps, room)
+}

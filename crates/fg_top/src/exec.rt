@@ -1,0 +1,78 @@
+//! The command `exec`.
+
+ghost use Rattle.std.specs.Prelude.{◌≤◌, ◌⊎◌, IfOk};
+ghost use Rattle.fg_checker.specs.Sound.{IsSound};
+ghost use Rattle.fg_top.specs.Answers.{ExecutesFile, Rejects};
+ghost use Rattle.fg_top.specs.Code.Steps.{HasText};
+ghost use Rattle.fg_top.specs.Files.{program_file};
+ghost use Rattle.fg_top.specs.Headline.{Executes};
+
+use crate::answer::{Answer, program_refusal, ran};
+use crate::programs::{checked, shaped};
+use crate::readbacks::exec_text;
+use crate::running::run_program;
+use fg_base::{Gate, NoMemory};
+use fg_checker::Checked;
+use fg_subfile::SubReadEnd;
+use fg_subs::Shaped;
+use fg_words::Options;
+use std::alloc::Global;
+use std::sync::Wait;
+use std::thread::Threads;
+
+// A sound program runs on a device.
+fn execute_checked<R: Threads + Wait + Sync, G: Gate + Sync>(
+    rt: &R,
+    alloc: Global,
+    options: Options,
+    program: &Checked,
+    gate: &G,
+) -> Result<Answer, NoMemory>
+    requires least { 1 ≤ options.workers }
+    requires most { options.workers ≤ 16 }
+    requires sound { IsSound program.now.program }
+    ensures program { IfOk result (Executes options program.now.program) }
+    ensures has_text { IfOk result (λ answer. HasText answer.status) }
+{
+    let device = run_program(rt, alloc, program, options, gate)?;
+    let text = exec_text(alloc, &device, options.trace)?;
+    Ok(ran(device, text))
+}
+
+fn execute_program<R: Threads + Wait + Sync, G: Gate + Sync>(
+    rt: &R,
+    alloc: Global,
+    options: Options,
+    program: Shaped,
+    gate: &G,
+) -> Result<Answer, NoMemory>
+    requires least { 1 ≤ options.workers }
+    requires most { options.workers ≤ 16 }
+    ensures program { IfOk result (λ answer. Executes options program answer ⊎ Rejects program answer) }
+    ensures has_text { IfOk result (λ answer. HasText answer.status) }
+{
+    match checked(alloc, program) {
+        Ok(checked) => execute_checked(rt, alloc, options, &checked, gate),
+        Err(answer) => answer,
+    }
+}
+
+/// The answer to the bytes of a submission.
+pub fn execute_file<R: Threads + Wait + Sync, G: Gate + Sync>(
+    rt: &R,
+    alloc: Global,
+    options: Options,
+    bytes: &[u8],
+    gate: &G,
+) -> Result<Answer, NoMemory>
+    requires least { 1 ≤ options.workers }
+    requires most { options.workers ≤ 16 }
+    ensures file { IfOk result (ExecutesFile options (program_file bytes.now)) }
+    ensures has_text { IfOk result (λ answer. HasText answer.status) }
+{
+    match shaped(alloc, bytes) {
+        Ok(program) => execute_program(rt, alloc, options, program, gate),
+        Err(SubReadEnd::Refused(fault)) => program_refusal(alloc, &fault),
+        Err(SubReadEnd::NoMemory) => Err(NoMemory),
+    }
+}
