@@ -3,10 +3,12 @@
 
     bench/examples.py [--program PROGRAM]
 
-A submission has to print its hazard with status 1, and its twin the other text with status 0; those of examples/profile/ are
-accepted. A frame's `cull` has to begin
+A submission has to print its hazard with status 1, of `check` and of `exec`, and its twin the other text with status 0; those of
+examples/profile/ are accepted. A submission that is run has to print what the table says, whatever the number of workers and the
+seed. A frame's `cull` has to begin
 with the line of the table, and so has its `place`; `run` has to print the former line, the culled passes and then what `meaning`
-prints; and the frame's canonical text has to be its own canonical text, and to run as the frame does. Each file of the folders needs a row, and each
+prints; the frame's canonical text has to be its own canonical text, and to run as the frame does; and what the frame is compiled to has to
+leave the bytes of the exports on the device. Each file of the folders needs a row, and each
 hazard H1 to H9 a file.
 """
 
@@ -37,14 +39,19 @@ def code(cell):
     return found.group(1) if found else sys.exit(f"docs/EXAMPLES.md: {cell} is no code")
 
 
+def nameless(text):
+    """The lines of exports or read-backs without their names."""
+    return re.sub(rb"^(export|readback) \S+ ", b"", text, flags=re.MULTILINE)
+
+
 class Runs:
     def __init__(self, program):
         self.program = program
         self.count = 0
         self.differences = []
 
-    def run(self, word, text):
-        done = subprocess.run([self.program, word], input=text, capture_output=True)
+    def run(self, words, text):
+        done = subprocess.run([self.program, *words.split()], input=text, capture_output=True)
         self.count += 1
         return done.returncode, done.stdout
 
@@ -54,6 +61,15 @@ class Runs:
 
     def submission(self, path, line, status):
         self.expect(f"check < {path.name}", self.run("check", path.read_bytes()), (status, f"{line}\n".encode()))
+        executed, text = self.run("exec", path.read_bytes())
+        self.expect(f"status of exec < {path.name}", executed, status)
+        if status:
+            self.expect(f"exec < {path.name}", text, f"{line}\n".encode())
+
+    def execution(self, path, lines):
+        wanted = (0, "".join(f"{line}\n" for line in lines).encode())
+        for options in ("", "--workers 1", "--workers 4", "--tend 1", "--tend 2 --workers 3"):
+            self.expect(f"exec {options} < {path.name}", self.run(f"exec {options}", path.read_bytes()), wanted)
 
     def frame(self, path, first, heap):
         text = path.read_bytes()
@@ -69,6 +85,9 @@ class Runs:
         _, canonical = self.run("migrate", text)
         self.expect(f"migrate < {path.name}, twice", self.run("migrate", canonical), (0, canonical))
         self.expect(f"run of the canonical text of {path.name}", self.run("run", canonical), ran)
+        _, compiled = self.run("compile", text)
+        status, executed = self.run("exec", compiled)
+        self.expect(f"exec of what {path.name} is compiled to", (status, nameless(executed)), (0, nameless(exports)))
 
 
 def main():
@@ -87,6 +106,8 @@ def main():
     for name, line in profile.items():
         runs.submission(PROFILE / name, line, 0)
     runs.expect("files of examples/profile", {path.name for path in PROFILE.iterdir()}, set(profile))
+    for row in rows("Submissions that are run"):
+        runs.execution(SUBMISSIONS / code(row[0]), code(row[2]).split(" / "))
     frames = {code(row[0]): (code(row[2]), code(row[3])) for row in rows("Frames")}
     for name, (first, heap) in frames.items():
         runs.frame(FRAMES / name, first, heap)
