@@ -23,13 +23,15 @@ LIBRARY = r"""
 #include <errno.h>
 #include <stdio.h>
 #include <stdlib.h>
+#include <sys/syscall.h>
+#include <unistd.h>
 
 static long requests;
 
 static int fails(void) {
     const char *number = getenv("STARVE_AT");
-    requests++;
-    return number && requests == atol(number);
+    long request = __atomic_add_fetch(&requests, 1, __ATOMIC_SEQ_CST);
+    return number && request == atol(number);
 }
 
 void *malloc(size_t size) {
@@ -46,8 +48,19 @@ void *realloc(void *old, size_t size) {
     return real(old, size);
 }
 
-__attribute__((destructor)) static void count(void) {
+static void count(void) {
     if (getenv("STARVE_COUNT")) dprintf(2, "%ld", requests);
+}
+
+__attribute__((destructor)) static void ends(void) {
+    count();
+}
+
+/* A program with threads leaves this way, and no destructor runs. */
+void _exit(int status) {
+    count();
+    syscall(SYS_exit_group, status);
+    __builtin_unreachable();
 }
 """
 
@@ -58,16 +71,18 @@ def cases():
     """Words and input."""
     one = (EXAMPLES / "one_fill.json").read_bytes()
     two = (EXAMPLES / "ramp_and_map.json").read_bytes()
-    for word in ("run", "meaning", "cull", "place", "migrate"):
+    for word in ("run", "meaning", "cull", "place", "compile", "migrate"):
         yield [word], one
         yield [word], two
+    yield ["run", "--workers", "4", "--tend", "3"], two
     for word in ("cull", "place", "migrate"):
         yield [word], (EXAMPLES / "deferred.json").read_bytes()
     yield ["run"], json.dumps({**json.loads(one), "more": 7}).encode()
     yield ["run"], one.rstrip()[:-1]
     sound = [fill(0, 1), BARRIER, fill(0, 2)]
     for items in (sound, [fill(0, 1), fill(0, 2)], [fill(1, 1)]):
-        yield ["check"], json.dumps(submission(items)).encode()
+        for words in (["check"], ["exec"], ["exec", "--workers", "4", "--tend", "3"]):
+            yield words, json.dumps(submission(items)).encode()
     yield [], b""
     yield ["run", "run"], b""
 
