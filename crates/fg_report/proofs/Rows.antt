@@ -1,19 +1,27 @@
 -- Worked rows: what the definitions come to on written-out values.
-use Rattle.std.proofs.Common.{◌≡◌, [], ◌∷◌, Some, None, codes, refl}
+use Rattle.std.proofs.Common.{◌≡◌, ℕ, List, [], ◌∷◌, Some, None, codes, refl}
 use Rattle.std.specs.Fmt.{digits}
 use Rattle.hex.proofs.OnLiterals.{hex_on_literals}
 use Rattle.fg_base.specs.declared.event.Event.TheVariants.{Begin, End, Sync, WriteBack, Fill, DropLine, Host}
-use Rattle.fg_base.specs.declared.limit.Limit.TheVariants.{Passes}
+use Rattle.fg_base.specs.declared.limit.Limit.TheVariants.{Passes, Total}
+use Rattle.fg_base.specs.declared.shape.Shape.TheVariants.{Buffer}
 use Rattle.fg_base.specs.declared.shape.Family.TheVariants.{Graphics, Compute}
 use Rattle.fg_base.specs.declared.path.Leg.TheVariants.{Member, Position}
 use Rattle.fg_bits.specs.declared.layout.Layout.TheVariants as layouts
+use Rattle.fg_bits.specs.declared.sharing.Sharing.TheVariants.{Exclusive}
 use Rattle.fg_frame.specs.Faults.{misshapen, not_json, over_limit}
+use Rattle.fg_frame.specs.declared.frame.Frame.{Frame}
+use Rattle.fg_frame.specs.declared.frame.Resource.{Resource}
+use Rattle.fg_report.specs.BoundLines.{bound_line, name_lines}
+use Rattle.fg_report.specs.CostLines.{cost_text}
 use Rattle.fg_report.specs.Exports.{export_lines}
 use Rattle.fg_report.specs.Faults.{frame_fault_text, sub_fault_text}
+use Rattle.fg_report.specs.Flights.{flight_text}
 use Rattle.fg_report.specs.Hazards.{hazard_text, check_text}
 use Rattle.fg_report.specs.Readbacks.{readback_text}
 use Rattle.fg_report.specs.Summaries.{summary_text}
 use Rattle.fg_report.specs.Traces.{trace_text}
+use Rattle.fg_report.specs.declared.flight.FlightLine.TheVariants as flights
 use Rattle.fg_subs.specs.Faults as subs
 use Rattle.fg_checker.specs.declared.hazard.Hazard.TheVariants.{Stuck, NotVisible, BadLayout, BadOwner, Unmatched, Aliased}
 
@@ -92,3 +100,41 @@ cache_moves = refl
 summed : summary_text 1 0 7 16384 16384 1 16384 552960 ≡ codes "kept 1 culled 0\nnodes 7\nheap 16384 separate 16384\nexports 1 bytes 16384 sum 552960\n"
 unfolding digits
 summed = refl
+
+bounded : bound_line 772 1024 ≡ codes "bound 772 heap 1024\n"
+unfolding digits
+bounded = refl
+
+abbrev layered : List ℕ → ℕ → Resource
+layered name layers = record { name = name; shape = Buffer 4; layers = layers; import = None; sharing = Exclusive }
+
+abbrev three_units : Frame
+three_units = record { queues = []; resources = layered (codes "x") 1 ∷ layered (codes "im") 2 ∷ []; passes = []; exports = [] }
+
+certified : name_lines three_units (0 ∷ 2 ∷ []) (1 ∷ 0 ∷ []) ≡ codes "im/1\nx\n"
+unfolding digits
+certified = refl
+
+costs : cost_text 4 2 ≡ codes "cost 4 2\n"
+unfolding digits
+costs = refl
+
+frame_in_flight : flight_text (flights.Frame 12) ≡ codes "frame 12\n"
+unfolding digits
+frame_in_flight = refl
+
+before_a_fault : flight_text (flights.FaultOf 3) ≡ codes "frame 3 "
+unfolding digits
+before_a_fault = refl
+
+other_queues : flight_text (flights.Queues 1) ≡ codes "fault L2 1\n"
+unfolding digits
+other_queues = refl
+
+no_import : flight_text (flights.Persist 0 (codes "c")) ≡ codes "fault L3 0 c\n"
+unfolding digits
+no_import = refl
+
+window_too_large : flight_text (flights.Window 2 Total) ≡ codes "fault L4 2 Total\n"
+unfolding digits
+window_too_large = refl

@@ -1,6 +1,9 @@
 pub mod Audits
+pub mod BoundLines
+pub mod CostLines
 pub mod Exports
 pub mod Faults
+pub mod Flights
 pub mod Hazards
 pub mod KeptLines
 pub mod Paths

@@ -1,22 +1,16 @@
 -- Where transient resources lie, as it is printed.
-use Rattle.std.specs.Prelude.{ℕ, suc, List, [], ◌∷◌, ◌++◌, codes, slice_get}
+use Rattle.std.specs.Prelude.{ℕ, suc, List, [], ◌∷◌, ◌++◌, codes}
 use Rattle.std.specs.List.{sum}
 use Rattle.std.specs.Fmt.{decimal}
-use Rattle.std.specs.Option.{option_map_or}
-use Rattle.fg_frame.specs.Units.{unit_spots}
 use Rattle.fg_frame.specs.declared.frame.Frame.{Frame}
 use Rattle.fg_groups.specs.Placed.{placed, sizes}
 use Rattle.fg_groups.specs.declared.grouping.Grouping.{Grouping}
 use Rattle.fg_place.specs.Placing.{Places, number_at}
-use Rattle.fg_report.specs.UnitNames.{spot_text}
+use Rattle.fg_report.specs.UnitNames.{unit_text}
 
 -- how many bytes the heap has, and how many the resources would have with memory of their own
 abbrev pub heap_line : List ℕ → ℕ → List ℕ
 heap_line sizes heap = codes "heap " ++ decimal heap ++ codes " separate " ++ decimal (sum sizes) ++ codes "\n"
-
--- the name of a unit; nothing where there is none with the number
-abbrev pub unit_text : Frame → ℕ → List ℕ
-unit_text frame unit = option_map_or spot_text (slice_get (unit_spots frame) unit) []
 
 -- where a unit begins, how many bytes it has, and its name
 abbrev pub place_line : Frame → ℕ → ℕ → ℕ → List ℕ

@@ -2,8 +2,11 @@
 #![tactic(auto)]
 
 mod audit;
+mod bound;
+mod cost;
 mod export;
 mod fault;
+mod flight;
 mod hazard;
 mod kept;
 mod key;
@@ -15,8 +18,11 @@ mod trace;
 mod unit;
 
 pub use audit::{AuditLine, audit_text};
+pub use bound::bound_text;
+pub use cost::cost_text;
 pub use export::export_text;
 pub use fault::{frame_fault_text, sub_fault_text};
+pub use flight::{FlightLine, flight_text};
 pub use hazard::{check_text, hazard_text};
 pub use kept::{cull_text, run_text};
 pub use place::place_text;

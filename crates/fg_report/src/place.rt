@@ -5,9 +5,9 @@ ghost use Rattle.std.specs.List.{All, sum};
 ghost use Rattle.fg_base.specs.Maxima.{max_units, max_resource_bytes};
 ghost use Rattle.fg_frame.specs.Numbered.{numbered};
 ghost use Rattle.fg_groups.specs.Placed.{placed};
-ghost use Rattle.fg_report.specs.PlaceLines.{heap_line, place_line, place_lines, place_text, unit_text};
+ghost use Rattle.fg_report.specs.PlaceLines.{heap_line, place_line, place_lines, place_text};
 
-use crate::unit::add_spot;
+use crate::unit::add_unit;
 use fg_base::{List, NoMemory, Text};
 use fg_frame::GoodFrame;
 use fg_groups::Groups;
@@ -36,13 +36,6 @@ fn add_heap(text: &mut Text, sizes: &[u32], heap: u32) -> Result<(), NoMemory>
     text.word(b" separate ")?;
     text.number(u64::from(sum_of(sizes)))?;
     text.end_line()
-}
-
-fn add_unit(text: &mut Text, frame: &GoodFrame, unit: u32) -> Result<(), NoMemory>
-    requires { unit < length (numbered frame.now).units }
-    ensures { OnOk result (text.new ≡ text.old ++ unit_text frame.now unit) }
-{
-    add_spot(text, &frame.unit_name(unit))
 }
 
 fn add_place(

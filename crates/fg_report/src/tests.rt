@@ -86,3 +86,13 @@ fn runs(rt: HostRuntime) -> Result<(), Fail> {
     is_printed(&rt, trace, b"events 3\nbegin 0\nfill 6 0 256 4\nend 0\n");
     Ok(())
 }
+
+#[test]
+fn flights(rt: HostRuntime) -> Result<(), Fail> {
+    let mut text = cost_text(rt.alloc(), 4, 2)?;
+    flight_text(&mut text, &FlightLine::FaultOf { frame: 3 })?;
+    let name = named(&rt, "c");
+    flight_text(&mut text, &FlightLine::Persist { frame: 0, name })?;
+    is_printed(&rt, text, b"cost 4 2\nframe 3 fault L3 0 c\n");
+    Ok(())
+}
