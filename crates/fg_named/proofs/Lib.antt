@@ -1,0 +1,23 @@
+pub mod Clashless
+pub mod Counts
+pub mod Distinct
+pub mod Exported
+pub mod Faultless
+pub mod Fresh
+pub mod Holders
+pub mod Known
+pub mod KnownPass
+pub mod NamedSources
+pub mod Numbering
+pub mod OtherUnits
+pub mod OwnNames
+pub mod Pairs
+pub mod PassNames
+pub mod PassNumbers
+pub mod Persisting
+pub mod Renamed
+mod Rows
+pub mod Stretches
+pub mod Turns
+pub mod Units
+pub mod WindowNumbers

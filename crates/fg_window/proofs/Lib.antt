@@ -1,0 +1,22 @@
+pub mod Contents
+pub mod Each
+pub mod Frames
+pub mod Good
+pub mod GoodJoin
+pub mod GoodMoved
+pub mod GoodWindow
+pub mod Imports
+pub mod InTurn
+pub mod Joined
+pub mod Law
+pub mod Lengths
+pub mod Means
+pub mod Moves
+pub mod Once
+pub mod OneByOne
+mod Rows
+pub mod Sized
+pub mod Sources
+pub mod Steps
+pub mod Tests
+pub mod Together

@@ -1,0 +1,10 @@
+pub mod Flown
+pub mod Held
+pub mod InTurn
+pub mod Joins
+pub mod Means
+pub mod Moved
+pub mod Small
+pub mod Sources
+pub mod Together
+pub mod Window
