@@ -1,4 +1,4 @@
-//! Tests of what submissions are, and of what judges them: shape, nodes, accesses, ties, hazards, steps, timelines.
+//! Tests of what submissions are, and of what judges them: shape, nodes, accesses, ties, hazards, steps, timelines, tight waits.
 #![tactic(auto)]
 
 #[cfg(test)]
@@ -15,6 +15,8 @@ mod steps;
 mod subs;
 #[cfg(test)]
 mod ties;
+#[cfg(test)]
+mod tight;
 #[cfg(test)]
 mod timeline;
 #[cfg(test)]

@@ -1,0 +1,40 @@
+//! Programs are tightened.
+
+ghost use Rattle.std.specs.Prelude.{◌≡◌, IfOk};
+ghost use Rattle.fg_tight.specs.Standing.{StandsTo};
+ghost use Rattle.fg_tight.specs.Tight.{Passes, Tight};
+
+use crate::rounds::settled;
+use fg_base::NoMemory;
+use fg_checker::{Checked, taken};
+use fg_subs::{Program, Shaped};
+use std::alloc::Global;
+
+// A copy of the program, which the rounds may change.
+fn copied(alloc: Global, program: &Checked) -> Result<Program, NoMemory>
+    ensures program { IfOk result (λ copy. copy ≡ program.now.program) }
+    ensures passes { IfOk result (λ copy. Passes copy) }
+{
+    program.shaped().program().copy(alloc)
+}
+
+// A program that passes, with its nodes numbered and their least order.
+fn taken_unchecked(alloc: Global, program: Program) -> Result<Checked, NoMemory>
+    requires { Passes program }
+    ensures { IfOk result (λ checked. checked.program ≡ program) }
+{
+    let shaped = Shaped::faultless(alloc, program)?;
+    taken(alloc, shaped)
+}
+
+/// The program without the waits, and without the stages of waits, that soundness does not need. Waits are tried in the order
+/// of their nodes, and the stages of each in the order of their bits, in rounds until one changes nothing; what was left out
+/// so is not the most that could be. Each trial is a check of the whole program. Want of memory is the one refusal.
+pub fn tighten(alloc: Global, program: Checked) -> Result<Checked, NoMemory>
+    ensures tight { IfOk result (λ checked. Tight checked.program) }
+    ensures stands { IfOk result (λ checked. StandsTo program.program checked.program) }
+{
+    let copy = copied(alloc, &program)?;
+    let tight = settled(alloc, copy)?;
+    taken_unchecked(alloc, tight)
+}
