@@ -14,7 +14,7 @@ use Rattle.fg_faithful.proofs.Culling.{SideBySide, mattering, all_run}
 use Rattle.fg_faithful.proofs.Pictures.{has_meaning}
 use Rattle.fg_faithful.proofs.States.{AreSized}
 use Rattle.fg_faithful.specs.Kept.{kept_bytes}
-use Rattle.fg_faithful.specs.Laws.{KeptSuffice}
+use Rattle.fg_faithful.specs.Laws.{AreAsLong, KeptSuffice}
 use Rattle.fg_frame.specs.Good.{IsGood, shapes_in}
 use Rattle.fg_frame.specs.Numbered.{NumberedFrame}
 use Rattle.fg_frame.specs.Units.{Unit as FrameUnit}
@@ -56,6 +56,9 @@ module _ (frame : NumberedFrame) (good : IsGood frame) where
 
     pub kept_sized : AreSized (shapes_in frame) (kept_bytes frame kept)
     kept_sized = side.kept_sized
+
+    pub all_long : AreAsLong frame
+    all_long = λ unit lt. side.all_sized.sized unit (subst (λ n. unit < n) (sym (length-map frame.units (λ u. u.shape))) lt)
 
     pub kept_suffice : KeptSuffice frame kept
     kept_suffice = λ k d lt. has_meaning frame good (get_or frame.exports k d) (good.exports_there k d lt) ∙ ap (λ bytes. Some bytes) (side.alike (get_or frame.exports k d) (fine k d lt))

@@ -1,12 +1,14 @@
 -- What holds of frames, of sound programs, and of what frames are compiled to.
-use Rattle.std.specs.Prelude.{◌≡◌, ℕ, List, slice_get, Bool, Some}
+use Rattle.std.specs.Prelude.{◌≡◌, ℕ, ◌<◌, List, length, slice_get, Bool, Some}
 use Rattle.std.specs.List.{All}
 use Rattle.fg_base.specs.Applied.{bytes_at}
+use Rattle.fg_base.specs.Shapes.{bytes_of, shape_at}
 use Rattle.fg_checker.specs.Apart.{host_bytes}
 use Rattle.fg_faithful.specs.Kept.{kept_bytes}
+use Rattle.fg_frame.specs.Good.{shapes_in}
 use Rattle.fg_frame.specs.Numbered.{NumberedFrame}
 use Rattle.fg_hb.specs.Orders.{Order}
-use Rattle.fg_meaning.specs.Meaning.{meaning}
+use Rattle.fg_meaning.specs.Meaning.{all_bytes, meaning}
 use Rattle.fg_subs.specs.declared.program.Program.{Program}
 use Rattle.fg_view.specs.Views.{view_of}
 
@@ -25,3 +27,7 @@ ReadsMeaning frame program order = (k unit : ℕ) → slice_get frame.exports k 
 -- so it is in every order
 abbrev pub IsReadMeant : NumberedFrame → Program → Type 0
 IsReadMeant frame program = (order : List ℕ) → Order (view_of program).nodes order → ReadsMeaning frame program order
+
+-- each unit has after all passes as many bytes as its shape
+abbrev pub AreAsLong : NumberedFrame → Type 0
+AreAsLong frame = (unit : ℕ) → unit < length frame.units → length (bytes_at (all_bytes frame) unit) ≡ bytes_of (shape_at (shapes_in frame) unit)

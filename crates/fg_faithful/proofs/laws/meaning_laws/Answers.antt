@@ -1,7 +1,7 @@
 use Rattle.std.proofs.Common.{◌∙◌}
 use Rattle.fg_faithful.proofs.Agreement.{agree}
 use Rattle.fg_faithful.proofs.Compiled.{reads_compiled, one_each}
-use Rattle.fg_faithful.proofs.Exports.{kept_suffice}
+use Rattle.fg_faithful.proofs.Exports.{all_long, kept_suffice}
 use Rattle.fg_faithful.proofs.laws.meaning_laws.Goals as goal
 
 pub returns-clause-agree : goal.returns-clause-agree
@@ -9,6 +9,9 @@ returns-clause-agree c = λ program none sound. agree c.device_laws.ensures.runs
 
 pub returns-clause-culled : goal.returns-clause-culled
 returns-clause-culled c = λ frame kept good are. kept_suffice frame good (λ op whole. c.whole_leaves_nothing_old.ensures op whole) kept are
+
+pub returns-clause-long : goal.returns-clause-long
+returns-clause-long c = λ frame kept good are. all_long frame good (λ op whole. c.whole_leaves_nothing_old.ensures op whole) kept are
 
 pub returns-clause-readbacks : goal.returns-clause-readbacks
 returns-clause-readbacks c = λ frame kept places program compiled. one_each frame kept places program compiled

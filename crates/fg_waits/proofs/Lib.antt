@@ -1,0 +1,11 @@
+mod Alike
+mod Bytes
+mod Edges
+mod Embedded
+mod Entries
+mod Firsts
+mod Followed
+mod Lighter
+mod Orders
+mod Thinned
+mod Worked
