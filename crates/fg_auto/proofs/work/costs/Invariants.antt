@@ -1,0 +1,11 @@
+use Rattle.std.proofs.Common.{◌≡◌, ◌≤◌, ◌++◌, map, drop}
+use Rattle.std.specs.List.{All}
+use Rattle.fg_auto.specs.Code.Sweep.{most_cost}
+use Rattle.fg_auto.specs.Cost.{command_cost}
+use Rattle.fg_auto.proofs.work.costs.Given as goal
+
+abbrev pub invariant-loop-command : goal.invariant-loop-command
+invariant-loop-command l = record {
+  costs : l.list ++ map (command_cost l.groups) (drop l.command-index l.commands) ≡ map (command_cost l.groups) l.commands;
+  small : All (λ cost. cost ≤ most_cost) l.list;
+}

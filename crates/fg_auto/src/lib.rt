@@ -1,0 +1,16 @@
+//! A choice of queues: passes move to where that makes the longest chain of work shorter.
+#![tactic(auto)]
+
+mod best;
+mod choice;
+mod cost;
+mod joins;
+mod laws;
+mod owners;
+mod queues;
+mod spans;
+mod sums;
+mod work;
+
+pub use choice::{Choice, choose};
+pub use laws::auto_laws;
