@@ -1,5 +1,6 @@
 pub mod Again
 pub mod Coming
+pub mod Counted
 pub mod Digits
 pub mod Ending
 pub mod Holding

@@ -60,6 +60,11 @@ module _ (program : Program) (events : List Event) where
   run_complete : IsRun program events → IsComplete (ran program events)
   run_complete run = subst (λ s. AllDone (view_of program) s) (sym (left_is program events)) run.complete
 
+  pub complete : (verdict : Verdict) → Says program events verdict → IfRun IsComplete verdict
+  complete (Run d) x = subst IsComplete (sym x.same) (run_complete x.run)
+  complete (NotEnabled at) x = tt
+  complete (Unfinished node) x = tt
+
   pub apart : ((d : Device) → first_fault d.program ≡ None → Runs d) → first_fault program ≡ None → (verdict : Verdict) → Says program events verdict → IfRun AllReadApart verdict
   apart laws none (Run d) x = subst AllReadApart (sym x.same) (λ k lt. (laws (ran program events) none).all_read (run_complete x.run) k lt)
   apart laws none (NotEnabled at) x = tt

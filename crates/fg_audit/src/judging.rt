@@ -65,6 +65,7 @@ pub fn audit<R: Threads + Sync>(
     ensures says { IfOk result (Says program.now.program events.now) }
     ensures only { IfOk result (λ verdict. (other : Verdict) → Says program.now.program events.now other → other ≡ verdict) }
     ensures run { IfOk result (λ verdict. IsTrue (is_run verdict) ↔ IsRun program.now.program events.now) }
+    ensures complete { IfOk result (IfRun IsComplete) }
     ensures apart { IfOk result (IfRun AllReadApart) }
 {
     device_laws();

@@ -9,11 +9,13 @@ mod law;
 mod lines;
 mod making;
 mod numbers;
+mod recording;
 mod trace;
 mod undone;
 mod verdict;
 
 pub use judging::audit;
 pub use law::trace_law;
+pub use recording::{Recording, recording_in};
 pub use trace::{TraceEnd, read_trace};
 pub use verdict::Verdict;

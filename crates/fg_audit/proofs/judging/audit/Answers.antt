@@ -1,5 +1,5 @@
 use Rattle.std.proofs.Common.{◌≡◌, ◌∙◌, None, Result, Ok, Err, IfOk, subst}
-use Rattle.fg_audit.proofs.Saying.{apart, only, run_says}
+use Rattle.fg_audit.proofs.Saying.{apart, complete, only, run_says}
 use Rattle.fg_audit.proofs.judging.audit.Goals as goal
 use Rattle.fg_audit.specs.Verdicts.{Says}
 use Rattle.fg_audit.specs.declared.verdict.Verdict.{Verdict}
@@ -16,6 +16,9 @@ returns-clause-only g c = follows c.judged.result (Says c.args.program.now.progr
 
 pub returns-clause-run : goal.returns-clause-run
 returns-clause-run g c = follows c.judged.result (Says c.args.program.now.program c.args.events.now) _ (λ verdict says. run_says c.args.program.now.program c.args.events.now verdict says) c.judged.ensures
+
+pub returns-clause-complete : goal.returns-clause-complete
+returns-clause-complete g c = follows c.judged.result (Says c.args.program.now.program c.args.events.now) _ (λ verdict says. complete c.args.program.now.program c.args.events.now verdict says) c.judged.ensures
 
 pub returns-clause-apart : goal.returns-clause-apart
 returns-clause-apart g c =
