@@ -1,4 +1,4 @@
-//! Tests of the crates that know no frame and no submission: numbers, names, kernels, lines, reachability, places, words.
+//! Tests of the crates that know no frame and no submission: numbers, names, kernels, lines, reachability, places, bounds, words.
 #![tactic(auto)]
 
 #[cfg(test)]
@@ -7,6 +7,8 @@ mod base;
 mod base_operations;
 #[cfg(test)]
 mod bits;
+#[cfg(test)]
+mod bound;
 #[cfg(test)]
 mod draw;
 #[cfg(test)]

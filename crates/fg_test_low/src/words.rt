@@ -12,13 +12,87 @@ fn words_of(alloc: Global, line: &str) -> Result<Vec<String>, AllocError> {
     Ok(words)
 }
 
-const COMMANDS: [(&str, Command); 6] = [
+const COMMANDS: [(&str, Command); 16] = [
     ("-- cull", Command::Frame(FrameCommand::Cull)),
     ("place", Command::Frame(FrameCommand::Place)),
-    ("compile", Command::Frame(FrameCommand::Compile)),
+    ("bound", Command::Frame(FrameCommand::Bound)),
+    (
+        "compile",
+        Command::Frame(FrameCommand::Compile { tight: false }),
+    ),
+    (
+        "--tight compile",
+        Command::Frame(FrameCommand::Compile { tight: true }),
+    ),
+    (
+        "run --trace --tight --workers 3",
+        Command::Run {
+            options: Options {
+                workers: 3,
+                tend: None,
+            },
+            trace: true,
+            tight: true,
+        },
+    ),
     ("meaning", Command::Frame(FrameCommand::Meaning)),
     ("migrate", Command::Frame(FrameCommand::Migrate)),
     ("check", Command::Submission(SubmissionCommand::Check)),
+    ("audit", Command::Audit),
+    (
+        "gen --number 0",
+        Command::Gen {
+            number: 0,
+            passes: 64,
+        },
+    ),
+    (
+        "--passes 1 gen --number 4294967295",
+        Command::Gen {
+            number: 4_294_967_295,
+            passes: 1,
+        },
+    ),
+    (
+        "gen --number=0000000007 --passes=256",
+        Command::Gen {
+            number: 7,
+            passes: 256,
+        },
+    ),
+    (
+        "gen --summary --number 1",
+        Command::Summary {
+            number: 1,
+            passes: 64,
+            options: Options {
+                workers: 2,
+                tend: None,
+            },
+        },
+    ),
+    (
+        "gen --number 1 --passes 2 --workers 16 --summary",
+        Command::Summary {
+            number: 1,
+            passes: 2,
+            options: Options {
+                workers: 16,
+                tend: None,
+            },
+        },
+    ),
+    (
+        "--tend 0 --summary gen --workers 1 --number 1",
+        Command::Summary {
+            number: 1,
+            passes: 64,
+            options: Options {
+                workers: 1,
+                tend: Some(0),
+            },
+        },
+    ),
 ];
 
 // The line of `exec`, and with the other word of `run`, how many workers, the seed, and whether a trace is wanted.
@@ -43,7 +117,7 @@ const RUNS: [(&str, u32, Option<u64>, bool); 8] = [
     ("exec --trace --tend 5 --workers 4", 4, Some(5), true),
 ];
 
-const NO_COMMANDS: [&str; 25] = [
+const NO_COMMANDS: [&str; 46] = [
     "",
     "Run",
     "run run",
@@ -69,6 +143,27 @@ const NO_COMMANDS: [&str; 25] = [
     "exec --trace=true",
     "exec -t",
     "exec -- --trace",
+    "exec --passes 4",
+    "run --number 1",
+    "run --summary",
+    "check --number 3",
+    "cull --summary",
+    "audit --trace",
+    "exec --tight",
+    "cull --tight",
+    "compile --tight --tight",
+    "compile --tight --workers 2",
+    "gen --number 1 --summary --tight",
+    "audit --workers 2",
+    "gen",
+    "gen --passes 3",
+    "gen --number 4294967296",
+    "gen --number 1 --passes 0",
+    "gen --number 1 --passes 257",
+    "gen --number 1 --number 1",
+    "gen --number 1 --workers 2",
+    "gen --number 1 --tend 2",
+    "gen --number 1 --summary --trace",
 ];
 
 fn found(alloc: Global, line: &str) -> Result<Option<Command>, Fail> {
@@ -92,11 +187,20 @@ fn command_lines(rt: HostRuntime) -> Result<(), Fail> {
         let options = Options {
             workers: *workers,
             tend: *tend,
-            trace: *trace,
         };
-        is_read_as(&rt, alloc, line, Command::Exec(options))?;
+        let trace = *trace;
+        is_read_as(&rt, alloc, line, Command::Exec { options, trace })?;
         let frame_line = line.replace(alloc, "exec", "run")?;
-        is_read_as(&rt, alloc, frame_line.as_str(), Command::Run(options))?;
+        is_read_as(
+            &rt,
+            alloc,
+            frame_line.as_str(),
+            Command::Run {
+                options,
+                trace,
+                tight: false,
+            },
+        )?;
     }
     for line in &NO_COMMANDS {
         let found = found(alloc, line)?;

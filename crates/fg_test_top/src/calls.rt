@@ -314,7 +314,7 @@ fn at_rest_answers(rt: HostRuntime) -> Result<(), Fail> {
     let alloc = rt.alloc();
     let mut source = SteadySource::new(bytes_of(alloc, CHAIN)?, 9);
     let mut sink = MemorySink::new(alloc, 1000, 9, List::new(alloc))?;
-    for line in &["run --workers 3", "exec --trace"] {
+    for line in &["run --workers 3", "exec --trace", "audit"] {
         let left = rests(alloc, line, &mut source, &mut sink)?;
         assert!(&rt; left == None && sink.bytes().is_empty(), "{line}");
     }

@@ -13,10 +13,10 @@ use std::test::Fail;
 use std::thread::Threads;
 
 // A fill, a copy into a read-back, and a barrier after each.
-const FILL: &str =
+pub(crate) const FILL: &str =
     r#"{"format":2,"memories":[{"size":16},{"size":16}],"pieces":[{"buffer":16,"memory":0,"offset":0},{"buffer":16,"memory":1,"offset":0}],"queues":[{"batches":[{"items":[{"dst":0,"item":"command","offset":0,"op":"fill_buffer","size":16,"word":7},{"dst_access":"TRANSFER_READ","dst_stage":"COPY","item":"buffer","piece":0,"src_access":"TRANSFER_WRITE","src_stage":"CLEAR"},{"dst":1,"dst_offset":0,"item":"command","op":"copy_buffer","size":16,"src":0,"src_offset":0},{"dst_access":"HOST_READ","dst_stage":"HOST","item":"buffer","piece":1,"src_access":"TRANSFER_WRITE","src_stage":"COPY"}],"signal":{"stage":"ALL_COMMANDS","value":1},"waits":[]}],"family":"graphics"}],"readbacks":[1]}"#;
 
-const FILL_TEXT: &str = "readback 0 16\n07000000070000000700000007000000\n";
+pub(crate) const FILL_TEXT: &str = "readback 0 16\n07000000070000000700000007000000\n";
 
 // A copy of an import, a map of it, and a barrier after each; with NOTHING in place of TRANSFER_WRITE the copy is not made
 // available.

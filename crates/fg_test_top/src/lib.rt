@@ -2,6 +2,8 @@
 #![tactic(auto)]
 
 #[cfg(test)]
+mod auditing;
+#[cfg(test)]
 mod calls;
 #[cfg(test)]
 mod checking;
@@ -10,6 +12,10 @@ mod compiling;
 #[cfg(test)]
 mod executing;
 #[cfg(test)]
+mod generating;
+#[cfg(test)]
 mod operations;
 #[cfg(test)]
 mod placing;
+#[cfg(test)]
+mod tightening;

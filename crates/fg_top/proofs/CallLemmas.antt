@@ -1,20 +1,23 @@
 -- What a call comes to, from what its parts come to.
-use Rattle.std.proofs.Common.{◌≡◌, ◌+◌, ℕ, List, [], Some, None, is_some, unwrap_or, sym, ap, subst, inl, inr, refl, arith}
+use Rattle.std.proofs.Common.{◌≡◌, ◌+◌, ℕ, List, [], Some, None, is_some, sym, ap, subst, inl, inr, refl, arith, codes}
 use Rattle.std.proofs.KnownBytes.{Keeps-refl}
 use Rattle.std.proofs.lemmas.Bool.{true≢false}
-use Rattle.std.specs.Io.KnownBytes.{Consumes}
+use Rattle.std.proofs.lemmas.Option.{same_Some}
+use Rattle.std.specs.Io.KnownBytes.{Appends, Consumes}
 use Rattle.std.specs.Prelude.{◌⊎◌}
 use Rattle.std.specs.declared.option.Option.{Option}
 use Rattle.fg_base.specs.Counts.{Rose}
 use Rattle.fg_steps.specs.Devices.{Device}
-use Rattle.fg_top.specs.Answers.{IsAnswered, input_limit}
+use Rattle.fg_top.specs.Answers.{IsAnswered}
 use Rattle.fg_top.specs.Calls.{Call}
 use Rattle.fg_top.specs.Causes.{ReadCause, WriteCause}
 use Rattle.fg_top.specs.Complete.{Completes}
 use Rattle.fg_top.specs.Ends.{Ends}
-use Rattle.fg_top.specs.Outcomes.{IsUnanswered, TakesAtMost, TakesWhole}
+use Rattle.fg_top.specs.Inputs.{TakesAll, TakesFew, file_in, file_of}
+use Rattle.fg_top.specs.Outcomes.{EndsAs, IsUnanswered}
 use Rattle.fg_top.specs.declared.ended.Status.{Status}
 use Rattle.fg_top.specs.declared.ended.Status.TheVariants.{Done, Rejected, Refused, Words, ReadFault, WriteFault, NoMemory}
+use Rattle.fg_top.specs.declared.files.File.{File}
 use Rattle.fg_words.specs.declared.command.Command.{Command}
 
 answered_still : (command : Command) (left old new : Option (List ℕ)) (told : Option Device → Type 0) (status : Status) → told None → IsAnswered command left old new (λ device. device ≡ None) status → IsAnswered command left old new told status
@@ -57,33 +60,58 @@ completes command left old new told ReadFault reads reads' writes writes' is rea
 completes command left old new told WriteFault reads reads' writes writes' is read write steady_read steady_write = absurd (steady_write write)
 completes command left old new told NoMemory reads reads' writes writes' is read write steady_read steady_write = inl refl
 
+few_none : (file : Option File) (left : Option (List ℕ)) → TakesFew file left left
+few_none None left = Keeps-refl left
+few_none (Some file) left = ([], none_taken left, omega arith)
+  where
+    none_taken : (bytes : Option (List ℕ)) → Consumes bytes bytes []
+    none_taken None = tt
+    none_taken (Some all) = refl
+
 -- nothing was read, written or told
 pub nothing : (line : Option Command) (ends : Ends) (told : Option Device → Type 0) → told None → Call line ends ends told NoMemory
 nothing line ends told none = record {
   words = λ e. (Keeps-refl ends.written, none);
   answered = λ command e. (Keeps-refl ends.written, none);
-  taken = λ command e. ([], none_taken ends.left, omega arith);
-  whole = λ command e some. absurd (some tt);
+  taken = few_none (file_in line) ends.left;
+  whole = λ some. absurd (some tt);
   read = refl;
   write = refl;
   complete = λ steady_read steady_write. inl refl;
 }
-  where
-    none_taken : (left : Option (List ℕ)) → Consumes left left []
-    none_taken None = tt
-    none_taken (Some all) = refl
+
+-- the same of a status that was handed on
+pub nothing_as : (line : Option Command) (ends : Ends) (told : Option Device → Type 0) (status : Status) → status ≡ NoMemory → told None → Call line ends ends told status
+nothing_as line ends told status is none = subst (λ (s : Status). Call line ends ends told s) (sym is) (nothing line ends told none)
 
 -- a command was answered
-pub called : (line : Option Command) (command : Command) (before after : Ends) (told : Option Device → Type 0) (status : Status) → line ≡ Some command → IsAnswered command before.left before.written after.written told status → ReadCause before.read_faults after.read_faults status → WriteCause before.write_faults after.write_faults status → TakesAtMost (input_limit command + 1) before.left after.left → (¬ IsUnanswered status → TakesWhole (input_limit command) before.left after.left) → Call line before after told status
+pub called : (line : Option Command) (command : Command) (before after : Ends) (told : Option Device → Type 0) (status : Status) → line ≡ Some command → IsAnswered command before.left before.written after.written told status → ReadCause before.read_faults after.read_faults status → WriteCause before.write_faults after.write_faults status → TakesFew (file_of command) before.left after.left → (¬ IsUnanswered status → TakesAll (file_of command) before.left after.left) → Call line before after told status
 called line command before after told status is answered read write taken whole = subst (λ (l : Option Command). Call l before after told status) (sym is) (record {
   words = λ e. absurd (true≢false (ap is_some e));
-  answered = λ other e. subst (λ (c : Command). IsAnswered c before.left before.written after.written told status) (same other e) answered;
-  taken = λ other e. subst (λ (c : Command). TakesAtMost (input_limit c + 1) before.left after.left) (same other e) taken;
-  whole = λ other e some. subst (λ (c : Command). TakesWhole (input_limit c) before.left after.left) (same other e) (whole some);
+  answered = λ other e. subst (λ (c : Command). IsAnswered c before.left before.written after.written told status) (same_Some command other e) answered;
+  taken = taken;
+  whole = whole;
   read = read;
   write = write;
   complete = completes command before.left before.written after.written told status before.read_faults after.read_faults before.write_faults after.write_faults answered read write;
 })
+
+-- words that are no command line: nothing is read
+pub worded : (line : Option Command) (before after : Ends) (told : Option Device → Type 0) (status : Status) → line ≡ None → told None → after.left ≡ before.left → after.read_faults ≡ before.read_faults → EndsAs Words (codes "words\n") before.written after.written status → WriteCause before.write_faults after.write_faults status → (status ≡ Words) ⊎ (status ≡ WriteFault) → Call line before after told status
+worded line before after told status is none left faults ends write either = subst (λ (l : Option Command). Call l before after told status) (sym is) (record {
+  words = λ e. (ends, none);
+  answered = λ command e. absurd (true≢false (sym (ap is_some e)));
+  taken = subst (λ (o : Option (List ℕ)). TakesFew None before.left o) (sym left) (Keeps-refl before.left);
+  whole = λ some. subst (λ (o : Option (List ℕ)). TakesAll None before.left o) (sym left) (Keeps-refl before.left);
+  read = by either;
+  write = write;
+  complete = λ steady_read steady_write. inr (whole_line steady_write either);
+})
   where
-    same : (other : Command) → Some command ≡ Some other → command ≡ other
-    same other e = ap (λ (o : Option Command). unwrap_or o command) e
+    by : (status ≡ Words) ⊎ (status ≡ WriteFault) → ReadCause before.read_faults after.read_faults status
+    by (inl e) = rw e faults
+    by (inr e) = rw e faults
+
+    whole_line : ¬ Rose before.write_faults after.write_faults → (status ≡ Words) ⊎ (status ≡ WriteFault) → (status ≡ Words) × Appends before.written after.written (codes "words\n")
+    whole_line steady (inl e) = (e, (subst (EndsAs Words (codes "words\n") before.written after.written) e ends).1)
+    whole_line steady (inr e) = absurd (steady (subst (WriteCause before.write_faults after.write_faults) e write))

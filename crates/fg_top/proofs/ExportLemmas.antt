@@ -7,7 +7,8 @@ use Rattle.fg_base.specs.Applied.{bytes_at}
 use Rattle.fg_frame.specs.Numbered.{numbered}
 use Rattle.fg_frame.specs.declared.frame.Frame.{Frame}
 use Rattle.fg_meaning.specs.Meaning.{meaning}
-use Rattle.fg_top.specs.Answers.{MeansFrame, done}
+use Rattle.fg_top.specs.Answers.{MeansFrame}
+use Rattle.fg_top.specs.Plain.{done}
 use Rattle.fg_top.specs.Code.Stages.{bytes_in}
 use Rattle.fg_top.specs.Texts.{exports_text}
 

@@ -10,7 +10,8 @@ use Rattle.fg_groups.specs.declared.grouping.Grouping.{Grouping}
 use Rattle.fg_lifetimes.specs.Ordered.{IsOrdered}
 use Rattle.fg_place.specs.Placing.{Places, IsLeast}
 use Rattle.fg_report.specs.PlaceLines.{place_text}
-use Rattle.fg_top.specs.Answers.{PlacesFrame, done}
+use Rattle.fg_top.specs.Answers.{PlacesFrame}
+use Rattle.fg_top.specs.Plain.{done}
 use Rattle.fg_top.specs.Code.Stages.{AreGrouped, ArePlaced, ArePlaceLines}
 
 -- the placed units have an offset each

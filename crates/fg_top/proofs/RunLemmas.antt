@@ -8,6 +8,7 @@ use Rattle.fg_frame.specs.Numbered.{NumberedFrame, numbered}
 use Rattle.fg_frame.specs.declared.frame.Frame.{Frame}
 use Rattle.fg_report.specs.KeptLines.{run_text}
 use Rattle.fg_hb.specs.Orders.{Order}
+use Rattle.fg_place.specs.Placing.{Places}
 use Rattle.fg_drive.specs.Tended.{Tended, tended_moves}
 use Rattle.fg_steps.specs.Devices.{Device, state_of, fresh, opening, IsComplete}
 use Rattle.fg_steps.specs.Histories.{moves_in}
@@ -17,7 +18,8 @@ use Rattle.fg_subs.specs.FirstFault.{first_fault}
 use Rattle.fg_subs.specs.declared.program.Program.{Program}
 use Rattle.fg_view.specs.Views.{view_of}
 use Rattle.fg_top.specs.Runs.{HasRun, read_by}
-use Rattle.fg_top.specs.Headline.{Compiles, RunsFrame, ran}
+use Rattle.fg_top.specs.Headline.{Compiles, FrameRun, RunsFrame, SummarizesFrame, ran}
+use Rattle.fg_top.specs.Summaries.{summary_of}
 use Rattle.fg_top.specs.Texts.{AreMeant, exports_text, in_turn, traced}
 use Rattle.fg_words.specs.declared.options.Options.{Options}
 
@@ -62,14 +64,27 @@ meant frame program tend d right has k unit at =
     λ P is. subst (λ (Q : Program). k < length Q.readbacks → IsSound Q → Order (view_of Q).nodes order → host_bytes Q order k ≡ Some (read_by d k)) is (λ within judged ordered. has.apart k within judged order ordered) in
     sym (right.means order order_is k unit at) ∙ apart program has.runs lt right.sound order_is
 
-pub runs_frame : (options : Options) (frame : Frame) (kept : List Bool) (program : Program) (d : Device) (text : List ℕ) → Compiles (numbered frame) kept program → HasRun program options.tend d → text ≡ run_text frame kept ++ (exports_text frame (read_by d) ++ traced options.trace d.history) → RunsFrame options frame (ran d text)
-runs_frame options frame kept program d text compiles has is = record {
+-- a frame that was compiled, and a device that has run its program
+abbrev frame_run : (tend : Option ℕ) (tight : Bool) (frame : NumberedFrame) (kept : List Bool) (places : Places) (program : Program) (d : Device) → Compiles tight frame kept places program → HasRun program tend d → FrameRun tend tight frame
+frame_run tend tight frame kept places program d compiles has = record {
   kept = kept;
+  places = places;
   program = program;
   compiles = compiles;
   device = d;
   has_run = has;
-  meant = meant (numbered frame) program options.tend d compiles.right has;
+  meant = meant frame program tend d compiles.right has;
+}
+
+pub runs_frame : (options : Options) (trace tight : Bool) (frame : Frame) (kept : List Bool) (places : Places) (program : Program) (d : Device) (text : List ℕ) → Compiles tight (numbered frame) kept places program → HasRun program options.tend d → text ≡ run_text frame kept ++ (exports_text frame (read_by d) ++ traced trace d.history) → RunsFrame options trace tight frame (ran d text)
+runs_frame options trace tight frame kept places program d text compiles has is = record {
+  run = frame_run options.tend tight (numbered frame) kept places program d compiles has;
+  whole = ap (ran d) is;
+}
+
+pub summarizes_frame : (options : Options) (frame : Frame) (kept : List Bool) (places : Places) (program : Program) (d : Device) (text : List ℕ) → Compiles false (numbered frame) kept places program → HasRun program options.tend d → text ≡ summary_of (numbered frame) kept places program (read_by d) → SummarizesFrame options frame (ran d text)
+summarizes_frame options frame kept places program d text compiles has is = record {
+  run = frame_run options.tend false (numbered frame) kept places program d compiles has;
   whole = ap (ran d) is;
 }
 

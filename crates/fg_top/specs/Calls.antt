@@ -1,12 +1,13 @@
 -- What a call of the program comes to.
-use Rattle.std.specs.Prelude.{◌≡◌, ◌⊎◌, ◌+◌, Option, Some, None, codes}
+use Rattle.std.specs.Prelude.{◌≡◌, ◌⊎◌, Option, Some, None, codes}
 use Rattle.fg_base.specs.Counts.{Rose}
-use Rattle.fg_top.specs.Answers.{IsAnswered, input_limit}
+use Rattle.fg_top.specs.Answers.{IsAnswered}
 use Rattle.fg_top.specs.Causes.{ReadCause, WriteCause}
 use Rattle.fg_top.specs.Complete.{IsComplete}
 use Rattle.fg_top.specs.Ends.{Ends}
+use Rattle.fg_top.specs.Inputs.{TakesAll, TakesFew, file_in}
 use Rattle.fg_steps.specs.Devices.{Device}
-use Rattle.fg_top.specs.Outcomes.{EndsAs, IsUnanswered, TakesAtMost, TakesWhole}
+use Rattle.fg_top.specs.Outcomes.{EndsAs, IsUnanswered}
 use Rattle.fg_top.specs.declared.ended.Status.{Status}
 use Rattle.fg_top.specs.declared.ended.Status.TheVariants.{Words, NoMemory}
 use Rattle.fg_words.specs.declared.command.Command.{Command}
@@ -15,11 +16,11 @@ use Rattle.fg_words.specs.declared.command.Command.{Command}
 pub record Call (line : Option Command) (before after : Ends) (told : Option Device → Type 0) (status : Status) : Type 0 where
   -- words that are no command line
   pub words : line ≡ None → EndsAs Words (codes "words\n") before.written after.written status × told None
-  -- a command: its answer to the bytes that were left is written; no more is read than one byte over its limit, and where
-  -- there is an answer all of it is, or that one byte more
+  -- a command: its answer to the bytes that were left is written
   pub answered : (command : Command) → line ≡ Some command → IsAnswered command before.left before.written after.written told status
-  pub taken : (command : Command) → line ≡ Some command → TakesAtMost (input_limit command + 1) before.left after.left
-  pub whole : (command : Command) → line ≡ Some command → ¬ IsUnanswered status → TakesWhole (input_limit command) before.left after.left
+  -- no more of its file is read than one byte over the limit, and where there is an answer all of it is, or that one byte more
+  pub taken : TakesFew (file_in line) before.left after.left
+  pub whole : ¬ IsUnanswered status → TakesAll (file_in line) before.left after.left
   -- a count of faults rises exactly with its status
   pub read : ReadCause before.read_faults after.read_faults status
   pub write : WriteCause before.write_faults after.write_faults status

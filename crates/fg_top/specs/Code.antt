@@ -3,3 +3,4 @@ pub mod Intakes
 pub mod Served
 pub mod Stages
 pub mod Steps
+pub mod Totals

@@ -1,5 +1,6 @@
 pub mod Answers
 pub mod AtRest
+pub mod Audits
 pub mod Calls
 pub mod Causes
 pub mod Code
@@ -7,8 +8,11 @@ pub mod Complete
 pub mod Ends
 pub mod Files
 pub mod Headline
+pub mod Inputs
 pub mod Outcomes
+pub mod Plain
 pub mod Runs
 pub mod Statuses
+pub mod Summaries
 pub mod Texts
 pub mod Told

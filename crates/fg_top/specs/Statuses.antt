@@ -1,4 +1,4 @@
--- The exit statuses.
+-- The exit statuses, and which come with a text.
 use Rattle.std.specs.Prelude.{ℕ}
 use Rattle.fg_top.specs.declared.ended.Status.{Status}
 use Rattle.fg_top.specs.declared.ended.Status.TheVariants.{Done, Rejected, Refused, Words, ReadFault, WriteFault, NoMemory}
@@ -11,3 +11,10 @@ number_of Words = 3
 number_of ReadFault = 4
 number_of WriteFault = 5
 number_of NoMemory = 6
+
+-- a status that comes with a text
+abbrev pub HasText : Status → Type 0
+HasText ReadFault = ⊥
+HasText NoMemory = ⊥
+HasText WriteFault = ⊥
+HasText status = Unit {0}

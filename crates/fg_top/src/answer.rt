@@ -1,8 +1,8 @@
 //! What a command answers, before it is written.
 
 ghost use Rattle.std.specs.Prelude.{◌≡◌, IfOk};
-ghost use Rattle.fg_top.specs.Answers.{done, refusal, program_refusal};
 ghost use Rattle.fg_top.specs.Headline.{ran};
+ghost use Rattle.fg_top.specs.Plain.{done, refusal, program_refusal};
 
 use crate::Status;
 use fg_base::{NoMemory, Text};
@@ -15,8 +15,11 @@ use std::alloc::Global;
 /// A status, the whole text that goes with it, and the device that ran for it, whose history taps are told.
 #[derive(Drop)]
 pub struct Answer {
+    /// How a call ends that writes the text whole.
     pub status: Status,
+    /// The text, in lines that end with a line feed each.
     pub text: Text,
+    /// The device, where one ran and taps are told.
     pub device: Option<Device>,
 }
 

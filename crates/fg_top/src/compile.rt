@@ -1,9 +1,9 @@
 //! The command `compile`.
 
-ghost use Rattle.std.specs.Prelude.{IfOk};
+ghost use Rattle.std.specs.Prelude.{IfOk, true, false};
 ghost use Rattle.fg_frame.specs.Numbered.{numbered};
 ghost use Rattle.fg_top.specs.Answers.{CompilesFrame};
-ghost use Rattle.fg_top.specs.Code.Steps.{HasText};
+ghost use Rattle.fg_top.specs.Statuses.{HasText};
 ghost use Rattle.fg_top.specs.Headline.{Compiles};
 
 use crate::answer::{Answer, done};
@@ -12,21 +12,49 @@ use fg_compile::{Compiled, compile};
 use fg_frame::GoodFrame;
 use fg_lines::Lines;
 use fg_subfile::write_program;
+use fg_tight::tighten;
+use fg_waits::wait_laws;
 use std::alloc::Global;
 
-/// What the kept passes of a frame are compiled to.
-pub fn compiled(alloc: Global, good: &GoodFrame) -> Result<Compiled, NoMemory>
-    ensures { IfOk result (λ made. Compiles (numbered good.now) made.kept made.program.program) }
+// The same without the waits that soundness does not need, which change nothing of what the host reads.
+#[tactic(auto, using(crate::proofs::TightLemmas::as_tight))]
+fn tightened(alloc: Global, good: &GoodFrame, made: Compiled) -> Result<Compiled, NoMemory>
+    requires { Compiles false (numbered good.now) made.kept made.placement made.program.program }
+    ensures { IfOk result (λ tight. Compiles true (numbered good.now) tight.kept tight.placement tight.program.program) }
 {
-    compile(alloc, good)
+    wait_laws();
+    let Compiled {
+        program,
+        kept,
+        placement,
+    } = made;
+    let program = tighten(alloc, program)?;
+    Ok(Compiled {
+        program,
+        kept,
+        placement,
+    })
+}
+
+/// What the kept passes of a frame are compiled to; where it is to be tight, without the waits that it does not need.
+#[tactic(auto, using(crate::proofs::TightLemmas::as_compiled))]
+pub fn compiled(alloc: Global, good: &GoodFrame, tight: bool) -> Result<Compiled, NoMemory>
+    ensures { IfOk result (λ made. Compiles tight (numbered good.now) made.kept made.placement made.program.program) }
+{
+    let made = compile(alloc, good)?;
+    if tight {
+        tightened(alloc, good, made)
+    } else {
+        Ok(made)
+    }
 }
 
 /// The answer to the command on a good frame.
-pub fn compile_frame(alloc: Global, good: &GoodFrame) -> Result<Answer, NoMemory>
-    ensures frame { IfOk result (CompilesFrame good.now) }
+pub fn compile_frame(alloc: Global, good: &GoodFrame, tight: bool) -> Result<Answer, NoMemory>
+    ensures frame { IfOk result (CompilesFrame tight good.now) }
     ensures has_text { IfOk result (λ answer. HasText answer.status) }
 {
-    let made = compiled(alloc, good)?;
+    let made = compiled(alloc, good, tight)?;
     let mut text = write_program(alloc, made.program.shaped().program())?;
     text.end_line()?;
     Ok(done(text))

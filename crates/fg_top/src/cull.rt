@@ -3,7 +3,7 @@
 ghost use Rattle.std.specs.Prelude.{IfOk};
 ghost use Rattle.fg_frame.specs.Numbered.{numbered};
 ghost use Rattle.fg_top.specs.Answers.{CullsFrame};
-ghost use Rattle.fg_top.specs.Code.Steps.{HasText};
+ghost use Rattle.fg_top.specs.Statuses.{HasText};
 ghost use Rattle.fg_versions.specs.Culled.{AreKept};
 
 use crate::answer::{Answer, done};

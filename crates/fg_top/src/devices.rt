@@ -1,22 +1,26 @@
 //! The commands that run a program on a device.
 
-ghost use Rattle.std.specs.Prelude.{◌≡◌, ◌≤◌, ◌+◌, ◌⊎◌, [], vec_len, vec_capacity, map, string_bytes, Some, true, IfOk, IfErr};
-ghost use Rattle.fg_top.specs.Answers.{AnswersBytes, AnswersLeft, IsAnswered, input_limit};
+ghost use Rattle.std.specs.Prelude.{◌≡◌, ◌≤◌, ◌⊎◌, [], vec_len, vec_capacity, map, string_bytes, Some, None, true, IfOk, IfErr};
+ghost use Rattle.fg_top.specs.Answers.{AnswersBytes, AnswersLeft, IsAnswered};
 ghost use Rattle.fg_top.specs.AtRest.{needs_device};
 ghost use Rattle.fg_top.specs.Calls.{Call};
 ghost use Rattle.fg_top.specs.Causes.{ReadCause, WriteCause};
 ghost use Rattle.fg_top.specs.Code.Served.{RunsOnDevice};
-ghost use Rattle.fg_top.specs.Code.Steps.{HasText, ReadsAnswer};
+ghost use Rattle.fg_top.specs.Code.Steps.{ReadsAnswer};
+ghost use Rattle.fg_top.specs.Statuses.{HasText};
 ghost use Rattle.fg_top.specs.Ends.{ends};
-ghost use Rattle.fg_top.specs.Outcomes.{IsUnanswered, TakesAtMost, TakesWhole};
+ghost use Rattle.fg_top.specs.Inputs.{TakesAll, TakesFew, file_in, file_of};
+ghost use Rattle.fg_top.specs.Outcomes.{IsUnanswered};
 ghost use Rattle.fg_top.specs.Told.{AreTold};
 ghost use Rattle.fg_words.specs.Lines.{command_of};
 
 use crate::answer::Answer;
+use crate::audit::audit_file;
 use crate::exec::execute_file;
-use crate::files::{input_limit, over_input};
-use crate::intake::{Intake, read_input};
+use crate::files::{file_of, over_input};
+use crate::input::{Input, input_of};
 use crate::run::run_file;
+use crate::summary::summarize;
 use crate::telling::{deliver, reserved, untold};
 use crate::{Ended, Status};
 use fg_base::{Gate, NoMemory, Sink, Source, Tap};
@@ -37,13 +41,23 @@ fn answer_bytes<R: Threads + Wait + Sync, G: Gate + Sync>(
     ensures has_text { IfOk result (λ answer. HasText answer.status) }
 {
     match command {
-        Command::Run(options) => run_file(rt, alloc, options, bytes, gate),
-        Command::Exec(options) => execute_file(rt, alloc, options, bytes, gate),
-        Command::Frame(_) | Command::Submission(_) => unreachable!(),
+        Command::Run {
+            options,
+            trace,
+            tight,
+        } => run_file(rt, alloc, options, trace, tight, bytes, gate),
+        Command::Exec { options, trace } => execute_file(rt, alloc, options, trace, bytes, gate),
+        Command::Summary {
+            number,
+            passes,
+            options,
+        } => summarize(rt, alloc, number, passes, options, gate),
+        Command::Audit => audit_file(rt, alloc, bytes),
+        Command::Frame(_) | Command::Submission(_) | Command::Gen { .. } => unreachable!(),
     }
 }
 
-// The answer to the file that is read, or the status where there is none.
+// The answer to the input that is read, or the status where there is none.
 fn answer_input<R: Threads + Wait + Sync, G: Gate + Sync, I: Source>(
     rt: &R,
     alloc: Global,
@@ -56,14 +70,13 @@ fn answer_input<R: Threads + Wait + Sync, G: Gate + Sync, I: Source>(
     ensures has_text { IfOk result (λ answer. HasText answer.status) }
     ensures none { IfErr result (λ status. (status ≡ Status.ReadFault) ⊎ (status ≡ Status.NoMemory)) }
     ensures read { ReadsAnswer (I.faults input.old) (I.faults input.new) result }
-    ensures taken { TakesAtMost (input_limit command + 1) (I.left input.old) (I.left input.new) }
-    ensures whole { IfOk result (λ _. TakesWhole (input_limit command) (I.left input.old) (I.left input.new)) }
+    ensures taken { TakesFew (file_of command) (I.left input.old) (I.left input.new) }
+    ensures whole { IfOk result (λ _. TakesAll (file_of command) (I.left input.old) (I.left input.new)) }
+    ensures unread { file_of command ≡ None → input.new ≡ input.old }
 {
-    match read_input(alloc, input, input_limit(command)) {
-        Intake::Whole(bytes) => Ok(answer_bytes(rt, alloc, command, bytes.as_slice(), gate)?),
-        Intake::Over => Ok(over_input(alloc, command)?),
-        Intake::Fault => Err(Status::ReadFault),
-        Intake::NoMemory => Err(Status::NoMemory),
+    match input_of(alloc, file_of(command), input)? {
+        Input::Bytes(bytes) => Ok(answer_bytes(rt, alloc, command, bytes.as_slice(), gate)?),
+        Input::Over(file) => Ok(over_input(alloc, file)?),
     }
 }
 
@@ -84,8 +97,9 @@ fn answer<R: Threads + Wait + Sync, I: Source, O: Sink, G: Gate + Sync>(
     ensures answered { IsAnswered command (I.left input.old) (O.taken output.old) (O.taken output.new) (AreTold (λ b. heard b) (λ b. finished b) taps.old.items taps.new.items result.spent.items result.places.items) result.status }
     ensures read { ReadCause (I.faults input.old) (I.faults input.new) result.status }
     ensures write { WriteCause (O.faults output.old) (O.faults output.new) result.status }
-    ensures taken { TakesAtMost (input_limit command + 1) (I.left input.old) (I.left input.new) }
-    ensures whole { ¬ IsUnanswered result.status → TakesWhole (input_limit command) (I.left input.old) (I.left input.new) }
+    ensures taken { TakesFew (file_of command) (I.left input.old) (I.left input.new) }
+    ensures whole { ¬ IsUnanswered result.status → TakesAll (file_of command) (I.left input.old) (I.left input.new) }
+    ensures unread { file_of command ≡ None → input.new ≡ input.old }
     ensures unwritten { IsUnanswered result.status → output.new ≡ output.old }
 {
     match answer_input(rt, alloc, command, input, gate) {
@@ -121,6 +135,7 @@ pub fn answer_words<R: Threads + Wait + Sync, I: Source, O: Sink, G: Gate + Sync
     requires { needs_device (command_of (map string_bytes words.now)) ≡ true }
     ensures call { let seen = ends I.left I.faults O.taken O.faults in
         Call (command_of (map string_bytes words.now)) (seen input.old output.old) (seen input.new output.new) (AreTold (λ b. heard b) (λ b. finished b) taps.old.items taps.new.items result.spent.items result.places.items) result.status }
+    ensures unread { file_in (command_of (map string_bytes words.now)) ≡ None → input.new ≡ input.old }
     ensures unwritten { IsUnanswered result.status → output.new ≡ output.old }
 {
     let Ok(command) = command_in(alloc, words) else {

@@ -11,9 +11,9 @@ use fg_base::{NoMemory, Tap};
 pub enum Status {
     /// All went well, and the text was written.
     Done,
-    /// The program that was read is not sound.
+    /// The program that was read is not sound, or the trace behind it is no run of it.
     Rejected,
-    /// The file that was read has a fault.
+    /// The file that was read has a fault, or is no trace.
     Refused,
     /// The words are no command line.
     Words,

@@ -2,10 +2,11 @@
 
 ghost use Rattle.std.specs.Prelude.{◌≤◌, ◌⊎◌, IfOk};
 ghost use Rattle.fg_checker.specs.Sound.{IsSound};
-ghost use Rattle.fg_top.specs.Answers.{ExecutesFile, Rejects};
-ghost use Rattle.fg_top.specs.Code.Steps.{HasText};
+ghost use Rattle.fg_top.specs.Answers.{ExecutesFile};
+ghost use Rattle.fg_top.specs.Statuses.{HasText};
 ghost use Rattle.fg_top.specs.Files.{program_file};
 ghost use Rattle.fg_top.specs.Headline.{Executes};
+ghost use Rattle.fg_top.specs.Plain.{Rejects};
 
 use crate::answer::{Answer, program_refusal, ran};
 use crate::programs::{checked, shaped};
@@ -25,17 +26,18 @@ fn execute_checked<R: Threads + Wait + Sync, G: Gate + Sync>(
     rt: &R,
     alloc: Global,
     options: Options,
+    trace: bool,
     program: &Checked,
     gate: &G,
 ) -> Result<Answer, NoMemory>
     requires least { 1 ≤ options.workers }
     requires most { options.workers ≤ 16 }
     requires sound { IsSound program.now.program }
-    ensures program { IfOk result (Executes options program.now.program) }
+    ensures program { IfOk result (Executes options trace program.now.program) }
     ensures has_text { IfOk result (λ answer. HasText answer.status) }
 {
     let device = run_program(rt, alloc, program, options, gate)?;
-    let text = exec_text(alloc, &device, options.trace)?;
+    let text = exec_text(alloc, &device, trace)?;
     Ok(ran(device, text))
 }
 
@@ -43,16 +45,17 @@ fn execute_program<R: Threads + Wait + Sync, G: Gate + Sync>(
     rt: &R,
     alloc: Global,
     options: Options,
+    trace: bool,
     program: Shaped,
     gate: &G,
 ) -> Result<Answer, NoMemory>
     requires least { 1 ≤ options.workers }
     requires most { options.workers ≤ 16 }
-    ensures program { IfOk result (λ answer. Executes options program answer ⊎ Rejects program answer) }
+    ensures program { IfOk result (λ answer. Executes options trace program answer ⊎ Rejects program answer) }
     ensures has_text { IfOk result (λ answer. HasText answer.status) }
 {
     match checked(alloc, program) {
-        Ok(checked) => execute_checked(rt, alloc, options, &checked, gate),
+        Ok(checked) => execute_checked(rt, alloc, options, trace, &checked, gate),
         Err(answer) => answer,
     }
 }
@@ -62,16 +65,17 @@ pub fn execute_file<R: Threads + Wait + Sync, G: Gate + Sync>(
     rt: &R,
     alloc: Global,
     options: Options,
+    trace: bool,
     bytes: &[u8],
     gate: &G,
 ) -> Result<Answer, NoMemory>
     requires least { 1 ≤ options.workers }
     requires most { options.workers ≤ 16 }
-    ensures file { IfOk result (ExecutesFile options (program_file bytes.now)) }
+    ensures file { IfOk result (ExecutesFile options trace (program_file bytes.now)) }
     ensures has_text { IfOk result (λ answer. HasText answer.status) }
 {
     match shaped(alloc, bytes) {
-        Ok(program) => execute_program(rt, alloc, options, program, gate),
+        Ok(program) => execute_program(rt, alloc, options, trace, program, gate),
         Err(SubReadEnd::Refused(fault)) => program_refusal(alloc, &fault),
         Err(SubReadEnd::NoMemory) => Err(NoMemory),
     }

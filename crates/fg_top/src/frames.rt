@@ -3,10 +3,11 @@
 ghost use Rattle.std.specs.Prelude.{IfOk};
 ghost use Rattle.fg_framefile.specs.Files.{FrameGives};
 ghost use Rattle.fg_top.specs.Answers.{AnswersFrame, AnswersFrameFile};
-ghost use Rattle.fg_top.specs.Code.Steps.{HasText};
+ghost use Rattle.fg_top.specs.Statuses.{HasText};
 ghost use Rattle.fg_top.specs.Files.{frame_file};
 
 use crate::answer::{Answer, refusal};
+use crate::bound::bound_frame;
 use crate::compile::compile_frame;
 use crate::cull::cull_frame;
 use crate::meaning::mean_frame;
@@ -41,7 +42,8 @@ fn answer_frame(alloc: Global, asked: FrameCommand, good: &GoodFrame) -> Result<
     match asked {
         FrameCommand::Cull => cull_frame(alloc, good),
         FrameCommand::Place => place_frame(alloc, good),
-        FrameCommand::Compile => compile_frame(alloc, good),
+        FrameCommand::Bound => bound_frame(alloc, good),
+        FrameCommand::Compile { tight } => compile_frame(alloc, good, tight),
         FrameCommand::Meaning => mean_frame(alloc, good),
         FrameCommand::Migrate => migrate_frame(alloc, good),
     }

@@ -2,6 +2,9 @@
 #![tactic(auto)]
 
 mod answer;
+mod audit;
+mod bound;
+mod bytes;
 mod compile;
 mod cull;
 mod devices;
@@ -9,7 +12,9 @@ mod ended;
 mod exec;
 mod files;
 mod frames;
+mod generating;
 mod groups;
+mod input;
 mod intake;
 mod meaning;
 mod migrate;
@@ -20,9 +25,13 @@ mod readbacks;
 mod rest;
 mod run;
 mod running;
+mod summary;
 mod telling;
 mod top;
+mod totals;
 
+pub use answer::Answer;
+pub use bytes::answer_to;
 pub use ended::{Ended, Status};
 pub use rest::at_rest;
 pub use top::framec;

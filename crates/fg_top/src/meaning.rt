@@ -7,7 +7,7 @@ ghost use Rattle.fg_frame.specs.Numbered.{numbered};
 ghost use Rattle.fg_meaning.specs.Meaning.{meaning};
 ghost use Rattle.fg_top.specs.Answers.{MeansFrame};
 ghost use Rattle.fg_top.specs.Code.Stages.{bytes_in};
-ghost use Rattle.fg_top.specs.Code.Steps.{HasText};
+ghost use Rattle.fg_top.specs.Statuses.{HasText};
 ghost use Rattle.fg_top.specs.Texts.{exports_text};
 
 use crate::answer::{Answer, done};

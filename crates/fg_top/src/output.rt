@@ -2,7 +2,8 @@
 
 ghost use Rattle.std.specs.Prelude.{◌≡◌, ◌<◌, ◌⊎◌};
 ghost use Rattle.fg_top.specs.Causes.{WriteCause};
-ghost use Rattle.fg_top.specs.Code.Steps.{HasText, IsWritten};
+ghost use Rattle.fg_top.specs.Code.Steps.{IsWritten};
+ghost use Rattle.fg_top.specs.Statuses.{HasText};
 ghost use Rattle.fg_top.specs.Outcomes.{EndsAs};
 
 use crate::Status;

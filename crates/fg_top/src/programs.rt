@@ -3,9 +3,10 @@
 ghost use Rattle.std.specs.Prelude.{◌≡◌, IfOk, IfErr};
 ghost use Rattle.fg_checker.specs.Sound.{IsSound};
 ghost use Rattle.fg_subfile.specs.Files.{ProgramGives};
-ghost use Rattle.fg_top.specs.Answers.{AnswersProgram, AnswersProgramFile, Rejects, rejection};
-ghost use Rattle.fg_top.specs.Code.Steps.{HasText};
+ghost use Rattle.fg_top.specs.Answers.{AnswersProgram, AnswersProgramFile};
+ghost use Rattle.fg_top.specs.Statuses.{HasText};
 ghost use Rattle.fg_top.specs.Files.{program_file};
+ghost use Rattle.fg_top.specs.Plain.{Rejects, rejection};
 
 use crate::Status;
 use crate::answer::{Answer, done, program_refusal};

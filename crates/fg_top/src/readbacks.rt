@@ -14,7 +14,8 @@ use fg_report::{export_text, readback_text, run_text, trace_text};
 use fg_versions::Kept;
 use std::alloc::Global;
 
-fn bytes_of(device: &Device, k: u32) -> &[u8]
+/// The bytes of a read-back of a device that has run to its end.
+pub fn bytes_of(device: &Device, k: u32) -> &[u8]
     requires complete { IsComplete device.now }
     requires there { k < length device.now.program.readbacks }
     ensures { result.now ≡ read_by device.now k }
@@ -26,7 +27,8 @@ fn bytes_of(device: &Device, k: u32) -> &[u8]
     }
 }
 
-fn add_readbacks(text: &mut Text, device: &Device) -> Result<(), NoMemory>
+/// The read-backs of a device that has run to its end, one after another.
+pub fn add_readbacks(text: &mut Text, device: &Device) -> Result<(), NoMemory>
     requires { IsComplete device.now }
     ensures { OnOk result (text.new ≡ text.old ++ readbacks_text (read_by device.now) (length device.now.program.readbacks)) }
 {

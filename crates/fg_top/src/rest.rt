@@ -1,23 +1,24 @@
 //! The part of the top call that needs no device.
 
-ghost use Rattle.std.specs.Prelude.{◌≡◌, ◌+◌, ◌⊎◌, IfOk, IfErr, map, string_bytes, Some, None, IfSome, IfNone, true};
-ghost use Rattle.fg_top.specs.Answers.{AnswersBytes, AnswersLeft, IsAnswered, input_limit};
+ghost use Rattle.std.specs.Prelude.{◌≡◌, ◌⊎◌, IfOk, IfErr, map, string_bytes, Some, None, IfSome, IfNone, true};
+ghost use Rattle.fg_top.specs.Answers.{AnswersLeft, IsAnswered};
 ghost use Rattle.fg_top.specs.AtRest.{IsLeft, needs_device};
 ghost use Rattle.fg_top.specs.Calls.{Call};
 ghost use Rattle.fg_top.specs.Causes.{ReadCause, WriteCause};
 ghost use Rattle.fg_top.specs.Code.Served.{IsAtRest};
-ghost use Rattle.fg_top.specs.Code.Steps.{HasText, ReadsAnswer};
+ghost use Rattle.fg_top.specs.Code.Steps.{ReadsAnswer};
+ghost use Rattle.fg_top.specs.Statuses.{HasText};
 ghost use Rattle.fg_top.specs.Ends.{ends};
-ghost use Rattle.fg_top.specs.Outcomes.{IsUnanswered, TakesAtMost, TakesWhole};
+ghost use Rattle.fg_top.specs.Inputs.{TakesAll, TakesFew, file_in, file_of};
+ghost use Rattle.fg_top.specs.Outcomes.{IsUnanswered};
 ghost use Rattle.fg_words.specs.Lines.{command_of};
 
 use crate::Status;
 use crate::answer::Answer;
-use crate::files::{input_limit, over_input};
-use crate::frames::answer_frame_file;
-use crate::intake::{Intake, read_input};
+use crate::bytes::answer_bytes;
+use crate::files::{file_of, over_input};
+use crate::input::{Input, input_of};
 use crate::output::put;
-use crate::programs::answer_program_file;
 use fg_base::{NoMemory, Sink, Source};
 use fg_words::{Command, command_of};
 use std::alloc::Global;
@@ -26,42 +27,31 @@ fn needs_device(command: Command) -> bool
     ensures { result ≡ needs_device (Some command) }
 {
     match command {
-        Command::Frame(_) | Command::Submission(_) => false,
-        Command::Run(_) | Command::Exec(_) => true,
+        Command::Frame(_) | Command::Submission(_) | Command::Gen { .. } => false,
+        Command::Run { .. } | Command::Exec { .. } | Command::Summary { .. } | Command::Audit => {
+            true
+        }
     }
 }
 
-fn answer_bytes(alloc: Global, command: Command, bytes: &[u8]) -> Result<Answer, NoMemory>
-    requires { IsAtRest command }
-    ensures answer { IfOk result (AnswersBytes command bytes.now) }
-    ensures has_text { IfOk result (λ answer. HasText answer.status) }
-{
-    match command {
-        Command::Frame(asked) => answer_frame_file(alloc, asked, bytes),
-        Command::Submission(asked) => answer_program_file(alloc, asked, bytes),
-        Command::Run(_) | Command::Exec(_) => unreachable!(),
-    }
-}
-
-// The answer to the file that is read, or the status where there is none.
+// The answer to the input that is read, or the status where there is none.
 fn answer_input<I: Source>(alloc: Global, command: Command, input: &mut I) -> Result<Answer, Status>
     requires { IsAtRest command }
     ensures answer { IfOk result (AnswersLeft command (I.left input.old)) }
     ensures has_text { IfOk result (λ answer. HasText answer.status) }
     ensures none { IfErr result (λ status. (status ≡ Status.ReadFault) ⊎ (status ≡ Status.NoMemory)) }
     ensures read { ReadsAnswer (I.faults input.old) (I.faults input.new) result }
-    ensures taken { TakesAtMost (input_limit command + 1) (I.left input.old) (I.left input.new) }
-    ensures whole { IfOk result (λ _. TakesWhole (input_limit command) (I.left input.old) (I.left input.new)) }
+    ensures taken { TakesFew (file_of command) (I.left input.old) (I.left input.new) }
+    ensures whole { IfOk result (λ _. TakesAll (file_of command) (I.left input.old) (I.left input.new)) }
+    ensures unread { file_of command ≡ None → input.new ≡ input.old }
 {
-    match read_input(alloc, input, input_limit(command)) {
-        Intake::Whole(bytes) => Ok(answer_bytes(alloc, command, bytes.as_slice())?),
-        Intake::Over => Ok(over_input(alloc, command)?),
-        Intake::Fault => Err(Status::ReadFault),
-        Intake::NoMemory => Err(Status::NoMemory),
+    match input_of(alloc, file_of(command), input)? {
+        Input::Bytes(bytes) => Ok(answer_bytes(alloc, command, bytes.as_slice())?),
+        Input::Over(file) => Ok(over_input(alloc, file)?),
     }
 }
 
-// Reads a file, does what the command says, and writes its text.
+// Reads the input, does what the command says, and writes its text.
 fn answer<I: Source, O: Sink>(
     alloc: Global,
     command: Command,
@@ -72,8 +62,9 @@ fn answer<I: Source, O: Sink>(
     ensures answered { IsAnswered command (I.left input.old) (O.taken output.old) (O.taken output.new) (λ device. device ≡ None) result }
     ensures read { ReadCause (I.faults input.old) (I.faults input.new) result }
     ensures write { WriteCause (O.faults output.old) (O.faults output.new) result }
-    ensures taken { TakesAtMost (input_limit command + 1) (I.left input.old) (I.left input.new) }
-    ensures whole { ¬ IsUnanswered result → TakesWhole (input_limit command) (I.left input.old) (I.left input.new) }
+    ensures taken { TakesFew (file_of command) (I.left input.old) (I.left input.new) }
+    ensures whole { ¬ IsUnanswered result → TakesAll (file_of command) (I.left input.old) (I.left input.new) }
+    ensures unread { file_of command ≡ None → input.new ≡ input.old }
     ensures unwritten { IsUnanswered result → output.new ≡ output.old }
 {
     match answer_input(alloc, command, input) {
@@ -82,8 +73,9 @@ fn answer<I: Source, O: Sink>(
     }
 }
 
-/// Does the whole work of the top call for all words but those of `run` and `exec`, which need a device: for these it
-/// answers none, or that memory ran out, and has read and written nothing. For other words all holds that holds of the top call.
+/// Does the whole work of the top call for all words but those that need a device, which are those of `run`, `exec`,
+/// `gen --summary` and `audit`: for these it answers none, or that memory ran out, and has read and written nothing. For other
+/// words all holds that holds of the top call.
 pub fn at_rest<I: Source, O: Sink>(
     alloc: Global,
     words: &[String],
@@ -98,7 +90,7 @@ pub fn at_rest<I: Source, O: Sink>(
     // All others.
     ensures call { let seen = ends I.left I.faults O.taken O.faults in
         IfSome result (Call (command_of (map string_bytes words.now)) (seen input.old output.old) (seen input.new output.new) (λ device. device ≡ None)) }
-    ensures unread { command_of (map string_bytes words.now) ≡ None → input.new ≡ input.old }
+    ensures unread { file_in (command_of (map string_bytes words.now)) ≡ None → input.new ≡ input.old }
     ensures unwritten { IfSome result (λ status. IsUnanswered status → output.new ≡ output.old) }
 {
     match command_of(alloc, words) {

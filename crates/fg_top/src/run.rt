@@ -1,11 +1,13 @@
 //! The command `run`.
 
-ghost use Rattle.std.specs.Prelude.{◌≤◌, IfOk};
+ghost use Rattle.std.specs.Prelude.{◌≤◌, Bool, IfOk};
+ghost use Rattle.fg_compile.specs.Right.{IsRightFor};
 ghost use Rattle.fg_frame.specs.Numbered.{numbered};
 ghost use Rattle.fg_top.specs.Answers.{RunsFile};
-ghost use Rattle.fg_top.specs.Code.Steps.{HasText};
+ghost use Rattle.fg_top.specs.Statuses.{HasText};
 ghost use Rattle.fg_top.specs.Files.{frame_file};
 ghost use Rattle.fg_top.specs.Headline.{Compiles, RunsFrame};
+ghost use Rattle.fg_versions.specs.Culled.{AreKept};
 
 use crate::answer::{Answer, ran, refusal};
 use crate::compile::compiled;
@@ -26,18 +28,21 @@ fn run_compiled<R: Threads + Wait + Sync, G: Gate + Sync>(
     rt: &R,
     alloc: Global,
     options: Options,
+    trace: bool,
     good: &GoodFrame,
     made: &Compiled,
     gate: &G,
 ) -> Result<Answer, NoMemory>
     requires least { 1 ≤ options.workers }
     requires most { options.workers ≤ 16 }
-    requires compiles { Compiles (numbered good.now) made.now.kept made.now.program.program }
-    ensures frame { IfOk result (RunsFrame options good.now) }
+    requires kept { AreKept (numbered good.now) made.now.kept }
+    requires right { IsRightFor (numbered good.now) made.now.program.program }
+    ensures frame { (tight : Bool) → Compiles tight (numbered good.now) made.now.kept made.now.placement made.now.program.program →
+        IfOk result (RunsFrame options trace tight good.now) }
     ensures has_text { IfOk result (λ answer. HasText answer.status) }
 {
     let device = run_program(rt, alloc, &made.program, options, gate)?;
-    let text = frame_text(alloc, good, &made.kept, &device, options.trace)?;
+    let text = frame_text(alloc, good, &made.kept, &device, trace)?;
     Ok(ran(device, text))
 }
 
@@ -45,16 +50,18 @@ fn run_frame<R: Threads + Wait + Sync, G: Gate + Sync>(
     rt: &R,
     alloc: Global,
     options: Options,
+    trace: bool,
+    tight: bool,
     good: &GoodFrame,
     gate: &G,
 ) -> Result<Answer, NoMemory>
     requires least { 1 ≤ options.workers }
     requires most { options.workers ≤ 16 }
-    ensures frame { IfOk result (RunsFrame options good.now) }
+    ensures frame { IfOk result (RunsFrame options trace tight good.now) }
     ensures has_text { IfOk result (λ answer. HasText answer.status) }
 {
-    let made = compiled(alloc, good)?;
-    run_compiled(rt, alloc, options, good, &made, gate)
+    let made = compiled(alloc, good, tight)?;
+    run_compiled(rt, alloc, options, trace, good, &made, gate)
 }
 
 /// The answer to the bytes of a frame file.
@@ -62,16 +69,18 @@ pub fn run_file<R: Threads + Wait + Sync, G: Gate + Sync>(
     rt: &R,
     alloc: Global,
     options: Options,
+    trace: bool,
+    tight: bool,
     bytes: &[u8],
     gate: &G,
 ) -> Result<Answer, NoMemory>
     requires least { 1 ≤ options.workers }
     requires most { options.workers ≤ 16 }
-    ensures file { IfOk result (RunsFile options (frame_file bytes.now)) }
+    ensures file { IfOk result (RunsFile options trace tight (frame_file bytes.now)) }
     ensures has_text { IfOk result (λ answer. HasText answer.status) }
 {
     match good_frame(alloc, bytes) {
-        Ok(good) => run_frame(rt, alloc, options, &good, gate),
+        Ok(good) => run_frame(rt, alloc, options, trace, tight, &good, gate),
         Err(FrameReadEnd::Refused(fault)) => refusal(alloc, &fault),
         Err(FrameReadEnd::NoMemory) => Err(NoMemory),
     }

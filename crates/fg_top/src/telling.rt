@@ -2,7 +2,7 @@
 
 ghost use Rattle.std.specs.Prelude.{◌≡◌, ◌⊎◌, ◌≤◌, [], vec_len, vec_capacity, IfOk};
 ghost use Rattle.fg_top.specs.Causes.{WriteCause};
-ghost use Rattle.fg_top.specs.Code.Steps.{HasText};
+ghost use Rattle.fg_top.specs.Statuses.{HasText};
 ghost use Rattle.fg_top.specs.Outcomes.{EndsAs};
 ghost use Rattle.fg_top.specs.Told.{AreTold};
 

@@ -4,6 +4,7 @@ ghost use Rattle.std.specs.Prelude.{◌≡◌, map, string_bytes, None, false};
 ghost use Rattle.fg_top.specs.AtRest.{needs_device};
 ghost use Rattle.fg_top.specs.Calls.{Call};
 ghost use Rattle.fg_top.specs.Ends.{ends};
+ghost use Rattle.fg_top.specs.Inputs.{file_in};
 ghost use Rattle.fg_top.specs.Outcomes.{IsUnanswered};
 ghost use Rattle.fg_top.specs.Told.{AreTold, IsUntold};
 ghost use Rattle.fg_words.specs.Lines.{command_of};
@@ -21,7 +22,7 @@ use std::thread::Threads;
 /// submission. Where a read fails or memory runs out, nothing is written. Where no read and no write fails, the status
 /// is that of the answer and its whole text is written, unless memory runs out. Where a device ran, the taps are told what it
 /// did, one tap after another, before the text is written: each until it is finished, and then it is moved to the end of
-/// `spent`. Only `run` and `exec` start threads and call the gate.
+/// `spent`. Only `run`, `exec`, `gen --summary` and `audit` start threads, and of these `audit` alone does not call the gate.
 pub fn framec<R: Threads + Wait + Sync, I: Source, O: Sink, G: Gate + Sync>(
     rt: &R,
     alloc: Global,
@@ -35,8 +36,8 @@ pub fn framec<R: Threads + Wait + Sync, I: Source, O: Sink, G: Gate + Sync>(
     ensures call { let seen = ends I.left I.faults O.taken O.faults in
         Call (command_of (map string_bytes words.now)) (seen input.old output.old) (seen input.new output.new) (AreTold (λ b. heard b) (λ b. finished b) taps.old.items taps.new.items result.spent.items result.places.items) result.status }
 
-    // Words that are no command line read nothing; a call without an answer writes nothing.
-    ensures unread { command_of (map string_bytes words.now) ≡ None → input.new ≡ input.old }
+    // Words that are no command line read nothing, nor does `gen`; a call without an answer writes nothing.
+    ensures unread { file_in (command_of (map string_bytes words.now)) ≡ None → input.new ≡ input.old }
     ensures unwritten { IsUnanswered result.status → output.new ≡ output.old }
 
     ensures untold { needs_device (command_of (map string_bytes words.now)) ≡ false → IsUntold taps.old.items taps.new.items result.spent.items result.places.items }

@@ -1,3 +1,4 @@
+pub mod Bounds
+pub mod Matched
 pub mod Numerals
 pub mod Refused
-pub mod Workers

@@ -35,7 +35,7 @@ none_if true true value outside = absurd (outside refl)
 none_if true false value outside = refl
 
 -- a number that `parse` does not read is too large
-pub unread : (least most : ℕ) (word : List ℕ) → is_number word ≡ true → ¬ (IsNumeral 10 (without_leading_plus word) × (digits_value 10 (without_leading_plus word) < 2 ^ 64)) → most < 2 ^ 64 → ◌≡◌ {A = Option ℕ} None (number_within least most word)
+pub unread : (least most : ℕ) (word : List ℕ) → is_number word ≡ true → ¬ (IsNumeral 10 (without_leading_plus word) × (digits_value 10 (without_leading_plus word) < 2 ^ 32)) → most < 2 ^ 32 → ◌≡◌ {A = Option ℕ} None (number_within least most word)
 unread least most word is none few = none_if (is_number word) (nat_le least value && nat_le value most) value over
   where
     value : ℕ
@@ -51,5 +51,5 @@ unread least most word is none few = none_if (is_number word) (nat_le least valu
     over e =
         let within : value ≤ most = leb-true value most (both (nat_le least value) (nat_le value most) e).1 in
         let some : 0 < length word = leb-true 1 (length word) (both (nat_le 1 (length word)) (nat_le (length word) 10) parts.0).0 in
-        let less : value < 2 ^ 64 = omega (arith, within, few) in
-        none (subst (λ (ds : List ℕ). IsNumeral 10 ds × (digits_value 10 ds < 2 ^ 64)) (sym (without_leading_plus_none word (no_plus word all))) ((some, digits word all), less))
+        let less : value < 2 ^ 32 = omega (arith, within, few) in
+        none (subst (λ (ds : List ℕ). IsNumeral 10 ds × (digits_value 10 ds < 2 ^ 32)) (sym (without_leading_plus_none word (no_plus word all))) ((some, digits word all), less))

@@ -1,42 +1,67 @@
--- The commands, by their words.
-use Rattle.std.specs.Prelude.{ℕ, ◌≤◌, List, Bool, false, ◌||◌, Option, Some, None, is_some, option_map, option_and_then, codes, if◌then◌else◌}
-use Rattle.std.specs.Option.{option_map_or}
-use Rattle.std.specs.Str.{bytes_eq}
+-- The commands, by their words and the options that they take.
+use Rattle.std.specs.Prelude.{ℕ, ◌≤◌, List, Bool, false, Option, Some, None, unwrap_or, option_and_then, codes, if◌then◌else◌}
 use Rattle.clap.specs.Words.{Row, first_of}
-use Rattle.fg_words.specs.Options.{options_of}
+use Rattle.fg_words.specs.CommandWords.{word_of}
+use Rattle.fg_words.specs.Given.{given_in, is_none}
+use Rattle.fg_words.specs.Options.{options_in}
 use Rattle.fg_words.specs.declared.command.Command.{Command}
-use Rattle.fg_words.specs.declared.command.Command.TheVariants.{Frame, Submission, Run, Exec}
-use Rattle.fg_words.specs.declared.command.FrameCommand.TheVariants.{Cull, Place, Compile, Meaning, Migrate}
-use Rattle.fg_words.specs.declared.command.SubmissionCommand.TheVariants.{Check}
+use Rattle.fg_words.specs.declared.command.Command.TheVariants as commands
+use Rattle.fg_words.specs.declared.command.FrameCommand.TheVariants as frames
+use Rattle.fg_words.specs.declared.command.SubmissionCommand.TheVariants as submissions
+use Rattle.fg_words.specs.declared.given.Given.{Given}
+use Rattle.fg_words.specs.declared.options.Options.{Options}
+use Rattle.fg_words.specs.declared.word.Word.{Word}
+use Rattle.fg_words.specs.declared.word.Word.TheVariants.{Cull, Place, Bound, Compile, Meaning, Migrate, Check, Gen, Run, Exec, Audit}
 
--- those without options
-abbrev pub named : List ℕ → Option Command
-named word =
-    if bytes_eq word (codes "cull") then Some (Frame Cull) else
-    if bytes_eq word (codes "place") then Some (Frame Place) else
-    if bytes_eq word (codes "compile") then Some (Frame Compile) else
-    if bytes_eq word (codes "meaning") then Some (Frame Meaning) else
-    if bytes_eq word (codes "migrate") then Some (Frame Migrate) else
-    if bytes_eq word (codes "check") then Some (Submission Check) else None
+-- a command, where no option is left that it does not take
+abbrev pub unless_more : Given → Command → Option Command
+unless_more rest command = if is_none rest then Some command else None
 
--- a command's word, the words of the two options that have a number, and whether a trace is wanted
-abbrev pub command_with : List ℕ → Option (List ℕ) → Option (List ℕ) → Bool → Option Command
-command_with word workers tend trace =
-    if bytes_eq word (codes "run") then option_map (λ options. Run options) (options_of workers tend trace) else
-    if bytes_eq word (codes "exec") then option_map (λ options. Exec options) (options_of workers tend trace) else
-    if is_some workers || is_some tend || trace then None else named word
+abbrev pub without_options : Given → Given
+without_options given = record given { workers = None; tend = None }
 
--- the word of a flag is `true` where it was given, and `false` where not
-abbrev pub is_given : Option (List ℕ) → Bool
-is_given word = option_map_or (λ w. bytes_eq w (codes "true")) word false
+-- the frame of a number, or its summary; 64 passes where none are asked for
+abbrev pub generating : Given → ℕ → Option Command
+generating given number =
+    let passes : ℕ = unwrap_or given.passes 64 in
+    let rest : Given = record given { number = None; passes = None; summary = false } in
+    if given.summary then unless_more (without_options rest) (commands.Summary number passes (options_in given)) else unless_more rest (commands.Gen number passes)
+
+abbrev pub command_of_word : Word → Given → Option Command
+command_of_word Cull given = unless_more given (commands.Frame frames.Cull)
+command_of_word Place given = unless_more given (commands.Frame frames.Place)
+command_of_word Bound given = unless_more given (commands.Frame frames.Bound)
+command_of_word Compile given = unless_more (record given { tight = false }) (commands.Frame (frames.Compile given.tight))
+command_of_word Meaning given = unless_more given (commands.Frame frames.Meaning)
+command_of_word Migrate given = unless_more given (commands.Frame frames.Migrate)
+command_of_word Check given = unless_more given (commands.Submission submissions.Check)
+command_of_word Gen given = option_and_then (generating given) given.number
+command_of_word Run given = unless_more (record (without_options given) { trace = false; tight = false }) (commands.Run (options_in given) given.trace given.tight)
+command_of_word Exec given = unless_more (record (without_options given) { trace = false }) (commands.Exec (options_in given) given.trace)
+command_of_word Audit given = unless_more given commands.Audit
+
+-- a command's word, with the options of a line
+abbrev pub command_with : List Row → List ℕ → Option Command
+command_with rows text = option_and_then (λ word. option_and_then (command_of_word word) (given_in rows)) (word_of text)
 
 -- by what `clap` found on a line
 abbrev pub command_in : List Row → Option Command
-command_in rows = option_and_then (λ word. command_with word (first_of (codes "workers") rows) (first_of (codes "tend") rows) (is_given (first_of (codes "trace") rows))) (first_of (codes "command") rows)
+command_in rows = option_and_then (command_with rows) (first_of (codes "command") rows)
 
--- 1 to 16 workers
-abbrev pub HasWorkers : Command → Type 0
-HasWorkers (Frame asked) = Unit {0}
-HasWorkers (Submission asked) = Unit {0}
-HasWorkers (Run options) = (1 ≤ options.workers) × (options.workers ≤ 16)
-HasWorkers (Exec options) = (1 ≤ options.workers) × (options.workers ≤ 16)
+-- BOUNDS
+
+abbrev pub HasWorkers : Options → Type 0
+HasWorkers options = (1 ≤ options.workers) × (options.workers ≤ 16)
+
+abbrev pub HasPasses : ℕ → Type 0
+HasPasses passes = (1 ≤ passes) × (passes ≤ 256)
+
+-- 1 to 16 workers, 1 to 256 passes
+abbrev pub IsBounded : Command → Type 0
+IsBounded (commands.Frame asked) = Unit {0}
+IsBounded (commands.Submission asked) = Unit {0}
+IsBounded (commands.Gen number passes) = HasPasses passes
+IsBounded (commands.Run options trace tight) = HasWorkers options
+IsBounded (commands.Exec options trace) = HasWorkers options
+IsBounded (commands.Summary number passes options) = HasPasses passes × HasWorkers options
+IsBounded commands.Audit = Unit {0}

@@ -25,8 +25,17 @@ flag_rule name = record (new_rule name) { long = Some name; action = Some SetTru
 abbrev pub bare_app : App
 bare_app = on_top (λ s. record s { disable_help_flag = true; disable_version_flag = true }) (new_app (codes "framec"))
 
+-- the command's word, the options and the flags
 abbrev pub framec : App
-framec = with_rule (with_rule (with_rule (with_rule bare_app word_rule) (option_rule (codes "workers"))) (option_rule (codes "tend"))) (flag_rule (codes "trace"))
+framec =
+    let worded : App = with_rule bare_app word_rule in
+    let working : App = with_rule worded (option_rule (codes "workers")) in
+    let tended : App = with_rule working (option_rule (codes "tend")) in
+    let numbered : App = with_rule tended (option_rule (codes "number")) in
+    let passing : App = with_rule numbered (option_rule (codes "passes")) in
+    let traced : App = with_rule passing (flag_rule (codes "trace")) in
+    let summed : App = with_rule traced (flag_rule (codes "summary")) in
+    with_rule summed (flag_rule (codes "tight"))
 
 -- a line, of which the program's own name is the first word: nothing in it is refused
 abbrev pub IsLine : List Text → Type 0

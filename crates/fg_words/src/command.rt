@@ -1,22 +1,42 @@
-//! The commands, and their words.
-
-ghost use Rattle.std.specs.Prelude.{◌≡◌};
-ghost use Rattle.fg_words.specs.Commands.{named};
+//! The commands.
 
 use crate::Options;
 
-/// A command that the program has, by what it reads and what it needs. One that reads nothing, or more than one file, will
-/// stand beside these.
+/// A command that the program has, by what it reads and what it needs. One that reads more than one file will stand beside
+/// these.
 #[derive(Clone, Copy, Debug, PartialEq, Eq)]
 pub enum Command {
     /// A command that reads a frame and needs no device.
     Frame(FrameCommand),
     /// A command that reads a submission and needs no device.
     Submission(SubmissionCommand),
+    /// Prints the frame of 1 to 256 passes that a number gives. It reads nothing.
+    Gen {
+        number: u32,
+        passes: u32,
+    },
     /// Runs a frame on a device, and prints what it exports.
-    Run(Options),
+    Run {
+        options: Options,
+        /// The events of the device are printed too.
+        trace: bool,
+        /// Waits, and stages of waits, that its submissions do not need are left out.
+        tight: bool,
+    },
     /// Runs a submission on a device, and prints what the host reads.
-    Exec(Options),
+    Exec {
+        options: Options,
+        /// The events of the device are printed too.
+        trace: bool,
+    },
+    /// Runs the frame that a number gives on a device, and prints what it comes to in numbers. It reads nothing.
+    Summary {
+        number: u32,
+        passes: u32,
+        options: Options,
+    },
+    /// Reads a submission and a trace, and prints whether the trace is a run of it.
+    Audit,
 }
 
 /// What is done with a frame.
@@ -26,8 +46,13 @@ pub enum FrameCommand {
     Cull,
     /// Prints where its transient resources lie in shared memory.
     Place,
+    /// Prints how many bytes the memory that its transient resources share has at least, and what shows it.
+    Bound,
     /// Prints the submissions that it needs.
-    Compile,
+    Compile {
+        /// Waits, and stages of waits, that these do not need are left out.
+        tight: bool,
+    },
     /// Prints its exports from its sequential meaning.
     Meaning,
     /// Prints its canonical text.
@@ -39,21 +64,4 @@ pub enum FrameCommand {
 pub enum SubmissionCommand {
     /// Prints whether it is sound, or its first hazard.
     Check,
-}
-
-impl Command {
-    /// The command with this word, of those that have no options.
-    pub fn named(word: &str) -> Option<Command>
-        ensures { result ≡ named word.now }
-    {
-        match word {
-            "cull" => Some(Command::Frame(FrameCommand::Cull)),
-            "place" => Some(Command::Frame(FrameCommand::Place)),
-            "compile" => Some(Command::Frame(FrameCommand::Compile)),
-            "meaning" => Some(Command::Frame(FrameCommand::Meaning)),
-            "migrate" => Some(Command::Frame(FrameCommand::Migrate)),
-            "check" => Some(Command::Submission(SubmissionCommand::Check)),
-            _ => None,
-        }
-    }
 }

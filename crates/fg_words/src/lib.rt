@@ -2,10 +2,12 @@
 #![tactic(auto)]
 
 mod command;
+mod given;
 mod line;
 mod matching;
 mod number;
 mod options;
+mod word;
 
 pub use command::{Command, FrameCommand, SubmissionCommand};
 pub use line::command_of;

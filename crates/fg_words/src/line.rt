@@ -1,21 +1,24 @@
 //! Which command words are.
 
-ghost use Rattle.std.specs.Prelude.{◌≡◌, ◌∷◌, IfOk, IfSome, map, string_bytes, codes, option_map};
-ghost use Rattle.clap.specs.Words.{first_of, rows_of, found_of};
-ghost use Rattle.fg_words.specs.Commands.{HasWorkers, command_in, command_with, is_given};
+ghost use Rattle.std.specs.Prelude.{◌≡◌, ◌∷◌, IfOk, IfSome, map, string_bytes, codes};
+ghost use Rattle.clap.specs.Words.{rows_of, found_of};
+ghost use Rattle.fg_words.specs.Commands.{IsBounded, command_in, command_of_word, generating, unless_more, without_options};
 ghost use Rattle.fg_words.specs.Lines.{command_of};
+ghost use Rattle.fg_words.specs.declared.command.Command.TheVariants as commands;
 
+use crate::given::{Given, given_in, text_in};
 use crate::matching::{Unmatched, matches};
-use crate::{Command, Options};
+use crate::word::{Word, word_of};
+use crate::{Command, FrameCommand, Options, SubmissionCommand};
 use clap::ArgMatches;
 use fg_base::NoMemory;
 use std::alloc::Global;
 
-#[tactic(auto, using(crate::proofs::Refused::none_refused, crate::proofs::Workers::few_workers))]
+#[tactic(auto, using(crate::proofs::Bounds::bounded_lines))]
 /// The command of the words after the program's name; none where they are no command line.
 pub fn command_of(alloc: Global, words: &[String]) -> Result<Option<Command>, NoMemory>
     ensures command { IfOk result (λ found. found ≡ command_of (map string_bytes words.now)) }
-    ensures workers { IfSome (command_of (map string_bytes words.now)) HasWorkers }
+    ensures bounded { IfSome (command_of (map string_bytes words.now)) IsBounded }
 {
     let line = line_of(alloc, words)?;
     match matches(alloc, line.as_slice()) {
@@ -37,52 +40,104 @@ fn line_of<'a>(alloc: Global, words: &'a [String]) -> Result<Vec<&'a str>, NoMem
     Ok(line)
 }
 
-// The first value of an argument.
-fn text_in<'a>(matches: &ArgMatches<'a>, id: &str) -> Option<&'a str>
-    ensures { option_map (λ text. text.now) result ≡ first_of id.now (rows_of (found_of matches.now)) }
-{
-    matches.get_str(id)
-}
-
-fn is_given(word: Option<&str>) -> bool
-    ensures { result ≡ is_given (option_map (λ w. w.now) word.entry) }
-{
-    match word {
-        Some(word) => word == "true",
-        None => false,
-    }
-}
-
-fn command_with(
-    word: &str,
-    workers: Option<&str>,
-    tend: Option<&str>,
-    trace: bool,
-) -> Option<Command>
-    ensures { result ≡ command_with word.now (option_map (λ w. w.now) workers.entry) (option_map (λ w. w.now) tend.entry) trace }
-{
-    if word == "run" {
-        return Options::of(workers, tend, trace).map(Command::Run);
-    }
-    if word == "exec" {
-        return Options::of(workers, tend, trace).map(Command::Exec);
-    }
-    if workers.is_some() || tend.is_some() || trace {
-        return None;
-    }
-    Command::named(word)
-}
-
 fn command_in(matches: &ArgMatches<'_>) -> Option<Command>
     ensures { result ≡ command_in (rows_of (found_of matches.now)) }
 {
-    let Some(word) = text_in(matches, "command") else {
-        return None;
+    let word = word_of(text_in(matches, "command")?)?;
+    command_of_word(word, given_in(matches)?)
+}
+
+// The command, where no option is left that it does not take.
+fn unless_more(rest: Given, command: Command) -> Option<Command>
+    ensures { result ≡ unless_more rest command }
+{
+    if rest.is_none() { Some(command) } else { None }
+}
+
+fn without_options(given: Given) -> Given
+    ensures { result ≡ without_options given }
+{
+    Given {
+        workers: None,
+        tend: None,
+        ..given
+    }
+}
+
+fn without_trace(given: Given) -> Given
+    ensures { result ≡ record (without_options given) { trace = Rattle.std.specs.Prelude.false } }
+{
+    Given {
+        trace: false,
+        ..without_options(given)
+    }
+}
+
+fn without_tight(given: Given) -> Given
+    ensures { result ≡ record given { tight = Rattle.std.specs.Prelude.false } }
+{
+    Given {
+        tight: false,
+        ..given
+    }
+}
+
+// The frame of a number, or its summary.
+fn generating(given: Given, number: u32) -> Option<Command>
+    ensures { result ≡ generating given number }
+{
+    let passes = given.passes.unwrap_or(64);
+    let rest = Given {
+        number: None,
+        passes: None,
+        summary: false,
+        ..given
     };
-    command_with(
-        word,
-        text_in(matches, "workers"),
-        text_in(matches, "tend"),
-        is_given(text_in(matches, "trace")),
-    )
+    if given.summary {
+        let options = Options::of(given);
+        unless_more(
+            without_options(rest),
+            Command::Summary {
+                number,
+                passes,
+                options,
+            },
+        )
+    } else {
+        unless_more(rest, Command::Gen { number, passes })
+    }
+}
+
+fn of_frame(rest: Given, asked: FrameCommand) -> Option<Command>
+    ensures { result ≡ unless_more rest (commands.Frame asked) }
+{
+    unless_more(rest, Command::Frame(asked))
+}
+
+fn command_of_word(word: Word, given: Given) -> Option<Command>
+    ensures { result ≡ command_of_word word given }
+{
+    let options = Options::of(given);
+    let trace = given.trace;
+    let tight = given.tight;
+    match word {
+        Word::Cull => of_frame(given, FrameCommand::Cull),
+        Word::Place => of_frame(given, FrameCommand::Place),
+        Word::Bound => of_frame(given, FrameCommand::Bound),
+        Word::Compile => of_frame(without_tight(given), FrameCommand::Compile { tight }),
+        Word::Meaning => of_frame(given, FrameCommand::Meaning),
+        Word::Migrate => of_frame(given, FrameCommand::Migrate),
+        Word::Check => unless_more(given, Command::Submission(SubmissionCommand::Check)),
+        Word::Gen => generating(given, given.number?),
+        Word::Run => unless_more(
+            without_tight(without_trace(given)),
+            Command::Run {
+                options,
+                trace,
+                tight,
+            },
+        ),
+        Word::Exec => unless_more(without_trace(given), Command::Exec { options, trace }),
+        Word::Audit => unless_more(given, Command::Audit),
+    }
 }

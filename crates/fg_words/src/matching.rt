@@ -1,7 +1,7 @@
 //! Words, matched by the one `clap` command.
 
 ghost use Rattle.std.specs.Prelude.{◌≡◌, IfOk, map, false};
-ghost use Rattle.clap.specs.Words.{app_of, rule_of};
+ghost use Rattle.clap.specs.Words.{app_of, rule_of, with_rule};
 ghost use Rattle.fg_words.specs.Lines.{framec, bare_app, flag_rule, option_rule, word_rule, Matches};
 
 use clap::error::ErrorKind;
@@ -24,21 +24,6 @@ fn word<'a>(alloc: Global) -> Arg<'a>
         .action(ArgAction::Set)
 }
 
-// An option with a number behind it.
-fn option<'a>(alloc: Global, name: &'a str) -> Arg<'a>
-    ensures rule { rule_of result ≡ option_rule name.entry.now }
-    ensures own { result.global ≡ false }
-{
-    Arg::new(alloc, name).long(name).action(ArgAction::Set)
-}
-
-fn flag<'a>(alloc: Global, name: &'a str) -> Arg<'a>
-    ensures rule { rule_of result ≡ flag_rule name.entry.now }
-    ensures own { result.global ≡ false }
-{
-    Arg::new(alloc, name).long(name).action(ArgAction::SetTrue)
-}
-
 fn bare<'a>(alloc: Global) -> Command<'a>
     ensures { app_of result ≡ bare_app }
 {
@@ -47,13 +32,42 @@ fn bare<'a>(alloc: Global) -> Command<'a>
         .disable_version_flag(true)
 }
 
+// An option with a number behind it.
+fn with_option<'a>(
+    command: Command<'a>,
+    alloc: Global,
+    name: &'a str,
+) -> Result<Command<'a>, AllocError>
+    ensures { IfOk result (λ more. app_of more ≡ with_rule (app_of command.entry) (option_rule name.entry.now)) }
+{
+    let option = Arg::new(alloc, name).long(name).action(ArgAction::Set);
+    let command = command.arg(option)?;
+    Ok(command)
+}
+
+fn with_flag<'a>(
+    command: Command<'a>,
+    alloc: Global,
+    name: &'a str,
+) -> Result<Command<'a>, AllocError>
+    ensures { IfOk result (λ more. app_of more ≡ with_rule (app_of command.entry) (flag_rule name.entry.now)) }
+{
+    let flag = Arg::new(alloc, name).long(name).action(ArgAction::SetTrue);
+    let command = command.arg(flag)?;
+    Ok(command)
+}
+
 fn framec<'a>(alloc: Global) -> Result<Command<'a>, AllocError>
     ensures { IfOk result (λ command. app_of command ≡ framec) }
 {
     let worded = bare(alloc).arg(word(alloc))?;
-    let working = worded.arg(option(alloc, "workers"))?;
-    let tended = working.arg(option(alloc, "tend"))?;
-    let command = tended.arg(flag(alloc, "trace"))?;
+    let working = with_option(worded, alloc, "workers")?;
+    let tended = with_option(working, alloc, "tend")?;
+    let numbered = with_option(tended, alloc, "number")?;
+    let passing = with_option(numbered, alloc, "passes")?;
+    let traced = with_flag(passing, alloc, "trace")?;
+    let summed = with_flag(traced, alloc, "summary")?;
+    let command = with_flag(summed, alloc, "tight")?;
     Ok(command)
 }
 

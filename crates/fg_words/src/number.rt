@@ -22,13 +22,13 @@ fn are_digits(word: &[u8]) -> bool
 }
 
 /// The number that a word writes in decimal digits, where it is within these bounds.
-pub(crate) fn number_within(word: &str, least: u64, most: u64) -> Option<u64>
+pub(crate) fn number_within(word: &str, least: u32, most: u32) -> Option<u32>
     ensures { result ≡ number_within least most word.now }
 {
     if !is_number(word.as_bytes()) {
         return None;
     }
-    match word.parse::<u64>() {
+    match word.parse::<u32>() {
         Ok(number) if least <= number && number <= most => Some(number),
         _ => None,
     }

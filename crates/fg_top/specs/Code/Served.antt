@@ -1,13 +1,13 @@
 -- Which commands are answered in which way.
 use Rattle.std.specs.Prelude.{◌≡◌, false, true, Some}
 use Rattle.fg_top.specs.AtRest.{needs_device}
-use Rattle.fg_words.specs.Commands.{HasWorkers}
+use Rattle.fg_words.specs.Commands.{IsBounded}
 use Rattle.fg_words.specs.declared.command.Command.{Command}
 
 -- by at_rest
 abbrev pub IsAtRest : Command → Type 0
-IsAtRest command = needs_device (Some command) ≡ false
+IsAtRest command = (needs_device (Some command) ≡ false) × IsBounded command
 
--- on a device, by 1 to 16 workers
+-- on a device
 abbrev pub RunsOnDevice : Command → Type 0
-RunsOnDevice command = (needs_device (Some command) ≡ true) × HasWorkers command
+RunsOnDevice command = (needs_device (Some command) ≡ true) × IsBounded command

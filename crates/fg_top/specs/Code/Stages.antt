@@ -1,6 +1,8 @@
 -- What the stages of a command on a good frame come to, one after another.
 use Rattle.std.specs.Prelude.{◌≡◌, ℕ, List, Bool, get_or}
 use Rattle.fg_base.specs.Applied.{bytes_at}
+use Rattle.fg_bound.specs.Bounds.{Holds, IsBound, IsShown}
+use Rattle.fg_bound.specs.declared.bound.Bound.{Bound as Certified}
 use Rattle.fg_frame.specs.Numbered.{NumberedFrame, numbered}
 use Rattle.fg_frame.specs.declared.frame.Frame.{Frame}
 use Rattle.fg_groups.specs.Groups.{grouping}
@@ -8,6 +10,7 @@ use Rattle.fg_groups.specs.Placed.{sizes}
 use Rattle.fg_groups.specs.declared.grouping.Grouping.{Grouping}
 use Rattle.fg_lifetimes.specs.Ordered.{IsOrdered}
 use Rattle.fg_place.specs.Placing.{Places, IsLeast}
+use Rattle.fg_report.specs.BoundLines.{bound_text}
 use Rattle.fg_report.specs.PlaceLines.{place_text}
 use Rattle.fg_versions.specs.Culled.{AreKept}
 
@@ -32,3 +35,17 @@ pub record ArePlaceLines (frame : Frame) (G : Grouping) (text : List ℕ) : Type
   pub places : Places
   pub are_placed : ArePlaced G places
   pub lines : text ≡ place_text frame G places
+
+-- the heap of the least places
+pub record IsHeap (G : Grouping) (ordered : ℕ → ℕ → Bool) (heap : ℕ) : Type 0 where
+  pub places : Places
+  pub least : IsLeast (sizes G) ordered places
+  pub is : heap ≡ places.heap
+
+-- the lines of a bound beside this heap
+pub record AreBoundLines (frame : Frame) (G : Grouping) (ordered : ℕ → ℕ → Bool) (heap : ℕ) (text : List ℕ) : Type 0 where
+  pub bound : Certified
+  pub is_bound : IsBound (sizes G) ordered bound
+  pub shown : IsShown (sizes G) ordered bound
+  pub holds : Holds (sizes G) ordered bound.least
+  pub lines : text ≡ bound_text frame G bound.least heap bound.chosen

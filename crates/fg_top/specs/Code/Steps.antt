@@ -16,10 +16,3 @@ ReadsAnswer before after (Err status) = ReadCause before after status
 abbrev pub IsWritten : List ℕ → Option (List ℕ) → Option (List ℕ) → ℕ → ℕ → Bool → Type 0
 IsWritten text old new before after true = Appends old new text × (after ≡ before)
 IsWritten text old new before after false = TakesFront text old new × Rose before after
-
--- a status that comes with a text
-abbrev pub HasText : Status → Type 0
-HasText ReadFault = ⊥
-HasText NoMemory = ⊥
-HasText WriteFault = ⊥
-HasText status = Unit {0}

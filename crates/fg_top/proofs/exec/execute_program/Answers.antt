@@ -10,4 +10,4 @@ execute_checked-requires-clause-sound g c κs lives = subst IsSound (sym c.in-Ok
 
 pub returns-in-Ok-clause-program : goal.returns-in-Ok-clause-program
 returns-in-Ok-clause-program g c =
-    if_ok c.execute_checked.result (λ answer is. inl (subst (λ (p : Program). Executes c.args.options p answer) c.in-Ok.ensures.ok.0 is)) c.execute_checked.ensures.program
+    if_ok c.execute_checked.result (λ answer is. inl (subst (λ (p : Program). Executes c.args.options c.args.trace p answer) c.in-Ok.ensures.ok.0 is)) c.execute_checked.ensures.program

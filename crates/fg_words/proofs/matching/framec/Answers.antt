@@ -1,10 +1,15 @@
-use Rattle.std.proofs.Common.{ap₂, ◌∙◌}
+use Rattle.std.proofs.Common.{ap, ap₂, ◌∙◌, codes}
 use Rattle.clap.specs.Words.{with_rule}
 use Rattle.fg_words.proofs.matching.framec.Goals as goal
+use Rattle.fg_words.specs.Lines.{flag_rule, option_rule}
 
 pub returns : goal.returns
 returns c =
     let worded = c.in_ok-worded.ensures.shape c.word.ensures.own ∙ ap₂ with_rule c.bare.ensures c.word.ensures.rule in
-    let working = c.in_ok-working.ensures.shape c.option.ensures.own ∙ ap₂ with_rule worded c.option.ensures.rule in
-    let tended = c.in_ok-tended.ensures.shape c.option-2.ensures.own ∙ ap₂ with_rule working c.option-2.ensures.rule in
-    c.in_ok-command.ensures.shape c.flag.ensures.own ∙ ap₂ with_rule tended c.flag.ensures.rule
+    let working = c.in_ok-working.ensures ∙ ap (λ app. with_rule app (option_rule (codes "workers"))) worded in
+    let tended = c.in_ok-tended.ensures ∙ ap (λ app. with_rule app (option_rule (codes "tend"))) working in
+    let numbered = c.in_ok-numbered.ensures ∙ ap (λ app. with_rule app (option_rule (codes "number"))) tended in
+    let passing = c.in_ok-passing.ensures ∙ ap (λ app. with_rule app (option_rule (codes "passes"))) numbered in
+    let traced = c.in_ok-traced.ensures ∙ ap (λ app. with_rule app (flag_rule (codes "trace"))) passing in
+    let summed = c.in_ok-summed.ensures ∙ ap (λ app. with_rule app (flag_rule (codes "summary"))) traced in
+    c.in_ok-command.ensures ∙ ap (λ app. with_rule app (flag_rule (codes "tight"))) summed

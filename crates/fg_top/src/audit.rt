@@ -1,0 +1,143 @@
+//! The command `audit`.
+
+ghost use Rattle.std.specs.Prelude.{◌≡◌, ◌⊎◌, ◌≤◌, ◌++◌, length, IfOk, Ok};
+ghost use Rattle.fg_audit.specs.Trace.{trace_of};
+ghost use Rattle.fg_audit.specs.Verdicts.{IfRun};
+ghost use Rattle.fg_checker.specs.Sound.{IsSound};
+ghost use Rattle.fg_report.specs.Audits.{audit_text};
+ghost use Rattle.fg_report.specs.declared.audit.AuditLine.TheVariants as lines;
+ghost use Rattle.fg_steps.specs.Devices.{IsComplete};
+ghost use Rattle.fg_top.specs.Audits.{AuditsFile, AuditsTrace, Judges, trace_refusal, trace_rejection, verdict_answer};
+ghost use Rattle.fg_top.specs.Plain.{Rejects, done};
+ghost use Rattle.fg_top.specs.Runs.{read_by};
+ghost use Rattle.fg_top.specs.Statuses.{HasText};
+ghost use Rattle.fg_top.specs.Texts.{readbacks_text};
+
+use crate::Status;
+use crate::answer::{Answer, done, program_refusal};
+use crate::programs::{checked, shaped};
+use crate::readbacks::add_readbacks;
+use fg_audit::{TraceEnd, Verdict, audit, read_trace, recording_in};
+use fg_base::{Event, NoMemory};
+use fg_checker::Checked;
+use fg_device::Device;
+use fg_report::{AuditLine, audit_text};
+use fg_subfile::SubReadEnd;
+use fg_subs::Shaped;
+use std::alloc::Global;
+use std::thread::Threads;
+
+// The answer to a text that is no trace.
+fn refused(alloc: Global, line: &AuditLine) -> Result<Answer, NoMemory>
+    ensures refusal { IfOk result (λ answer. answer ≡ trace_refusal line.now) }
+    ensures has_text { IfOk result (λ answer. HasText answer.status) }
+{
+    Ok(Answer {
+        status: Status::Refused,
+        text: audit_text(alloc, line)?,
+        device: None,
+    })
+}
+
+// The answer to a trace that is no run.
+fn rejected(alloc: Global, line: &AuditLine) -> Result<Answer, NoMemory>
+    ensures rejection { IfOk result (λ answer. answer ≡ trace_rejection line.now) }
+    ensures has_text { IfOk result (λ answer. HasText answer.status) }
+{
+    Ok(Answer {
+        status: Status::Rejected,
+        text: audit_text(alloc, line)?,
+        device: None,
+    })
+}
+
+// The answer to a run: how many events it has, and what the host has read.
+fn accepted(alloc: Global, device: &Device) -> Result<Answer, NoMemory>
+    requires complete { IsComplete device.now }
+    requires few { length device.now.history ≤ 65536 }
+    ensures run { IfOk result (λ answer. answer ≡ done (audit_text (lines.Run (length device.now.history)) ++ readbacks_text (read_by device.now) (length device.now.program.readbacks))) }
+    ensures has_text { IfOk result (λ answer. HasText answer.status) }
+{
+    let events = device.history().len() as u32;
+    let mut text = audit_text(alloc, &AuditLine::Run { events })?;
+    add_readbacks(&mut text, device)?;
+    Ok(done(text))
+}
+
+fn verdict_answer(alloc: Global, verdict: &Verdict) -> Result<Answer, NoMemory>
+    requires complete { IfRun IsComplete verdict.now }
+    requires few { IfRun (λ device. length device.history ≤ 65536) verdict.now }
+    ensures verdict { IfOk result (λ answer. answer ≡ verdict_answer verdict.now) }
+    ensures has_text { IfOk result (λ answer. HasText answer.status) }
+{
+    match verdict {
+        Verdict::Run(device) => accepted(alloc, device),
+        Verdict::NotEnabled { at } => rejected(alloc, &AuditLine::NotEnabled { at: *at }),
+        Verdict::Unfinished { node } => rejected(alloc, &AuditLine::Unfinished { node: *node }),
+    }
+}
+
+fn judge<R: Threads + Sync>(
+    rt: &R,
+    alloc: Global,
+    program: &Checked,
+    events: &[Event],
+) -> Result<Answer, NoMemory>
+    requires sound { IsSound program.now.program }
+    requires few { length events.now ≤ 65536 }
+    ensures judges { IfOk result (Judges program.now.program events.now) }
+    ensures has_text { IfOk result (λ answer. HasText answer.status) }
+{
+    let verdict = audit(rt, alloc, program, events)?;
+    verdict_answer(alloc, &verdict)
+}
+
+fn audit_events<R: Threads + Sync>(
+    rt: &R,
+    alloc: Global,
+    program: Shaped,
+    events: &[Event],
+) -> Result<Answer, NoMemory>
+    requires { length events.now ≤ 65536 }
+    ensures program { IfOk result (λ answer. Judges program events.now answer ⊎ Rejects program answer) }
+    ensures has_text { IfOk result (λ answer. HasText answer.status) }
+{
+    match checked(alloc, program) {
+        Ok(checked) => judge(rt, alloc, &checked, events),
+        Err(answer) => answer,
+    }
+}
+
+fn audit_trace<R: Threads + Sync>(
+    rt: &R,
+    alloc: Global,
+    program: Shaped,
+    trace: &[u8],
+) -> Result<Answer, NoMemory>
+    ensures trace { IfOk result (AuditsTrace (Ok program) (trace_of trace.now)) }
+    ensures has_text { IfOk result (λ answer. HasText answer.status) }
+{
+    match read_trace(alloc, trace) {
+        Ok(events) => audit_events(rt, alloc, program, events.as_slice()),
+        Err(TraceEnd::Text { line }) => refused(alloc, &AuditLine::Text { line }),
+        Err(TraceEnd::Limit { events }) => refused(alloc, &AuditLine::Limit { events }),
+        Err(TraceEnd::NoMemory) => Err(NoMemory),
+    }
+}
+
+/// The answer to the bytes of a submission and a trace.
+pub fn audit_file<R: Threads + Sync>(
+    rt: &R,
+    alloc: Global,
+    bytes: &[u8],
+) -> Result<Answer, NoMemory>
+    ensures file { IfOk result (AuditsFile bytes.now) }
+    ensures has_text { IfOk result (λ answer. HasText answer.status) }
+{
+    let recording = recording_in(bytes);
+    match shaped(alloc, recording.submission) {
+        Ok(program) => audit_trace(rt, alloc, program, recording.trace),
+        Err(SubReadEnd::Refused(fault)) => program_refusal(alloc, &fault),
+        Err(SubReadEnd::NoMemory) => Err(NoMemory),
+    }
+}

@@ -1,0 +1,119 @@
+-- The numbers of a command are within their bounds.
+use Rattle.std.proofs.Common.{◌≡◌, ◌≤◌, ◌&&◌, ℕ, Bool, List, [], ◌∷◌, Option, Some, None, true, false, nat_le, codes, refl, arith}
+use Rattle.std.specs.Prelude.{if◌then◌else◌, IfSome, unwrap_or, option_map, option_and_then}
+use Rattle.std.specs.Str.Parse.{digits_value}
+use Rattle.std.proofs.lemmas.Bool.{leb-true}
+use Rattle.clap.specs.Words.{Kinds, Row, Text, fault_of, first_of, matches_of}
+use Rattle.fg_words.specs.CommandWords.{word_of}
+use Rattle.fg_words.specs.Commands.{HasPasses, HasWorkers, IsBounded, command_in, command_of_word, command_with, generating, unless_more, without_options}
+use Rattle.fg_words.specs.Given.{given_in, is_given, is_none, number_in}
+use Rattle.fg_words.specs.Lines.{framec, unless_refused, command_of}
+use Rattle.fg_words.specs.Numbers.{is_number}
+use Rattle.fg_words.specs.Options.{options_in}
+use Rattle.fg_words.specs.declared.command.Command.{Command}
+use Rattle.fg_words.specs.declared.command.Command.TheVariants as commands
+use Rattle.fg_words.specs.declared.command.FrameCommand.TheVariants as frames
+use Rattle.fg_words.specs.declared.command.SubmissionCommand.TheVariants as submissions
+use Rattle.fg_words.specs.declared.given.Given.{Given}
+use Rattle.fg_words.specs.declared.word.Word.{Word}
+use Rattle.fg_words.specs.declared.word.Word.TheVariants.{Cull, Place, Bound, Compile, Meaning, Migrate, Check, Gen, Run, Exec, Audit}
+
+abbrev Within : ℕ → ℕ → ℕ → Type 0
+Within least most n = (least ≤ n) × (n ≤ most)
+
+within_if : (least most n : ℕ) (read low high : Bool) → (low ≡ true → least ≤ n) → (high ≡ true → n ≤ most) → IfSome (if read && (low && high) then Some n else None) (Within least most)
+within_if least most n false low high fits ends = tt
+within_if least most n true false high fits ends = tt
+within_if least most n true true false fits ends = tt
+within_if least most n true true true fits ends = (fits refl, ends refl)
+
+wrapped : {X : Type 0} (P : X → Type 0) (o : Option X) → IfSome o P → IfSome (option_map (λ x. Some x) o) (λ found. IfSome found P)
+wrapped P None is = tt
+wrapped P (Some x) is = is
+
+number_is : (least most : ℕ) (word : Option (List ℕ)) → IfSome (number_in least most word) (λ found. IfSome found (Within least most))
+number_is least most None = tt
+number_is least most (Some word) =
+    let n = digits_value 10 word in
+    wrapped (Within least most) (if is_number word && (nat_le least n && nat_le n most) then Some n else None) (within_if least most n (is_number word) (nat_le least n) (nat_le n most) (λ e. leb-true least n e) (λ e. leb-true n most e))
+
+-- what is said of the numbers of a line
+abbrev AreWithin : Given → Type 0
+AreWithin given = IfSome given.workers (Within 1 16) × IfSome given.passes (Within 1 256)
+
+-- ONE AFTER ANOTHER
+
+next : {X Y : Type 0} (P : X → Type 0) (Q : Y → Type 0) (o : Option X) (f : X → Option Y) → IfSome o P → ((x : X) → P x → IfSome (f x) Q) → IfSome (option_and_then f o) Q
+next P Q None f is goes = tt
+next P Q (Some x) f is goes = goes x is
+
+next_any : {X Y : Type 0} (Q : Y → Type 0) (o : Option X) (f : X → Option Y) → ((x : X) → IfSome (f x) Q) → IfSome (option_and_then f o) Q
+next_any Q None f goes = tt
+next_any Q (Some x) f goes = goes x
+
+mapped : {X Y : Type 0} (P : X → Type 0) (Q : Y → Type 0) (o : Option X) (f : X → Y) → IfSome o P → ((x : X) → P x → Q (f x)) → IfSome (option_map f o) Q
+mapped P Q None f is goes = tt
+mapped P Q (Some x) f is goes = goes x is
+
+given_is : (rows : List Row) → IfSome (given_in rows) AreWithin
+given_is rows =
+    next (λ found. IfSome found (Within 1 16)) AreWithin (number_in 1 16 (first_of (codes "workers") rows)) _ (number_is 1 16 (first_of (codes "workers") rows)) (λ workers few.
+    next_any AreWithin (number_in 0 4294967295 (first_of (codes "tend") rows)) _ (λ tend.
+    next_any AreWithin (number_in 0 4294967295 (first_of (codes "number") rows)) _ (λ number.
+    mapped (λ found. IfSome found (Within 1 256)) AreWithin (number_in 1 256 (first_of (codes "passes") rows)) _ (number_is 1 256 (first_of (codes "passes") rows)) (λ passes fit. (few, fit)))))
+
+or_some : (least most otherwise : ℕ) (o : Option ℕ) → IfSome o (Within least most) → Within least most otherwise → Within least most (unwrap_or o otherwise)
+or_some least most otherwise None is instead = instead
+or_some least most otherwise (Some n) is instead = is
+
+has_workers : (given : Given) → AreWithin given → HasWorkers (options_in given)
+has_workers given is = or_some 1 16 2 given.workers is.0 (omega arith, omega arith)
+
+has_passes : (given : Given) → AreWithin given → HasPasses (unwrap_or given.passes 64)
+has_passes given is = or_some 1 256 64 given.passes is.1 (omega arith, omega arith)
+
+unless : (rest : Given) (command : Command) → IsBounded command → IfSome (unless_more rest command) IsBounded
+unless rest command is = by (is_none rest)
+  where
+    by : (none : Bool) → IfSome (if none then Some command else None) IsBounded
+    by true = is
+    by false = tt
+
+generated : (given : Given) (number : ℕ) → AreWithin given → IfSome (generating given number) IsBounded
+generated given number is = by given.summary
+  where
+    passes : ℕ
+    passes = unwrap_or given.passes 64
+
+    rest : Given
+    rest = record given { number = None; passes = None; summary = false }
+
+    by : (summary : Bool) → IfSome (if summary then unless_more (without_options rest) (commands.Summary number passes (options_in given)) else unless_more rest (commands.Gen number passes)) IsBounded
+    by true = unless (without_options rest) (commands.Summary number passes (options_in given)) (has_passes given is, has_workers given is)
+    by false = unless rest (commands.Gen number passes) (has_passes given is)
+
+word_is : (word : Word) (given : Given) → AreWithin given → IfSome (command_of_word word given) IsBounded
+word_is Cull given is = unless given (commands.Frame frames.Cull) tt
+word_is Place given is = unless given (commands.Frame frames.Place) tt
+word_is Bound given is = unless given (commands.Frame frames.Bound) tt
+word_is Compile given is = unless (record given { tight = false }) (commands.Frame (frames.Compile given.tight)) tt
+word_is Meaning given is = unless given (commands.Frame frames.Meaning) tt
+word_is Migrate given is = unless given (commands.Frame frames.Migrate) tt
+word_is Check given is = unless given (commands.Submission submissions.Check) tt
+word_is Gen given is = next_any IsBounded given.number (generating given) (λ number. generated given number is)
+word_is Run given is = unless (record (without_options given) { trace = false; tight = false }) (commands.Run (options_in given) given.trace given.tight) (has_workers given is)
+word_is Exec given is = unless (record (without_options given) { trace = false }) (commands.Exec (options_in given) given.trace) (has_workers given is)
+word_is Audit given is = unless given commands.Audit tt
+
+with_is : (rows : List Row) (text : List ℕ) → IfSome (command_with rows text) IsBounded
+with_is rows text = next_any IsBounded (word_of text) _ (λ word. next AreWithin IsBounded (given_in rows) (command_of_word word) (given_is rows) (λ given is. word_is word given is))
+
+kept : (faults : Kinds) (command : Option Command) → IfSome command IsBounded → IfSome (unless_refused faults command) IsBounded
+kept [] command is = is
+kept (fault ∷ faults) command is = tt
+
+pub bounded_lines : (words : List Text) → IfSome (command_of words) IsBounded
+bounded_lines words =
+    let line : List Text = codes "framec" ∷ words in
+    let rows : List Row = matches_of framec line in
+    kept (fault_of framec line) (command_in rows) (next_any IsBounded (first_of (codes "command") rows) (command_with rows) (λ text. with_is rows text))
