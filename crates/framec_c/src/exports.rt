@@ -1,0 +1,144 @@
+//! The functions that C calls. `include/framec.h` declares them.
+
+ghost use Rattle.std.specs.Prelude.{false};
+ghost use Rattle.fg_words.specs.declared.command.Command.{Command};
+ghost use Rattle.fg_words.specs.declared.command.FrameCommand.{FrameCommand};
+ghost use Rattle.fg_words.specs.declared.command.SubmissionCommand.{SubmissionCommand};
+ghost use Rattle.framec_c.specs.Calls.{Gives};
+
+use crate::call::call;
+use fg_words::{Command, FrameCommand, SubmissionCommand};
+use std::alloc::Global;
+
+/// Whether a submission is sound, or its first hazard.
+#[unsafe(no_mangle)]
+pub extern "C" fn framec_check(
+    alloc: Global,
+    input: &[u8],
+    output: &mut [u8],
+    wanted: &mut u64,
+) -> i32
+    ensures gives { Gives (Command.Submission SubmissionCommand.Check) input.now output.old output.new wanted.new result }
+{
+    call(
+        alloc,
+        Command::Submission(SubmissionCommand::Check),
+        input,
+        output,
+        wanted,
+    )
+}
+
+/// Which passes of a frame are culled.
+#[unsafe(no_mangle)]
+pub extern "C" fn framec_cull(
+    alloc: Global,
+    input: &[u8],
+    output: &mut [u8],
+    wanted: &mut u64,
+) -> i32
+    ensures gives { Gives (Command.Frame FrameCommand.Cull) input.now output.old output.new wanted.new result }
+{
+    call(
+        alloc,
+        Command::Frame(FrameCommand::Cull),
+        input,
+        output,
+        wanted,
+    )
+}
+
+/// Where the transient resources of a frame lie in shared memory.
+#[unsafe(no_mangle)]
+pub extern "C" fn framec_place(
+    alloc: Global,
+    input: &[u8],
+    output: &mut [u8],
+    wanted: &mut u64,
+) -> i32
+    ensures gives { Gives (Command.Frame FrameCommand.Place) input.now output.old output.new wanted.new result }
+{
+    call(
+        alloc,
+        Command::Frame(FrameCommand::Place),
+        input,
+        output,
+        wanted,
+    )
+}
+
+/// How many bytes the memory that the transient resources of a frame share has at least.
+#[unsafe(no_mangle)]
+pub extern "C" fn framec_bound(
+    alloc: Global,
+    input: &[u8],
+    output: &mut [u8],
+    wanted: &mut u64,
+) -> i32
+    ensures gives { Gives (Command.Frame FrameCommand.Bound) input.now output.old output.new wanted.new result }
+{
+    call(
+        alloc,
+        Command::Frame(FrameCommand::Bound),
+        input,
+        output,
+        wanted,
+    )
+}
+
+/// The submissions that the kept passes of a frame need.
+#[unsafe(no_mangle)]
+pub extern "C" fn framec_compile(
+    alloc: Global,
+    input: &[u8],
+    output: &mut [u8],
+    wanted: &mut u64,
+) -> i32
+    ensures gives { Gives (Command.Frame (FrameCommand.Compile false)) input.now output.old output.new wanted.new result }
+{
+    call(
+        alloc,
+        Command::Frame(FrameCommand::Compile { tight: false }),
+        input,
+        output,
+        wanted,
+    )
+}
+
+/// The exports of a frame, with the bytes that they have after all passes in turn.
+#[unsafe(no_mangle)]
+pub extern "C" fn framec_meaning(
+    alloc: Global,
+    input: &[u8],
+    output: &mut [u8],
+    wanted: &mut u64,
+) -> i32
+    ensures gives { Gives (Command.Frame FrameCommand.Meaning) input.now output.old output.new wanted.new result }
+{
+    call(
+        alloc,
+        Command::Frame(FrameCommand::Meaning),
+        input,
+        output,
+        wanted,
+    )
+}
+
+/// The canonical text of a frame.
+#[unsafe(no_mangle)]
+pub extern "C" fn framec_migrate(
+    alloc: Global,
+    input: &[u8],
+    output: &mut [u8],
+    wanted: &mut u64,
+) -> i32
+    ensures gives { Gives (Command.Frame FrameCommand.Migrate) input.now output.old output.new wanted.new result }
+{
+    call(
+        alloc,
+        Command::Frame(FrameCommand::Migrate),
+        input,
+        output,
+        wanted,
+    )
+}

@@ -1,0 +1,5 @@
+//! The compiler for C: an export for each command that needs no device.
+#![tactic(auto)]
+
+mod call;
+mod exports;

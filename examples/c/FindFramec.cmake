@@ -1,0 +1,23 @@
+# Finds the compiler as a static library: the target Framec::framec, with its header.
+#
+# Framec_ROOT is the top of a checkout in which the library is built (`rt lib` in crates/framec_c); left out, it is the checkout that this file
+# is in. The library calls malloc, realloc and free through the toolchain's archive libc_c, which stands beside the command rt.
+get_filename_component(_framec_top "${CMAKE_CURRENT_LIST_DIR}/../.." ABSOLUTE)
+find_program(Framec_RT rt)
+get_filename_component(_framec_rt "${Framec_RT}" REALPATH)
+get_filename_component(_framec_kit "${_framec_rt}/../.." ABSOLUTE)
+
+find_path(Framec_INCLUDE_DIR framec.h HINTS "${Framec_ROOT}/include" "${_framec_top}/include")
+find_library(Framec_LIBRARY framec_c HINTS "${Framec_ROOT}/crates/framec_c/out" "${_framec_top}/crates/framec_c/out")
+find_library(Framec_HEAP_LIBRARY libc_c HINTS "${_framec_kit}/c")
+
+include(FindPackageHandleStandardArgs)
+find_package_handle_standard_args(Framec REQUIRED_VARS Framec_LIBRARY Framec_HEAP_LIBRARY Framec_INCLUDE_DIR)
+
+if(Framec_FOUND AND NOT TARGET Framec::framec)
+  add_library(Framec::framec STATIC IMPORTED)
+  set_target_properties(Framec::framec PROPERTIES
+    IMPORTED_LOCATION "${Framec_LIBRARY}"
+    INTERFACE_INCLUDE_DIRECTORIES "${Framec_INCLUDE_DIR}"
+    INTERFACE_LINK_LIBRARIES "${Framec_HEAP_LIBRARY}")
+endif()
