@@ -3,13 +3,14 @@
 
     bench/compare.py OTHER [--ours PROGRAM] [--runs 5] [--case NAME ..]
 
-First whole commands: `run`, `meaning`, `cull`, `place` and `compile` of the deferred frame of examples/frames/, `cull` of nearly 16 MiB of
-imports and of 256 passes that read and change each of 256 buffers, `place` and `compile` of a frame of 256 passes none of which is culled (the
-other program makes it, by its word `gen`, and each pass is given a side effect; one that has no such word is left out), and
-`check` of submissions with as many nodes as there can be:
+First whole commands: `run`, with one worker and with four, `meaning`, `cull`, `place` and `compile` of the deferred frame of
+examples/frames/, `cull` of nearly 16 MiB of imports and of 256 passes that read and change each of 256 buffers, `place`, `bound`, `compile`
+and `run` of a frame of 256 passes none of which is culled (the other program makes it, by its word `gen`, and each pass is given a side
+effect; one that has no such word is left out), the summary of that frame as it is made, and `check` of submissions with as many nodes as there can be:
 barriers alone; fills of one buffer with a full barrier between each two; one fill and its many readers; fills of many
 buffers that share memory. Then each operation: a frame applies it again and again to images of 1920 by 1080 texels and
-exports one texel, so that little is printed; a frame without it is timed too, and its time is taken off. For each case one
+exports one texel, so that little is printed; a frame without it is timed too, and its time is taken off. Each is timed by `meaning`,
+which takes the plain way, and by `run` with one worker, whose device computes by lanes and bands. For each case one
 line: the medians of the processor time in both programs in milliseconds, of the command or of one operation, their ratio,
 and the ratio of the most memory that the programs took. The texts of both have to be the same.
 """
@@ -158,10 +159,10 @@ def submissions():
     yield "check 512 shared pieces", submission(shared + [fill(0, 1), BARRIER], 512, 1)
 
 
-def once(program, word, path):
+def once(program, words, path):
     """Processor time in milliseconds, most memory in KiB, and the text."""
     with open(path, "rb") as text:
-        child = subprocess.Popen([program, word], stdin=text, stdout=subprocess.PIPE)
+        child = subprocess.Popen([program, *words], stdin=text, stdout=subprocess.PIPE)
         printed = child.stdout.read()
         child.stdout.close()
         _, status, usage = os.wait4(child.pid, 0)
@@ -169,13 +170,13 @@ def once(program, word, path):
     return (usage.ru_utime + usage.ru_stime) * 1e3, usage.ru_maxrss, (child.returncode, printed)
 
 
-def measured(programs, word, runs, path):
+def measured(programs, words, runs, path):
     took = [[], []]
     most = [0, 0]
     texts = [None, None]
     for _ in range(runs):
         for k, program in enumerate(programs):
-            ms, kib, texts[k] = once(program, word, path)
+            ms, kib, texts[k] = once(program, words, path)
             took[k].append(ms)
             most[k] = max(most[k], kib)
     if texts[0] != texts[1]:
@@ -194,19 +195,37 @@ def written(folder, name, value):
     return path
 
 
+ONE, FOUR = (["run", "--workers", count] for count in "14")
+
+
 def commands(folder, other):
-    """Name, word and file."""
+    """Name, words and file."""
     deferred = TOP / "examples/frames/deferred.json"
-    for word in ("run", "meaning", "cull", "place", "compile"):
-        yield f"{word} deferred", word, deferred
+    yield "run deferred, 1", ONE, deferred
+    yield "run deferred, 4", FOUR, deferred
+    for word in ("meaning", "cull", "place", "compile"):
+        yield f"{word} deferred", [word], deferred
     made = generated(other)
     if made:
-        for word in ("place", "compile"):
-            yield f"{word} 256 passes", word, written(folder, "made.json", made)
-    yield "cull 16 MiB", "cull", written(folder, "large.json", large())
-    yield "cull 256 passes", "cull", written(folder, "wide.json", wide())
+        path = written(folder, "made.json", made)
+        for word in ("place", "bound", "compile"):
+            yield f"{word} 256 passes", [word], path
+        yield "run 256 passes, 1", ONE, path
+        yield "run 256 passes, 4", FOUR, path
+        yield "gen 256 --summary", ["gen", "--number", "7", "--passes", "256", "--summary"], os.devnull
+    yield "cull 16 MiB", ["cull"], written(folder, "large.json", large())
+    yield "cull 256 passes", ["cull"], written(folder, "wide.json", wide())
     for name, program in submissions():
-        yield name, "check", written(folder, "program.json", program)
+        yield name, ["check"], written(folder, "program.json", program)
+
+
+def operations(folder):
+    """Name, words, and the files of a frame without the operation and of one that has it many times."""
+    for name, texel, op, out, final in cases():
+        idle = written(folder, "idle.json", frame(texel, [], [out], final))
+        busy = written(folder, "busy.json", frame(texel, [op] * TIMES, [out], final))
+        yield name, ["meaning"], idle, busy
+        yield f"{name}, run", ONE, idle, busy
 
 
 def built():
@@ -230,16 +249,14 @@ def main():
 
     print(f"{'case':24} {'ms':>8} {'other':>8} {'ratio':>6} {'memory':>6}")
     with tempfile.TemporaryDirectory() as folder:
-        for name, word, path in commands(folder, options.other):
+        for name, words, path in commands(folder, options.other):
             if wanted(name):
-                (own, other), most = measured(programs, word, options.runs, path)
+                (own, other), most = measured(programs, words, options.runs, path)
                 row(name, own, other, most)
-        for name, texel, op, out, final in cases():
+        for name, words, idle_path, busy_path in operations(folder):
             if wanted(name):
-                idle_path = written(folder, "idle.json", frame(texel, [], [out], final))
-                busy_path = written(folder, "busy.json", frame(texel, [op] * TIMES, [out], final))
-                idle, _ = measured(programs, "meaning", options.runs, idle_path)
-                busy, most = measured(programs, "meaning", options.runs, busy_path)
+                idle, _ = measured(programs, words, options.runs, idle_path)
+                busy, most = measured(programs, words, options.runs, busy_path)
                 own, other = [max(b - i, 0.001) / TIMES for b, i in zip(busy, idle)]
                 row(name, own, other, most)
 

@@ -10,14 +10,13 @@ each time. The status is 1 where anything differs.
 """
 
 import argparse
-import copy
 import json
 import random
 import subprocess
 import sys
 from pathlib import Path
 
-from compiled import Frame
+from makers import Frame, thinner
 from traces import Judge, parted
 
 TOP = Path(__file__).resolve().parent.parent
@@ -34,6 +33,9 @@ class Runner:
     def call(self, words, text):
         done = subprocess.run([self.program, *words], input=text, capture_output=True, timeout=300)
         return done.returncode, done.stdout.decode()
+
+    def is_sound(self, text):
+        return self.call(["check"], text)[0] == 0
 
     def told(self, what):
         self.wrong += 1
@@ -64,23 +66,6 @@ def run_head(runner, text):
     return "\n".join([first, *culled, *runner.call(["meaning"], text)[1].splitlines()])
 
 
-def thinner(runner, program, rng):
-    """The submission with one wait, item or signal fewer, if one of some that are tried is still sound."""
-    for _ in range(12):
-        other = copy.deepcopy(program)
-        batches = [batch for queue in other["queues"] for batch in queue["batches"]]
-        if not batches:
-            return None
-        batch, member = rng.choice(batches), rng.choice(("waits", "items", "items", "signal"))
-        if member == "signal":
-            batch.pop("signal", None)
-        elif batch.get(member):
-            batch[member].pop(rng.randrange(len(batch[member])))
-        if other != program and runner.call(["check"], json.dumps(other).encode())[0] == 0:
-            return other
-    return None
-
-
 def main():
     parser = argparse.ArgumentParser()
     parser.add_argument("--program", default=str(BUILT))
@@ -99,7 +84,7 @@ def main():
         frames += 1
         program = json.loads(compiled)
         runner.all_workers(f"frame {frames}", "run", text, run_head(runner, text), Judge(program), rng.randrange(2**32))
-        for other in filter(None, (program, thinner(runner, program, rng))):
+        for other in filter(None, (program, thinner(runner.is_sound, program, rng))):
             submissions += 1
             file = json.dumps(other).encode()
             wanted = runner.call(["exec", "--workers", "1"], file)[1].rstrip("\n")

@@ -1,0 +1,153 @@
+#!/usr/bin/env python3
+"""Gives two programs the same files, most of them wrong somewhere, and stops at the first answer that differs.
+
+    bench/fuzz.py PROGRAM OTHER [--minutes 10] [--cases N] [--seed 1] [--passes 10] [--jobs 4]
+
+Made at random: frames; submissions, by compiling frames; traces that the program printed, behind their submissions; and lists of frames. A
+file is good, or changed in one place (a number, a text, a list, an object; or a byte), or cut, or its front spliced to the end of another
+one, or a part of another one grafted into it. Each is given to the commands that read such a file, with random options, and now and then
+to another one. Status and text have to be the same. A command that one of the programs does not know is left out, and told. `--seed` and
+the number of a case make the case again (`--cases 1 --first NUMBER`), but for the order of the events in a trace. Told at the end: how
+many cases there were, how many of each kind of file and change, and how many answers of each kind each command gave. The status is 1 at
+the first difference, whose input is kept.
+"""
+
+import argparse
+import collections
+import itertools
+import json
+import random
+import sys
+import time
+
+import changes
+from makers import Frame, some_flight
+from sides import Sides, each, ended
+from traces import parted
+
+SIDES = ((8,), (8,), (8, 16, 64))
+FRAME_WORDS = ("cull", "place", "compile", "meaning", "migrate", "run", "bound", "auto")
+SUBMISSION_WORDS = ("check", "check", "exec")
+# Without `--trace`, since the order of events is the machine's.
+OPTIONS = {"run": ("workers", "tend", "tight"), "exec": ("workers", "tend"), "compile": ("tight",), "auto": ("cost",)}
+WAYS = ("good", *["changed"] * 5, *["changed twice"] * 2, "grafted", "grafted", "byte", "cut", "spliced")
+KINDS = ("frame", "frame", "submission", "submission", "audit", "flight")
+
+
+def options_of(rng, word, known):
+    """Random options of a command, of those that both programs know."""
+    values = {"workers": [rng.choice("1234")], "tend": [str(rng.randrange(2**32))], "tight": [], "cost": []}
+    chosen = [name for name in OPTIONS.get(word, ()) if (word, name) in known and rng.random() < 0.4]
+    return [part for name in chosen for part in (f"--{name}", *values[name])]
+
+
+class Fuzz:
+    def __init__(self, sides, options):
+        self.sides, self.options = sides, options
+        self.files = collections.Counter()
+        words = {*FRAME_WORDS, *SUBMISSION_WORDS, "audit", "flight"}
+        self.words = {word for word in words if sides.knows(word)}
+        self.left_out = sorted(words - self.words)
+        self.known = {(word, name) for word, names in OPTIONS.items() for name in names if word in self.words and self.knows(word, name)}
+        self.left_out += sorted(f"{word} --{name}" for word, names in OPTIONS.items() for name in names if (word, name) not in self.known)
+
+    def knows(self, word, name):
+        return self.sides.knows(word, f"--{name}", *(["1"] if name in ("workers", "tend") else []))
+
+    def frame(self, rng):
+        return Frame(rng, self.options.passes, sides=rng.choice(SIDES)).value()
+
+    def submission(self, rng):
+        """What a frame is compiled to; the frame itself where it has a fault."""
+        frame = self.frame(rng)
+        status, text = self.sides.ask(["compile"], json.dumps(frame).encode())
+        return json.loads(text) if status == 0 else frame
+
+    def good(self, rng, kind):
+        """The words, the values that stand one on each line, and the lines of a trace behind them."""
+        if kind == "frame":
+            return None, [self.frame(rng)], []
+        if kind == "flight":
+            words, frames = some_flight(rng, self.options.passes)
+            return [*words, "--depth", str(rng.randint(1, 8))], frames, []
+        program = self.submission(rng)
+        if kind == "submission":
+            return None, [program], []
+        seed = rng.choice([[], ["--tend", str(rng.randrange(2**32))]])
+        status, printed = self.sides.ask(["exec", "--trace", *seed], json.dumps(program).encode())
+        lines = parted(printed.decode())[1] if status == 0 else None
+        return ["audit"], [program], [f"events {len(lines)}", *lines] if lines is not None else ["events 0"]
+
+    def text(self, rng, values, lines):
+        joined = b"\n".join(changes.written(rng, value) for value in values)
+        return joined + b"\n" + changes.trace_text(rng, lines) if lines or rng.random() < 0.8 else joined
+
+    def made(self, rng, kind):
+        """Words, input, and the name of what was done to it."""
+        words, values, lines = self.good(rng, kind)
+        way = rng.choice(WAYS)
+        if way.startswith("changed"):
+            for _ in way.split():
+                at = rng.randrange(len(values) + (kind == "audit"))
+                if at == len(values):
+                    lines = changes.other_trace(rng, lines) or lines
+                else:
+                    values[at] = changes.changed(rng, values[at])
+        elif way == "grafted":
+            donor = self.good(rng, kind)[1][0]
+            at = rng.randrange(len(values))
+            values[at] = changes.grafted(rng, values[at], donor)
+        text = self.text(rng, values, lines)
+        if way == "byte":
+            text = changes.bytes_changed(rng, text)
+        elif way == "cut":
+            text = changes.cut(rng, text)
+        elif way == "spliced":
+            text = changes.spliced(rng, text, self.text(rng, *self.good(rng, rng.choice((kind, kind, *KINDS)))[1:]))
+        return words, text, way
+
+    def case(self, number):
+        rng = random.Random(f"{self.options.seed}/{number}")
+        kind = rng.choice([kind for kind in KINDS if kind in ("frame", "submission") or kind in self.words])
+        words, text, way = self.made(rng, kind)
+        with self.sides.lock:
+            self.files[kind, way] += 1
+        if words is not None:
+            self.sides.agree(words, text)
+        else:
+            known = [word for word in (FRAME_WORDS if kind == "frame" else SUBMISSION_WORDS) if word in self.words]
+            for word in dict.fromkeys((rng.choice(known), rng.choice(known))):
+                self.sides.agree([word, *options_of(rng, word, self.known)], text)
+        if rng.random() < 0.02:
+            self.sides.agree([rng.choice(sorted(self.words))], text)
+
+
+def main():
+    parser = argparse.ArgumentParser(description=__doc__, formatter_class=argparse.RawDescriptionHelpFormatter)
+    parser.add_argument("program", metavar="PROGRAM")
+    parser.add_argument("other", metavar="OTHER")
+    parser.add_argument("--minutes", type=float, default=10)
+    parser.add_argument("--cases", type=int)
+    parser.add_argument("--first", type=int, default=0)
+    parser.add_argument("--seed", type=int, default=1)
+    parser.add_argument("--passes", type=int, default=10)
+    parser.add_argument("--jobs", type=int, default=4)
+    options = parser.parse_args()
+    fuzz = Fuzz(Sides(options.program, options.other), options)
+    if fuzz.left_out:
+        print("left out, since one program does not know it: " + ", ".join(fuzz.left_out), flush=True)
+    until = time.monotonic() + 60 * options.minutes
+    done = 0
+    for first in itertools.count(options.first, 1000):
+        numbers = range(first, first + min(1000, options.cases - done if options.cases else 1000))
+        done += sum(each(lambda number: time.monotonic() < until and fuzz.case(number) is None, numbers, options.jobs))
+        if time.monotonic() >= until or options.cases and done >= options.cases:
+            break
+    print(f"{done} cases from {options.first} on, seed {options.seed}: no difference")
+    for kind in dict.fromkeys(KINDS):
+        print(f"{kind}: " + ", ".join(f"{count} {way}" for (name, way), count in sorted(fuzz.files.items()) if name == kind))
+    fuzz.sides.told()
+
+
+if __name__ == "__main__":
+    ended(main)
