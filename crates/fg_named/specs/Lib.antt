@@ -1,0 +1,9 @@
+pub mod Declared
+pub mod Exports
+pub mod Joins
+pub mod Names
+pub mod Passes
+pub mod Resources
+pub mod Sources
+pub mod Together
+pub mod WindowFrame

@@ -1,0 +1,35 @@
+-- Declared frames that can be compiled together.
+use Rattle.std.specs.Prelude.{◌≡◌, ◌<◌, ℕ, zero, suc, List, [], ◌∷◌, map, length, true, Option, Some, None, is_some}
+use Rattle.std.specs.List.{All}
+use Rattle.fg_base.specs.Shapes.{bytes_of}
+use Rattle.fg_frame.specs.FirstFault.{first_fault}
+use Rattle.fg_frame.specs.declared.frame.QueueDecl.{QueueDecl}
+use Rattle.fg_frame.specs.declared.frame.Resource.{Resource}
+use Rattle.fg_named.specs.Declared.{Declared}
+use Rattle.fg_window.specs.Together.{Absent}
+
+-- resource k is an import of this size
+abbrev pub IsImport : List Resource → ℕ → ℕ → Type 0
+IsImport [] k size = ⊥
+IsImport (r ∷ rs) zero size = (is_some r.import ≡ true) × (bytes_of r.shape ≡ size)
+IsImport (r ∷ rs) (suc k) size = IsImport rs k size
+
+-- different imports have the persisting names, each of the size that belongs to its name
+abbrev pub AreHeldIn : List Resource → List ℕ → List (Option ℕ) → Type 0
+AreHeldIn rs [] [] = Unit {0}
+AreHeldIn rs [] (holder ∷ holders) = ⊥
+AreHeldIn rs (size ∷ sizes) [] = ⊥
+AreHeldIn rs (size ∷ sizes) (None ∷ holders) = AreHeldIn rs sizes holders
+AreHeldIn rs (size ∷ sizes) (Some k ∷ holders) = IsImport rs k size × Absent k holders × AreHeldIn rs sizes holders
+
+-- a frame without a fault, over these queues, whose persisting names have imports of these sizes
+pub record FliesDeclared (queues : List QueueDecl) (sizes : List ℕ) (d : Declared) : Type 0 where
+  pub none : first_fault d.frame ≡ None
+  pub same : d.frame.queues ≡ queues
+  pub held : AreHeldIn d.frame.resources sizes d.holders
+
+-- at least one frame, and for each persisting name held bytes of its size
+pub record FlyDeclared (queues : List QueueDecl) (sizes : List ℕ) (ds : List Declared) (held : List (List ℕ)) : Type 0 where
+  pub some : 0 < length ds
+  pub each : All (FliesDeclared queues sizes) ds
+  pub sized : map length held ≡ sizes

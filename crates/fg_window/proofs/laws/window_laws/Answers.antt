@@ -1,0 +1,11 @@
+use Rattle.fg_window.proofs.Together.{together_bytes, together_good, together_means}
+use Rattle.fg_window.proofs.laws.window_laws.Goals as goal
+
+pub returns-clause-bytes : goal.returns-clause-bytes
+returns-clause-bytes c = together_bytes
+
+pub returns-clause-good : goal.returns-clause-good
+returns-clause-good c = together_good
+
+pub returns-clause-means : goal.returns-clause-means
+returns-clause-means c = together_means

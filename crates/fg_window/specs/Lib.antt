@@ -1,0 +1,9 @@
+pub mod Flown
+pub mod Held
+pub mod Joins
+pub mod Means
+pub mod Moved
+pub mod Small
+pub mod Sources
+pub mod Together
+pub mod Window

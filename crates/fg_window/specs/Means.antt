@@ -1,0 +1,45 @@
+-- A window means what its frames mean one after another.
+use Rattle.std.specs.Prelude.{◌≡◌, ◌+◌, ◌==◌, ℕ, zero, suc, List, [], ◌∷◌, take, length, true, Some, slice_get}
+use Rattle.std.specs.List.{list_any}
+use Rattle.fg_base.specs.declared.shape.Family.{Family}
+use Rattle.fg_meaning.specs.Meaning.{meaning}
+use Rattle.fg_window.specs.Flown.{Flown, holding}
+use Rattle.fg_window.specs.Held.{held_after}
+use Rattle.fg_window.specs.Sources.{Source, Given, Left, given, last_sources}
+use Rattle.fg_window.specs.Window.{window}
+
+-- how many units the frames before frame i have
+abbrev pub units_before : List Flown → ℕ → ℕ
+units_before frames zero = 0
+units_before [] (suc i) = 0
+units_before (flown ∷ frames) (suc i) = length flown.frame.units + units_before frames i
+
+-- how many of them they export
+abbrev pub exports_before : List Flown → ℕ → ℕ
+exports_before frames zero = 0
+exports_before [] (suc i) = 0
+exports_before (flown ∷ frames) (suc i) = length flown.frame.exports + exports_before frames i
+
+-- what is held for each name is in the unit where it was left, or was given
+abbrev pub AreHeld : (ℕ → List ℕ → Type 0) → List Source → List (List ℕ) → Type 0
+AreHeld Means [] [] = Unit {0}
+AreHeld Means [] (bytes ∷ held) = ⊥
+AreHeld Means (source ∷ sources) [] = ⊥
+AreHeld Means (Given old ∷ sources) (bytes ∷ held) = (bytes ≡ old) × AreHeld Means sources held
+AreHeld Means (Left unit ∷ sources) (bytes ∷ held) = Means unit bytes × AreHeld Means sources held
+
+-- a unit of the window is read back after it, and means these bytes
+pub record IsLeft (queues : List Family) (frames : List Flown) (held : List (List ℕ)) (unit : ℕ) (bytes : List ℕ) : Type 0 where
+  pub exported : list_any (λ x. x == unit) (window queues frames held).exports ≡ true
+  pub means : meaning (window queues frames held) unit ≡ Some bytes
+
+-- export k of frame i: where it stands among the exports of the window, and that it means there what it means in that
+-- frame, begun with what is held after the frames before it
+pub record IsExport (queues : List Family) (frames : List Flown) (held : List (List ℕ)) (i k : ℕ) (flown : Flown) (unit : ℕ) : Type 0 where
+  pub place : slice_get (window queues frames held).exports (exports_before frames i + k) ≡ Some (units_before frames i + unit)
+  pub means : meaning (window queues frames held) (units_before frames i + unit) ≡ meaning (holding (held_after (take i frames) held) flown) unit
+
+-- and the units of the persisting names mean what is held after all frames
+pub record MeansTheSame (queues : List Family) (frames : List Flown) (held : List (List ℕ)) : Type 0 where
+  pub exports : (i k : ℕ) (flown : Flown) (unit : ℕ) → slice_get frames i ≡ Some flown → slice_get flown.frame.exports k ≡ Some unit → IsExport queues frames held i k flown unit
+  pub left : AreHeld (IsLeft queues frames held) (last_sources 0 (given held) frames) (held_after frames held)
