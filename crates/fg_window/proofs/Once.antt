@@ -53,9 +53,9 @@ own_differ queues sizes (flown ∷ frames) fly n =
     (differ_moved n flown.frame.exports fly.0.good.exports_once)
     (own_differ queues sizes frames fly.1 (next n flown))
     (All-map (λ x. All (λ y. x ≢ y) rest) (λ unit. n + unit) flown.frame.exports (λ k d lt. λ j e less.
-        let inside = fly.0.good.exports_within k d lt in
-        let after = own_after frames (next n flown) j e less in
-        λ same. omega (arith, inside, after, same)))
+    let inside = fly.0.good.exports_within k d lt in
+    let after = own_after frames (next n flown) j e less in
+    λ same. omega (arith, inside, after, same)))
 
 -- UNITS OF DIFFERENT NAMES
 

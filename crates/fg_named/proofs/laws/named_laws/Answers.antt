@@ -1,0 +1,14 @@
+use Rattle.fg_named.proofs.Faultless.{declared_good, declared_means, declared_numbered, declared_together}
+use Rattle.fg_named.proofs.laws.named_laws.Goals as goal
+
+pub returns-clause-numbers : goal.returns-clause-numbers
+returns-clause-numbers c = declared_numbered
+
+pub returns-clause-together : goal.returns-clause-together
+returns-clause-together c = declared_together
+
+pub returns-clause-faultless : goal.returns-clause-faultless
+returns-clause-faultless c = declared_good
+
+pub returns-clause-means : goal.returns-clause-means
+returns-clause-means c = declared_means
