@@ -17,6 +17,7 @@ use Rattle.fg_frame.specs.declared.frame.Spot.{Spot}
 use Rattle.fg_frame.specs.declared.numbered.Stretch.{Stretch}
 use Rattle.fg_frame.specs.declared.place.Place.TheVariants as at
 use Rattle.fg_base.proofs.Operands.{operands_mapped}
+use Rattle.fg_named.proofs.KnownPass.{IsKnownPass}
 use Rattle.fg_named.proofs.PassNumbers.{AreSingle, IsSingle}
 use Rattle.fg_named.proofs.Renamed.{known_moved, known_unit_moved}
 use Rattle.fg_named.proofs.Stretches.{moved_stretch}

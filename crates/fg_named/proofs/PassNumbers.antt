@@ -1,5 +1,5 @@
 -- The passes of a declared window.
-use Rattle.std.proofs.Common.{◌≡◌, ℕ, suc, ◌+◌, ◌++◌, List, [], ◌∷◌, map, nat_lt, true, false, Some, None, unwrap_or, if◌then◌else◌, refl, sym, ap, ap₂, ◌∙◌, arith}
+use Rattle.std.proofs.Common.{◌≡◌, ℕ, suc, ◌+◌, ◌-◌, ◌++◌, List, [], ◌∷◌, map, nat_lt, true, false, Some, None, unwrap_or, if◌then◌else◌, refl, sym, ap, ap₂, ◌∙◌, arith}
 use Rattle.std.specs.List.{AllByRecursion, flat_map, position, range_with_len}
 use Rattle.std.specs.Option.{option_map_or}
 use Rattle.std.specs.Str.{bytes_eq}
@@ -49,8 +49,9 @@ module _ (n : Numbering) where
   -- the one unit of such a name
   pub one_unit : (name : List ℕ) → IsSingle n name → units_of n (whole name) ≡ unit_of n (whole name) ∷ []
   one_unit name S =
+      let size : S.stretch.first + S.stretch.layers - S.stretch.first ≡ 1 = omega (arith, S.single) in
       ap (λ o. units_in (option_map_or (span_in None) o no_units)) S.stands
-      ∙ ap (range_with_len S.stretch.first) (omega (arith, S.single))
+      ∙ ap (range_with_len S.stretch.first) size
       ∙ sym (ap (λ u. u ∷ []) (ap (λ o. option_map_or (λ s. layer_unit s 0) o 0) S.stands ∙ first S.stretch S.single))
     where
       first : (s : Stretch) → s.layers ≡ 1 → layer_unit s 0 ≡ s.first

@@ -1,5 +1,5 @@
 -- A declared window has the numbers of the window of its frames.
-use Rattle.std.proofs.Common.{◌≡◌, ℕ, zero, suc, ◌+◌, ◌<◌, ◌≤◌, ◌==◌, ◌++◌, List, [], ◌∷◌, length, map, get_or, is_some, slice_get, nat_lt, not, Bool, true, false, Option, Some, None, unwrap_or, if◌then◌else◌, refl, sym, ap, ap₂, subst, ◌∙◌, append_assoc, arith}
+use Rattle.std.proofs.Common.{◌≡◌, ℕ, zero, suc, ◌+◌, ◌<◌, ◌≤◌, ◌==◌, ◌++◌, List, [], ◌∷◌, length, map, get_or, is_some, slice_get, nat_lt, not, Bool, true, false, Option, Some, None, unwrap_or, cond, refl, sym, ap, ap₂, subst, ◌∙◌, append_assoc, arith}
 use Rattle.std.specs.Prelude.{option_and_then}
 use Rattle.std.specs.List.{All, AllByRecursion, filter, flat_map, list_any, position}
 use Rattle.std.specs.Option.{option_map, option_or}
@@ -30,7 +30,8 @@ use Rattle.fg_frame.specs.declared.place.Place.TheVariants as at
 use Rattle.fg_named.proofs.Distinct.{all_distinct}
 use Rattle.fg_named.proofs.Exported.{fewer, is_other}
 use Rattle.fg_named.proofs.Holders.{IsUsable}
-use Rattle.fg_named.proofs.Known.{IsKnownPass, join_known, known_pass, none_unknown, not_false, renamed_known, whole_known}
+use Rattle.fg_named.proofs.Known.{join_known, renamed_known, whole_known}
+use Rattle.fg_named.proofs.KnownPass.{IsKnownPass, known_pass, none_unknown, not_false}
 use Rattle.fg_named.proofs.NamedSources.{AreNamed, after_named, after_sources, carries_single, same_carries, same_imports, source_of}
 use Rattle.fg_named.proofs.Numbering.{StandsIn, name_moves}
 use Rattle.fg_named.proofs.OwnNames.{all_names, own_count, own_names}
