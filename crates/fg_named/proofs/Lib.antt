@@ -14,7 +14,9 @@ pub mod OwnNames
 pub mod Pairs
 pub mod PassNames
 pub mod PassNumbers
+pub mod Persisting
 pub mod Renamed
+mod Rows
 pub mod Stretches
 pub mod Units
 pub mod WindowNumbers

@@ -1,11 +1,11 @@
 -- Declared frames that can be compiled together.
-use Rattle.std.specs.Prelude.{◌≡◌, ◌<◌, ℕ, zero, suc, List, [], ◌∷◌, map, length, true, Option, Some, None, is_some}
+use Rattle.std.specs.Prelude.{◌≡◌, ◌<◌, ℕ, zero, suc, List, [], ◌∷◌, map, length, true, Option, Some, None, IfSome, is_some}
 use Rattle.std.specs.List.{All}
 use Rattle.fg_base.specs.Shapes.{bytes_of}
 use Rattle.fg_frame.specs.FirstFault.{first_fault}
 use Rattle.fg_frame.specs.declared.frame.QueueDecl.{QueueDecl}
 use Rattle.fg_frame.specs.declared.frame.Resource.{Resource}
-use Rattle.fg_named.specs.Declared.{Declared}
+use Rattle.fg_named.specs.Declared.{Declared, holder_in}
 use Rattle.fg_window.specs.Together.{Absent}
 
 -- resource k is an import of this size
@@ -21,6 +21,13 @@ AreHeldIn rs [] (holder ∷ holders) = ⊥
 AreHeldIn rs (size ∷ sizes) [] = ⊥
 AreHeldIn rs (size ∷ sizes) (None ∷ holders) = AreHeldIn rs sizes holders
 AreHeldIn rs (size ∷ sizes) (Some k ∷ holders) = IsImport rs k size × Absent k holders × AreHeldIn rs sizes holders
+
+-- each resource that has one of these names is an import of the size that belongs to the name
+abbrev pub AreImports : List Resource → List ℕ → List (List ℕ) → Type 0
+AreImports rs [] [] = Unit {0}
+AreImports rs [] (name ∷ names) = ⊥
+AreImports rs (size ∷ sizes) [] = ⊥
+AreImports rs (size ∷ sizes) (name ∷ names) = IfSome (holder_in rs name) (λ k. IsImport rs k size) × AreImports rs sizes names
 
 -- a frame without a fault, over these queues, whose persisting names have imports of these sizes
 pub record FliesDeclared (queues : List QueueDecl) (sizes : List ℕ) (d : Declared) : Type 0 where

@@ -45,7 +45,7 @@ module _ (queues : List Family) (sizes : List ℕ) (flown : Flown) (F : Flies qu
   held_count : length (all_bytes (holding held flown)) ≡ length flown.frame.units
   held_count = subst (λ h. length (all_bytes (holding h flown)) ≡ length flown.frame.units) (start_held held) (bytes_count queues sizes flown F [] (given held) (start_from held sizes is))
 
-  held_sized : map length (held_by flown held) ≡ sizes
+  pub held_sized : map length (held_by flown held) ≡ sizes
   held_sized =
       let from = start_from held sizes is in
       let next_from = from_next queues sizes flown F [] (given held) from in

@@ -6,6 +6,7 @@ pub mod GoodJoin
 pub mod GoodMoved
 pub mod GoodWindow
 pub mod Imports
+pub mod InTurn
 pub mod Joined
 pub mod Law
 pub mod Lengths
@@ -13,6 +14,7 @@ pub mod Means
 pub mod Moves
 pub mod Once
 pub mod OneByOne
+mod Rows
 pub mod Sized
 pub mod Sources
 pub mod Steps

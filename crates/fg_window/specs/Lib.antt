@@ -1,5 +1,6 @@
 pub mod Flown
 pub mod Held
+pub mod InTurn
 pub mod Joins
 pub mod Means
 pub mod Moved

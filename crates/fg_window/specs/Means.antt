@@ -1,5 +1,5 @@
 -- A window means what its frames mean one after another.
-use Rattle.std.specs.Prelude.{◌≡◌, ◌+◌, ◌==◌, ℕ, zero, suc, List, [], ◌∷◌, take, length, true, Some, slice_get}
+use Rattle.std.specs.Prelude.{◌≡◌, ◌+◌, ◌==◌, ℕ, zero, suc, List, [], ◌∷◌, take, length, true, Option, Some, slice_get}
 use Rattle.std.specs.List.{list_any}
 use Rattle.fg_base.specs.declared.shape.Family.{Family}
 use Rattle.fg_meaning.specs.Meaning.{meaning}
@@ -33,13 +33,13 @@ pub record IsLeft (queues : List Family) (frames : List Flown) (held : List (Lis
   pub exported : list_any (λ x. x == unit) (window queues frames held).exports ≡ true
   pub means : meaning (window queues frames held) unit ≡ Some bytes
 
--- export k of frame i: where it stands among the exports of the window, and that it means there what it means in that
--- frame, begun with what is held after the frames before it
-pub record IsExport (queues : List Family) (frames : List Flown) (held : List (List ℕ)) (i k : ℕ) (flown : Flown) (unit : ℕ) : Type 0 where
+-- export k of frame i, its unit there: where it stands among the exports of the window, and that it means these bytes
+pub record IsExport (queues : List Family) (frames : List Flown) (held : List (List ℕ)) (i k unit : ℕ) (bytes : Option (List ℕ)) : Type 0 where
   pub place : slice_get (window queues frames held).exports (exports_before frames i + k) ≡ Some (units_before frames i + unit)
-  pub means : meaning (window queues frames held) (units_before frames i + unit) ≡ meaning (holding (held_after (take i frames) held) flown) unit
+  pub means : meaning (window queues frames held) (units_before frames i + unit) ≡ bytes
 
--- and the units of the persisting names mean what is held after all frames
+-- each export means what it means in its frame, begun with what is held after the frames before it; and the units of the
+-- persisting names mean what is held after all frames
 pub record MeansTheSame (queues : List Family) (frames : List Flown) (held : List (List ℕ)) : Type 0 where
-  pub exports : (i k : ℕ) (flown : Flown) (unit : ℕ) → slice_get frames i ≡ Some flown → slice_get flown.frame.exports k ≡ Some unit → IsExport queues frames held i k flown unit
+  pub exports : (i k : ℕ) (flown : Flown) (unit : ℕ) → slice_get frames i ≡ Some flown → slice_get flown.frame.exports k ≡ Some unit → IsExport queues frames held i k unit (meaning (holding (held_after (take i frames) held) flown) unit)
   pub left : AreHeld (IsLeft queues frames held) (last_sources 0 (given held) frames) (held_after frames held)

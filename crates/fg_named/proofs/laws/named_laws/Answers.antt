@@ -1,5 +1,9 @@
 use Rattle.fg_named.proofs.Faultless.{declared_good, declared_means, declared_numbered, declared_together}
+use Rattle.fg_named.proofs.Persisting.{held_by_names}
 use Rattle.fg_named.proofs.laws.named_laws.Goals as goal
+
+pub returns-clause-held : goal.returns-clause-held
+returns-clause-held c = held_by_names
 
 pub returns-clause-numbers : goal.returns-clause-numbers
 returns-clause-numbers c = declared_numbered

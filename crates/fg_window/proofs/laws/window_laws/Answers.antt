@@ -1,3 +1,4 @@
+use Rattle.fg_window.proofs.InTurn.{each_together, means_in_turn}
 use Rattle.fg_window.proofs.Together.{together_bytes, together_good, together_means}
 use Rattle.fg_window.proofs.laws.window_laws.Goals as goal
 
@@ -9,3 +10,9 @@ returns-clause-good c = together_good
 
 pub returns-clause-means : goal.returns-clause-means
 returns-clause-means c = together_means
+
+pub returns-clause-each : goal.returns-clause-each
+returns-clause-each c = each_together
+
+pub returns-clause-in_turn : goal.returns-clause-in_turn
+returns-clause-in_turn c = means_in_turn
