@@ -150,7 +150,7 @@ module _ (queues : List QueueDecl) (sizes : List ℕ) (ds : List Declared) (held
     still_named : name_broken Wf ≡ None
     still_named = ap₂ option_or small (ap₂ option_or (ap (option_map (of_rule rules.Repeated)) nothing_repeated) (ap (option_map (of_rule rules.Unknown)) (nothing_unknown queues ds held usable some)))
 
-    is_small : IsSmall (window (map (λ q. q.family) queues) (map flown_of ds) held)
+    pub is_small : IsSmall (window (map (λ q. q.family) queues) (map flown_of ds) held)
     is_small = subst IsSmall declared_numbered (small_by_limits Wf small)
 
     pub declared_good : first_fault Wf ≡ None

@@ -18,5 +18,6 @@ pub mod Persisting
 pub mod Renamed
 mod Rows
 pub mod Stretches
+pub mod Turns
 pub mod Units
 pub mod WindowNumbers

@@ -8,7 +8,7 @@ use Rattle.fg_window.specs.Means.{AreHeld, IsExport, IsLeft}
 use Rattle.fg_window.specs.Sources.{given, last_sources}
 
 -- the frames of window w, as far as they exist
-abbrev pub frames_in : ℕ → List Flown → ℕ → List Flown
+abbrev pub frames_in : {X : Type 0} → ℕ → List X → ℕ → List X
 frames_in depth frames w = take depth (drop (w * depth) frames)
 
 -- what is held before window w, where these bytes are held before all frames

@@ -1,5 +1,6 @@
 use Rattle.fg_named.proofs.Faultless.{declared_good, declared_means, declared_numbered, declared_together}
 use Rattle.fg_named.proofs.Persisting.{held_by_names}
+use Rattle.fg_named.proofs.Turns.{declared_in_turn, each_declared}
 use Rattle.fg_named.proofs.laws.named_laws.Goals as goal
 
 pub returns-clause-held : goal.returns-clause-held
@@ -16,3 +17,9 @@ returns-clause-faultless c = declared_good
 
 pub returns-clause-means : goal.returns-clause-means
 returns-clause-means c = declared_means
+
+pub returns-clause-each : goal.returns-clause-each
+returns-clause-each c = each_declared
+
+pub returns-clause-in_turn : goal.returns-clause-in_turn
+returns-clause-in_turn c = declared_in_turn
