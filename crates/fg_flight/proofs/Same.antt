@@ -5,7 +5,7 @@ use Rattle.std.specs.Prelude.{option_to_list}
 use Rattle.std.specs.Str.{bytes_eq}
 use Rattle.std.proofs.lemmas.List.{length-map}
 use Rattle.fg_flight.proofs.Walks.{length_left}
-use Rattle.fg_flight.specs.Code.Left.{carried, carries_by, holders_of, last_left, left_after, names_left, nothing_left, other_by, others_by, sources_by}
+use Rattle.fg_flight.specs.Code.Left.{carried, carries_by, holders_of, last_left, left_after, names_left, nothing_left, other_by, others_by, source_by, sources_by}
 use Rattle.fg_flight.specs.Code.Parts.{all_exports, all_passes, all_resources}
 use Rattle.fg_flight.specs.Flights.{all_declared, held_bytes}
 use Rattle.fg_frame.specs.declared.frame.Frame.{Frame}
@@ -15,10 +15,10 @@ use Rattle.fg_frame.specs.declared.frame.Resource.{Resource}
 use Rattle.fg_frame.specs.declared.frame.Spot.{Spot}
 use Rattle.fg_named.specs.Declared.{Declared, declared_in, holder_in}
 use Rattle.fg_named.specs.Exports.{declared_exports, named_others}
-use Rattle.fg_named.specs.Joins.{named_carries, named_joins, whole}
+use Rattle.fg_named.specs.Joins.{NamedCarry, named_carries, named_joins, size_of}
 use Rattle.fg_named.specs.Names.{numbered_name, rename_in}
 use Rattle.fg_named.specs.Passes.{renamed_passes, renamed_spot}
-use Rattle.fg_named.specs.Sources.{NamedSource, kept, last_named, left_names, named_after}
+use Rattle.fg_named.specs.Sources.{Kept, Named, NamedSource, kept, last_named, left_names, named_after}
 use Rattle.fg_named.specs.WindowFrame.{declared_passes, declared_resources, first_name, named_passes_in, resources_in, window_frame}
 
 -- SOURCES
@@ -29,13 +29,13 @@ after_same i [] (b ∷ held) [] same = refl
 after_same i [] (b ∷ held) (l ∷ left) same = absurd (omega arith)
 after_same i (h ∷ holders) [] left same = refl
 after_same i (h ∷ holders) (b ∷ held) [] same = refl
-after_same i (None ∷ holders) (b ∷ held) (l ∷ left) same = ap (λ ss. _ ∷ ss) (after_same i holders held left (omega arith))
-after_same i (Some k ∷ holders) (b ∷ held) (l ∷ left) same = ap (λ ss. _ ∷ ss) (after_same i holders held left (omega arith))
+after_same i (None ∷ holders) (b ∷ held) (l ∷ left) same = ap (λ ss. source_by b l ∷ ss) (after_same i holders held left (omega arith))
+after_same i (Some k ∷ holders) (b ∷ held) (l ∷ left) same = ap (λ ss. Named (numbered_name i k) ∷ ss) (after_same i holders held left (omega arith))
 
 kept_same : (held : List (List ℕ)) (persist : List (List ℕ)) → length held ≡ length persist → kept held ≡ sources_by held (nothing_left persist)
 kept_same [] persist same = refl
 kept_same (b ∷ held) [] same = absurd (omega arith)
-kept_same (b ∷ held) (n ∷ persist) same = ap (λ ss. _ ∷ ss) (kept_same held persist (omega arith))
+kept_same (b ∷ held) (n ∷ persist) same = ap (λ ss. Kept b ∷ ss) (kept_same held persist (omega arith))
 
 names_same : (held : List (List ℕ)) (left : List (Option (List ℕ))) → length held ≡ length left → left_names (sources_by held left) ≡ names_left left
 names_same [] [] same = refl
@@ -43,6 +43,9 @@ names_same [] (l ∷ left) same = absurd (omega arith)
 names_same (b ∷ held) [] same = absurd (omega arith)
 names_same (b ∷ held) (None ∷ left) same = names_same held left (omega arith)
 names_same (b ∷ held) (Some n ∷ left) same = ap (λ ns. n ∷ ns) (names_same held left (omega arith))
+
+abbrev copy_to : ℕ → List Resource → ℕ → List ℕ → NamedCarry
+copy_to i rs k n = record { from = n; to = numbered_name i k; size = size_of rs k }
 
 carries_same : (i : ℕ) (rs : List Resource) (holders : List (Option ℕ)) (held : List (List ℕ)) (left : List (Option (List ℕ))) → length held ≡ length left → named_carries i rs holders (sources_by held left) ≡ map carried (carries_by i rs holders left)
 carries_same i rs [] held left same = refl
@@ -53,7 +56,7 @@ carries_same i rs (h ∷ holders) (b ∷ held) [] same = absurd (omega arith)
 carries_same i rs (None ∷ holders) (b ∷ held) (None ∷ left) same = carries_same i rs holders held left (omega arith)
 carries_same i rs (None ∷ holders) (b ∷ held) (Some n ∷ left) same = carries_same i rs holders held left (omega arith)
 carries_same i rs (Some k ∷ holders) (b ∷ held) (None ∷ left) same = carries_same i rs holders held left (omega arith)
-carries_same i rs (Some k ∷ holders) (b ∷ held) (Some n ∷ left) same = ap (λ cs. _ ∷ cs) (carries_same i rs holders held left (omega arith))
+carries_same i rs (Some k ∷ holders) (b ∷ held) (Some n ∷ left) same = ap (λ cs. copy_to i rs k n ∷ cs) (carries_same i rs holders held left (omega arith))
 
 -- FRAMES
 

@@ -40,6 +40,12 @@ length_left i [] (l ∷ left) same = absurd (omega arith)
 length_left i (h ∷ holders) [] same = refl
 length_left i (h ∷ holders) (l ∷ left) same = ap suc (length_left i holders left (omega arith))
 
+pub left_many : (i : ℕ) (holders : List (Option ℕ)) (left : List (Option (List ℕ))) (k : ℕ) (after : List (Option (List ℕ))) → length holders ≤ k → k ≤ length holders → length holders ≡ length left → after ++ left_after i (drop k holders) (drop k left) ≡ left_after i holders left → length after ≡ length left
+left_many i holders left k after far near same so_far =
+    let e : k ≡ length holders = omega arith in
+    let none : drop k holders ≡ [] = ap (λ n. drop n holders) e ∙ drop-length holders in
+    ap length (nothing_more after _ _ (ap (λ hs. left_after i hs (drop k left)) none) so_far) ∙ length_left i holders left same
+
 -- RESOURCES
 
 pub resource_on : (i : ℕ) (rs : List Resource) (j : ℕ) (r r' : Resource) (all all' total : List Resource) → j < length rs → r ≡ get_or rs j r → r' ≡ record r { name = numbered_name i j } → all' ≡ all ++ r' ∷ [] → all ++ renamed_resources i j (drop j rs) ≡ total → all' ++ renamed_resources i (j + 1) (drop (j + 1) rs) ≡ total
