@@ -1,6 +1,11 @@
+pub mod Alike
+pub mod Flies
 pub mod Frames
+pub mod Limited
 pub mod Naming
 pub mod Places
+pub mod Queues
 pub mod Same
 pub mod Sizes
+pub mod Told
 pub mod Walks

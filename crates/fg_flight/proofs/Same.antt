@@ -144,9 +144,13 @@ first_is : (queues : List QueueDecl) (q : QueueDecl) → 0 < length queues → q
 first_is [] q some is = absurd (omega arith)
 first_is (p ∷ queues) q some is = ap (λ x. x.name) is
 
+pub same_frame : (queues queues' : List QueueDecl) (resources resources' : List Resource) (passes passes' : List Pass) (exports exports' : List Spot) → queues ≡ queues' → resources ≡ resources' → passes ≡ passes' → exports ≡ exports' → ◌≡◌ {A = Frame} (record { queues = queues; resources = resources; passes = passes; exports = exports }) (record { queues = queues'; resources = resources'; passes = passes'; exports = exports' })
+same_frame queues queues' resources resources' passes passes' exports exports' q r p e = cc
+
 pub window_is : (queues queues' : List QueueDecl) (q : QueueDecl) (frames : List Frame) (persist : List (List ℕ)) (held : List (Option (List ℕ))) (resources : List Resource) (passes : List Pass) (exports : List Spot) → length held ≡ length persist → 0 < length queues → q ≡ get_or queues 0 q → queues' ≡ queues → resources ≡ all_resources persist held 0 (nothing_left persist) frames → passes ≡ all_passes q.name persist 0 (nothing_left persist) frames → exports ≡ all_exports 0 frames ++ others_by (all_exports 0 frames) (last_left persist 0 (nothing_left persist) frames) → ◌≡◌ {A = Frame} (record { queues = queues'; resources = resources; passes = passes; exports = exports }) (window_frame queues (all_declared frames persist) (held_bytes held))
-window_is queues queues' q frames persist held resources passes exports same some is q_is r_is p_is e_is =
+window_is queues queues' q frames persist held resources passes exports same some is queues_are r_is p_is e_is =
     let rs : resources ≡ (window_frame queues (all_declared frames persist) (held_bytes held)).resources = r_is ∙ sym (same_resources queues frames persist held same) in
     let ps : passes ≡ (window_frame queues (all_declared frames persist) (held_bytes held)).passes = p_is ∙ sym (same_passes queues frames persist held same q.name) ∙ ap (λ n. declared_passes n 0 (kept (held_bytes held)) (all_declared frames persist)) (first_is queues q some is) in
     let es : exports ≡ (window_frame queues (all_declared frames persist) (held_bytes held)).exports = e_is ∙ sym (same_exports queues frames persist held same) in
-    cc
+    let w : Frame = window_frame queues (all_declared frames persist) (held_bytes held) in
+    same_frame queues' queues resources w.resources passes w.passes exports w.exports queues_are rs ps es

@@ -1,2 +1,4 @@
 pub mod Code
 pub mod Flights
+pub mod Fly
+pub mod Refusals

@@ -21,7 +21,7 @@ pub(crate) struct Carry {
 }
 
 #[tactic(auto, using(crate::proofs::Sizes::size_fits, crate::proofs::Sizes::size_here, crate::proofs::Sizes::size_nowhere))]
-fn size_of(resources: &[Resource], k: usize) -> u32
+pub(crate) fn size_of(resources: &[Resource], k: usize) -> u32
     requires { All (λ r. size_allowed r.shape ≡ true) resources.now }
     ensures { result ≡ size_of resources.now k }
 {

@@ -5,10 +5,14 @@ mod exports;
 mod fault;
 mod holders;
 mod joins;
+mod limits;
 mod names;
 mod passes;
+mod refusals;
 mod resources;
 mod spots;
 mod window;
+mod windows;
 
 pub use fault::{FlightEnd, FlightFault};
+pub use windows::{Windows, windows_of};
