@@ -71,13 +71,13 @@ queue_is a b e =
     let family : a.family ≡ b.family = family_is a.family b.family both.1 in
     ap₂ (λ n f. record { name = n; family = f }) name family
 
-queues_are : (as bs : List QueueDecl) → same_queues as bs ≡ true → as ≡ bs
+queues_are : (qs bs : List QueueDecl) → same_queues qs bs ≡ true → qs ≡ bs
 queues_are [] [] e = refl
 queues_are [] (b ∷ bs) e = absurd cc
-queues_are (a ∷ as) [] e = absurd cc
-queues_are (a ∷ as) (b ∷ bs) e =
-    let both = and_parts (same_queue a b) (same_queues as bs) e in
-    ap₂ (λ x xs. x ∷ xs) (queue_is a b both.0) (queues_are as bs both.1)
+queues_are (a ∷ qs) [] e = absurd cc
+queues_are (a ∷ qs) (b ∷ bs) e =
+    let both = and_parts (same_queue a b) (same_queues qs bs) e in
+    ap₂ (λ x xs. x ∷ xs) (queue_is a b both.0) (queues_are qs bs both.1)
 
 -- PERSISTING NAMES
 
@@ -168,7 +168,9 @@ module _ (frames : List Frame) (persist : List (List ℕ)) (depth : ℕ) (F : Fl
 
     within : limit_broken (window_frame (queues_of frames) ds (held_bytes held)) ≡ None
     within =
-        let none = none_broken (window_at frames persist depth (unheld persist) w) (limit_none frames persist depth (window_count depth frames) 0 w large_none counted) in
+        let start : 0 + w ≡ w = omega arith in
+        let none_at_w : limit_in (window_at frames persist depth (unheld persist) w) ≡ None = subst (λ v. limit_in (window_at frames persist depth (unheld persist) v) ≡ None) start (limit_none frames persist depth (window_count depth frames) 0 w large_none counted) in
+        let none = none_broken (window_at frames persist depth (unheld persist) w) none_at_w in
         let alike = windows_alike (queues_of frames) (frames_in depth frames w) persist held (unheld persist) (many_same frames persist held H) (length-map persist _) in
         subst (λ xs. limit_broken (window_frame (queues_of frames) xs (held_bytes held)) ≡ None) (sym mine)
         (alike ∙ subst (λ xs. limit_broken (window_frame (queues_of frames) xs (held_bytes (unheld persist))) ≡ None) mine none)

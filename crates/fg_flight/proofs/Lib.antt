@@ -1,4 +1,5 @@
 pub mod Alike
+pub mod Counted
 pub mod Flies
 pub mod Frames
 pub mod Limited

@@ -8,10 +8,10 @@ use Rattle.std.proofs.lemmas.List.Quantifiers.{position-Some}
 use Rattle.fg_frame.specs.declared.frame.Resource.{Resource}
 use Rattle.fg_named.specs.Declared.{holder_in}
 
-abbrev within : ℕ → ℕ → Option ℕ
+abbrev pub within : ℕ → ℕ → Option ℕ
 within k n = cond (nat_lt k n) (Some k) None
 
-place_mapped : {X Y : Type 0} (p : Y → Bool) (f : X → Y) (xs : List X) → position_or_len p (map f xs) ≡ position_or_len (λ x. p (f x)) xs
+pub place_mapped : {X Y : Type 0} (p : Y → Bool) (f : X → Y) (xs : List X) → position_or_len p (map f xs) ≡ position_or_len (λ x. p (f x)) xs
 place_mapped p f [] = refl
 place_mapped p f (x ∷ xs) = by_test (p (f x)) refl (place_mapped p f xs)
   where

@@ -1,12 +1,12 @@
 -- A fault with a limit is the first, where there is one.
-use Rattle.std.proofs.Common.{◌≡◌, List, Bool, true, false, Option, Some, None, if◌then◌else◌, refl, sym, ap, ◌∙◌}
+use Rattle.std.proofs.Common.{◌≡◌, List, Bool, true, false, Option, Some, None, if◌then◌else◌, refl, sym, ap, subst, ◌∙◌}
 use Rattle.std.specs.Prelude.{IfSome, is_some, option_and_then}
 use Rattle.std.specs.Option.{option_map, option_or}
 use Rattle.fg_base.proofs.Absence.{map_none, or_first}
 use Rattle.fg_base.specs.Broken.{of_rule}
 use Rattle.fg_base.specs.declared.broken.Broken.{Broken}
 use Rattle.fg_flight.specs.Refusals.{limit_in}
-use Rattle.fg_frame.specs.FirstFault.{first_broken, first_fault, imports_of, name_broken, rule_broken, shapes_of, use_broken}
+use Rattle.fg_frame.specs.FirstFault.{Ends, first_broken, first_fault, imports_of, name_broken, rule_broken, shapes_of, use_broken}
 use Rattle.fg_frame.proofs.Small.{limits_none}
 use Rattle.fg_frame.specs.Limits.{limit_broken}
 use Rattle.fg_frame.specs.Paths.{told}
@@ -16,6 +16,8 @@ use Rattle.fg_frame.specs.Uses.{first_use, misfit_import, unwritten}
 use Rattle.fg_frame.specs.Numbered.{all_uses, export_units}
 use Rattle.fg_frame.specs.declared.fault.FrameFault.{FrameFault}
 use Rattle.fg_frame.specs.declared.frame.Frame.{Frame}
+use Rattle.fg_frame.specs.declared.good.FrameEnd.{FrameEnd}
+use Rattle.fg_frame.specs.declared.good.FrameEnd.TheVariants.{Refused}
 use Rattle.fg_frame.specs.declared.place.Place.{Place}
 use Rattle.fg_frame.specs.declared.rule.Rule.{Rule}
 use Rattle.fg_frame.specs.declared.rule.Rule.TheVariants as rules
@@ -71,3 +73,6 @@ module _ (frame : Frame) where
 
   pub none_told : first_fault frame ≡ None → None ≡ limit_in frame
   none_told is = sym (ap (option_and_then (λ b. b.limit)) (limits_none frame (or_first (name_broken frame) uses (map_none told (first_broken frame) is))))
+
+pub refused_limit : (frame : Frame) (end : FrameEnd) (fault : FrameFault) (back : Frame) → end ≡ Refused fault back → Ends frame end → fault.limit ≡ limit_in frame
+refused_limit frame end fault back is ends = let refused : Ends frame (Refused fault back) = subst (Ends frame) is ends in limit_told frame fault refused.0

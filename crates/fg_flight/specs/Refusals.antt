@@ -36,8 +36,8 @@ same_queue a b = bytes_eq a.name b.name && same_family a.family b.family
 abbrev pub same_queues : List QueueDecl → List QueueDecl → Bool
 same_queues [] [] = true
 same_queues [] (b ∷ bs) = false
-same_queues (a ∷ as) [] = false
-same_queues (a ∷ as) (b ∷ bs) = same_queue a b && same_queues as bs
+same_queues (a ∷ others) [] = false
+same_queues (a ∷ others) (b ∷ bs) = same_queue a b && same_queues others bs
 
 -- frame i, where its queues are others than these
 abbrev pub other_at : List QueueDecl → ℕ → Frame → Option FlightFault

@@ -1,5 +1,8 @@
 //! Why frames do not fly together.
 
+ghost use Rattle.std.specs.Prelude.{◌≡◌};
+ghost use Rattle.fg_flight.specs.declared.fault.FlightEnd.TheVariants as ends;
+
 use fg_base::{Limit, Name, NoMemory};
 
 /// The first reason for which frames are not compiled together.
@@ -29,6 +32,8 @@ pub enum FlightEnd {
 }
 
 impl From<NoMemory> for FlightEnd {
+    ghost from_gives = { λ _ e. e ≡ ends.NoMemory };
+
     fn from(_: NoMemory) -> FlightEnd {
         FlightEnd::NoMemory
     }

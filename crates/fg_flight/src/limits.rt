@@ -1,6 +1,6 @@
 //! Which windows are more than a frame may be.
 
-ghost use Rattle.std.specs.Prelude.{◌≡◌, ◌<◌, ◌≤◌, ◌*◌, ◌-◌, IfOk, length};
+ghost use Rattle.std.specs.Prelude.{◌≡◌, ◌<◌, ◌≤◌, ◌+◌, ◌*◌, ◌-◌, ◌/◌, IfOk, length, min};
 ghost use Rattle.fg_flight.specs.Flights.{queues_of, window_at, window_count};
 ghost use Rattle.fg_flight.specs.Refusals.{first_too_large, limit_in, too_large, unheld};
 
@@ -42,6 +42,12 @@ pub(crate) fn window_count(depth: u32, frames: usize) -> u32
     (frames as u32 + (depth - 1)) / depth
 }
 
+fn smaller(a: usize, b: usize) -> usize
+    ensures { result ≡ min a b }
+{
+    if a < b { a } else { b }
+}
+
 /// Window `w` of these frames, where these bytes are held before it.
 pub(crate) fn window_at(
     alloc: Global,
@@ -58,8 +64,7 @@ pub(crate) fn window_at(
     ensures { IfOk result (λ frame. frame ≡ window_at frames.now persist.now depth held.now w) }
 {
     let from = (w * depth) as usize;
-    let left = frames.len() - from;
-    let count = if left < depth as usize { left } else { depth as usize };
+    let count = smaller(depth as usize, frames.len() - from);
     let queues = &frames[0].frame().queues;
     window(alloc, queues, &frames[from..from + count], persist, held)
 }
@@ -85,6 +90,7 @@ fn too_large(
 }
 
 /// The first window that breaks a limit.
+#[tactic(auto, using(crate::proofs::Counted::large_on, crate::proofs::Counted::large_found, crate::proofs::Counted::large_end, crate::proofs::Counted::there))]
 pub(crate) fn first_too_large(
     alloc: Global,
     frames: &[GoodFrame],

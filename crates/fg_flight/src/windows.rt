@@ -98,6 +98,7 @@ impl<'a> Windows<'a> {
         window_count(self.depth, self.frames.len())
     }
 
+    #[tactic(auto, using(crate::proofs::Counted::there))]
     /// Window `w`, where these bytes are held before it: for each persisting name as many as it has in the frames, and none
     /// where no frame has it. No rule is judged a second time.
     pub fn frame(
