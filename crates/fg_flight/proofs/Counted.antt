@@ -3,6 +3,7 @@ use Rattle.std.proofs.Common.{◌≡◌, ℕ, zero, suc, ◌+◌, ◌-◌, ◌*�
 use Rattle.std.specs.List.{slice_range}
 use Rattle.std.specs.Option.{option_or}
 use Rattle.std.proofs.lemmas.List.{drop-map, length-drop, take-map, take_min}
+use Rattle.std.proofs.Math.Nat.{mul-comm}
 use Rattle.std.proofs.lemmas.Nat.{div-add-mod', mul-add-lt}
 use Rattle.fg_flight.specs.Flights.{all_declared, held_bytes, queues_of, window_at}
 use Rattle.fg_flight.specs.Refusals.{first_too_large, too_large}
@@ -16,9 +17,10 @@ use Rattle.fg_window.specs.InTurn.{frames_in}
 pub there : (n d w : ℕ) → 1 ≤ d → w < (n + (d - 1)) / d → w * d < n
 there n d w deep lt =
     let q : ℕ = (n + (d - 1)) / d in
-    let one : w * d + (d - 1) < q * d = mul-add-lt w d (d - 1) q lt (omega arith) in
+    let one : w * d + (d - 1) < d * q = mul-add-lt w d (d - 1) q lt (omega arith) in
+    let turned : d * q ≡ q * d = mul-comm d q in
     let two : q * d + (n + (d - 1)) % d ≡ n + (d - 1) = div-add-mod' (n + (d - 1)) d in
-    omega (arith, one, two)
+    omega (arith, one, turned, two)
 
 -- the frames of a window
 pub sliced : (frames : List Frame) (persist : List (List ℕ)) (depth w count : ℕ) → count ≡ min depth (length frames - w * depth) → all_declared (slice_range frames (w * depth) (w * depth + count)) persist ≡ frames_in depth (all_declared frames persist) w
