@@ -3,7 +3,7 @@ use Rattle.std.proofs.Common.{◌≡◌, ℕ, zero, suc, ◌+◌, ◌-◌, ◌*�
 use Rattle.std.specs.List.{slice_range}
 use Rattle.std.specs.Option.{option_or}
 use Rattle.std.proofs.lemmas.List.{drop-map, length-drop, take-map, take_min}
-use Rattle.std.proofs.Math.Nat.{mul-comm}
+use Rattle.std.proofs.Math.Nat.{mul_comm}
 use Rattle.std.proofs.lemmas.Nat.{div-add-mod', mul-add-lt}
 use Rattle.fg_flight.specs.Flights.{all_declared, held_bytes, queues_of, window_at}
 use Rattle.fg_flight.specs.Refusals.{first_too_large, too_large}
@@ -18,7 +18,7 @@ pub there : (n d w : ℕ) → 1 ≤ d → w < (n + (d - 1)) / d → w * d < n
 there n d w deep lt =
     let q : ℕ = (n + (d - 1)) / d in
     let one : w * d + (d - 1) < d * q = mul-add-lt w d (d - 1) q lt (omega arith) in
-    let turned : d * q ≡ q * d = mul-comm d q in
+    let turned : d * q ≡ q * d = mul_comm d q in
     let two : q * d + (n + (d - 1)) % d ≡ n + (d - 1) = div-add-mod' (n + (d - 1)) d in
     omega (arith, one, turned, two)
 
