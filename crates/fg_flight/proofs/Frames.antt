@@ -56,8 +56,8 @@ left_end persist frames i left total far near so_far = sym (ap (last_left persis
 pub resources_on : (persist : List (List ℕ)) (held : List (Option (List ℕ))) (frames : List Frame) (i : ℕ) (f : Frame) (holders : List (Option ℕ)) (left left' : List (Option (List ℕ))) (more list list' total : List Resource) → i < length frames → f ≡ get_or frames i f → holders ≡ holders_of persist f → more ≡ resources_by i holders held left f.resources → list' ≡ list ++ more → left' ≡ left_after i holders left → list ++ all_resources persist held i left (drop i frames) ≡ total → list' ++ all_resources persist held (i + 1) left' (drop (i + 1) frames) ≡ total
 resources_on persist held frames i f holders left left' more list list' total lt is holds gives grows after so_far =
     let rest : all_resources persist held i left (drop i frames) ≡ more ++ all_resources persist held (suc i) left' (drop (suc i) frames) =
-        ap (all_resources persist held i left) (at_place frames i f lt is)
-        ∙ ap₂ (λ xs l. xs ++ all_resources persist held (suc i) l (drop (suc i) frames)) (sym (gives ∙ ap (λ hs. resources_by i hs held left f.resources) holds)) (sym (after ∙ ap (λ hs. left_after i hs left) holds)) in
+    ap (all_resources persist held i left) (at_place frames i f lt is)
+    ∙ ap₂ (λ xs l. xs ++ all_resources persist held (suc i) l (drop (suc i) frames)) (sym (gives ∙ ap (λ hs. resources_by i hs held left f.resources) holds)) (sym (after ∙ ap (λ hs. left_after i hs left) holds)) in
     rw add-one (grown list more list' _ _ total grows rest so_far)
 
 pub resources_end : (persist : List (List ℕ)) (held : List (Option (List ℕ))) (frames : List Frame) (i : ℕ) (left : List (Option (List ℕ))) (list total : List Resource) → length frames ≤ i → i ≤ length frames → list ++ all_resources persist held i left (drop i frames) ≡ total → list ≡ total
@@ -66,8 +66,8 @@ resources_end persist held frames i left list total far near so_far = nothing_mo
 pub passes_on : (queue : List ℕ) (persist : List (List ℕ)) (frames : List Frame) (i : ℕ) (f : Frame) (holders : List (Option ℕ)) (left left' : List (Option (List ℕ))) (list list' total : List Pass) → i < length frames → f ≡ get_or frames i f → holders ≡ holders_of persist f → list' ≡ list ++ passes_by queue i holders left f → left' ≡ left_after i holders left → list ++ all_passes queue persist i left (drop i frames) ≡ total → list' ++ all_passes queue persist (i + 1) left' (drop (i + 1) frames) ≡ total
 passes_on queue persist frames i f holders left left' list list' total lt is holds grows after so_far =
     let rest : all_passes queue persist i left (drop i frames) ≡ passes_by queue i holders left f ++ all_passes queue persist (suc i) left' (drop (suc i) frames) =
-        ap (all_passes queue persist i left) (at_place frames i f lt is)
-        ∙ ap₂ (λ xs l. xs ++ all_passes queue persist (suc i) l (drop (suc i) frames)) (sym (ap (λ hs. passes_by queue i hs left f) holds)) (sym (after ∙ ap (λ hs. left_after i hs left) holds)) in
+    ap (all_passes queue persist i left) (at_place frames i f lt is)
+    ∙ ap₂ (λ xs l. xs ++ all_passes queue persist (suc i) l (drop (suc i) frames)) (sym (ap (λ hs. passes_by queue i hs left f) holds)) (sym (after ∙ ap (λ hs. left_after i hs left) holds)) in
     rw add-one (grown list (passes_by queue i holders left f) list' _ _ total grows rest so_far)
 
 pub passes_end : (queue : List ℕ) (persist : List (List ℕ)) (frames : List Frame) (i : ℕ) (left : List (Option (List ℕ))) (list total : List Pass) → length frames ≤ i → i ≤ length frames → list ++ all_passes queue persist i left (drop i frames) ≡ total → list ≡ total

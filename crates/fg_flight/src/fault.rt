@@ -9,19 +9,11 @@ use fg_base::{Limit, Name, NoMemory};
 #[derive(Clone, Copy, Debug)]
 pub enum FlightFault {
     /// The frame has other queues than the first one: another name, family or order.
-    Queues {
-        frame: u32,
-    },
+    Queues { frame: u32 },
     /// The frame has the name for what is no import, or for one of another size than in the first frame that has it.
-    Persist {
-        frame: u32,
-        name: Name,
-    },
+    Persist { frame: u32, name: Name },
     /// The window is more than a frame may be.
-    Window {
-        window: u32,
-        limit: Limit,
-    },
+    Window { window: u32, limit: Limit },
 }
 
 /// Why there are no windows.

@@ -57,7 +57,13 @@ fn renamed_ops(
     Ok(renamed)
 }
 
-fn renamed_pass(alloc: Global, i: usize, frame: &Frame, k: usize, pass: &Pass) -> Result<Pass, NoMemory>
+fn renamed_pass(
+    alloc: Global,
+    i: usize,
+    frame: &Frame,
+    k: usize,
+    pass: &Pass,
+) -> Result<Pass, NoMemory>
     requires { i < 10 }
     ensures { IfOk result (λ renamed. renamed ≡ renamed_pass (rename_in i frame.now) (numbered_name i k) pass.now) }
 {
