@@ -147,14 +147,21 @@ module _ (frames : List Frame) (persist : List (List ℕ)) (depth : ℕ) (F : Fl
     held = held_by_names f.resources (sizes_of frames persist) persist F.different (are_imports frames f persist (λ j name at. has_it (persists frames f name) (Persist k name) (none_from (lost_at frames k f) persist (none_from (lost_in frames persist) frames lost_none k f is) j name at)));
   }
 
+  pub all_flying : (held : List (Option (List ℕ))) → AreHeld frames persist held → FlyDeclared (queues_of frames) (sizes_of frames persist) (all_declared frames persist) (held_bytes held)
+  all_flying held H = record {
+    some = subst (λ n. 0 < n) (sym (length-map frames (declared_in persist))) F.some;
+    each = all_mapped (FliesDeclared (queues_of frames) (sizes_of frames persist)) (declared_in persist) frames each_flies;
+    sized = sizes_same frames persist held H;
+  }
+
   module _ (w : ℕ) (there : w * depth < length frames) (counted : w < window_count depth frames) (held : List (Option (List ℕ))) (H : AreHeld frames persist held) where
     abbrev ds : List Declared
     ds = frames_in depth (all_declared frames persist) w
 
-    mine : ds ≡ all_declared (frames_in depth frames w) persist
+    pub mine : ds ≡ all_declared (frames_in depth frames w) persist
     mine = ap (take depth) (drop-map (declared_in persist) (w * depth) frames) ∙ take-map (declared_in persist) depth (drop (w * depth) frames)
 
-    flying : FlyDeclared (queues_of frames) (sizes_of frames persist) ds (held_bytes held)
+    pub flying : FlyDeclared (queues_of frames) (sizes_of frames persist) ds (held_bytes held)
     flying = record {
       some =
           let taken : length ds ≡ min depth (length (drop (w * depth) (all_declared frames persist))) = length-take depth (drop (w * depth) (all_declared frames persist)) in
@@ -166,7 +173,7 @@ module _ (frames : List Frame) (persist : List (List ℕ)) (depth : ℕ) (F : Fl
       sized = sizes_same frames persist held H;
     }
 
-    within : limit_broken (window_frame (queues_of frames) ds (held_bytes held)) ≡ None
+    pub within : limit_broken (window_frame (queues_of frames) ds (held_bytes held)) ≡ None
     within =
         let start : 0 + w ≡ w = omega arith in
         let none_at_w : limit_in (window_at frames persist depth (unheld persist) w) ≡ None = subst (λ v. limit_in (window_at frames persist depth (unheld persist) v) ≡ None) start (limit_none frames persist depth (window_count depth frames) 0 w large_none counted) in

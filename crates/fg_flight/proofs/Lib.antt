@@ -10,3 +10,5 @@ pub mod Same
 pub mod Sizes
 pub mod Told
 pub mod Walks
+mod Rows
+pub mod Turning

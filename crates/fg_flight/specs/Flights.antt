@@ -2,6 +2,7 @@
 use Rattle.std.specs.Prelude.{◌≡◌, ℕ, List, [], ◌∷◌, ◌+◌, ◌-◌, ◌/◌, map, length, Option, unwrap_or}
 use Rattle.std.specs.Option.{option_map}
 use Rattle.fg_base.specs.Walks.{first_in}
+use Rattle.fg_base.specs.declared.shape.Family.{Family}
 use Rattle.fg_frame.specs.declared.frame.Frame.{Frame}
 use Rattle.fg_frame.specs.declared.frame.QueueDecl.{QueueDecl}
 use Rattle.fg_named.specs.Declared.{Declared, declared_in, holder_in}
@@ -13,6 +14,9 @@ use Rattle.fg_window.specs.InTurn.{frames_in}
 abbrev pub queues_of : List Frame → List QueueDecl
 queues_of [] = []
 queues_of (frame ∷ frames) = frame.queues
+
+abbrev pub families_of : List Frame → List Family
+families_of frames = map (λ q. q.family) (queues_of frames)
 
 abbrev pub all_declared : List Frame → List (List ℕ) → List Declared
 all_declared frames persist = map (declared_in persist) frames

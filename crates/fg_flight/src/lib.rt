@@ -5,6 +5,7 @@ mod exports;
 mod fault;
 mod holders;
 mod joins;
+mod laws;
 mod limits;
 mod names;
 mod passes;
@@ -15,4 +16,5 @@ mod window;
 mod windows;
 
 pub use fault::{FlightEnd, FlightFault};
+pub use laws::flight_laws;
 pub use windows::{Windows, windows_of};
