@@ -4,6 +4,7 @@
 
 mod cell;
 mod change;
+mod contents;
 mod counts;
 mod memory;
 mod opening;
@@ -16,6 +17,7 @@ mod table;
 mod tender;
 mod words;
 
+pub use contents::Slot;
 pub use table::Segments;
 pub use tender::{MOVES, Tender};
 

@@ -4,7 +4,8 @@ ghost use Rattle.std.specs.Prelude.{◌≡◌, ◌≢◌, ◌<◌, ◌≤◌, �
 ghost use Rattle.fg_caches.specs.Code.Uses.{count_at, Counts};
 ghost use Rattle.fg_caches.specs.Tables.{slot_at};
 
-use fg_base::List;
+use crate::contents::Slot;
+use fg_base::{List, NoMemory};
 
 // The least slot after slot 0 that no part names.
 fn free_slot(counts: &[u32]) -> Option<usize>
@@ -19,7 +20,7 @@ fn free_slot(counts: &[u32]) -> Option<usize>
 }
 
 /// Puts bytes into the least slot after slot 0 that no part names, in place of what it held, or into a new one.
-pub(crate) fn store_in(slots: &mut Vec<List<u8>>, counts: &mut Vec<u32>, bytes: List<u8>) -> u32
+pub(crate) fn store_in(slots: &mut Vec<Slot>, counts: &mut Vec<u32>, bytes: List<u8>) -> u32
     requires counts { length counts.old.items ≡ length slots.old.items }
     requires some { 0 < length slots.old.items }
     requires few { length slots.old.items + 1 < 2 ^ 32 }
@@ -41,7 +42,7 @@ pub(crate) fn store_in(slots: &mut Vec<List<u8>>, counts: &mut Vec<u32>, bytes: 
 {
     match free_slot(counts) {
         Some(slot) => {
-            slots[slot] = bytes;
+            slots[slot] = Slot::own(bytes);
             slot as u32
         }
         None => push_slot(slots, counts, bytes),
@@ -49,7 +50,7 @@ pub(crate) fn store_in(slots: &mut Vec<List<u8>>, counts: &mut Vec<u32>, bytes: 
 }
 
 // Puts bytes into a new slot.
-fn push_slot(slots: &mut Vec<List<u8>>, counts: &mut Vec<u32>, bytes: List<u8>) -> u32
+fn push_slot(slots: &mut Vec<Slot>, counts: &mut Vec<u32>, bytes: List<u8>) -> u32
     requires few { length slots.old.items < 2 ^ 32 }
     requires room { vec_len slots.old < vec_capacity slots.old }
     requires counts_room { vec_len counts.old < vec_capacity counts.old }
@@ -62,7 +63,34 @@ fn push_slot(slots: &mut Vec<List<u8>>, counts: &mut Vec<u32>, bytes: List<u8>) 
     ensures counts_capacity { vec_capacity counts.new ≡ vec_capacity counts.old }
 {
     let slot = slots.len() as u32;
-    slots.push_reserved(bytes);
+    slots.push_reserved(Slot::own(bytes));
     counts.push_reserved(0);
     slot
+}
+
+// The bytes of the slot can be had without a copy, if there is such a slot.
+fn share_slot(slots: &mut Vec<Slot>, slot: usize) -> Result<(), NoMemory>
+    ensures items { slots.new.items ≡ slots.old.items }
+    ensures len { vec_len slots.new ≡ vec_len slots.old }
+    ensures capacity { vec_capacity slots.new ≡ vec_capacity slots.old }
+{
+    if slot < slots.len() {
+        slots[slot].share()
+    } else {
+        Ok(())
+    }
+}
+
+/// The bytes of the slots with these numbers can be had without a copy. A number is taken off as soon as this holds.
+pub(crate) fn share_all(slots: &mut Vec<Slot>, numbers: &mut Vec<u32>) -> Result<(), NoMemory>
+    ensures items { slots.new.items ≡ slots.old.items }
+    ensures len { vec_len slots.new ≡ vec_len slots.old }
+    ensures capacity { vec_capacity slots.new ≡ vec_capacity slots.old }
+{
+    for _number in 0..numbers.len() {
+        if let Some(slot) = numbers.pop() {
+            share_slot(slots, slot as usize)?;
+        }
+    }
+    Ok(())
 }

@@ -1,6 +1,6 @@
 //! The bytes of memories and of the lines before them, in segments.
 
-ghost use Rattle.std.specs.Prelude.{◌≡◌, ◌<◌, ◌≤◌, ◌+◌, ◌-◌, ◌*◌, ◌^◌, IfOk, ℕ, length, slice_index, true, false, if◌then◌else◌};
+ghost use Rattle.std.specs.Prelude.{◌≡◌, ◌<◌, ◌≤◌, ◌+◌, ◌-◌, ◌*◌, ◌^◌, IfOk, ℕ, length, slice_index, true, false, Some, if◌then◌else◌};
 ghost use Rattle.std.specs.List.{All, sum_by};
 ghost use Rattle.fg_base.specs.Maxima.{max_memories, max_memory_bytes, max_nodes};
 ghost use Rattle.fg_caches.specs.Lines.{range, is_in};
@@ -10,12 +10,14 @@ ghost use Rattle.fg_caches.specs.Places.{row_at, cut_in};
 ghost use Rattle.fg_caches.specs.Code.Segments.{within};
 
 use crate::change::Change;
+use crate::contents::Slot;
 use crate::memory::Memory;
 use crate::opening::{counts_of, lay_out, room_for, slots_of};
 use crate::part::Part;
-use crate::runs::copy_out;
+use crate::runs::{copy_out, seen_bytes};
 use crate::segment::{Segment, change_all, cut_at, place_of};
-use crate::slots::store_in;
+use crate::slots::{share_all, store_in};
+use bytes::Bytes;
 use fg_base::{List, NoMemory};
 use std::alloc::Global;
 use std::marker::Model;
@@ -29,9 +31,11 @@ pub struct Segments {
     total: u32,
     segments: Vec<Segment>,
     // Slot 0 has the junk.
-    slots: Vec<List<u8>>,
+    slots: Vec<Slot>,
     // By the slot: at least as many as parts name it, and of slot 0 one more.
     counts: Vec<u32>,
+    // Slots of stores whose bytes are not shared yet. Where one is left out its bytes are copied.
+    stored: Vec<u32>,
     cuts_left: u64,
     stores_left: u32,
 }
@@ -58,8 +62,8 @@ impl Segments {
     pub fn new(
         alloc: Global,
         agents: u32,
-        opening: List<List<u8>>,
-        junk: List<u8>,
+        opening: List<Slot>,
+        junk: Slot,
         cuts: &[(u32, u32)],
         moves: u32,
         stores: u32,
@@ -92,8 +96,8 @@ impl Segments {
     fn open(
         alloc: Global,
         agents: u32,
-        opening: List<List<u8>>,
-        junk: List<u8>,
+        opening: List<Slot>,
+        junk: Slot,
         cuts: u64,
         stores: u32,
     ) -> Result<Segments, NoMemory>
@@ -111,6 +115,7 @@ impl Segments {
         let counts = counts_of(alloc, count, stores)?;
         let mut memories = room_for(alloc, count)?;
         let mut segments = room_for(alloc, count + cuts as usize)?;
+        let stored = room_for(alloc, stores as usize)?;
         let total = lay_out(&slots, &mut memories, &mut segments);
         Ok(Segments {
             agents,
@@ -119,6 +124,7 @@ impl Segments {
             segments,
             slots,
             counts,
+            stored,
             cuts_left: cuts,
             stores_left: stores,
         })
@@ -339,7 +345,9 @@ impl Segments {
         ensures bytes { caches_of self.new ≡ caches_of self.old }
     {
         self.stores_left -= 1;
-        store_in(&mut self.slots, &mut self.counts, bytes)
+        let slot = store_in(&mut self.slots, &mut self.counts, bytes);
+        let _noted = self.stored.push(slot);
+        slot
     }
 
     /// The agent stores bytes. They are moved into the table and not copied.
@@ -386,6 +394,50 @@ impl Segments {
             start: start_address,
         };
         self.change(agent, memory, start, len, Change::Put(part));
+    }
+
+    /// What was stored can be seen without a copy from now on. Nothing that a contract sees changes.
+    pub fn share(&mut self) -> Result<(), NoMemory>
+        ensures { self.new ≡ self.old }
+    {
+        share_all(&mut self.slots, &mut self.stored)
+    }
+
+    /// The bytes as the agent sees them. They are copied only where no store that is shared has them all.
+    pub fn seen(
+        &self,
+        alloc: Global,
+        agent: u32,
+        memory: u32,
+        start: u32,
+        len: u32,
+    ) -> Result<Bytes, NoMemory>
+        requires agent { agent < self.now.agents }
+        requires within { InMemory self.now memory start len }
+        ensures { IfOk result (λ bytes. bytes ≡ effects.load agent (range memory start len) (caches_of self.now)) }
+    {
+        let bytes = self.look(alloc, agent, memory, start, len)?;
+        Ok(bytes)
+    }
+
+    fn look(
+        &self,
+        alloc: Global,
+        agent: u32,
+        memory: u32,
+        start: u32,
+        len: u32,
+    ) -> Result<Bytes, NoMemory>
+        requires agent { agent < self.now.agents }
+        requires within { InMemory self.now memory start len }
+        ensures len { IfOk result (λ bytes. length bytes ≡ len) }
+        ensures inside { (k : ℕ) → k < len → start + k < size_of self.now memory }
+        ensures bytes { IfOk result (λ bytes. (k : ℕ) → k < len → slice_index bytes k ≡ byte_in self.now.slots (seen_part (row_at self.now.segments (address self.now memory (start + k))) (Some agent)) (address self.now memory (start + k))) }
+    {
+        let _agents = self.agents;
+        let from = self.first_address(memory, start, len);
+        let bytes = seen_bytes(alloc, &self.segments, &self.slots, Some(agent), from, len)?;
+        Ok(bytes)
     }
 
     /// The bytes as the agent sees them.

@@ -196,12 +196,12 @@ fn junk(alloc: Global) -> Result<List<u8>, NoMemory>
     Ok(List::from_vec(bytes))
 }
 
-fn two(alloc: Global, large: List<u8>, small: List<u8>) -> Result<List<List<u8>>, NoMemory>
+fn two(alloc: Global, large: List<u8>, small: List<u8>) -> Result<List<Slot>, NoMemory>
     ensures { IfOk result (λ opening. opening ≡ large ∷ small ∷ []) }
 {
     let mut opening = List::new(alloc);
-    opening.push(large)?;
-    opening.push(small)?;
+    opening.push(Slot::own(large))?;
+    opening.push(Slot::own(small))?;
     Ok(opening)
 }
 
@@ -222,7 +222,7 @@ fn table(alloc: Global, large: List<u8>, small: List<u8>) -> Result<Segments, No
         alloc,
         AGENTS,
         opening,
-        junk,
+        Slot::own(junk),
         &[(0, 20)],
         2 * EVENTS,
         2 * EVENTS,

@@ -10,3 +10,4 @@ pub mod Rooms
 pub mod Syncs
 pub mod Tables
 pub mod Takes
+pub mod Untouched

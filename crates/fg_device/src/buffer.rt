@@ -1,11 +1,11 @@
 //! Bytes whose memory was taken before they are known.
 
 ghost use Rattle.std.specs.Prelude.{◌≡◌, ◌<◌, true, false, if◌then◌else◌, length, replicate, Some, None, IfOk};
-ghost use Rattle.fg_caches.specs.Effects.{load, read_main};
+ghost use Rattle.fg_caches.specs.Effects.{read_main};
 ghost use Rattle.fg_caches.specs.Lines.{range};
 ghost use Rattle.fg_caches.specs.Tables.{InMemory, caches_of};
 
-use fg_base::{List, NoMemory};
+use fg_base::NoMemory;
 use fg_caches::Segments;
 use std::alloc::Global;
 use std::marker::Model;
@@ -39,35 +39,11 @@ impl Buffer {
         self.bytes.as_slice()
     }
 
-    /// The bytes as they are. It takes no memory.
-    pub fn into_vec(self) -> Vec<u8>
-        ensures { result.items ≡ self }
-    {
-        let Buffer { bytes } = self;
-        bytes
-    }
-
-    /// As `into_vec`.
-    pub fn into_list(self) -> List<u8>
-        ensures { result ≡ self }
-    {
-        List::from_vec(self.into_vec())
-    }
-
     /// All bytes become one.
     pub fn fill(&mut self, byte: u8)
         ensures { self.new ≡ replicate (length self.old) byte }
     {
         self.bytes.fill(byte);
-    }
-
-    /// The bytes as the agent sees them.
-    pub fn load(&mut self, table: &Segments, agent: u32, memory: u32, start: u32)
-        requires agent { agent < table.now.agents }
-        requires within { InMemory table.now memory start (length self.old) }
-        ensures { self.new ≡ load agent (range memory start (length self.old)) (caches_of table.now) }
-    {
-        table.load(agent, memory, start, &mut self.bytes);
     }
 
     /// The bytes of main.

@@ -3,15 +3,16 @@
 ghost use Rattle.std.specs.Prelude.{◌≡◌, ◌<◌, length, replicate, slice_set, None, Some, IfOk};
 ghost use Rattle.fg_device.specs.Code.Loads.{held_at};
 
-use crate::buffer::Buffer;
+use crate::zeros::Zeros;
+use bytes::Bytes;
 use fg_base::{List, NoMemory};
 use std::alloc::Global;
 
 /// What a begun command loaded, and room for what it stores.
 #[derive(Drop)]
 pub(crate) struct Held {
-    pub loaded: List<List<u8>>,
-    pub room: Buffer,
+    pub loaded: List<Bytes>,
+    pub room: Zeros,
 }
 
 /// Nothing is held of so many nodes.

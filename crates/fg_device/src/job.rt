@@ -5,8 +5,9 @@ ghost use Rattle.fg_device.specs.Code.Loads.{IsRunnable};
 ghost use Rattle.fg_device.specs.Code.Results.{IsResult};
 ghost use Rattle.fg_steps.specs.Outputs.{no_old, stored_by};
 
-use crate::buffer::Buffer;
 use crate::running::stored_fast;
+use crate::zeros::Zeros;
+use bytes::Bytes;
 use fg_base::{List, Op, Shape};
 use std::marker::Model;
 use std::thread::Threads;
@@ -17,13 +18,13 @@ pub struct Command {
     pub node: u32,
     pub op: Op<u32>,
     pub shapes: List<Shape>,
-    pub loaded: List<List<u8>>,
+    pub loaded: List<Bytes>,
 }
 
 /// A begun command that is to be computed. It has the memory that this takes, and cannot be let go.
 pub struct Job {
     command: Command,
-    room: Buffer,
+    room: Zeros,
 }
 
 impl Model for Job {
@@ -63,7 +64,7 @@ pub enum Landed {
 }
 
 impl Job {
-    pub(crate) fn new(command: Command, room: Buffer) -> Job
+    pub(crate) fn new(command: Command, room: Zeros) -> Job
         requires runnable { IsRunnable command.shapes command.op command.loaded }
         requires room { room ≡ no_old command.shapes command.op }
         ensures { result ≡ command }

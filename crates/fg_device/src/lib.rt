@@ -4,6 +4,7 @@
 
 mod agents;
 mod buffer;
+mod comparing;
 mod device;
 mod held;
 mod job;
@@ -11,6 +12,7 @@ mod nodes;
 mod opening;
 mod running;
 mod syncing;
+mod zeros;
 
 pub use device::Device;
 pub use job::{Command, Finished, Job, Landed};

@@ -7,7 +7,8 @@ ghost use Rattle.fg_base.specs.Shapes.{bytes_of, shape_at};
 ghost use Rattle.fg_device.specs.Code.Loads.{IsRunnable};
 ghost use Rattle.fg_steps.specs.Outputs.{no_old, stored_by};
 
-use crate::buffer::Buffer;
+use crate::zeros::Zeros;
+use bytes::Bytes;
 use fg_base::{List, Op, Shape};
 use fg_draw::draw;
 use fg_lanes::apply_fast;
@@ -24,7 +25,7 @@ fn source_count(op: &Op<u32>) -> usize
 
 // The bytes of a source; none where the operation has no such source.
 #[tactic(auto, using(crate::proofs::Sources::source_read, crate::proofs::Sources::source_past))]
-fn source<'a>(op: &Op<u32>, loaded: &'a [List<u8>], k: usize) -> &'a [u8]
+fn source<'a>(op: &Op<u32>, loaded: &'a [Bytes], k: usize) -> &'a [u8]
     requires { length (sources_of op.now) ≤ length loaded.now }
     ensures { result.now ≡ slice_index_or (take (length (sources_of op.now)) loaded.now) k [] }
 {
@@ -36,7 +37,7 @@ fn source<'a>(op: &Op<u32>, loaded: &'a [List<u8>], k: usize) -> &'a [u8]
 }
 
 // What the operation leaves in `out`, which holds the destination's old bytes.
-fn run(op: &Op<u32>, shapes: &[Shape], loaded: &[List<u8>], out: &mut [u8])
+fn run(op: &Op<u32>, shapes: &[Shape], loaded: &[Bytes], out: &mut [u8])
     requires runnable { IsRunnable shapes.now op.now loaded.now }
     requires out { length out.old ≡ bytes_of (shape_at shapes.now (destination_of op.now)) }
     ensures { out.new ≡ applied shapes.now op.now (take (length (sources_of op.now)) loaded.now) out.old }
@@ -60,7 +61,7 @@ fn run_fast<R: Threads + Sync>(
     rt: &R,
     op: &Op<u32>,
     shapes: &[Shape],
-    loaded: &[List<u8>],
+    loaded: &[Bytes],
     out: &mut [u8],
 )
     requires runnable { IsRunnable shapes.now op.now loaded.now }
@@ -82,23 +83,23 @@ fn run_fast<R: Threads + Sync>(
     }
 }
 
-// The old bytes of the destination, if they were loaded after the sources.
-fn lay_old(op: &Op<u32>, loaded: &[List<u8>], out: &mut [u8])
-    requires { (bytes : List ℕ) → slice_get loaded.now (length (sources_of op.now)) ≡ Some bytes → length bytes ≡ length out.old }
-    ensures { out.new ≡ slice_index_or loaded.now (length (sources_of op.now)) out.old }
+// The old bytes of the destination, if they were loaded after the sources, and else zeros.
+fn old_bytes(op: &Op<u32>, loaded: &[Bytes], room: Zeros) -> Vec<u8>
+    requires { (bytes : List ℕ) → slice_get loaded.now (length (sources_of op.now)) ≡ Some bytes → length bytes ≡ length room }
+    ensures { result.items ≡ slice_index_or loaded.now (length (sources_of op.now)) room }
 {
-    if let Some(old) = loaded.get(source_count(op)) {
-        out.copy_from_slice(old);
+    match loaded.get(source_count(op)) {
+        Some(old) => room.into_copy(old),
+        None => room.into_filled(0),
     }
 }
 
-// What a command stores, in a slice of zeros.
-fn store_in(op: &Op<u32>, shapes: &[Shape], loaded: &[List<u8>], out: &mut [u8])
+// What a command stores, in a slice of the old bytes.
+fn store_in(op: &Op<u32>, shapes: &[Shape], loaded: &[Bytes], out: &mut [u8])
     requires runnable { IsRunnable shapes.now op.now loaded.now }
-    requires room { out.old ≡ no_old shapes.now op.now }
+    requires out { out.old ≡ slice_index_or loaded.now (length (sources_of op.now)) (no_old shapes.now op.now) }
     ensures { out.new ≡ stored_by shapes.now op.now loaded.now }
 {
-    lay_old(op, loaded, out);
     run(op, shapes, loaded, out);
 }
 
@@ -107,14 +108,13 @@ fn store_fast_in<R: Threads + Sync>(
     rt: &R,
     op: &Op<u32>,
     shapes: &[Shape],
-    loaded: &[List<u8>],
+    loaded: &[Bytes],
     out: &mut [u8],
 )
     requires runnable { IsRunnable shapes.now op.now loaded.now }
-    requires room { out.old ≡ no_old shapes.now op.now }
+    requires out { out.old ≡ slice_index_or loaded.now (length (sources_of op.now)) (no_old shapes.now op.now) }
     ensures { out.new ≡ stored_by shapes.now op.now loaded.now }
 {
-    lay_old(op, loaded, out);
     run_fast(rt, op, shapes, loaded, out);
 }
 
@@ -122,15 +122,15 @@ fn store_fast_in<R: Threads + Sync>(
 pub(crate) fn stored_by(
     op: &Op<u32>,
     shapes: &[Shape],
-    loaded: &[List<u8>],
-    room: Buffer,
+    loaded: &[Bytes],
+    room: Zeros,
 ) -> List<u8>
     requires runnable { IsRunnable shapes.now op.now loaded.now }
     requires room { room ≡ no_old shapes.now op.now }
     ensures stored { result ≡ stored_by shapes.now op.now loaded.now }
     ensures long { length result ≡ bytes_of (shape_at shapes.now (destination_of op.now)) }
 {
-    let mut out = room.into_vec();
+    let mut out = old_bytes(op, loaded, room);
     store_in(op, shapes, loaded, &mut out);
     List::from_vec(out)
 }
@@ -140,15 +140,15 @@ pub(crate) fn stored_fast<R: Threads + Sync>(
     rt: &R,
     op: &Op<u32>,
     shapes: &[Shape],
-    loaded: &[List<u8>],
-    room: Buffer,
+    loaded: &[Bytes],
+    room: Zeros,
 ) -> List<u8>
     requires runnable { IsRunnable shapes.now op.now loaded.now }
     requires room { room ≡ no_old shapes.now op.now }
     ensures stored { result ≡ stored_by shapes.now op.now loaded.now }
     ensures long { length result ≡ bytes_of (shape_at shapes.now (destination_of op.now)) }
 {
-    let mut out = room.into_vec();
+    let mut out = old_bytes(op, loaded, room);
     store_fast_in(rt, op, shapes, loaded, &mut out);
     List::from_vec(out)
 }

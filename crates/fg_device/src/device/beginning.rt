@@ -1,6 +1,6 @@
 //! A command begins.
 
-ghost use Rattle.std.specs.Prelude.{◌≡◌, ◌<◌, [], ◌∷◌, length, map, true, false, if◌then◌else◌, IfOk, OnErr, replicate};
+ghost use Rattle.std.specs.Prelude.{◌≡◌, ◌<◌, ◌^◌, [], ◌∷◌, length, map, true, false, if◌then◌else◌, IfOk, OnErr, replicate};
 ghost use Rattle.fg_base.specs.Shapes.{bytes_of};
 ghost use Rattle.fg_base.specs.declared.event.Event.TheVariants as events;
 ghost use Rattle.fg_caches.specs.Effects.{load};
@@ -18,10 +18,11 @@ ghost use Rattle.fg_view.specs.Views.{view_of, loads_of};
 
 use super::Device;
 use crate::agents::{agent_of, store_of};
-use crate::buffer::Buffer;
 use crate::held::{Held, hold};
 use crate::job::{Command, Job};
 use crate::nodes::op_of;
+use crate::zeros::Zeros;
+use bytes::Bytes;
 use fg_base::{Event, List, NoMemory};
 use fg_caches::Segments;
 use fg_steps::event_laws;
@@ -33,37 +34,68 @@ use std::alloc::Global;
 #[derive(Drop)]
 struct Taken {
     command: Command,
-    room: Buffer,
+    room: Zeros,
     held: Held,
 }
 
-fn copies(alloc: Global, lists: &[List<u8>]) -> Result<List<List<u8>>, NoMemory>
-    ensures { IfOk result (λ copies. copies ≡ lists.now) }
+// The same bytes once more, shared.
+fn copies(alloc: Global, loaded: &[Bytes]) -> Result<List<Bytes>, NoMemory>
+    ensures { IfOk result (λ copies. copies ≡ loaded.now) }
 {
     let mut copies = List::new(alloc);
-    for list in lists {
-        copies.push(list.copy(alloc)?)?;
+    for bytes in loaded {
+        copies.push(bytes.clone()?)?;
     }
     Ok(copies)
 }
 
-// The bytes that an agent sees of a piece, or else the junk.
-fn sight(spoilt: bool, junk: Buffer, table: &Segments, agent: u32, from: Piece) -> List<u8>
-    requires len { length junk ≡ bytes_of from.shape }
+// The bytes that an agent sees of a piece, or else junk of one byte.
+fn sight(
+    alloc: Global,
+    spoilt: bool,
+    byte: u8,
+    table: &Segments,
+    agent: u32,
+    from: Piece,
+) -> Result<Bytes, NoMemory>
+    requires small { bytes_of from.shape < 2 ^ 32 }
     requires agent { agent < table.now.agents }
     requires within { InMemory table.now from.memory from.offset (bytes_of from.shape) }
-    ensures { result ≡ (if spoilt then junk else load agent (range from.memory from.offset (bytes_of from.shape)) (caches_of table.now)) }
+    ensures { IfOk result (λ bytes. bytes ≡ (if spoilt then replicate (bytes_of from.shape) byte else load agent (range from.memory from.offset (bytes_of from.shape)) (caches_of table.now))) }
 {
-    let mut bytes = junk;
-    if !spoilt {
-        bytes.load(table, agent, from.memory, from.offset);
+    let len = from.shape.bytes() as u32;
+    if spoilt {
+        let junk = vec![in alloc; byte; len as usize]?;
+        return Ok(Bytes::from_vec(junk)?);
     }
-    bytes.into_list()
+    let bytes = table.seen(alloc, agent, from.memory, from.offset, len)?;
+    Ok(bytes)
 }
 
 impl Device {
     /// The event Begin: a command loads. It takes all memory that `compute` and `end` need; without it nothing has changed.
     pub fn begin(&mut self, alloc: Global, node: u32) -> Result<Job, NoMemory>
+        requires command { is_command (kind_at (view_in self.old) node) ≡ true }
+        requires ready { is_ready self.old node ≡ true }
+        ensures event { IfOk result (λ job. self.new ≡ did self.old (events.Begin node)) }
+        ensures job { IfOk result (Carries self.new node) }
+        ensures apart { IfOk result (λ job. LoadsApart self.new node job.loaded) }
+        ensures err { OnErr result (self.new ≡ self.old) }
+    {
+        self.share()?;
+        self.begun(alloc, node)
+    }
+
+    // What was stored can be loaded without a copy from now on.
+    fn share(&mut self) -> Result<(), NoMemory>
+        ensures { self.new ≡ self.old }
+    {
+        self.table.share()?;
+        Ok(())
+    }
+
+    // The same without that.
+    fn begun(&mut self, alloc: Global, node: u32) -> Result<Job, NoMemory>
         requires command { is_command (kind_at (view_in self.old) node) ≡ true }
         requires ready { is_ready self.old node ≡ true }
         ensures event { IfOk result (λ job. self.new ≡ did self.old (events.Begin node)) }
@@ -125,7 +157,7 @@ impl Device {
     }
 
     // The command with what it loads.
-    fn command(&self, alloc: Global, node: u32, loaded: &[List<u8>]) -> Result<Command, NoMemory>
+    fn command(&self, alloc: Global, node: u32, loaded: &[Bytes]) -> Result<Command, NoMemory>
         requires command { is_command (kind_at (view_in self.now) node) ≡ true }
         requires node { node < length (view_in self.now).nodes }
         requires loaded { loaded.now ≡ loads_in self.now node }
@@ -145,18 +177,18 @@ impl Device {
     }
 
     // Zeros, as many as the command stores.
-    fn room(&self, alloc: Global, node: u32) -> Result<Buffer, NoMemory>
+    fn room(&self, alloc: Global, node: u32) -> Result<Zeros, NoMemory>
         requires command { is_command (kind_at (view_in self.now) node) ≡ true }
         requires node { node < length (view_in self.now).nodes }
         ensures { IfOk result (λ room. room ≡ replicate (store_size (view_in self.now) node) 0) }
     {
         let view = self.control.view();
         let piece = view.piece(store_of(view, node).piece);
-        Buffer::new(alloc, 0, piece.shape.bytes() as u32)
+        Zeros::new(alloc, piece.shape.bytes() as u32)
     }
 
     // What the command loads, load by load.
-    fn loads(&self, alloc: Global, node: u32) -> Result<List<List<u8>>, NoMemory>
+    fn loads(&self, alloc: Global, node: u32) -> Result<List<Bytes>, NoMemory>
         requires command { is_command (kind_at (view_in self.now) node) ≡ true }
         requires node { node < length (view_in self.now).nodes }
         ensures { IfOk result (λ loaded. loaded ≡ map (taken (view_in self.now) (state_of self.now) node (self.now.fill ∷ [])) (loads_of (view_in self.now) node)) }
@@ -171,15 +203,16 @@ impl Device {
     }
 
     // The bytes that the agent sees, or junk.
-    fn load(&self, alloc: Global, node: u32, access: Access) -> Result<List<u8>, NoMemory>
+    fn load(&self, alloc: Global, node: u32, access: Access) -> Result<Bytes, NoMemory>
         requires command { is_command (kind_at (view_in self.now) node) ≡ true }
         requires node { node < length (view_in self.now).nodes }
         requires has { Has (view_in self.now) node access }
         ensures { IfOk result (λ bytes. bytes ≡ taken (view_in self.now) (state_of self.now) node (self.now.fill ∷ []) access) }
     {
         let piece = self.control.view().piece(access.piece);
-        let junk = Buffer::new(alloc, self.fill, piece.shape.bytes() as u32)?;
         let spoilt = self.control.is_spoilt(node, access);
-        Ok(sight(spoilt, junk, &self.table, agent_of(access.kind), piece))
+        let agent = agent_of(access.kind);
+        let bytes = sight(alloc, spoilt, self.fill, &self.table, agent, piece)?;
+        Ok(bytes)
     }
 }

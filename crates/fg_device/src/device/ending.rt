@@ -19,10 +19,12 @@ ghost use Rattle.fg_steps.specs.Steps.{store_of};
 use super::Device;
 use crate::agents::{agent_of, store_of};
 use crate::buffer::junk_if;
+use crate::comparing::same_loads;
 use crate::held::{Held, take_held};
 use crate::job::{Command, Finished, Landed};
 use crate::nodes::op_of;
 use crate::running::stored_by;
+use bytes::Bytes;
 use fg_base::{Event, List, Op, Shape};
 use fg_caches::Segments;
 use fg_same::Same;
@@ -42,10 +44,10 @@ fn has_op(command: &Command, op: &Op<u32>, shapes: &[Shape]) -> bool
 }
 
 // Whether a command that was computed has this operation and loaded these bytes.
-fn is_same(command: &Command, op: &Op<u32>, shapes: &[Shape], loaded: &List<List<u8>>) -> bool
+fn is_same(command: &Command, op: &Op<u32>, shapes: &[Shape], loaded: &[Bytes]) -> bool
     ensures { result ≡ true → (command.now.op ≡ op.now) × ((command.now.shapes ≡ shapes.now) × (command.now.loaded ≡ loaded.now)) }
 {
-    has_op(command, op, shapes) && command.loaded.same(loaded)
+    has_op(command, op, shapes) && same_loads(&command.loaded, loaded)
 }
 
 // The bytes that were computed, where they are of this command and of what it loaded; else it is computed here.
@@ -73,9 +75,8 @@ fn computed(
 fn filled(held: Held, byte: u8) -> List<u8>
     ensures { result ≡ replicate (length held.room) byte }
 {
-    let Held { mut room, .. } = held;
-    room.fill(byte);
-    room.into_list()
+    let Held { room, .. } = held;
+    List::from_vec(room.into_filled(byte))
 }
 
 // What a begun command stores: its bytes, or junk where it is marked.

@@ -8,21 +8,21 @@ use Rattle.fg_caches.proofs.Storing.{stored_tiled, stored_bytes}
 use Rattle.fg_caches.proofs.table.Segments.store.Goals as goal
 
 -- no part names the slot that is to come
-none : (c : goal.After-store_in) → uses (length c.self.inside.slots.items) c.self.inside.segments.items ≡ 0
+none : (c : goal.After-push-noted) → uses (length c.self.inside.slots.items) c.self.inside.segments.items ≡ 0
 none c = let i = c.self.inside in new_unnamed (length i.slots.items) i.segments.items (laid i.total i.slots.items i.segments.items c.self.invariant.tiled)
 
-unnamed : (c : goal.After-store_in) → uses c.store_in.result c.self.inside.segments.items ≡ 0
-unnamed c = c.store_in.ensures.unnamed (λ slot. uses slot c.self.inside.segments.items) c.self.invariant.counted (none c)
+unnamed : (c : goal.After-push-noted) → uses c.store_in-slot.result c.self.inside.segments.items ≡ 0
+unnamed c = c.store_in-slot.ensures.unnamed (λ slot. uses slot c.self.inside.segments.items) c.self.invariant.counted (none c)
 
 pub invariant_of-self : goal.invariant_of-self
 invariant_of-self c =
     let i = c.self.inside in
     let inv = c.self.invariant in
-    let e = c.store_in.ensures in
+    let e = c.store_in-slot.ensures in
     let P : Table → Type 0 = λ t. 0 < t.stores_left in
     let room = subst P (sym c.self.view_is) c.requires in
     record {
-      tiled = stored_tiled i.slots.items c.store_in.new.slots.items c.store_in.result e.longer e.others i.total i.segments.items inv.tiled (unnamed c);
+      tiled = stored_tiled i.slots.items c.store_in-slot.new.slots.items c.store_in-slot.result e.longer e.others i.total i.segments.items inv.tiled (unnamed c);
       apart = inv.apart;
       agents = inv.agents;
       junk = omega (arith, inv.junk, e.longer);
@@ -37,14 +37,14 @@ invariant_of-self c =
 pub returns-clause-junk : goal.returns-clause-junk
 unfolding junk_of
 returns-clause-junk c =
-    let P : Table → Type 0 = λ t. slot_at c.store_in.new.slots.items 0 ≡ slot_at t.slots 0 in
-    subst P c.self.view_is (c.store_in.ensures.others 0 c.self.invariant.junk (λ (e : 0 ≡ c.store_in.result). absurd (omega (arith, c.store_in.ensures.later, e))))
+    let P : Table → Type 0 = λ t. slot_at c.store_in-slot.new.slots.items 0 ≡ slot_at t.slots 0 in
+    subst P c.self.view_is (c.store_in-slot.ensures.others 0 c.self.invariant.junk (λ (e : 0 ≡ c.store_in-slot.result). absurd (omega (arith, c.store_in-slot.ensures.later, e))))
 
 pub returns-clause-bytes : goal.returns-clause-bytes
 returns-clause-bytes c =
     let i = c.self.inside in
     let inv = c.self.invariant in
-    let e = c.store_in.ensures in
-    let new : Table = record (view_of i) { slots = c.store_in.new.slots.items; stores_left = i.stores_left - 1 } in
+    let e = c.store_in-slot.ensures in
+    let new : Table = record (view_of i) { slots = c.store_in-slot.new.slots.items; stores_left = i.stores_left - 1 } in
     let P : Table → Type 0 = λ t. caches_of new ≡ caches_of t in
-    subst P c.self.view_is (stored_bytes (view_of i) c.store_in.new.slots.items (i.stores_left - 1) c.store_in.result e.longer e.others inv.tiled inv.apart inv.agents (unnamed c))
+    subst P c.self.view_is (stored_bytes (view_of i) c.store_in-slot.new.slots.items (i.stores_left - 1) c.store_in-slot.result e.longer e.others inv.tiled inv.apart inv.agents (unnamed c))
