@@ -2,7 +2,7 @@
 use Rattle.std.proofs.Common.{◌≡◌, ℕ, ◌+◌, ◌<◌, ◌≤◌, ◌++◌, List, [], ◌∷◌, length, map, take, get_or, sym, ap, ◌∙◌, subst, ⊎_elim, arith}
 use Rattle.std.specs.Prelude.{slice_index, slice_index_or}
 use Rattle.std.proofs.lemmas.Bool.{cases_lt}
-use Rattle.std.proofs.lemmas.List.{get_or-map, get_or-take, get_or_past, get_or_append_left, length-append, length-map, length-take-le}
+use Rattle.std.proofs.lemmas.List.{get_or-map, get_or-take, get_or_past, get_or_default, get_or_append_left, length-append, length-map, length-replicate, length-take-le}
 use Rattle.std.proofs.Math.Seq.{get_or-append_seam, take-append_seam}
 use Rattle.fg_base.proofs.Operands.{sources_mapped, destination_mapped}
 use Rattle.fg_base.specs.Operands.{sources_of, destination_of, operands_of, mapped}
@@ -12,6 +12,7 @@ use Rattle.fg_base.specs.declared.shape.Shape.{Shape}
 use Rattle.fg_base.specs.declared.shape.Shape.TheVariants.{Buffer}
 use Rattle.fg_device.specs.Code.Loads.{IsRunnable}
 use Rattle.fg_pixels.specs.Sources.{source_bytes}
+use Rattle.fg_steps.specs.Outputs.{no_old}
 
 -- what a vector holds when its slice was written
 pub written_back : (count : ℕ) (new more : List ℕ) → length new ≡ count → take count (new ++ more) ≡ new
@@ -48,6 +49,15 @@ module _ (shapes : List Shape) (op : Op ℕ) (loaded : List (List ℕ)) (R : IsR
   -- the old bytes of the destination are as many as it has
   pub old_long : length (sources_of op) < length loaded → length (get_or loaded (length (sources_of op)) []) ≡ bytes_of (shape_at shapes (destination_of op))
   old_long lt = R.sized (length (sources_of op)) lt ∙ ap (λ z. bytes_of (shape_at shapes z)) (get_or-append_seam (sources_of op) (destination_of op) [] 0)
+
+  -- the old bytes of the destination where they were loaded, and else zeros
+  pub out_long : (out : List ℕ) → out ≡ slice_index_or loaded (length (sources_of op)) (no_old shapes op) → length out ≡ bytes_of (shape_at shapes (destination_of op))
+  out_long out is =
+      let n = length (sources_of op) in
+      ⊎_elim
+      (λ (lt : n < length loaded). ap length (is ∙ get_or_default loaded n (no_old shapes op) [] lt) ∙ old_long lt)
+      (λ (ge : length loaded ≤ n). ap length (is ∙ get_or_past loaded n (no_old shapes op) ge) ∙ length-replicate {A = ℕ} (bytes_of (shape_at shapes (destination_of op))) 0)
+      (cases_lt n (length loaded))
 
 pub destination_long : (shapes : List Shape) (op : Op ℕ) (n : ℕ) → n ≡ bytes_of (shape_at shapes (destination_of op)) → n ≡ bytes_of (destination_of (mapped (shape_at shapes) op))
 destination_long shapes op n is = is ∙ ap bytes_of (sym (destination_mapped (shape_at shapes) op))

@@ -7,7 +7,7 @@ ghost use Rattle.fg_measure.specs.Code.Tables.{image, row, HoldsImage, HoldsRow}
 
 use crate::ranges::{IMAGE, place};
 use fg_base::{List, NoMemory};
-use fg_caches::Segments;
+use fg_caches::{Segments, Slot};
 use std::alloc::Global;
 
 const AGENTS: u32 = 2;
@@ -46,11 +46,11 @@ fn cuts(alloc: Global, count: u32) -> Result<Vec<(u32, u32)>, NoMemory>
     Ok(cuts)
 }
 
-fn one(alloc: Global, bytes: List<u8>) -> Result<List<List<u8>>, NoMemory>
+fn one(alloc: Global, bytes: List<u8>) -> Result<List<Slot>, NoMemory>
     ensures { IfOk result (λ opening. opening ≡ bytes ∷ []) }
 {
     let mut opening = List::new(alloc);
-    opening.push(bytes)?;
+    opening.push(Slot::own(bytes))?;
     Ok(opening)
 }
 
@@ -61,7 +61,7 @@ pub fn table(alloc: Global, places: u32, stores: u32) -> Result<Segments, NoMemo
 {
     let opening = one(alloc, picture(alloc)?)?;
     let cuts = cuts(alloc, places)?;
-    let junk = List::new(alloc);
+    let junk = Slot::filled(0, 0);
     Segments::new(alloc, AGENTS, opening, junk, &cuts, SPARE, stores)
 }
 
@@ -82,6 +82,6 @@ pub fn row(alloc: Global) -> Result<Segments, NoMemory>
 {
     let opening = one(alloc, zeros(alloc, 4096)?)?;
     let cuts = row_cuts(alloc)?;
-    let junk = List::new(alloc);
+    let junk = Slot::filled(0, 0);
     Segments::new(alloc, AGENTS, opening, junk, &cuts, SPARE, STORES)
 }

@@ -1,29 +1,17 @@
-use Rattle.std.proofs.Common.{◌∙◌, ℕ, List, Some, sym, ap, subst}
-use Rattle.fg_checker.specs.Apart.{op_at}
-use Rattle.fg_device.proofs.Keeping.{ready_inside}
+use Rattle.std.proofs.Common.{◌≡◌, ◌∙◌, true, IfOk, OnErr, sym, subst}
+use Rattle.fg_base.specs.declared.event.Event.TheVariants.{Begin}
 use Rattle.fg_device.proofs.device.Device.begin.Goals as goal
-use Rattle.fg_device.specs.declared.job.Command.{Command}
-use Rattle.fg_steps.specs.Devices.{Device, LoadsApart}
-use Rattle.fg_subs.specs.Rules.{shapes_of}
+use Rattle.fg_steps.specs.Devices.{Device, view_in, did, is_ready}
+use Rattle.fg_steps.specs.Ready.{is_command, kind_at}
 
-pub taken-requires : goal.taken-requires
-taken-requires c = record { command = c.requires.command; node = ready_inside c.args.self.now c.args.node c.requires.ready }
+pub begun-requires-clause-command : goal.begun-requires-clause-command
+begun-requires-clause-command c = subst (λ (d : Device). is_command (kind_at (view_in d) c.args.node) ≡ true) (sym c.share.ensures) c.requires.command
 
-pub new-requires : goal.new-requires
-new-requires c = record { runnable = c.in_ok-command.ensures.runs; room = c.in_ok-command.ensures.room }
+pub begun-requires-clause-ready : goal.begun-requires-clause-ready
+begun-requires-clause-ready c = subst (λ (d : Device). is_ready d c.args.node ≡ true) (sym c.share.ensures) c.requires.ready
 
-pub returns-clause-job : goal.returns-clause-job
-returns-clause-job c =
-    let n = c.args.node in
-    let e = c.in_ok-command.ensures.command in
-    let new = c.new.ensures in
-    let after = c.keep.ensures.event in
-    record {
-      node = ap (λ (x : Command). x.node) new ∙ e.node;
-      op = ap (λ (d : Device). op_at d.program n) after ∙ e.op ∙ ap (λ (x : Command). Some x.op) (sym new);
-      shapes = ap (λ (x : Command). x.shapes) new ∙ e.shapes ∙ ap (λ (d : Device). shapes_of d.program) (sym after);
-      loaded = ap (λ (x : Command). x.loaded) new ∙ e.loaded ∙ sym c.keep.ensures.loaded;
-    }
+pub returns-clause-event : goal.returns-clause-event
+returns-clause-event c = subst (λ (d : Device). IfOk c.begun.result (λ job. c.begun.new.self ≡ did d (Begin c.args.node))) c.share.ensures c.begun.ensures.event
 
-pub returns-clause-apart : goal.returns-clause-apart
-returns-clause-apart c = subst (λ (bytes : List (List ℕ)). LoadsApart c.keep.new.self c.args.node bytes) (sym (ap (λ (x : Command). x.loaded) c.new.ensures ∙ c.in_ok-command.ensures.command.loaded)) c.keep.ensures.apart
+pub returns-clause-err : goal.returns-clause-err
+returns-clause-err c = subst (λ (d : Device). OnErr c.begun.result (c.begun.new.self ≡ d)) c.share.ensures c.begun.ensures.err

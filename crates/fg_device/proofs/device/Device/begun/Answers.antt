@@ -1,0 +1,29 @@
+use Rattle.std.proofs.Common.{◌∙◌, ℕ, List, Some, sym, ap, subst}
+use Rattle.fg_checker.specs.Apart.{op_at}
+use Rattle.fg_device.proofs.Keeping.{ready_inside}
+use Rattle.fg_device.proofs.device.Device.begun.Goals as goal
+use Rattle.fg_device.specs.declared.job.Command.{Command}
+use Rattle.fg_steps.specs.Devices.{Device, LoadsApart}
+use Rattle.fg_subs.specs.Rules.{shapes_of}
+
+pub taken-requires : goal.taken-requires
+taken-requires c = record { command = c.requires.command; node = ready_inside c.args.self.now c.args.node c.requires.ready }
+
+pub new-requires : goal.new-requires
+new-requires c = record { runnable = c.in_ok-command.ensures.runs; room = c.in_ok-command.ensures.room }
+
+pub returns-clause-job : goal.returns-clause-job
+returns-clause-job c =
+    let n = c.args.node in
+    let e = c.in_ok-command.ensures.command in
+    let new = c.new.ensures in
+    let after = c.keep.ensures.event in
+    record {
+      node = ap (λ (x : Command). x.node) new ∙ e.node;
+      op = ap (λ (d : Device). op_at d.program n) after ∙ e.op ∙ ap (λ (x : Command). Some x.op) (sym new);
+      shapes = ap (λ (x : Command). x.shapes) new ∙ e.shapes ∙ ap (λ (d : Device). shapes_of d.program) (sym after);
+      loaded = ap (λ (x : Command). x.loaded) new ∙ e.loaded ∙ sym c.keep.ensures.loaded;
+    }
+
+pub returns-clause-apart : goal.returns-clause-apart
+returns-clause-apart c = subst (λ (bytes : List (List ℕ)). LoadsApart c.keep.new.self c.args.node bytes) (sym (ap (λ (x : Command). x.loaded) c.new.ensures ∙ c.in_ok-command.ensures.command.loaded)) c.keep.ensures.apart
