@@ -86,7 +86,8 @@ fn run_fast<R: Threads + Sync>(
 // The old bytes of the destination, if they were loaded after the sources, and else zeros.
 fn old_bytes(op: &Op<u32>, loaded: &[Bytes], room: Zeros) -> Vec<u8>
     requires { (bytes : List ℕ) → slice_get loaded.now (length (sources_of op.now)) ≡ Some bytes → length bytes ≡ length room }
-    ensures { result.items ≡ slice_index_or loaded.now (length (sources_of op.now)) room }
+    ensures bytes { result.items ≡ slice_index_or loaded.now (length (sources_of op.now)) room }
+    ensures long { length result.items ≡ length room }
 {
     match loaded.get(source_count(op)) {
         Some(old) => room.into_copy(old),
@@ -119,12 +120,7 @@ fn store_fast_in<R: Threads + Sync>(
 }
 
 /// What a command stores. The room holds zeros, and takes the old bytes where these were loaded.
-pub(crate) fn stored_by(
-    op: &Op<u32>,
-    shapes: &[Shape],
-    loaded: &[Bytes],
-    room: Zeros,
-) -> List<u8>
+pub(crate) fn stored_by(op: &Op<u32>, shapes: &[Shape], loaded: &[Bytes], room: Zeros) -> List<u8>
     requires runnable { IsRunnable shapes.now op.now loaded.now }
     requires room { room ≡ no_old shapes.now op.now }
     ensures stored { result ≡ stored_by shapes.now op.now loaded.now }

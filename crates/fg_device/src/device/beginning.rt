@@ -136,9 +136,9 @@ impl Device {
         ensures runs { IfOk result (λ t. IsRunnable t.command.shapes t.command.op t.command.loaded) }
         ensures room { IfOk result (λ t. t.room ≡ no_old t.command.shapes t.command.op) }
     {
+        let room = self.room(alloc, node)?;
         let held = self.held_for(alloc, node)?;
         let command = self.command(alloc, node, &held.loaded)?;
-        let room = self.room(alloc, node)?;
         Ok(Taken {
             command,
             room,
