@@ -84,6 +84,16 @@ impl Slot {
         }
     }
 
+    /// The memory of the bytes, where it is no one else's.
+    pub(crate) fn into_spare(self) -> Option<Vec<u8>> {
+        let Slot { form } = self;
+        match form {
+            Form::Own(own) => Some(own.into_vec()),
+            Form::Shared(bytes) => bytes.reclaim()?.into_vec().ok(),
+            Form::Filled { .. } => None,
+        }
+    }
+
     /// How many bytes there are.
     pub fn len(&self) -> usize
         ensures { result ≡ length self.now }

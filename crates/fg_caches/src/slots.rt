@@ -19,8 +19,13 @@ fn free_slot(counts: &[u32]) -> Option<usize>
     None
 }
 
-/// Puts bytes into the least slot after slot 0 that no part names, in place of what it held, or into a new one.
-pub(crate) fn store_in(slots: &mut Vec<Slot>, counts: &mut Vec<u32>, bytes: List<u8>) -> u32
+/// Puts bytes into the least slot after slot 0 that no part names, or into a new one. What the slot held is spare then.
+pub(crate) fn store_in(
+    slots: &mut Vec<Slot>,
+    counts: &mut Vec<u32>,
+    spare: &mut Option<Slot>,
+    bytes: List<u8>,
+) -> u32
     requires counts { length counts.old.items ≡ length slots.old.items }
     requires some { 0 < length slots.old.items }
     requires few { length slots.old.items + 1 < 2 ^ 32 }
@@ -42,7 +47,7 @@ pub(crate) fn store_in(slots: &mut Vec<Slot>, counts: &mut Vec<u32>, bytes: List
 {
     match free_slot(counts) {
         Some(slot) => {
-            slots[slot] = Slot::own(bytes);
+            *spare = Some(std::mem::replace(&mut slots[slot], Slot::own(bytes)));
             slot as u32
         }
         None => push_slot(slots, counts, bytes),

@@ -36,6 +36,8 @@ pub struct Segments {
     counts: Vec<u32>,
     // Slots of stores whose bytes are not shared yet. Where one is left out its bytes are copied.
     stored: Vec<u32>,
+    // What the slot of the last store held before.
+    spare: Option<Slot>,
     cuts_left: u64,
     stores_left: u32,
 }
@@ -125,6 +127,7 @@ impl Segments {
             slots,
             counts,
             stored,
+            spare: None,
             cuts_left: cuts,
             stores_left: stores,
         })
@@ -345,7 +348,12 @@ impl Segments {
         ensures bytes { caches_of self.new ≡ caches_of self.old }
     {
         self.stores_left -= 1;
-        let slot = store_in(&mut self.slots, &mut self.counts, bytes);
+        let slot = store_in(
+            &mut self.slots,
+            &mut self.counts,
+            &mut self.spare,
+            bytes,
+        );
         let _noted = self.stored.push(slot);
         slot
     }
@@ -401,6 +409,16 @@ impl Segments {
         ensures { self.new ≡ self.old }
     {
         share_all(&mut self.slots, &mut self.stored)
+    }
+
+    /// Memory that the table needs no more since the last store, if there is any, with any bytes.
+    pub fn take_spare(&mut self) -> Option<Vec<u8>>
+        ensures { self.new ≡ self.old }
+    {
+        match self.spare.take() {
+            Some(slot) => slot.into_spare(),
+            None => None,
+        }
     }
 
     /// The bytes as the agent sees them. They are copied only where no store that is shared has them all.

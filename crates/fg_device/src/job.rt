@@ -6,7 +6,7 @@ ghost use Rattle.fg_device.specs.Code.Results.{IsResult};
 ghost use Rattle.fg_steps.specs.Outputs.{no_old, stored_by};
 
 use crate::running::stored_fast;
-use crate::zeros::Zeros;
+use crate::room::Room;
 use bytes::Bytes;
 use fg_base::{List, Op, Shape};
 use std::marker::Model;
@@ -24,7 +24,7 @@ pub struct Command {
 /// A begun command that is to be computed. It has the memory that this takes, and cannot be let go.
 pub struct Job {
     command: Command,
-    room: Zeros,
+    room: Room,
 }
 
 impl Model for Job {
@@ -64,7 +64,7 @@ pub enum Landed {
 }
 
 impl Job {
-    pub(crate) fn new(command: Command, room: Zeros) -> Job
+    pub(crate) fn new(command: Command, room: Room) -> Job
         requires runnable { IsRunnable command.shapes command.op command.loaded }
         requires room { room ≡ no_old command.shapes command.op }
         ensures { result ≡ command }

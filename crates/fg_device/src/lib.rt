@@ -10,9 +10,9 @@ mod held;
 mod job;
 mod nodes;
 mod opening;
+mod room;
 mod running;
 mod syncing;
-mod zeros;
 
 pub use device::Device;
 pub use job::{Command, Finished, Job, Landed};

@@ -4,6 +4,7 @@ use Rattle.std.specs.List.{All}
 use Rattle.fg_base.specs.Fits.{fits}
 use Rattle.fg_base.specs.Operands.{operands_of, sources_of, mapped}
 use Rattle.fg_base.specs.Shapes.{bytes_of, shape_at}
+use Rattle.fg_base.specs.Wholes.{is_whole}
 use Rattle.fg_base.specs.declared.op.Op.{Op}
 use Rattle.fg_base.specs.declared.shape.Shape.{Shape}
 use Rattle.fg_checker.specs.Apart.{op_at}
@@ -22,6 +23,10 @@ pub record IsRunnable (shapes : List Shape) (op : Op ℕ) (loaded : List (List �
   pub sources : length (sources_of op) ≤ length loaded
   pub few : length loaded ≤ length (operands_of op)
   pub sized : (k : ℕ) → k < length loaded → length (get_or loaded k []) ≡ bytes_of (shape_at shapes (get_or (operands_of op) k 0))
+
+-- the operation has no influence of the old bytes of its destination
+abbrev pub LeavesAny : List Shape → Op ℕ → Type 0
+LeavesAny shapes op = is_whole (mapped (shape_at shapes) op) ≡ true
 
 -- BEGUN COMMANDS
 

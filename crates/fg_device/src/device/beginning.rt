@@ -21,7 +21,7 @@ use crate::agents::{agent_of, store_of};
 use crate::held::{Held, hold};
 use crate::job::{Command, Job};
 use crate::nodes::op_of;
-use crate::zeros::Zeros;
+use crate::room::Room;
 use bytes::Bytes;
 use fg_base::{Event, List, NoMemory};
 use fg_caches::Segments;
@@ -34,7 +34,7 @@ use std::alloc::Global;
 #[derive(Drop)]
 struct Taken {
     command: Command,
-    room: Zeros,
+    room: Room,
     held: Held,
 }
 
@@ -82,20 +82,25 @@ impl Device {
         ensures apart { IfOk result (λ job. LoadsApart self.new node job.loaded) }
         ensures err { OnErr result (self.new ≡ self.old) }
     {
-        self.share()?;
-        self.begun(alloc, node)
+        let spare = self.share()?;
+        self.begun(alloc, node, spare)
     }
 
-    // What was stored can be loaded without a copy from now on.
-    fn share(&mut self) -> Result<(), NoMemory>
+    // What was stored can be loaded without a copy from now on. The answer is memory that the table needs no more.
+    fn share(&mut self) -> Result<Option<Vec<u8>>, NoMemory>
         ensures { self.new ≡ self.old }
     {
         self.table.share()?;
-        Ok(())
+        Ok(self.table.take_spare())
     }
 
     // The same without that.
-    fn begun(&mut self, alloc: Global, node: u32) -> Result<Job, NoMemory>
+    fn begun(
+        &mut self,
+        alloc: Global,
+        node: u32,
+        spare: Option<Vec<u8>>,
+    ) -> Result<Job, NoMemory>
         requires command { is_command (kind_at (view_in self.old) node) ≡ true }
         requires ready { is_ready self.old node ≡ true }
         ensures event { IfOk result (λ job. self.new ≡ did self.old (events.Begin node)) }
@@ -107,7 +112,7 @@ impl Device {
             command,
             room,
             held,
-        } = self.taken(alloc, node)?;
+        } = self.taken(alloc, node, spare)?;
         self.keep(node, held);
         Ok(Job::new(command, room))
     }
@@ -128,7 +133,12 @@ impl Device {
     }
 
     // All that a Begin takes memory for.
-    fn taken(&self, alloc: Global, node: u32) -> Result<Taken, NoMemory>
+    fn taken(
+        &self,
+        alloc: Global,
+        node: u32,
+        spare: Option<Vec<u8>>,
+    ) -> Result<Taken, NoMemory>
         requires command { is_command (kind_at (view_in self.now) node) ≡ true }
         requires node { node < length (view_in self.now).nodes }
         ensures held { IfOk result (λ t. IsTaken self.now node t.held) }
@@ -136,7 +146,7 @@ impl Device {
         ensures runs { IfOk result (λ t. IsRunnable t.command.shapes t.command.op t.command.loaded) }
         ensures room { IfOk result (λ t. t.room ≡ no_old t.command.shapes t.command.op) }
     {
-        let room = self.room(alloc, node)?;
+        let room = self.room(alloc, node, spare)?;
         let held = self.held_for(alloc, node)?;
         let command = self.command(alloc, node, &held.loaded)?;
         Ok(Taken {
@@ -152,7 +162,7 @@ impl Device {
         ensures { IfOk result (IsTaken self.now node) }
     {
         let loaded = self.loads(alloc, node)?;
-        let room = self.room(alloc, node)?;
+        let room = self.room(alloc, node, None)?;
         Ok(Held { loaded, room })
     }
 
@@ -176,15 +186,20 @@ impl Device {
         })
     }
 
-    // Zeros, as many as the command stores.
-    fn room(&self, alloc: Global, node: u32) -> Result<Zeros, NoMemory>
+    // Room for as many bytes as the command stores.
+    fn room(
+        &self,
+        alloc: Global,
+        node: u32,
+        spare: Option<Vec<u8>>,
+    ) -> Result<Room, NoMemory>
         requires command { is_command (kind_at (view_in self.now) node) ≡ true }
         requires node { node < length (view_in self.now).nodes }
         ensures { IfOk result (λ room. room ≡ replicate (store_size (view_in self.now) node) 0) }
     {
         let view = self.control.view();
         let piece = view.piece(store_of(view, node).piece);
-        Zeros::new(alloc, piece.shape.bytes() as u32)
+        Room::new(alloc, piece.shape.bytes() as u32, spare)
     }
 
     // What the command loads, load by load.
