@@ -55,7 +55,7 @@ fn shares(families: &[Family], sharings: &[Sharing], unit: u32, p: u32, q: u32) 
 }
 
 /// Whether two uses of a unit are in one group, where one comes right after the other.
-pub(crate) fn joins(families: &[Family], sharings: &[Sharing], one: Use, next: Use) -> bool
+pub fn joins(families: &[Family], sharings: &[Sharing], one: Use, next: Use) -> bool
     ensures { result ≡ joins families.now sharings.now one next }
 {
     !is_write(one)
