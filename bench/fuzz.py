@@ -3,13 +3,14 @@
 
     bench/fuzz.py PROGRAM OTHER [--minutes 10] [--cases N] [--seed 1] [--passes 10] [--jobs 4]
 
-Made at random: frames; submissions, by compiling frames; traces that the program printed, behind their submissions; and lists of frames. A
-file is good, or changed in one place (a number, a text, a list, an object; or a byte), or cut, or its front spliced to the end of another
-one, or a part of another one grafted into it. Each is given to the commands that read such a file, with random options, and now and then
-to another one. Status and text have to be the same. A command that one of the programs does not know is left out, and told. `--seed` and
-the number of a case make the case again (`--cases 1 --first NUMBER`), but for the order of the events in a trace. Told at the end: how
-many cases there were, how many of each kind of file and change, and how many answers of each kind each command gave. The status is 1 at
-the first difference, whose input is kept.
+Made at random: frames, of both formats and all operations; submissions, by compiling frames, some of them tight; traces that the program
+printed, behind their submissions; lists of frames; numbers of generated frames; and command lines. A file is good, or changed in one place
+(a number, a text, a list, an object; or a byte), or cut, or its front spliced to the end of another one, or a part of another one grafted
+into it. Each is given to the commands that read such a file, with random options, and now and then to another one. A command line is one
+that is known with a word changed, dropped, doubled or moved. Status and text have to be the same. A command that one of the programs does
+not know is left out, and told. `--seed` and the number of a case make the case again (`--cases 1 --first NUMBER`), but for the order of the
+events in a trace. Told at the end: how many cases there were, how many of each kind of file and change, and how many answers of each kind
+each command gave. The status is 1 at the first difference, whose input is kept.
 """
 
 import argparse
@@ -21,6 +22,7 @@ import sys
 import time
 
 import changes
+from kernels import further
 from makers import Frame, some_flight
 from sides import Sides, each, ended
 from traces import parted
@@ -29,9 +31,38 @@ SIDES = ((8,), (8,), (8, 16, 64))
 FRAME_WORDS = ("cull", "place", "compile", "meaning", "migrate", "run", "bound", "auto")
 SUBMISSION_WORDS = ("check", "check", "exec")
 # Without `--trace`, since the order of events is the machine's.
-OPTIONS = {"run": ("workers", "tend", "tight"), "exec": ("workers", "tend"), "compile": ("tight",), "auto": ("cost",)}
+OPTIONS = {"run": ("workers", "tend", "tight"), "exec": ("workers", "tend"), "compile": ("tight",), "auto": ("cost",), "flight": ("workers", "tend")}
 WAYS = ("good", *["changed"] * 5, *["changed twice"] * 2, "grafted", "grafted", "byte", "cut", "spliced")
-KINDS = ("frame", "frame", "submission", "submission", "audit", "flight")
+KINDS = ("frame", "frame", "frame", "submission", "submission", "audit", "flight", "gen", "line")
+LINES = ("run --workers 3 --tend 7", "run --tight --trace", "exec --workers 16 --tend 4294967295", "compile --tight", "auto --cost", "cull", "audit", "check")
+LINES += ("flight --persist u0,u1 --depth 8 --workers 2 --tend 1", "gen --number 7 --passes 2", "gen --number 7 --passes 2 --summary --workers 4 --tend 0")
+NUMBERS = ["0", "1", "2", "8", "9", "16", "17", "256", "257", "4294967295", "4294967296", "01", "0000000001", "00000000001", "-1", "+1", "1.0", "", " 1", "x"]
+ODD = ["--", "-", "--trace", "--tight", "--cost", "--summary", "--help", "--version", "-w", "run", "exec", "gen", "", "é", "--workers=2", "--tend=3", "u0", "a,b", "a,a"]
+
+
+def other_line(rng):
+    """The words of a known command line, of which one or two are changed, dropped, doubled, moved or put in."""
+    words = rng.choice(LINES).split(" ")
+    for _ in range(rng.choice((1, 1, 2))):
+        if not words:
+            break
+        at, to = rng.randrange(len(words)), rng.randrange(len(words))
+        way = rng.randrange(7)
+        if way == 0:
+            words.pop(at)
+        elif way == 1:
+            words.insert(to, words[at])
+        elif way == 2:
+            words.insert(to, words.pop(at))
+        elif way == 3:
+            words.insert(at, rng.choice([*ODD, *NUMBERS]))
+        elif way == 4 and words[at].isdigit():
+            words[at] = rng.choice(NUMBERS)
+        elif way == 5 and at + 1 < len(words) and words[at].startswith("--"):
+            words[at : at + 2] = [words[at] + "=" + words[at + 1]]
+        else:
+            words[at] = rng.choice([words[at][:-1], words[at].upper(), words[at] + rng.choice("s =-0"), words[at][1:], rng.choice(ODD)])
+    return words
 
 
 def options_of(rng, word, known):
@@ -47,6 +78,7 @@ class Fuzz:
         self.files = collections.Counter()
         words = {*FRAME_WORDS, *SUBMISSION_WORDS, "audit", "flight"}
         self.words = {word for word in words if sides.knows(word)}
+        self.words |= {"gen"} if sides.knows("gen", "--number", "1", "--passes", "1") else set()
         self.left_out = sorted(words - self.words)
         self.known = {(word, name) for word, names in OPTIONS.items() for name in names if word in self.words and self.knows(word, name)}
         self.left_out += sorted(f"{word} --{name}" for word, names in OPTIONS.items() for name in names if (word, name) not in self.known)
@@ -55,12 +87,18 @@ class Fuzz:
         return self.sides.knows(word, f"--{name}", *(["1"] if name in ("workers", "tend") else []))
 
     def frame(self, rng):
-        return Frame(rng, self.options.passes, sides=rng.choice(SIDES)).value()
+        frame = Frame(rng, self.options.passes, sides=rng.choice(SIDES)).value()
+        if rng.random() < 0.5:
+            frame = further(rng, frame, rng.randint(1, 3))
+        if rng.random() < 0.2 and not any("layers" in one or "sharing" in one for one in frame["resources"]):
+            frame["format"] = 1
+        return frame
 
     def submission(self, rng):
         """What a frame is compiled to; the frame itself where it has a fault."""
         frame = self.frame(rng)
-        status, text = self.sides.ask(["compile"], json.dumps(frame).encode())
+        tight = ["--tight"] if ("compile", "tight") in self.known and rng.random() < 0.2 else []
+        status, text = self.sides.ask(["compile", *tight], json.dumps(frame).encode())
         return json.loads(text) if status == 0 else frame
 
     def good(self, rng, kind):
@@ -69,7 +107,7 @@ class Fuzz:
             return None, [self.frame(rng)], []
         if kind == "flight":
             words, frames = some_flight(rng, self.options.passes)
-            return [*words, "--depth", str(rng.randint(1, 8))], frames, []
+            return [*words, "--depth", str(rng.randint(1, 8)), *options_of(rng, "flight", self.known)], frames, []
         program = self.submission(rng)
         if kind == "submission":
             return None, [program], []
@@ -106,9 +144,28 @@ class Fuzz:
             text = changes.spliced(rng, text, self.text(rng, *self.good(rng, rng.choice((kind, kind, *KINDS)))[1:]))
         return words, text, way
 
+    def generated(self, rng):
+        """A frame from a number, or its summary."""
+        passes = rng.choice([1, 2, 5, 17, rng.randint(1, 40)])
+        words = ["gen", "--number", str(rng.choice([rng.randrange(2**32), rng.randrange(70_000)])), "--passes", str(passes)]
+        summary = ["--summary", "--workers", rng.choice("1234")] if rng.random() < 0.3 else []
+        self.sides.agree([*words, *summary], b"")
+
+    def line(self, rng):
+        """A command line, on a file that has a fault where the text could depend on the order of events."""
+        words = other_line(rng)
+        if any(word not in self.words and word in FRAME_WORDS + ("audit", "flight", "gen") for word in words):
+            return
+        text = b"" if any("trace" in word for word in words) else json.dumps(self.frame(rng)).encode()
+        self.sides.agree(words, text, "a line")
+
     def case(self, number):
         rng = random.Random(f"{self.options.seed}/{number}")
-        kind = rng.choice([kind for kind in KINDS if kind in ("frame", "submission") or kind in self.words])
+        kind = rng.choice([kind for kind in KINDS if kind in ("frame", "submission", "line") or kind in self.words])
+        if kind in ("gen", "line"):
+            with self.sides.lock:
+                self.files[kind, "good" if kind == "gen" else "changed"] += 1
+            return self.generated(rng) if kind == "gen" else self.line(rng)
         words, text, way = self.made(rng, kind)
         with self.sides.lock:
             self.files[kind, way] += 1
@@ -119,7 +176,8 @@ class Fuzz:
             for word in dict.fromkeys((rng.choice(known), rng.choice(known))):
                 self.sides.agree([word, *options_of(rng, word, self.known)], text)
         if rng.random() < 0.02:
-            self.sides.agree([rng.choice(sorted(self.words))], text)
+            self.sides.agree([rng.choice(sorted(self.words - {"gen"}))], text)
+        return None
 
 
 def main():

@@ -55,13 +55,13 @@ class Sides:
         """Our status and text."""
         return answer(self.ours, words, text)
 
-    def agree(self, words, text):
-        """The status and the text of both programs, which have to be the same."""
+    def agree(self, words, text, name=None):
+        """The status and the text of both programs, which have to be the same. They are counted under the first word, or this name."""
         ours, other = [answer(program, words, text) for program in (self.ours, self.other)]
         if ours != other or ours[0] is None:
             raise Differs(f"ours: {shown(ours)}\nother: {shown(other)}", words, text)
         with self.lock:
-            self.counts[words[0], kind(*ours)] += 1
+            self.counts[name or words[0], kind(*ours)] += 1
         return ours
 
     def expect(self, holds, what, words, text):

@@ -1,11 +1,14 @@
 #!/usr/bin/env python3
-"""Builds the program, and lets each of its requests for memory fail in turn.
+"""Lets each request for memory of the program fail in turn, and each of its first reads, writes and threads.
 
-    bench/starve.py [--most 4000]
+    bench/starve.py [--program PROGRAM] [--most 4000] [--calls 40] [--only WORD] [--ends | --memory] [--jobs 1]
 
-A library that is loaded before the C library lets the request with a given number fail. For each case the program runs once
-as it is, which counts its requests, and then once for each of them (at most so many). Such a run has to end with status 6
-and print nothing, or to end and print as the first one did. One line for each case; the status is 0 where all did.
+A library that is loaded before the C library counts the requests for memory, the reads of standard input, the writes to standard output
+and the threads that are started, and lets the one with a given number fail, or this one and all after it. Reads and writes are of one byte
+where an end fails. For each case the program runs once as it is, and then twice for each request (at most so many): it has to end with
+status 6 and print nothing, or to end and print as the first run did. It runs once for each of its first reads: status 4, nothing is printed,
+and it reads no more. And for each of its first writes: status 5, printed is the front of the text, and it writes no more. A thread that is
+not started changes nothing. One line for each case; the status is 0 where all did. Without PROGRAM the repository's is built.
 """
 
 import argparse
@@ -14,6 +17,7 @@ import os
 import subprocess
 import sys
 import tempfile
+from concurrent.futures import ThreadPoolExecutor
 
 from compare import BARRIER, TOP, built, fill, submission
 
@@ -21,35 +25,71 @@ LIBRARY = r"""
 #define _GNU_SOURCE
 #include <dlfcn.h>
 #include <errno.h>
+#include <pthread.h>
 #include <stdio.h>
 #include <stdlib.h>
 #include <sys/syscall.h>
+#include <sys/types.h>
 #include <unistd.h>
 
-static long requests;
+static long requests, reads, writes, threads;
 
-static int fails(void) {
-    const char *number = getenv("STARVE_AT");
-    long request = __atomic_add_fetch(&requests, 1, __ATOMIC_SEQ_CST);
-    return number && request == atol(number);
+static int fails(long *made, const char *name) {
+    const char *number = getenv(name), *more = getenv("STARVE_ON");
+    long call = __atomic_add_fetch(made, 1, __ATOMIC_SEQ_CST);
+    return number && (call == atol(number) || (more && call > atol(number)));
 }
 
+#define REAL(type, name, ...) static type (*real)(__VA_ARGS__); if (!real) real = dlsym(RTLD_NEXT, name)
+
 void *malloc(size_t size) {
-    static void *(*real)(size_t);
-    if (!real) real = dlsym(RTLD_NEXT, "malloc");
-    if (fails()) { errno = ENOMEM; return NULL; }
+    REAL(void *, "malloc", size_t);
+    if (fails(&requests, "STARVE_AT")) { errno = ENOMEM; return NULL; }
     return real(size);
 }
 
 void *realloc(void *old, size_t size) {
-    static void *(*real)(void *, size_t);
-    if (!real) real = dlsym(RTLD_NEXT, "realloc");
-    if (fails()) { errno = ENOMEM; return NULL; }
+    REAL(void *, "realloc", void *, size_t);
+    if (fails(&requests, "STARVE_AT")) { errno = ENOMEM; return NULL; }
     return real(old, size);
 }
 
+int posix_memalign(void **to, size_t align, size_t size) {
+    REAL(int, "posix_memalign", void **, size_t, size_t);
+    if (fails(&requests, "STARVE_AT")) return ENOMEM;
+    return real(to, align, size);
+}
+
+void *aligned_alloc(size_t align, size_t size) {
+    REAL(void *, "aligned_alloc", size_t, size_t);
+    if (fails(&requests, "STARVE_AT")) { errno = ENOMEM; return NULL; }
+    return real(align, size);
+}
+
+ssize_t read(int file, void *into, size_t size) {
+    if (file == 0) {
+        if (fails(&reads, "STARVE_READ")) { errno = EIO; return -1; }
+        if (size > 1 && getenv("STARVE_ONE")) size = 1;
+    }
+    return syscall(SYS_read, file, into, size);
+}
+
+ssize_t write(int file, const void *from, size_t size) {
+    if (file == 1) {
+        if (fails(&writes, "STARVE_WRITE")) { errno = EIO; return -1; }
+        if (size > 1 && getenv("STARVE_ONE")) size = 1;
+    }
+    return syscall(SYS_write, file, from, size);
+}
+
+int pthread_create(pthread_t *one, const pthread_attr_t *how, void *(*work)(void *), void *with) {
+    REAL(int, "pthread_create", pthread_t *, const pthread_attr_t *, void *(*)(void *), void *);
+    if (fails(&threads, "STARVE_THREAD")) return EAGAIN;
+    return real(one, how, work, with);
+}
+
 static void count(void) {
-    if (getenv("STARVE_COUNT")) dprintf(2, "%ld", requests);
+    if (getenv("STARVE_COUNT")) dprintf(2, "\n%ld %ld %ld %ld", requests, reads, writes, threads);
 }
 
 __attribute__((destructor)) static void ends(void) {
@@ -65,58 +105,181 @@ void _exit(int status) {
 """
 
 EXAMPLES = TOP / "examples/frames"
+WORDS = ("run", "run --tight", "meaning", "cull", "place", "bound", "compile", "compile --tight", "migrate", "auto", "auto --cost")
+
+# A buffer that persists, and what is exported from it.
+PERSISTS = {
+    "format": 1,
+    "queues": [{"name": "g", "family": "graphics"}],
+    "resources": [{"name": "b", "buffer": 4, "import": "01000000"}, {"name": "c", "buffer": 4}],
+    "passes": [
+        {
+            "name": "p",
+            "queue": "g",
+            "writes": [{"new": "c"}, {"change": "b"}],
+            "ops": [
+                {"op": "map", "src": "b", "dst": "c", "fun": "add", "value": 1},
+                {"op": "copy_buffer", "src": "c", "dst": "b", "src_offset": 0, "dst_offset": 0, "size": 4},
+            ],
+        }
+    ],
+    "exports": ["c"],
+}
 
 
-def cases():
+def two_lives():
+    """Two buffers that share memory, one after another."""
+    names = ("x", "m"), ("y", "n")
+    return {
+        "format": 1,
+        "queues": [{"name": "g", "family": "graphics"}],
+        "resources": [{"name": name, "buffer": size} for name, size in (("x", 512), ("y", 512), ("m", 4), ("n", 4))],
+        "passes": [
+            {
+                "name": large,
+                "queue": "g",
+                "writes": [{"new": large}, {"new": small}],
+                "ops": [
+                    {"op": "fill_buffer", "dst": large, "offset": 0, "size": 512, "word": 1},
+                    {"op": "copy_buffer", "src": large, "dst": small, "src_offset": 0, "dst_offset": 0, "size": 4},
+                ],
+            }
+            for large, small in names
+        ],
+        "exports": ["m", "n"],
+    }
+
+
+def packed(value):
+    return json.dumps(value).encode()
+
+
+def recorded(program, text):
+    """A submission and the trace of a run of it."""
+    printed = subprocess.run([program, "exec", "--trace", "--tend", "1"], input=text, capture_output=True).stdout
+    return text.rstrip() + b"\n" + printed[max(printed.find(b"events"), 0) :]
+
+
+def cases(program):
     """Words and input."""
     one = (EXAMPLES / "one_fill.json").read_bytes()
     two = (EXAMPLES / "ramp_and_map.json").read_bytes()
-    for word in ("run", "meaning", "cull", "place", "compile", "migrate"):
-        yield [word], one
-        yield [word], two
-    yield ["run", "--workers", "4", "--tend", "3"], two
-    for word in ("cull", "place", "migrate"):
-        yield [word], (EXAMPLES / "deferred.json").read_bytes()
-    yield ["run"], json.dumps({**json.loads(one), "more": 7}).encode()
-    yield ["run"], one.rstrip()[:-1]
-    sound = [fill(0, 1), BARRIER, fill(0, 2)]
-    for items in (sound, [fill(0, 1), fill(0, 2)], [fill(1, 1)]):
-        for words in (["check"], ["exec"], ["exec", "--workers", "4", "--tend", "3"]):
-            yield words, json.dumps(submission(items)).encode()
-    yield [], b""
-    yield ["run", "run"], b""
+    for words in WORDS:
+        for text in (one, two, packed(two_lives())):
+            yield words, text
+    yield "run --workers 4 --tend 3", two
+    yield "run --trace", one
+    for words in ("cull", "place", "bound", "migrate", "auto --cost"):
+        yield words, (EXAMPLES / "deferred.json").read_bytes()
+    yield "run", packed({**json.loads(one), "more": 7})
+    yield "run", one.rstrip()[:-1]
+    yield "gen --number 7 --passes 3", b""
+    yield "gen --number 7 --passes 3 --summary", b""
+    sound = packed(submission([fill(0, 1), BARRIER, fill(0, 2)]))
+    for text in (sound, packed(submission([fill(0, 1), fill(0, 2)])), packed(submission([fill(1, 1)]))):
+        for words in ("check", "exec", "exec --workers 4 --tend 3", "exec --trace"):
+            yield words, text
+    judged = recorded(program, sound)
+    yield "audit", judged
+    yield "audit", judged.replace(b"begin 0\n", b"", 1)
+    yield "audit", judged.replace(b"begin 0\n", b"sync 1\n", 1)
+    yield "audit", sound
+    line = packed(PERSISTS) + b"\n"
+    for depth in ("1", "2", "3"):
+        yield f"flight --persist b --depth {depth}", line * 3
+    yield "flight", line * 2
+    yield "flight --persist c", line
+    yield "flight", line + b"{}"
+    yield "flight", b""
+    yield "", b""
+    yield "run run", b""
 
 
-def ended(program, library, words, data, **more):
-    """Status, text and number of requests."""
-    done = subprocess.run([program, *words], input=data, capture_output=True, env={"LD_PRELOAD": library, "STARVE_COUNT": "1", **more})
-    return done.returncode, done.stdout, int(done.stderr or 0)
+class Starved:
+    def __init__(self, program, library, options):
+        self.program, self.library, self.options = program, library, options
+        self.wrong = self.runs = 0
 
+    def ended(self, words, data, **more):
+        """Status, text, and the numbers of requests, reads, writes and threads."""
+        environment = {"LD_PRELOAD": self.library, "STARVE_COUNT": "1", **more}
+        done = subprocess.run([self.program, *words.split()], input=data, capture_output=True, env=environment, timeout=300)
+        said, _, counts = done.stderr.decode(errors="replace").rpartition("\n")
+        self.runs += 1
+        return done.returncode, done.stdout, [int(number) for number in counts.split()] or [0] * 4, said
 
-def starved(program, library, words, data, most):
-    status, text, requests = ended(program, library, words, data)
-    without = wrong = 0
-    for number in range(1, min(requests, most) + 1):
-        other, printed, _ = ended(program, library, words, data, STARVE_AT=str(number))
-        if (other, printed) == (6, b""):
-            without += 1
-        elif (other, printed) != (status, text):
-            wrong += 1
-            print(f"request {number} of {words}: status {other}, {printed[:60]!r}")
-    print(f"{' '.join(words):8} {len(data):6} bytes, status {status}: {requests} requests, {without} runs without memory, {wrong} wrong", flush=True)
-    return wrong
+    def fails(self, words, what, found):
+        self.wrong += 1
+        print(f"{what} of {words}: status {found[0]}, {found[1][:60]!r}, {found[2]}, {found[3][:200]!r}", flush=True)
+
+    def each(self, work, count):
+        with ThreadPoolExecutor(self.options.jobs) as pool:
+            return list(pool.map(work, range(1, count + 1)))
+
+    def memory(self, words, data):
+        status, text, (requests, _, _, threads), _ = self.ended(words, data)
+
+        def at(number, **more):
+            found = self.ended(words, data, STARVE_AT=str(number), **more)
+            if found[0] == 6 and (found[1], found[3]) == (b"", ""):
+                return 1
+            if (found[0], found[1], found[3]) != (status, text, ""):
+                self.fails(words, f"request {number}{' and all after it' if more else ''}", found)
+            return 0
+
+        most = min(requests, self.options.most)
+        without = sum(self.each(at, most)) + sum(self.each(lambda number: at(number, STARVE_ON="1"), most))
+        for number in range(1, min(threads, 16) + 1):
+            found = self.ended(words, data, STARVE_THREAD=str(number))
+            if (found[0], found[1], found[3]) not in ((status, text, ""), (6, b"", "")):
+                self.fails(words, f"thread {number}", found)
+        return f"{requests} requests, {without} runs without memory, {threads} threads"
+
+    def ends(self, words, data):
+        one = {"STARVE_ONE": "1"}
+        status, text, (_, reads, writes, _), _ = self.ended(words, data, **one)
+
+        def read(number):
+            found = self.ended(words, data, STARVE_READ=str(number), **one)
+            if (found[0], found[1], found[2][1], found[3]) != (4, b"", number, ""):
+                self.fails(words, f"read {number}", found)
+
+        def write(number):
+            found = self.ended(words, data, STARVE_WRITE=str(number), **one)
+            if (found[0], found[1], found[2][2], found[3]) != (5, text[: number - 1], number, ""):
+                self.fails(words, f"write {number}", found)
+
+        self.each(read, min(reads, self.options.calls))
+        self.each(write, min(writes, self.options.calls))
+        return f"{reads} reads, {writes} writes"
+
+    def case(self, words, data):
+        before, status = self.wrong, self.ended(words, data)[0]
+        told = [] if self.options.ends else [self.memory(words, data)]
+        told += [] if self.options.memory else [self.ends(words, data)]
+        print(f"{words:34} {len(data):6} bytes, status {status}: {', '.join(told)}, {self.wrong - before} wrong", flush=True)
 
 
 def main():
     parser = argparse.ArgumentParser(description=__doc__, formatter_class=argparse.RawDescriptionHelpFormatter)
+    parser.add_argument("--program")
     parser.add_argument("--most", type=int, default=4000)
+    parser.add_argument("--calls", type=int, default=40)
+    parser.add_argument("--only", default="")
+    parser.add_argument("--ends", action="store_true")
+    parser.add_argument("--memory", action="store_true")
+    parser.add_argument("--jobs", type=int, default=1)
     options = parser.parse_args()
-    program = built()
+    program = options.program or built()
     with tempfile.TemporaryDirectory() as folder:
         library = os.path.join(folder, "starve.so")
         subprocess.run(["cc", "-O1", "-shared", "-fPIC", "-xc", "-", "-o", library, "-ldl"], input=LIBRARY, text=True, check=True)
-        wrong = sum(starved(program, library, words, data, options.most) for words, data in cases())
-    sys.exit(1 if wrong else 0)
+        starved = Starved(program, library, options)
+        for words, data in cases(program):
+            if words.startswith(options.only) and (not words or words.startswith("run run") or starved.ended(words, b"")[0] != 3):
+                starved.case(words, data)
+    print(f"{starved.runs} runs, {starved.wrong} wrong")
+    sys.exit(1 if starved.wrong else 0)
 
 
 if __name__ == "__main__":

@@ -42,12 +42,17 @@ fn place_of(begun: &[Finished], node: u32) -> Option<usize>
 }
 
 impl Follower {
-    /// A device on which nothing has happened, with room for so many cache moves.
-    pub fn new(alloc: Global, program: &Checked, moves: u32) -> Result<Follower, NoMemory>
+    /// A device on which nothing has happened, with room for so many cache moves, which begin and end at these places.
+    pub fn new(
+        alloc: Global,
+        program: &Checked,
+        moves: u32,
+        places: &[(u32, u32)],
+    ) -> Result<Follower, NoMemory>
         ensures { IfOk result (λ follower. follower ≡ fresh program.now.program 0 moves) }
     {
         event_laws();
-        let device = Device::new(alloc, program, 0, moves)?;
+        let device = Device::with_places(alloc, program, 0, moves, places)?;
         Ok(Follower {
             device,
             begun: Vec::new(alloc),

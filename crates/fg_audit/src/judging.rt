@@ -8,6 +8,7 @@ ghost use Rattle.fg_steps.specs.Devices.{IsComplete};
 
 use crate::follower::Follower;
 use crate::following::{count_moves, follow_all};
+use crate::places::places_of;
 use crate::undone::least_undone;
 use crate::verdict::Verdict;
 use fg_base::{Event, NoMemory};
@@ -44,7 +45,8 @@ fn judged<R: Threads + Sync>(
     requires { length events.now ≤ 65536 }
     ensures { IfOk result (Says program.now.program events.now) }
 {
-    let mut follower = Follower::new(alloc, program, count_moves(events))?;
+    let places = places_of(alloc, events)?;
+    let mut follower = Follower::new(alloc, program, count_moves(events), &places)?;
     let stray = follow_all(rt, alloc, &mut follower, events);
     let device = follower.into_device();
     match stray? {

@@ -9,6 +9,7 @@ mod law;
 mod lines;
 mod making;
 mod numbers;
+mod places;
 mod recording;
 mod trace;
 mod undone;

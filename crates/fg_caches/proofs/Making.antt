@@ -94,6 +94,9 @@ module _ (t : Table) (segments : List Segment) (left : ℕ) (rows : (x : ℕ) �
       (λ v. line_past recut g m i v ∙ sym (line_past t g m i v))
       (cases_Bool (nat_lt g t.agents && nat_lt i (size_of t m)))
 
+  pub same_recut : caches_of recut ≡ caches_of t
+  same_recut = same_Caches (caches_of recut).main (caches_of t).main (caches_of recut).line (caches_of t).line main_recut line_recut
+
   -- so a new table stays one when it is cut further
   pub made_recut : (agents : ℕ) (opening : List (List ℕ)) (bytes : List ℕ) → ((x : ℕ) → cut_in t.segments x ≡ true → cut_in segments x ≡ true) → IsMade t agents opening bytes → IsMade recut agents opening bytes
   unfolding size_of address junk_of is_cut
@@ -102,7 +105,7 @@ module _ (t : Table) (segments : List Segment) (left : ℕ) (rows : (x : ℕ) �
     memories = M.memories;
     sizes = M.sizes;
     junk = M.junk;
-    caches = same_Caches (caches_of recut).main (caches_of t).main (caches_of recut).line (caches_of t).line main_recut line_recut ∙ M.caches;
+    caches = same_recut ∙ M.caches;
     starts = λ m lt. kept (address t m 0) (M.starts m lt);
     ends = λ m lt. kept (address t m (size_of t m)) (M.ends m lt);
   }

@@ -84,6 +84,25 @@ impl Slot {
         }
     }
 
+    /// Whether it has memory of its own for just so many bytes, which nobody shares.
+    pub(crate) fn is_spare(&self, len: usize) -> bool {
+        match &self.form {
+            Form::Own(own) => own.len() == len,
+            Form::Shared(bytes) => bytes.len() == len && bytes.is_unique(),
+            Form::Filled { .. } => false,
+        }
+    }
+
+    /// The memory of the bytes, where it is no one else's.
+    pub(crate) fn into_spare(self) -> Option<Vec<u8>> {
+        let Slot { form } = self;
+        match form {
+            Form::Own(own) => Some(own.into_vec()),
+            Form::Shared(bytes) => bytes.reclaim()?.into_vec().ok(),
+            Form::Filled { .. } => None,
+        }
+    }
+
     /// How many bytes there are.
     pub fn len(&self) -> usize
         ensures { result ≡ length self.now }

@@ -19,6 +19,38 @@ fn free_slot(counts: &[u32]) -> Option<usize>
     None
 }
 
+// Less memory than this is had anew as quickly as it is found.
+const LEAST: usize = 4096;
+
+/// The least slot after slot 0 that no part names and whose memory, for just so many bytes, nobody shares, if this is worth a
+/// search.
+pub(crate) fn spare_slot(slots: &[Slot], counts: &[u32], len: usize) -> Option<usize>
+    requires { length counts.now ≡ length slots.now }
+    ensures { IfSome result (λ t. (0 < t) × ((t < length slots.now) × (count_at counts.now t ≡ 0))) }
+{
+    if len < LEAST {
+        return None;
+    }
+    for slot in 1..slots.len() {
+        if counts[slot] == 0 && slots[slot].is_spare(len) {
+            return Some(slot);
+        }
+    }
+    None
+}
+
+/// The memory of a slot, which has no bytes from now on.
+pub(crate) fn empty_slot(slots: &mut Vec<Slot>, slot: usize) -> Option<Vec<u8>>
+    requires { slot < length slots.old.items }
+    ensures others { (k : ℕ) → k < length slots.old.items → k ≢ slot → slot_at slots.new.items k ≡ slot_at slots.old.items k }
+    ensures length { length slots.new.items ≡ length slots.old.items }
+    ensures len { vec_len slots.new ≡ vec_len slots.old }
+    ensures capacity { vec_capacity slots.new ≡ vec_capacity slots.old }
+{
+    let old = std::mem::replace(&mut slots[slot], Slot::filled(0, 0));
+    old.into_spare()
+}
+
 /// Puts bytes into the least slot after slot 0 that no part names, in place of what it held, or into a new one.
 pub(crate) fn store_in(slots: &mut Vec<Slot>, counts: &mut Vec<u32>, bytes: List<u8>) -> u32
     requires counts { length counts.old.items ≡ length slots.old.items }

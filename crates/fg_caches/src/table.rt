@@ -8,6 +8,7 @@ ghost use Rattle.fg_caches.specs.Effects as effects;
 ghost use Rattle.fg_caches.specs.Code.Rows.{changed, seen_part};
 ghost use Rattle.fg_caches.specs.Places.{row_at, cut_in};
 ghost use Rattle.fg_caches.specs.Code.Segments.{within};
+ghost use Rattle.fg_caches.specs.Code.Uses.{uses};
 
 use crate::change::Change;
 use crate::contents::Slot;
@@ -16,7 +17,7 @@ use crate::opening::{counts_of, lay_out, room_for, slots_of};
 use crate::part::Part;
 use crate::runs::{copy_out, seen_bytes};
 use crate::segment::{Segment, change_all, cut_at, place_of};
-use crate::slots::{share_all, store_in};
+use crate::slots::{empty_slot, share_all, spare_slot, store_in};
 use bytes::Bytes;
 use fg_base::{List, NoMemory};
 use std::alloc::Global;
@@ -144,6 +145,46 @@ impl Segments {
             let at = self.first_address(place.0, place.1, 0);
             self.cut(at);
         }
+    }
+
+    /// Cuts the table at those of the places that it has, as long as there is room for that. Each cut moves the segments behind
+    /// it, so rising places are quickest.
+    pub fn cut_more(&mut self, places: &[(u32, u32)])
+        ensures bytes { caches_of self.new ≡ caches_of self.old }
+        ensures keeps { Keeps self.old self.new }
+        ensures cuts { self.old.cuts_left ≤ self.new.cuts_left + length places.now }
+        ensures stores { self.new.stores_left ≡ self.old.stores_left }
+    {
+        for place in places {
+            self.cut_place(place.0, place.1);
+        }
+    }
+
+    fn cut_place(&mut self, memory: u32, at: u32)
+        ensures bytes { caches_of self.new ≡ caches_of self.old }
+        ensures keeps { Keeps self.old self.new }
+        ensures cuts { self.old.cuts_left ≤ self.new.cuts_left + 1 }
+        ensures stores { self.new.stores_left ≡ self.old.stores_left }
+    {
+        if self.cuts_left == 0 {
+            return;
+        }
+        if !self.has_place(memory, at) {
+            return;
+        }
+        let address = self.first_address(memory, at, 0);
+        self.cut(address);
+    }
+
+    // Whether the place is in a memory, or its end.
+    fn has_place(&self, memory: u32, at: u32) -> bool
+        ensures { result ≡ true → InMemory self.now memory at 0 }
+    {
+        let memory = memory as usize;
+        if memory >= self.memories.len() {
+            return false;
+        }
+        at <= self.memories[memory].size
     }
 
     /// How many agents there are.
@@ -394,6 +435,29 @@ impl Segments {
             start: start_address,
         };
         self.change(agent, memory, start, len, Change::Put(part));
+    }
+
+    /// Memory of just so many bytes, whatever they are, that the table has no use for.
+    pub fn take_spare(&mut self, len: usize) -> Option<Vec<u8>>
+        ensures bytes { caches_of self.new ≡ caches_of self.old }
+        ensures keeps { Keeps self.old self.new }
+        ensures cuts { self.new.cuts_left ≡ self.old.cuts_left }
+        ensures stores { self.new.stores_left ≡ self.old.stores_left }
+    {
+        let slot = spare_slot(&self.slots, &self.counts, len)?;
+        self.empty(slot)
+    }
+
+    // Takes the bytes out of a slot that no part names.
+    fn empty(&mut self, slot: usize) -> Option<Vec<u8>>
+        requires later { 0 < slot }
+        requires there { slot < length self.old.slots }
+        requires unnamed { uses slot self.old.segments ≡ 0 }
+        ensures same { self.new ≡ record self.old { slots = self.new.slots } }
+        ensures junk { junk_of self.new ≡ junk_of self.old }
+        ensures bytes { caches_of self.new ≡ caches_of self.old }
+    {
+        empty_slot(&mut self.slots, slot)
     }
 
     /// What was stored can be seen without a copy from now on. Nothing that a contract sees changes.

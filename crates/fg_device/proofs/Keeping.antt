@@ -43,6 +43,7 @@ module _ (i : Inside) (event : Event) (r : State) (K : IsKept i) (is : state_of 
   pub kept_event : control.view ≡ i.control.view → length held.items ≡ length i.held.items → FitsProgram table (arc_value i.program) i.fill → HasState (arc_value i.program) control table held.items reads.items r → HasRoom (arc_value i.program) r i.moves table.cuts_left table.stores_left (vec_len history) (vec_capacity history) → IsKept (record i { control = control; table = table; held = held; reads = reads; history = history })
   kept_event view places fits has room = record {
     faultless = K.faultless;
+    sound = K.sound;
     small = K.small;
     obeys = K.obeys;
     view = view ∙ K.view;

@@ -9,6 +9,7 @@ pub mod Junk
 pub mod Keeping
 pub mod Lefts
 pub mod Moved
+pub mod Olds
 pub mod Openings
 pub mod Opens
 pub mod Reaches
@@ -18,6 +19,7 @@ pub mod SeenBytes
 pub mod Sights
 pub mod Sources
 pub mod Starting
+pub mod Spared
 pub mod Stored
 pub mod Touching
 pub mod Turning

@@ -76,6 +76,7 @@ module _ (i : Inside) (u : Table) (h : Vec Event Global) (event : Event) (r : St
       let s = state_of (device_in i) in
       record {
         faultless = K.faultless;
+        sound = K.sound;
         small = K.small;
         obeys = K.obeys;
         view = K.view;

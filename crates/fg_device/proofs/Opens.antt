@@ -1,5 +1,5 @@
 -- A device as it is made.
-use Rattle.std.proofs.Common.{◌≡◌, ◌∙◌, ℕ, ◌+◌, ◌*◌, ◌≤◌, List, [], length, map, None, vec_len, sym, ap, subst, arith}
+use Rattle.std.proofs.Common.{◌≡◌, ◌∙◌, ℕ, ◌+◌, ◌*◌, ◌≤◌, List, [], length, map, true, None, vec_len, sym, ap, subst, arith}
 use Rattle.std.specs.Arc.{arc_value}
 use Rattle.std.specs.List.{All}
 use Rattle.std.specs.Prelude.{replicate, vec_capacity}
@@ -8,6 +8,7 @@ use Rattle.fg_base.specs.declared.event.Event.{Event}
 use Rattle.fg_caches.specs.Effects as effects
 use Rattle.fg_caches.specs.Lines.{Bytes}
 use Rattle.fg_caches.specs.Tables.{caches_of}
+use Rattle.fg_checker.specs.Sound.{IsSound}
 use Rattle.fg_control.specs.Controls.{Agrees}
 use Rattle.fg_device.proofs.Starting.{none_at, opens_state, opens_room}
 use Rattle.fg_device.specs.Code.Kept.{device_in, IsKept}
@@ -29,11 +30,12 @@ module _ (i : Inside) (count : ℕ) (history : i.history.items ≡ []) (opens : 
   state_is : state_of (device_in i) ≡ opened (opening (arc_value i.program) i.fill)
   state_is = ap (λ (h : List Event). state_of (record { program = arc_value i.program; fill = i.fill; history = h; moves = i.moves })) history ∙ opens
 
-  pub opens_kept : first_fault (arc_value i.program) ≡ None → IsSmall (arc_value i.program) → ((rule : Rule) → All (EntryObeys rule (arc_value i.program)) (entries_of (arc_value i.program))) → i.control.view ≡ view_of (arc_value i.program) → ((main : Bytes) → Agrees i.control (opened main)) → count ≡ node_count (arc_value i.program) → i.shapes ≡ shapes_of (arc_value i.program) → FitsProgram i.table (arc_value i.program) i.fill → caches_of i.table ≡ effects.opened (map (opened_memory i.fill) (arc_value i.program).memories) → i.table.cuts_left ≡ 2 * i.moves → i.table.stores_left ≡ count → i.held.items ≡ replicate count None → i.reads.items ≡ map (room_of (view_of (arc_value i.program))) (arc_value i.program).readbacks → (2 * count + i.moves) + vec_len i.history ≤ vec_capacity i.history → IsKept i
-  opens_kept faultless small obeys view agrees many shapes fits bytes cuts stores held reads room =
+  pub opens_kept : first_fault (arc_value i.program) ≡ None → (i.sound ≡ true → IsSound (arc_value i.program)) → IsSmall (arc_value i.program) → ((rule : Rule) → All (EntryObeys rule (arc_value i.program)) (entries_of (arc_value i.program))) → i.control.view ≡ view_of (arc_value i.program) → ((main : Bytes) → Agrees i.control (opened main)) → count ≡ node_count (arc_value i.program) → i.shapes ≡ shapes_of (arc_value i.program) → FitsProgram i.table (arc_value i.program) i.fill → caches_of i.table ≡ effects.opened (map (opened_memory i.fill) (arc_value i.program).memories) → 2 * i.moves ≤ i.table.cuts_left → i.table.stores_left ≡ count → i.held.items ≡ replicate count None → i.reads.items ≡ map (room_of (view_of (arc_value i.program))) (arc_value i.program).readbacks → (2 * count + i.moves) + vec_len i.history ≤ vec_capacity i.history → IsKept i
+  opens_kept faultless sound small obeys view agrees many shapes fits bytes cuts stores held reads room =
       let program = arc_value i.program in
       record {
         faultless = faultless;
+        sound = sound;
         small = small;
         obeys = obeys;
         view = view;

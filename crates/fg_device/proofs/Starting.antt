@@ -147,7 +147,7 @@ opens_state program fill control table held reads agrees bytes none rooms = reco
   };
 }
 
-pub opens_room : (program : Program) (fill moves cuts stores used capacity : ℕ) → cuts ≡ 2 * moves → stores ≡ node_count program → 2 * node_count program + moves + used ≤ capacity → HasRoom program (opened (opening program fill)) moves cuts stores used capacity
+pub opens_room : (program : Program) (fill moves cuts stores used capacity : ℕ) → 2 * moves ≤ cuts → stores ≡ node_count program → 2 * node_count program + moves + used ≤ capacity → HasRoom program (opened (opening program fill)) moves cuts stores used capacity
 opens_room program fill moves cuts stores used capacity c s u = record {
   for_moves = omega (arith, c);
   for_stores = omega (arith, first_stores (node_count program), s);

@@ -16,6 +16,7 @@ ghost use Rattle.fg_steps.specs.States.{is_done};
 use crate::buffer::Buffer;
 use crate::held::Held;
 use crate::nodes::read_node;
+use crate::origin::weight_of;
 use crate::opening::{Lists, Stored, lists_of, stored_of};
 use fg_base::{Event, List, NoMemory, Shape};
 use fg_caches::Segments;
@@ -34,6 +35,10 @@ use std::sync::Arc;
 #[derive(Drop)]
 pub struct Device {
     program: Arc<Shaped, Global>,
+    // Whether it is known to be sound.
+    sound: bool,
+    // About as many bytes as a comparison of the program reads.
+    weight: usize,
     shapes: List<Shape>,
     fill: u8,
     moves: u32,
@@ -63,8 +68,23 @@ impl Device {
         ensures fresh { IfOk result (λ device. device ≡ fresh program.now.program fill moves) }
         ensures sound { IfOk result (λ device. IsSound device.program) }
     {
+        Device::with_places(alloc, program, fill, moves, &[])
+    }
+
+    /// The same, quicker where so many moves begin and end at these places, each a memory and a byte of it. They are best in
+    /// rising order.
+    pub fn with_places(
+        alloc: Global,
+        program: &Checked,
+        fill: u8,
+        moves: u32,
+        places: &[(u32, u32)],
+    ) -> Result<Device, NoMemory>
+        ensures fresh { IfOk result (λ device. device ≡ fresh program.now.program fill moves) }
+        ensures sound { IfOk result (λ device. IsSound device.program) }
+    {
         let shared = Arc::try_clone(program.shaped())?;
-        Device::unchecked(alloc, shared, fill, moves)
+        Device::opened(alloc, shared, true, fill, moves, places)
     }
 
     /// The same of a program that may be unsound.
@@ -76,11 +96,26 @@ impl Device {
     ) -> Result<Device, NoMemory>
         ensures { IfOk result (λ device. device ≡ fresh (arc_value program) fill moves) }
     {
+        Device::opened(alloc, program, false, fill, moves, &[])
+    }
+
+    // The same of a program that may be said to be sound.
+    fn opened(
+        alloc: Global,
+        program: Arc<Shaped, Global>,
+        sound: bool,
+        fill: u8,
+        moves: u32,
+        places: &[(u32, u32)],
+    ) -> Result<Device, NoMemory>
+        requires { sound ≡ true → IsSound (arc_value program) }
+        ensures { IfOk result (λ device. device ≡ fresh (arc_value program) fill moves) }
+    {
         event_laws();
         let plain = program.program();
         let control = Control::new(alloc, &program)?;
         let count = control.view().count();
-        let stored = stored_of(alloc, plain, fill, moves, count as u32)?;
+        let stored = stored_of(alloc, plain, fill, moves, count as u32, places)?;
         let events = 2 * count + moves as usize;
         let lists = lists_of(alloc, control.view(), &plain.readbacks, count, events)?;
         let Stored { table, shapes } = stored;
@@ -89,8 +124,11 @@ impl Device {
             reads,
             history,
         } = lists;
+        let weight = weight_of(&program.program().memories, count);
         Ok(Device {
             program,
+            sound,
+            weight,
             shapes,
             fill,
             moves,

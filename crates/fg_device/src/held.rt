@@ -3,7 +3,7 @@
 ghost use Rattle.std.specs.Prelude.{◌≡◌, ◌<◌, length, replicate, slice_set, None, Some, IfOk};
 ghost use Rattle.fg_device.specs.Code.Loads.{held_at};
 
-use crate::zeros::Zeros;
+use crate::room::Room;
 use bytes::Bytes;
 use fg_base::{List, NoMemory};
 use std::alloc::Global;
@@ -12,7 +12,7 @@ use std::alloc::Global;
 #[derive(Drop)]
 pub(crate) struct Held {
     pub loaded: List<Bytes>,
-    pub room: Zeros,
+    pub room: Room,
 }
 
 /// Nothing is held of so many nodes.

@@ -1,15 +1,19 @@
 //! A begun command on its way.
 
 ghost use Rattle.std.specs.Prelude.{◌≡◌};
-ghost use Rattle.fg_device.specs.Code.Loads.{IsRunnable};
+ghost use Rattle.std.specs.Arc.{arc_value};
+ghost use Rattle.fg_device.specs.Code.Loads.{IsRunnable, LoadsIn};
 ghost use Rattle.fg_device.specs.Code.Results.{IsResult};
 ghost use Rattle.fg_steps.specs.Outputs.{no_old, stored_by};
 
 use crate::running::stored_fast;
-use crate::zeros::Zeros;
+use crate::room::Room;
 use bytes::Bytes;
 use fg_base::{List, Op, Shape};
+use fg_subs::Shaped;
+use std::alloc::Global;
 use std::marker::Model;
+use std::sync::Arc;
 use std::thread::Threads;
 
 /// A begun command: its node, its operation, the shapes of all pieces, and the bytes that it loaded, load by load.
@@ -24,7 +28,9 @@ pub struct Command {
 /// A begun command that is to be computed. It has the memory that this takes, and cannot be let go.
 pub struct Job {
     command: Command,
-    room: Zeros,
+    room: Room,
+    // Of the device that began it.
+    program: Arc<Shaped, Global>,
 }
 
 impl Model for Job {
@@ -42,6 +48,7 @@ impl Model for Job {
 pub struct Finished {
     command: Command,
     bytes: List<u8>,
+    program: Arc<Shaped, Global>,
 }
 
 impl Model for Finished {
@@ -64,12 +71,17 @@ pub enum Landed {
 }
 
 impl Job {
-    pub(crate) fn new(command: Command, room: Zeros) -> Job
+    pub(crate) fn new(command: Command, room: Room, program: Arc<Shaped, Global>) -> Job
         requires runnable { IsRunnable command.shapes command.op command.loaded }
+        requires loads { LoadsIn (arc_value program) command.node command.loaded }
         requires room { room ≡ no_old command.shapes command.op }
         ensures { result ≡ command }
     {
-        Job { command, room }
+        Job {
+            command,
+            room,
+            program,
+        }
     }
 
     /// What is to be computed.
@@ -83,9 +95,17 @@ impl Job {
     pub fn compute<R: Threads + Sync>(self, rt: &R) -> Finished
         ensures { result ≡ self }
     {
-        let Job { command, room } = self;
+        let Job {
+            command,
+            room,
+            program,
+        } = self;
         let bytes = stored_fast(rt, &command.op, &command.shapes, &command.loaded, room);
-        Finished { command, bytes }
+        Finished {
+            command,
+            bytes,
+            program,
+        }
     }
 }
 
@@ -104,11 +124,17 @@ impl Finished {
         &self.bytes
     }
 
-    pub(crate) fn into_parts(self) -> (Command, List<u8>)
+    /// The command, its bytes, and the program of the device that began it.
+    pub(crate) fn into_parts(self) -> (Command, List<u8>, Arc<Shaped, Global>)
         ensures command { result.0 ≡ self }
         ensures bytes { IsResult self result.1 }
+        ensures loads { LoadsIn (arc_value result.2) self.node self.loaded }
     {
-        let Finished { command, bytes } = self;
-        (command, bytes)
+        let Finished {
+            command,
+            bytes,
+            program,
+        } = self;
+        (command, bytes, program)
     }
 }

@@ -10,9 +10,10 @@ mod held;
 mod job;
 mod nodes;
 mod opening;
+mod origin;
+mod room;
 mod running;
 mod syncing;
-mod zeros;
 
 pub use device::Device;
 pub use job::{Command, Finished, Job, Landed};

@@ -1,6 +1,6 @@
 //! What a device is opened with.
 
-ghost use Rattle.std.specs.Prelude.{◌≡◌, ◌<◌, ◌≤◌, ◌+◌, ◌*◌, ◌^◌, ℕ, [], length, map, replicate, vec_len, vec_capacity, IfOk, None};
+ghost use Rattle.std.specs.Prelude.{◌≡◌, ◌<◌, ◌≤◌, ◌+◌, ◌*◌, ◌^◌, ℕ, [], length, map, replicate, vec_len, vec_capacity, IfOk, IfSome, None};
 ghost use Rattle.std.specs.List.{All};
 ghost use Rattle.fg_base.specs.Maxima.{max_nodes};
 ghost use Rattle.fg_base.specs.Shapes.{bytes_of};
@@ -91,6 +91,39 @@ fn table_of(
     Segments::new(alloc, agents, opening, junk, &cuts, moves, stores)
 }
 
+// As many moves as have room for this many, and for a cut at each of so many places.
+fn moves_with(moves: u32, places: usize) -> Option<u32>
+    ensures { IfSome result (λ all. 2 * moves + places ≤ 2 * all) }
+{
+    moves.checked_add(u32::try_from(places / 2 + 1).ok()?)
+}
+
+// The same table, cut at these places too. That they are cut beforehand is not told, so there is as much room for cuts.
+fn cut_table(
+    alloc: Global,
+    program: &Program,
+    fill: u8,
+    moves: u32,
+    stores: u32,
+    places: &[(u32, u32)],
+) -> Result<Segments, NoMemory>
+    requires small { IsSmall program.now }
+    requires obeys { (rule : Rule) → Obeys rule program.now }
+    requires stores { stores ≤ max_nodes }
+    ensures fits { IfOk result (λ table. FitsProgram table program.now fill) }
+    ensures opened { IfOk result (λ table. caches_of table ≡ opened (map (opened_memory fill) program.now.memories)) }
+    ensures cuts { IfOk result (λ table. 2 * moves ≤ table.cuts_left) }
+    ensures stores { IfOk result (λ table. table.stores_left ≡ stores) }
+{
+    let Some(all) = moves_with(moves, places.len()) else {
+        let table = table_of(alloc, program, fill, moves, stores)?;
+        return Ok(table);
+    };
+    let mut table = table_of(alloc, program, fill, all, stores)?;
+    table.cut_more(places);
+    Ok(table)
+}
+
 /// The table of a program, and the shapes of its pieces.
 #[derive(Drop)]
 pub(crate) struct Stored {
@@ -98,24 +131,25 @@ pub(crate) struct Stored {
     pub shapes: List<Shape>,
 }
 
-/// Those of this program, with room for so many cache moves and stores.
+/// Those of this program, with room for so many cache moves and stores. The table is cut at these places already.
 pub(crate) fn stored_of(
     alloc: Global,
     program: &Program,
     fill: u8,
     moves: u32,
     stores: u32,
+    places: &[(u32, u32)],
 ) -> Result<Stored, NoMemory>
     requires small { IsSmall program.now }
     requires obeys { (rule : Rule) → Obeys rule program.now }
     requires stores { stores ≤ max_nodes }
     ensures fits { IfOk result (λ stored. FitsProgram stored.table program.now fill) }
     ensures opened { IfOk result (λ stored. caches_of stored.table ≡ opened (map (opened_memory fill) program.now.memories)) }
-    ensures cuts { IfOk result (λ stored. stored.table.cuts_left ≡ 2 * moves) }
+    ensures cuts { IfOk result (λ stored. 2 * moves ≤ stored.table.cuts_left) }
     ensures stores { IfOk result (λ stored. stored.table.stores_left ≡ stores) }
     ensures shapes { IfOk result (λ stored. stored.shapes ≡ shapes_of program.now) }
 {
-    let table = table_of(alloc, program, fill, moves, stores)?;
+    let table = cut_table(alloc, program, fill, moves, stores, places)?;
     let shapes = program.shapes(alloc)?;
     Ok(Stored { table, shapes })
 }

@@ -1,18 +1,20 @@
 //! What a command stores, by what it loaded.
 
-ghost use Rattle.std.specs.Prelude.{◌≡◌, ◌≤◌, ℕ, List, [], length, take, slice_get, slice_index_or, Some};
+ghost use Rattle.std.specs.Prelude.{◌≡◌, ◌≤◌, ◌<◌, ℕ, List, [], length, take, slice_get, slice_index_or, Some};
+ghost use Rattle.std.specs.List.{All};
 ghost use Rattle.fg_base.specs.Applied.{applied};
-ghost use Rattle.fg_base.specs.Operands.{sources_of, destination_of};
+ghost use Rattle.fg_base.specs.Operands.{sources_of, destination_of, operands_of, mapped};
 ghost use Rattle.fg_base.specs.Shapes.{bytes_of, shape_at};
-ghost use Rattle.fg_device.specs.Code.Loads.{IsRunnable};
+ghost use Rattle.fg_base.specs.Wholes.{is_whole};
+ghost use Rattle.fg_device.specs.Code.Loads.{IsRunnable, LeadsOn};
 ghost use Rattle.fg_steps.specs.Outputs.{no_old, stored_by};
 
-use crate::zeros::Zeros;
+use crate::room::Room;
 use bytes::Bytes;
 use fg_base::{List, Op, Shape};
 use fg_draw::draw;
 use fg_lanes::apply_fast;
-use fg_pixels::apply;
+use fg_pixels::{apply, whole_leaves_nothing_old};
 use std::thread::Threads;
 
 // How many sources an operation has.
@@ -83,8 +85,17 @@ fn run_fast<R: Threads + Sync>(
     }
 }
 
+// Whether the operation leaves no old byte of its destination.
+#[tactic(auto, using(crate::proofs::Sources::one_more))]
+fn is_whole(op: &Op<u32>, shapes: &[Shape]) -> bool
+    requires { All (λ p. p < length shapes.now) (operands_of op.now) }
+    ensures { result ≡ is_whole (mapped (shape_at shapes.now) op.now) }
+{
+    op.touch(op.touch_count() - 1, shapes).whole
+}
+
 // The old bytes of the destination, if they were loaded after the sources, and else zeros.
-fn old_bytes(op: &Op<u32>, loaded: &[Bytes], room: Zeros) -> Vec<u8>
+fn old_bytes(op: &Op<u32>, loaded: &[Bytes], room: Room) -> Vec<u8>
     requires { (bytes : List ℕ) → slice_get loaded.now (length (sources_of op.now)) ≡ Some bytes → length bytes ≡ length room }
     ensures bytes { result.items ≡ slice_index_or loaded.now (length (sources_of op.now)) room }
     ensures long { length result.items ≡ length room }
@@ -95,10 +106,25 @@ fn old_bytes(op: &Op<u32>, loaded: &[Bytes], room: Zeros) -> Vec<u8>
     }
 }
 
+// The same, or any bytes where the operation leaves none of them.
+fn first_bytes(op: &Op<u32>, shapes: &[Shape], loaded: &[Bytes], room: Room) -> Vec<u8>
+    requires runnable { IsRunnable shapes.now op.now loaded.now }
+    requires room { room ≡ no_old shapes.now op.now }
+    ensures long { length result.items ≡ bytes_of (shape_at shapes.now (destination_of op.now)) }
+    ensures same { LeadsOn shapes.now op.now result.items (slice_index_or loaded.now (length (sources_of op.now)) (no_old shapes.now op.now)) }
+{
+    whole_leaves_nothing_old();
+    if is_whole(op, shapes) {
+        return room.into_any();
+    }
+    old_bytes(op, loaded, room)
+}
+
 // What a command stores, in a slice of the old bytes.
 fn store_in(op: &Op<u32>, shapes: &[Shape], loaded: &[Bytes], out: &mut [u8])
     requires runnable { IsRunnable shapes.now op.now loaded.now }
-    requires out { out.old ≡ slice_index_or loaded.now (length (sources_of op.now)) (no_old shapes.now op.now) }
+    requires long { length out.old ≡ bytes_of (shape_at shapes.now (destination_of op.now)) }
+    requires same { LeadsOn shapes.now op.now out.old (slice_index_or loaded.now (length (sources_of op.now)) (no_old shapes.now op.now)) }
     ensures { out.new ≡ stored_by shapes.now op.now loaded.now }
 {
     run(op, shapes, loaded, out);
@@ -113,20 +139,21 @@ fn store_fast_in<R: Threads + Sync>(
     out: &mut [u8],
 )
     requires runnable { IsRunnable shapes.now op.now loaded.now }
-    requires out { out.old ≡ slice_index_or loaded.now (length (sources_of op.now)) (no_old shapes.now op.now) }
+    requires long { length out.old ≡ bytes_of (shape_at shapes.now (destination_of op.now)) }
+    requires same { LeadsOn shapes.now op.now out.old (slice_index_or loaded.now (length (sources_of op.now)) (no_old shapes.now op.now)) }
     ensures { out.new ≡ stored_by shapes.now op.now loaded.now }
 {
     run_fast(rt, op, shapes, loaded, out);
 }
 
-/// What a command stores. The room holds zeros, and takes the old bytes where these were loaded.
-pub(crate) fn stored_by(op: &Op<u32>, shapes: &[Shape], loaded: &[Bytes], room: Zeros) -> List<u8>
+/// What a command stores. The room takes the old bytes where these were loaded.
+pub(crate) fn stored_by(op: &Op<u32>, shapes: &[Shape], loaded: &[Bytes], room: Room) -> List<u8>
     requires runnable { IsRunnable shapes.now op.now loaded.now }
     requires room { room ≡ no_old shapes.now op.now }
     ensures stored { result ≡ stored_by shapes.now op.now loaded.now }
     ensures long { length result ≡ bytes_of (shape_at shapes.now (destination_of op.now)) }
 {
-    let mut out = old_bytes(op, loaded, room);
+    let mut out = first_bytes(op, shapes, loaded, room);
     store_in(op, shapes, loaded, &mut out);
     List::from_vec(out)
 }
@@ -137,14 +164,14 @@ pub(crate) fn stored_fast<R: Threads + Sync>(
     op: &Op<u32>,
     shapes: &[Shape],
     loaded: &[Bytes],
-    room: Zeros,
+    room: Room,
 ) -> List<u8>
     requires runnable { IsRunnable shapes.now op.now loaded.now }
     requires room { room ≡ no_old shapes.now op.now }
     ensures stored { result ≡ stored_by shapes.now op.now loaded.now }
     ensures long { length result ≡ bytes_of (shape_at shapes.now (destination_of op.now)) }
 {
-    let mut out = old_bytes(op, loaded, room);
+    let mut out = first_bytes(op, shapes, loaded, room);
     store_fast_in(rt, op, shapes, loaded, &mut out);
     List::from_vec(out)
 }

@@ -6,7 +6,6 @@ mod Culling
 mod Declared
 mod Exports
 mod Kept
-mod Lengths
 mod Lists
 mod Makers
 mod Mirrors

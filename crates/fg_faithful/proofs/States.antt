@@ -12,7 +12,7 @@ use Rattle.fg_base.specs.Operands.{sources_of, destination_of, operands_of, mapp
 use Rattle.fg_base.specs.Shapes.{bytes_of, shape_at}
 use Rattle.fg_base.specs.declared.op.Op.{Op}
 use Rattle.fg_base.specs.declared.shape.Shape.{Shape}
-use Rattle.fg_faithful.proofs.Lengths.{applied_long}
+use Rattle.fg_base.proofs.EffectLengths.{applied_long}
 use Rattle.fg_faithful.proofs.Lists.{map_same}
 use Rattle.fg_faithful.proofs.Operations.{at_destination}
 use Rattle.fg_meaning.specs.Meaning.{after_ops}

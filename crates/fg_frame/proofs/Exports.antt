@@ -22,7 +22,7 @@ use Rattle.fg_frame.specs.declared.frame.Spot.{Spot}
 use Rattle.fg_frame.specs.declared.numbered.Stretch.{Stretch}
 
 -- lists no longer than sizes that have room
-within_room : {X Y : Type 0} (size : X → ℕ) (list : X → List Y) → ((x : X) → length (list x) ≤ size x) → (xs : List X) (room i : ℕ) → first_over size room i xs ≡ None → length (flat_map list xs) ≤ room
+pub within_room : {X Y : Type 0} (size : X → ℕ) (list : X → List Y) → ((x : X) → length (list x) ≤ size x) → (xs : List X) (room i : ℕ) → first_over size room i xs ≡ None → length (flat_map list xs) ≤ room
 within_room size list short [] room i none = omega arith
 within_room size list short (x ∷ xs) room i none = by_test (nat_lt room (size x)) refl none (λ left. within_room size list short xs (room - size x) (suc i) left)
   where
@@ -91,7 +91,7 @@ same_layers name first (r ∷ rs) = by_test (bytes_eq name r.name) refl (same_la
         let at : layers_at (stretches first (r ∷ rs)) (position (bytes_eq name) (map (λ r. r.name) (r ∷ rs))) ≡ layers_at (stretches (first + r.layers) rs) (position (bytes_eq name) (map (λ r. r.name) rs)) = ap (layers_at (stretches first (r ∷ rs))) (position_past (bytes_eq name) r.name (map (λ r. r.name) rs) e) ∙ past _ _ (position (bytes_eq name) (map (λ r. r.name) rs)) in
         subst (λ n. n ≤ layers_found name (r ∷ rs)) (sym at) (subst (λ n. layers_at (stretches (first + r.layers) rs) (position (bytes_eq name) (map (λ r. r.name) rs)) ≤ n) (sym found) more)
 
-few_each : (frame : Frame) (spot : Spot) → length (units_of (numbering frame) spot) ≤ exported frame spot
+pub few_each : (frame : Frame) (spot : Spot) → length (units_of (numbering frame) spot) ≤ exported frame spot
 few_each frame spot = by_layer spot.layer
   where
     by_layer : (layer : Option ℕ) → length (units_of (numbering frame) (record { name = spot.name; layer = layer })) ≤ exported frame (record { name = spot.name; layer = layer })

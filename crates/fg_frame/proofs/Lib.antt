@@ -6,6 +6,7 @@ pub mod Lookups
 pub mod Marks
 pub mod Necessary
 pub mod Once
+pub mod OneByOne
 pub mod Owned
 mod Rows
 pub mod Sizes

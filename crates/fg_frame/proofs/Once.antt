@@ -77,12 +77,12 @@ apart_between xs ys a b c d one two (inr le) = λ i e lt. λ j f l. λ same. let
 
 -- STRETCHES
 
-starts_after : (n : ℕ) (rs : List Resource) (q : ℕ) (t : Stretch) → slice_get (stretches n rs) q ≡ Some t → n ≤ t.first
+pub starts_after : (n : ℕ) (rs : List Resource) (q : ℕ) (t : Stretch) → slice_get (stretches n rs) q ≡ Some t → n ≤ t.first
 starts_after n [] q t is = absurd cc
 starts_after n (r ∷ rs) zero t is = let same : n ≡ t.first = ap (λ (o : Option Stretch). option_map_or (λ s. s.first) o 0) is in omega (arith, same)
 starts_after n (r ∷ rs) (suc q) t is = let rest = starts_after (n + r.layers) rs q t is in omega (arith, rest)
 
-one_after : (n : ℕ) (rs : List Resource) (p q : ℕ) (s t : Stretch) → slice_get (stretches n rs) p ≡ Some s → slice_get (stretches n rs) q ≡ Some t → p < q → s.first + s.layers ≤ t.first
+pub one_after : (n : ℕ) (rs : List Resource) (p q : ℕ) (s t : Stretch) → slice_get (stretches n rs) p ≡ Some s → slice_get (stretches n rs) q ≡ Some t → p < q → s.first + s.layers ≤ t.first
 one_after n [] p q s t is at lt = absurd cc
 one_after n (r ∷ rs) p zero s t is at lt = absurd (omega (arith, lt))
 one_after n (r ∷ rs) zero (suc q) s t is at lt =

@@ -32,12 +32,12 @@ left_over size (x ∷ xs) room i none = ap (λ taken. room_after size (room - si
     by_test true e none more = absurd cc
     by_test false e none more = let fits : size x ≤ room = ltb-false room (size x) e in let rest = more none in omega arith
 
-all_fit : {X : Type 0} (size : X → ℕ) (xs : List X) (room : ℕ) → first_over size room 0 xs ≡ None → sum_by size xs ≤ room
+pub all_fit : {X : Type 0} (size : X → ℕ) (xs : List X) (room : ℕ) → first_over size room 0 xs ≡ None → sum_by size xs ≤ room
 all_fit size xs room none = let e = left_over size xs room 0 none in omega arith
 
 -- OPERATIONS
 
-ops_same : (frame : Frame) (n : Numbering) (passes : List Pass) → sum_by (λ pass. length pass.ops) (map (numbered_pass frame n) passes) ≡ sum_by op_count passes
+pub ops_same : (frame : Frame) (n : Numbering) (passes : List Pass) → sum_by (λ pass. length pass.ops) (map (numbered_pass frame n) passes) ≡ sum_by op_count passes
 ops_same frame n [] = refl
 ops_same frame n (pass ∷ passes) = sum_by-cons (λ pass. length pass.ops) (numbered_pass frame n pass) (map (numbered_pass frame n) passes) ∙ ap₂ (λ a b. a + b) (length-map pass.ops (mapped (unit_of n))) (ops_same frame n passes) ∙ sym (sum_by-cons op_count pass passes)
 
@@ -50,11 +50,11 @@ op_rects_same : (f : Spot → ℕ) (ops : List (Op Spot)) → sum_by rect_count 
 op_rects_same f [] = refl
 op_rects_same f (op ∷ ops) = sum_by-cons rect_count (mapped f op) (map (mapped f) ops) ∙ ap₂ (λ a b. a + b) (rects_mapped f op) (op_rects_same f ops) ∙ sym (sum_by-cons rect_count op ops)
 
-all_rects_same : (frame : Frame) (n : Numbering) (passes : List Pass) → sum_by (λ pass. sum_by rect_count pass.ops) (map (numbered_pass frame n) passes) ≡ sum_by (λ pass. sum_by rect_count pass.ops) passes
+pub all_rects_same : (frame : Frame) (n : Numbering) (passes : List Pass) → sum_by (λ pass. sum_by rect_count pass.ops) (map (numbered_pass frame n) passes) ≡ sum_by (λ pass. sum_by rect_count pass.ops) passes
 all_rects_same frame n [] = refl
 all_rects_same frame n (pass ∷ passes) = sum_by-cons (λ pass. sum_by rect_count pass.ops) (numbered_pass frame n pass) (map (numbered_pass frame n) passes) ∙ ap₂ (λ a b. a + b) (op_rects_same (unit_of n) pass.ops) (all_rects_same frame n passes) ∙ sym (sum_by-cons (λ pass. sum_by rect_count pass.ops) pass passes)
 
-rects_fit : (passes : List Pass) (room p : ℕ) → rects_over room p passes ≡ None → sum_by (λ pass. sum_by rect_count pass.ops) passes ≤ room
+pub rects_fit : (passes : List Pass) (room p : ℕ) → rects_over room p passes ≡ None → sum_by (λ pass. sum_by rect_count pass.ops) passes ≤ room
 rects_fit [] room p none = omega arith
 rects_fit (pass ∷ passes) room p none =
     let left = room_after rect_count room pass.ops in
@@ -69,7 +69,7 @@ few_rects frame none = subst (λ m. m ≤ 4096) (sym (all_rects_same frame (numb
 
 -- BYTES
 
-bytes_same : (rs : List Resource) → sum_by (λ u. bytes_of u.shape) (flat_map units_from rs) ≡ sum_by all_bytes rs
+pub bytes_same : (rs : List Resource) → sum_by (λ u. bytes_of u.shape) (flat_map units_from rs) ≡ sum_by all_bytes rs
 bytes_same [] = refl
 bytes_same (r ∷ rs) = sum_by-append (λ u. bytes_of u.shape) (units_from r) (flat_map units_from rs) ∙ ap₂ (λ a b. a + b) (sum_by-replicate (λ u. bytes_of u.shape) r.layers (unit_from r)) (bytes_same rs) ∙ sym (sum_by-cons all_bytes r rs)
 

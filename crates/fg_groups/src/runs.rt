@@ -5,7 +5,7 @@ ghost use Rattle.fg_groups.specs.Code.Grown.{added, after_run, joins_last};
 ghost use Rattle.fg_groups.specs.Groups.{joins, runs};
 
 use crate::Use;
-use crate::joins::joins;
+use crate::joining::joins;
 use fg_base::{Family, List, NoMemory};
 use fg_bits::Sharing;
 use std::alloc::Global;

@@ -11,6 +11,7 @@ use Rattle.std.proofs.lemmas.List.FromFn.{get_or-range_with_len, length-range_wi
 use Rattle.std.proofs.lemmas.List.Quantifiers.{position-Some}
 use Rattle.std.proofs.lemmas.Slice.Eq.{bytes_eq-Decides}
 use Rattle.fg_base.proofs.Booleans.{clash}
+use Rattle.fg_frame.proofs.Once.{one_after}
 use Rattle.fg_frame.specs.Units.{Numbering, layer_unit, no_units, numbering, span_in, stretch_of, stretches, unit_of, units_in, units_of}
 use Rattle.fg_frame.specs.Unknowns.{has_layer, is_known}
 use Rattle.fg_frame.specs.declared.frame.Frame.{Frame}
@@ -19,23 +20,6 @@ use Rattle.fg_frame.specs.declared.frame.Spot.{Spot}
 use Rattle.fg_frame.specs.declared.numbered.Stretch.{Stretch}
 use Rattle.fg_named.proofs.PassNumbers.{IsSingle}
 use Rattle.fg_named.specs.Joins.{whole}
-
--- DIFFERENT RESOURCES
-
-starts_after : (n : ℕ) (rs : List Resource) (q : ℕ) (t : Stretch) → slice_get (stretches n rs) q ≡ Some t → n ≤ t.first
-starts_after n [] q t is = absurd cc
-starts_after n (r ∷ rs) zero t is = let same : n ≡ t.first = ap (λ (o : Option Stretch). option_map_or (λ s. s.first) o 0) is in omega (arith, same)
-starts_after n (r ∷ rs) (suc q) t is = let rest = starts_after (n + r.layers) rs q t is in omega (arith, rest)
-
-one_after : (n : ℕ) (rs : List Resource) (p q : ℕ) (s t : Stretch) → slice_get (stretches n rs) p ≡ Some s → slice_get (stretches n rs) q ≡ Some t → p < q → s.first + s.layers ≤ t.first
-one_after n [] p q s t is at lt = absurd cc
-one_after n (r ∷ rs) p zero s t is at lt = absurd (omega (arith, lt))
-one_after n (r ∷ rs) zero (suc q) s t is at lt =
-    let start : n ≡ s.first = ap (λ (o : Option Stretch). option_map_or (λ x. x.first) o 0) is in
-    let size : r.layers ≡ s.layers = ap (λ (o : Option Stretch). option_map_or (λ x. x.layers) o 0) is in
-    let after = starts_after (n + r.layers) rs q t at in
-    omega (arith, start, size, after)
-one_after n (r ∷ rs) (suc p) (suc q) s t is at lt = one_after (n + r.layers) rs p q s t is at (omega (arith, lt))
 
 -- ONE SPOT
 

@@ -13,7 +13,6 @@ pub mod Insides
 pub mod Invariant
 pub mod Last
 pub mod Left
-pub mod Lengths
 pub mod Listed
 pub mod Moves
 pub mod Nodes

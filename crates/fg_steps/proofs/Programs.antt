@@ -26,7 +26,7 @@ use Rattle.fg_steps.proofs.Cases.{command_is, not_sync, not_host, sync_not_host,
 use Rattle.fg_steps.proofs.Commands.{Sized, first_of, Stores, Reads, Commands}
 use Rattle.fg_steps.proofs.Formed.{Formed, At}
 use Rattle.fg_steps.proofs.Holds.{loaded_of}
-use Rattle.fg_steps.proofs.Lengths.{applied_long}
+use Rattle.fg_base.proofs.EffectLengths.{applied_long}
 use Rattle.fg_steps.proofs.Operands.{numbered, pieces_loaded, old_of, command_loads, command_agents, command_stores}
 use Rattle.fg_steps.proofs.Places.{IsOp, IsSync, IsRead, WhatAt, host_at, what_at}
 use Rattle.fg_steps.proofs.HostNodes.{read_entry}

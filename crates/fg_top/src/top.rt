@@ -1,10 +1,10 @@
 //! The top call.
 
 ghost use Rattle.std.specs.Prelude.{◌≡◌, map, string_bytes, None, false};
-ghost use Rattle.fg_top.specs.AtRest.{needs_device};
+ghost use Rattle.fg_answer.specs.AtRest.{needs_device};
 ghost use Rattle.fg_top.specs.Calls.{Call};
 ghost use Rattle.fg_top.specs.Ends.{ends};
-ghost use Rattle.fg_top.specs.Inputs.{file_in};
+ghost use Rattle.fg_top.specs.Takes.{file_in};
 ghost use Rattle.fg_top.specs.Outcomes.{IsUnanswered};
 ghost use Rattle.fg_top.specs.Told.{AreTold, IsUntold};
 ghost use Rattle.fg_words.specs.Lines.{command_of};

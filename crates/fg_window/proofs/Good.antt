@@ -22,7 +22,7 @@ use Rattle.fg_window.proofs.Imports.{all_length, all_shapes}
 use Rattle.fg_window.proofs.Law.{operands_inside}
 use Rattle.fg_window.proofs.Moves.{at_middle}
 use Rattle.fg_window.proofs.Each.{all_of, each}
-use Rattle.fg_window.proofs.OneByOne.{AllGood, contents_renewed, contents_stay, good_on}
+use Rattle.fg_frame.proofs.OneByOne.{AllGood, contents_renewed, contents_stay, good_on}
 use Rattle.fg_window.proofs.Sources.{AllPlaced, AreLeft}
 use Rattle.fg_window.specs.Flown.{Flown}
 use Rattle.fg_window.specs.Joins.{Carry, carries, copy_of, join_of, joins, renewal}

@@ -13,7 +13,7 @@ use Rattle.fg_frame.specs.Numbered.{NumberedFrame}
 use Rattle.fg_frame.specs.Uses.{reads_it, starts_whole, writes_it}
 use Rattle.fg_frame.specs.declared.numbered.NumberedPass.{NumberedPass}
 use Rattle.fg_base.proofs.Operands.{destination_mapped, runs_mapped, sources_mapped}
-use Rattle.fg_window.proofs.OneByOne.{AllGood, contents_renewed, contents_stay, one_by_one}
+use Rattle.fg_frame.proofs.OneByOne.{AllGood, contents_renewed, contents_stay, one_by_one}
 use Rattle.fg_window.proofs.Tests.{in_place_moved, reads_moved, renewed_moved, shaped_moved, starts_moved, writes_moved}
 use Rattle.fg_window.specs.Moved.{moved, moved_write}
 

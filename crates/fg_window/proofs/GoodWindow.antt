@@ -15,7 +15,7 @@ use Rattle.fg_window.proofs.Imports.{Fit}
 use Rattle.fg_window.proofs.Joined.{imports_fit}
 use Rattle.fg_window.proofs.Each.{all_of, each}
 use Rattle.fg_window.proofs.Once.{window_once}
-use Rattle.fg_window.proofs.OneByOne.{at_once}
+use Rattle.fg_frame.proofs.OneByOne.{at_once}
 use Rattle.fg_window.proofs.Sources.{AreGiven, AreLeft}
 use Rattle.fg_window.specs.Flown.{Flown, with_import, with_imports}
 use Rattle.fg_window.specs.Sources.{given, Given, Left, Source, import_from, last_sources, left_units, next, sources_after}

@@ -9,11 +9,9 @@ pub mod Imports
 pub mod InTurn
 pub mod Joined
 pub mod Law
-pub mod Lengths
 pub mod Means
 pub mod Moves
 pub mod Once
-pub mod OneByOne
 mod Rows
 pub mod Sized
 pub mod Sources

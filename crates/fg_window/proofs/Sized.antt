@@ -1,27 +1,22 @@
 -- Bytes keep the lengths of their units.
-use Rattle.std.proofs.Common.{◌≡◌, ◌≢◌, ℕ, ◌<◌, List, [], ◌∷◌, length, map, get_or, slice_set, refl, sym, ap, ap₂, subst, ◌∙◌, ⊎_elim}
+use Rattle.std.proofs.Common.{◌≡◌, ◌≢◌, ℕ, ◌<◌, List, [], ◌∷◌, length, map, get_or, slice_set, refl, sym, ap, subst, ◌∙◌, ⊎_elim}
 use Rattle.std.specs.List.{All}
 use Rattle.std.proofs.lemmas.Bool.Decides.{eqb_tells}
 use Rattle.std.proofs.lemmas.List.{get_or-set_same, get_or-set_other, length-set}
 use Rattle.std.proofs.lemmas.List.Elements.{All-head, All-tail}
 use Rattle.fg_base.specs.Applied.{applied, bytes_at, after_op}
-use Rattle.fg_base.specs.Operands.{sources_of, destination_of, operands_of, mapped}
+use Rattle.fg_base.specs.Operands.{sources_of, destination_of, operands_of}
 use Rattle.fg_base.specs.Shapes.{bytes_of, shape_at}
 use Rattle.fg_base.specs.declared.op.Op.{Op}
 use Rattle.fg_base.specs.declared.shape.Shape.{Shape}
 use Rattle.fg_frame.specs.declared.numbered.NumberedPass.{NumberedPass}
 use Rattle.fg_meaning.specs.Meaning.{after_ops, after_passes}
-use Rattle.fg_base.proofs.Operands.{sources_mapped, destination_mapped}
+use Rattle.fg_base.proofs.EffectLengths.{applied_long}
 use Rattle.fg_meaning.specs.Code.Sizes.{AreSized, IsRunnable}
-use Rattle.fg_window.proofs.Lengths.{effect_long}
-use Rattle.fg_window.proofs.Moves.{at_destination, at_sources}
+use Rattle.fg_window.proofs.Moves.{at_destination}
 
 abbrev IsLong : List Shape → List (List ℕ) → ℕ → Type 0
 IsLong shapes bytes unit = length (bytes_at bytes unit) ≡ bytes_of (shape_at shapes unit)
-
-all_sources : (shapes : List Shape) (bytes : List (List ℕ)) (units : List ℕ) → All (IsLong shapes bytes) units → map length (map (bytes_at bytes) units) ≡ map bytes_of (map (shape_at shapes) units)
-all_sources shapes bytes [] all = refl
-all_sources shapes bytes (x ∷ units) all = ap₂ (λ y ys. y ∷ ys) (All-head (IsLong shapes bytes) x units all) (all_sources shapes bytes units (All-tail (IsLong shapes bytes) x units all))
 
 module _ (shapes : List Shape) (bytes : List (List ℕ)) (S : AreSized shapes bytes) (dst : ℕ) (out : List ℕ) (long : length out ≡ bytes_of (shape_at shapes dst)) (inside : dst < length shapes) where
   here : (unit : ℕ) → unit ≡ dst → IsLong shapes (slice_set bytes dst out) unit
@@ -40,12 +35,7 @@ op_sized : (shapes : List Shape) (bytes : List (List ℕ)) (op : Op ℕ) → Are
 op_sized shapes bytes op S R =
     let all : All (IsLong shapes bytes) (operands_of op) = λ k d lt. S.sized (get_or (operands_of op) k d) (R.operands k d lt) in
     let dst = destination_of op in
-    let sources = map (bytes_at bytes) (sources_of op) in
-    let long : length (applied shapes op sources (bytes_at bytes dst)) ≡ bytes_of (destination_of (mapped (shape_at shapes) op)) =
-    effect_long (mapped (shape_at shapes) op) sources (bytes_at bytes dst) R.fitting
-    (all_sources shapes bytes (sources_of op) (at_sources (IsLong shapes bytes) op all) ∙ ap (map bytes_of) (sym (sources_mapped (shape_at shapes) op)))
-    (at_destination (IsLong shapes bytes) op all ∙ ap bytes_of (sym (destination_mapped (shape_at shapes) op))) in
-    put_sized shapes bytes S dst (applied shapes op sources (bytes_at bytes dst)) (long ∙ ap bytes_of (destination_mapped (shape_at shapes) op)) (at_destination (λ x. x < length shapes) op R.operands)
+    put_sized shapes bytes S dst (applied shapes op (map (bytes_at bytes) (sources_of op)) (bytes_at bytes dst)) (applied_long shapes bytes op all R.fitting) (at_destination (λ x. x < length shapes) op R.operands)
 
 ops_sized : (shapes : List Shape) (bytes : List (List ℕ)) (ops : List (Op ℕ)) → AreSized shapes bytes → All (IsRunnable shapes) ops → AreSized shapes (after_ops shapes bytes ops)
 ops_sized shapes bytes [] S R = S

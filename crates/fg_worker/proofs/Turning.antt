@@ -1,5 +1,6 @@
 -- What a hold of a worker did.
 use Rattle.std.proofs.Common.{◌≡◌, ℕ, Bool, true, if◌then◌else◌, refl, sym, ap, ◌∙◌, subst, ⊎_elim}
+use Rattle.std.specs.Prelude.{Result, Ok, Err, IfOk}
 use Rattle.fg_base.specs.declared.event.Event.TheVariants.{Begin, End}
 use Rattle.fg_device.specs.declared.job.Command.{Command}
 use Rattle.fg_device.specs.Carried.{Carries}
@@ -11,8 +12,9 @@ use Rattle.fg_steps.specs.declared.phase.Phase.TheVariants.{Begun}
 use Rattle.fg_steps.proofs.Control.{put_at}
 use Rattle.fg_steps.specs.States.{is_begun}
 use Rattle.fg_worker.specs.Holds.{Lands}
-use Rattle.fg_worker.specs.Turns.{IsChosen, Begins, Turns}
-use Rattle.fg_worker.specs.declared.turn.Turn.TheVariants.{Compute, Stepped}
+use Rattle.fg_worker.specs.Turns.{IsChosen, Begins, Goes, Turns}
+use Rattle.fg_worker.specs.declared.turn.Turn.{Turn}
+use Rattle.fg_worker.specs.declared.turn.Turn.TheVariants.{Compute, Stepped, Complete, Wait}
 
 -- a ready command begins
 pub begins : (old new : Device) (n : ℕ) (job : Command) → GoesOnBy old n → MayGo is_command old n → new ≡ did old (Begin n) → Carries new n job → Begins old new n job
@@ -22,6 +24,17 @@ begins old new n job goes may event carries = record {
   carries = carries;
   begun = ap (λ d. is_begun ((state_of d).phase n)) event ∙ ap (λ s. is_begun (s.phase n)) (goes.begins may.kind may.ready) ∙ ap is_begun (put_at (state_of old).phase n n Begun refl);
 }
+
+-- the event of the chosen node is a turn
+turned : (old new : Device) (own n : ℕ) → IsChosen old own n → (turn : Turn) → Goes old new n turn → Turns old new own turn
+turned old new own n chosen (Compute job) goes = (subst (IsChosen old own) (sym goes.carries.node) chosen, subst (λ (k : ℕ). Begins old new k job) (sym goes.carries.node) goes)
+turned old new own n chosen Stepped goes = (n, (chosen, goes))
+turned old new own n chosen Complete goes = absurd goes
+turned old new own n chosen Wait goes = absurd goes
+
+pub all_turned : {E : Type 0} (old new : Device) (own n : ℕ) → IsChosen old own n → (r : Result Turn E) → IfOk r (Goes old new n) → IfOk r (Turns old new own)
+all_turned old new own n chosen (Ok turn) goes = turned old new own n chosen turn goes
+all_turned old new own n chosen (Err e) goes = goes
 
 ready : (d : Device) (own n : ℕ) → IsChosen d own n → is_ready d n ≡ true
 ready d own n = ⊎_elim (λ next. next.may) (λ other. other.1.next.may)

@@ -1,7 +1,8 @@
 -- What the fields of a device keep.
-use Rattle.std.specs.Prelude.{◌≡◌, length, vec_len, vec_capacity, None}
+use Rattle.std.specs.Prelude.{◌≡◌, length, vec_len, vec_capacity, true, None}
 use Rattle.std.specs.Arc.{arc_value}
 use Rattle.std.specs.List.{All}
+use Rattle.fg_checker.specs.Sound.{IsSound}
 use Rattle.fg_device.specs.Code.Parts.{HasState, HasRoom, node_count}
 use Rattle.fg_device.specs.Code.Tables.{FitsProgram}
 use Rattle.fg_device.specs.declared.device.Device.TheInside.{Inside}
@@ -18,6 +19,7 @@ device_in i = record { program = arc_value i.program; fill = i.fill; history = i
 
 pub record IsKept (i : Inside) : Type 0 where
   pub faultless : first_fault (arc_value i.program) ≡ None
+  pub sound : i.sound ≡ true → IsSound (arc_value i.program)
   pub small : IsSmall (arc_value i.program)
   pub obeys : (rule : Rule) → All (EntryObeys rule (arc_value i.program)) (entries_of (arc_value i.program))
   pub view : i.control.view ≡ view_of (arc_value i.program)

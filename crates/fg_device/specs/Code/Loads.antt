@@ -1,13 +1,16 @@
 -- What an operation runs on, and what a device holds of begun commands and host reads.
 use Rattle.std.specs.Prelude.{◌≡◌, ℕ, ◌<◌, ◌≤◌, List, [], length, replicate, get_or, slice_get, true, false, Option, Some, None}
 use Rattle.std.specs.List.{All}
+use Rattle.fg_base.specs.Applied.{applied}
 use Rattle.fg_base.specs.Fits.{fits}
 use Rattle.fg_base.specs.Operands.{operands_of, sources_of, mapped}
 use Rattle.fg_base.specs.Shapes.{bytes_of, shape_at}
 use Rattle.fg_base.specs.declared.op.Op.{Op}
 use Rattle.fg_base.specs.declared.shape.Shape.{Shape}
-use Rattle.fg_checker.specs.Apart.{op_at}
+use Rattle.fg_checker.specs.Apart.{inputs, op_at}
+use Rattle.fg_checker.specs.Sound.{IsSound}
 use Rattle.fg_device.specs.declared.held.Held.{Held}
+use Rattle.fg_hb.specs.Orders.{Order}
 use Rattle.fg_steps.specs.Ready.{is_command, kind_at, read_node}
 use Rattle.fg_steps.specs.States.{is_begun, is_done, State}
 use Rattle.fg_steps.specs.Steps.{store_of}
@@ -22,6 +25,14 @@ pub record IsRunnable (shapes : List Shape) (op : Op ℕ) (loaded : List (List �
   pub sources : length (sources_of op) ≤ length loaded
   pub few : length loaded ≤ length (operands_of op)
   pub sized : (k : ℕ) → k < length loaded → length (get_or loaded k []) ≡ bytes_of (shape_at shapes (get_or (operands_of op) k 0))
+
+-- these bytes in the place of the destination's old ones lead to the same
+abbrev pub LeadsOn : List Shape → Op ℕ → List ℕ → List ℕ → Type 0
+LeadsOn shapes op old other = (sources : List (List ℕ)) → applied shapes op sources old ≡ applied shapes op sources other
+
+-- where the program is sound, command n loads these bytes where all commands run one after another
+abbrev pub LoadsIn : Program → ℕ → List (List ℕ) → Type 0
+LoadsIn program n loaded = IsSound program → (order : List ℕ) → Order (view_of program).nodes order → loaded ≡ inputs program order n
 
 -- BEGUN COMMANDS
 

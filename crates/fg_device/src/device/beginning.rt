@@ -1,6 +1,7 @@
 //! A command begins.
 
 ghost use Rattle.std.specs.Prelude.{◌≡◌, ◌<◌, ◌^◌, [], ◌∷◌, length, map, true, false, if◌then◌else◌, IfOk, OnErr, replicate};
+ghost use Rattle.std.specs.Arc.{arc_value};
 ghost use Rattle.fg_base.specs.Shapes.{bytes_of};
 ghost use Rattle.fg_base.specs.declared.event.Event.TheVariants as events;
 ghost use Rattle.fg_caches.specs.Effects.{load};
@@ -21,20 +22,22 @@ use crate::agents::{agent_of, store_of};
 use crate::held::{Held, hold};
 use crate::job::{Command, Job};
 use crate::nodes::op_of;
-use crate::zeros::Zeros;
+use crate::room::Room;
 use bytes::Bytes;
 use fg_base::{Event, List, NoMemory};
 use fg_caches::Segments;
 use fg_steps::event_laws;
-use fg_subs::Piece;
+use fg_subs::{Piece, Shaped};
 use fg_view::Access;
 use std::alloc::Global;
+use std::sync::Arc;
 
 // What a Begin takes memory for: the job and what the device holds.
 #[derive(Drop)]
 struct Taken {
     command: Command,
-    room: Zeros,
+    room: Room,
+    program: Arc<Shaped, Global>,
     held: Held,
 }
 
@@ -83,7 +86,8 @@ impl Device {
         ensures err { OnErr result (self.new ≡ self.old) }
     {
         self.share()?;
-        self.begun(alloc, node)
+        let spare = self.spare(node);
+        self.begun(alloc, node, spare)
     }
 
     // What was stored can be loaded without a copy from now on.
@@ -94,8 +98,23 @@ impl Device {
         Ok(())
     }
 
+    // Memory that the table needs no more, for as many bytes as the command stores.
+    fn spare(&mut self, node: u32) -> Option<Vec<u8>>
+        requires command { is_command (kind_at (view_in self.old) node) ≡ true }
+        requires node { node < length (view_in self.old).nodes }
+        ensures { self.new ≡ self.old }
+    {
+        let len = self.store_len(node);
+        self.table.take_spare(len as usize)
+    }
+
     // The same without that.
-    fn begun(&mut self, alloc: Global, node: u32) -> Result<Job, NoMemory>
+    fn begun(
+        &mut self,
+        alloc: Global,
+        node: u32,
+        spare: Option<Vec<u8>>,
+    ) -> Result<Job, NoMemory>
         requires command { is_command (kind_at (view_in self.old) node) ≡ true }
         requires ready { is_ready self.old node ≡ true }
         ensures event { IfOk result (λ job. self.new ≡ did self.old (events.Begin node)) }
@@ -106,10 +125,11 @@ impl Device {
         let Taken {
             command,
             room,
+            program,
             held,
-        } = self.taken(alloc, node)?;
+        } = self.taken(alloc, node, spare)?;
         self.keep(node, held);
-        Ok(Job::new(command, room))
+        Ok(Job::new(command, room, program))
     }
 
     // The event itself, once there is what the device holds of the command.
@@ -128,20 +148,28 @@ impl Device {
     }
 
     // All that a Begin takes memory for.
-    fn taken(&self, alloc: Global, node: u32) -> Result<Taken, NoMemory>
+    fn taken(
+        &self,
+        alloc: Global,
+        node: u32,
+        spare: Option<Vec<u8>>,
+    ) -> Result<Taken, NoMemory>
         requires command { is_command (kind_at (view_in self.now) node) ≡ true }
         requires node { node < length (view_in self.now).nodes }
         ensures held { IfOk result (λ t. IsTaken self.now node t.held) }
         ensures command { IfOk result (λ t. IsCommand self.now.program node t.held.loaded t.command) }
         ensures runs { IfOk result (λ t. IsRunnable t.command.shapes t.command.op t.command.loaded) }
         ensures room { IfOk result (λ t. t.room ≡ no_old t.command.shapes t.command.op) }
+        ensures program { IfOk result (λ t. arc_value t.program ≡ self.now.program) }
     {
-        let room = self.room(alloc, node)?;
+        let room = self.room(alloc, node, spare)?;
         let held = self.held_for(alloc, node)?;
         let command = self.command(alloc, node, &held.loaded)?;
+        let program = Arc::try_clone(&self.program)?;
         Ok(Taken {
             command,
             room,
+            program,
             held,
         })
     }
@@ -152,7 +180,7 @@ impl Device {
         ensures { IfOk result (IsTaken self.now node) }
     {
         let loaded = self.loads(alloc, node)?;
-        let room = self.room(alloc, node)?;
+        let room = self.room(alloc, node, None)?;
         Ok(Held { loaded, room })
     }
 
@@ -176,15 +204,29 @@ impl Device {
         })
     }
 
-    // Zeros, as many as the command stores.
-    fn room(&self, alloc: Global, node: u32) -> Result<Zeros, NoMemory>
+    // How many bytes the command stores.
+    fn store_len(&self, node: u32) -> u32
+        requires command { is_command (kind_at (view_in self.now) node) ≡ true }
+        requires node { node < length (view_in self.now).nodes }
+        ensures { result ≡ store_size (view_in self.now) node }
+    {
+        let view = self.control.view();
+        let piece = view.piece(store_of(view, node).piece);
+        piece.shape.bytes() as u32
+    }
+
+    // Room for as many bytes.
+    fn room(
+        &self,
+        alloc: Global,
+        node: u32,
+        spare: Option<Vec<u8>>,
+    ) -> Result<Room, NoMemory>
         requires command { is_command (kind_at (view_in self.now) node) ≡ true }
         requires node { node < length (view_in self.now).nodes }
         ensures { IfOk result (λ room. room ≡ replicate (store_size (view_in self.now) node) 0) }
     {
-        let view = self.control.view();
-        let piece = view.piece(store_of(view, node).piece);
-        Zeros::new(alloc, piece.shape.bytes() as u32)
+        Room::new(alloc, self.store_len(node), spare)
     }
 
     // What the command loads, load by load.

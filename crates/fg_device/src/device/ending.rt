@@ -1,12 +1,13 @@
 //! A command ends.
 
 ghost use Rattle.std.specs.Prelude.{◌≡◌, ◌<◌, ◌≤◌, ◌-◌, ◌^◌, ◌↔◌, true, false, IsTrue, length, replicate, IfSome, IfNone};
+ghost use Rattle.std.specs.Arc.{arc_value};
 ghost use Rattle.fg_base.specs.Operands.{destination_of};
 ghost use Rattle.fg_base.specs.Shapes.{bytes_of, shape_at};
 ghost use Rattle.fg_base.specs.declared.event.Event.TheVariants as events;
 ghost use Rattle.fg_caches.specs.Effects.{put};
 ghost use Rattle.fg_caches.specs.Tables.{caches_of, Keeps};
-ghost use Rattle.fg_device.specs.Code.Loads.{IsRunnable};
+ghost use Rattle.fg_device.specs.Code.Loads.{IsRunnable, LoadsIn};
 ghost use Rattle.fg_device.specs.Code.Results.{IsResult};
 ghost use Rattle.fg_device.specs.Code.Tables.{IsCutOut};
 ghost use Rattle.fg_device.specs.Landings.{MatchLanded};
@@ -23,13 +24,17 @@ use crate::comparing::same_loads;
 use crate::held::{Held, take_held};
 use crate::job::{Command, Finished, Landed};
 use crate::nodes::op_of;
+use crate::origin::are_more;
 use crate::running::stored_by;
 use bytes::Bytes;
 use fg_base::{Event, List, Op, Shape};
 use fg_caches::Segments;
 use fg_same::Same;
-use fg_steps::event_laws;
+use fg_steps::{device_laws, event_laws};
+use fg_subs::Shaped;
 use fg_view::View;
+use std::alloc::Global;
+use std::sync::Arc;
 
 fn same_shapes(a: &[Shape], b: &[Shape]) -> bool
     ensures { IsTrue result ↔ (a.now ≡ b.now) }
@@ -43,29 +48,31 @@ fn has_op(command: &Command, op: &Op<u32>, shapes: &[Shape]) -> bool
     command.op.same(op) && same_shapes(&command.shapes, shapes)
 }
 
-// Whether a command that was computed has this operation and loaded these bytes.
-fn is_same(command: &Command, op: &Op<u32>, shapes: &[Shape], loaded: &[Bytes]) -> bool
-    ensures { result ≡ true → (command.now.op ≡ op.now) × ((command.now.shapes ≡ shapes.now) × (command.now.loaded ≡ loaded.now)) }
+fn same_program(a: &Shaped, b: &Shaped) -> bool
+    ensures { result ≡ true → a.now ≡ b.now }
 {
-    has_op(command, op, shapes) && same_loads(&command.loaded, loaded)
+    a.program().same(b.program())
 }
 
-// The bytes that were computed, where they are of this command and of what it loaded; else it is computed here.
+// The bytes that were computed, where they are of this command and of what it loaded; else it is computed here. Where it is known
+// that it loaded this, nothing of that is compared.
 fn computed(
     op: &Op<u32>,
     shapes: &[Shape],
     held: Held,
+    known: bool,
     command: &Command,
     bytes: List<u8>,
 ) -> List<u8>
     requires runs { IsRunnable shapes.now op.now held.loaded }
     requires room { held.room ≡ no_old shapes.now op.now }
+    requires known { known ≡ true → command.now.loaded ≡ held.loaded }
     requires bytes { IsResult command.now bytes }
     ensures stored { result ≡ stored_by shapes.now op.now held.loaded }
     ensures long { length result ≡ bytes_of (shape_at shapes.now (destination_of op.now)) }
 {
     let Held { loaded, room } = held;
-    if is_same(command, op, shapes, &loaded) {
+    if has_op(command, op, shapes) && (known || same_loads(&command.loaded, &loaded)) {
         return bytes;
     }
     stored_by(op, shapes, &loaded, room)
@@ -85,11 +92,13 @@ fn made(
     op: &Op<u32>,
     shapes: &[Shape],
     held: Held,
+    known: bool,
     command: &Command,
     bytes: List<u8>,
 ) -> List<u8>
     requires runs { IsRunnable shapes.now op.now held.loaded }
     requires room { held.room ≡ no_old shapes.now op.now }
+    requires known { known ≡ true → command.now.loaded ≡ held.loaded }
     requires bytes { IsResult command.now bytes }
     ensures junk { IfSome junk (λ byte. result ≡ replicate (length held.room) byte) }
     ensures stored { IfNone junk (result ≡ stored_by shapes.now op.now held.loaded) }
@@ -97,7 +106,7 @@ fn made(
 {
     match junk {
         Some(byte) => filled(held, byte),
-        None => computed(op, shapes, held, command, bytes),
+        None => computed(op, shapes, held, known, command, bytes),
     }
 }
 
@@ -121,6 +130,23 @@ fn store(table: &mut Segments, view: &View, node: u32, bytes: List<u8>)
 }
 
 impl Device {
+    // Whether a command that is begun here loaded what it loaded here, since it is of the same sound program. It is looked at only
+    // where the loads are longer than the program.
+    fn knows(&self, command: &Command, program: &Arc<Shaped, Global>) -> bool
+        requires begun { is_begun ((state_of self.now).phase command.now.node) ≡ true }
+        requires loads { LoadsIn (arc_value program.now) command.now.node command.now.loaded }
+        ensures { result ≡ true → command.now.loaded ≡ (state_of self.now).loaded command.now.node }
+    {
+        device_laws();
+        if !self.sound {
+            return false;
+        }
+        if !are_more(&command.loaded, self.weight) {
+            return false;
+        }
+        same_program(&self.program, program)
+    }
+
     /// The event End: a begun command stores. What it stores is of what it loaded here, whatever `done` carries; where that is of
     /// another operation or other bytes, it is computed anew, in memory that `begin` took.
     pub fn end(&mut self, done: Finished) -> Landed
@@ -128,17 +154,18 @@ impl Device {
         ensures event { MatchLanded result (self.new ≡ did self.old (events.End done.node)) (self.new ≡ self.old) }
     {
         event_laws();
-        let (command, bytes) = done.into_parts();
+        let (command, bytes, program) = done.into_parts();
         let node = command.node;
         if !self.control.is_begun(node) {
             return Landed::NotBegun;
         }
+        let known = self.knows(&command, &program);
         let Some(held) = take_held(&mut self.held, node) else {
             unreachable!();
         };
         let junk = junk_if(self.control.is_marked(node), self.fill);
         let op = op_of(&self.program, node);
-        let stored = made(junk, op, &self.shapes, held, &command, bytes);
+        let stored = made(junk, op, &self.shapes, held, known, &command, bytes);
         store(&mut self.table, self.control.view(), node, stored);
         self.control.end(node);
         self.history.push_reserved(Event::End { node });

@@ -1,9 +1,10 @@
 use Rattle.std.proofs.Common.{ℕ, List, Option, subst}
-use Rattle.fg_top.proofs.AnswerLemmas.{answered_bytes}
+use Rattle.fg_top.proofs.AnswerLemmas.{answered_bytes, rested}
 use Rattle.fg_top.proofs.rest.answer_input.Goals as goal
-use Rattle.fg_top.specs.Answers.{AnswersBytes}
+use Rattle.fg_answer.specs.Answers.{AnswersBytes}
 use Rattle.fg_top.specs.Code.Intakes.{IsGiven, IsRead}
-use Rattle.fg_top.specs.declared.files.File.{File}
+use Rattle.fg_answer.specs.declared.files.File.{File}
+use Rattle.fg_top.specs.Replies.{still}
 use Rattle.fg_top.specs.declared.input.Input.{Input}
 
 pub returns-in_ok-answer_bytes-in-Bytes-clause-answer : goal.returns-in_ok-answer_bytes-in-Bytes-clause-answer
@@ -12,6 +13,6 @@ returns-in_ok-answer_bytes-in-Bytes-clause-answer g c =
     let bytes = c.in-Bytes.bytes.items in
     let answer = c.in_ok-answer_bytes-in-Bytes in
     let given = subst (λ (input : Input). IsGiven c.file_of.result left input) c.in-Bytes.is c.in_ok-bytes.ensures.given in
-    answered_bytes c.args.command left bytes answer.field-0
+    answered_bytes c.args.command.now left (still answer.field-0) bytes
     (subst (λ (file : Option File). IsRead file left bytes) c.file_of.ensures given)
-    (subst (λ (read : List ℕ). AnswersBytes c.args.command read answer.field-0) c.as_slice.ensures.value answer.ensures.answer)
+    (rested c.args.command.now bytes answer.field-0 (subst (λ (read : List ℕ). AnswersBytes c.args.command.now read answer.field-0) c.as_slice.ensures.value answer.ensures.answer))

@@ -1,16 +1,29 @@
-use Rattle.std.proofs.Common.{◌∙◌, ℕ, List, Some, sym, ap, subst}
+use Rattle.std.proofs.Common.{◌≡◌, ◌∙◌, ℕ, List, Some, sym, ap, subst}
+use Rattle.std.specs.Arc.{arc_value}
 use Rattle.fg_checker.specs.Apart.{op_at}
 use Rattle.fg_device.proofs.Keeping.{ready_inside}
 use Rattle.fg_device.proofs.device.Device.begun.Goals as goal
+use Rattle.fg_device.specs.Code.Loads.{LoadsIn}
 use Rattle.fg_device.specs.declared.job.Command.{Command}
 use Rattle.fg_steps.specs.Devices.{Device, LoadsApart}
 use Rattle.fg_subs.specs.Rules.{shapes_of}
+use Rattle.fg_subs.specs.declared.program.Program.{Program}
 
 pub taken-requires : goal.taken-requires
 taken-requires c = record { command = c.requires.command; node = ready_inside c.args.self.now c.args.node c.requires.ready }
 
 pub new-requires : goal.new-requires
-new-requires c = record { runnable = c.in_ok-command.ensures.runs; room = c.in_ok-command.ensures.room }
+new-requires c =
+    let e = c.in_ok-command.ensures in
+    let n = c.args.node in
+    let program : arc_value c.in_ok-command.field-0.program ≡ c.keep.new.self.program = e.program ∙ ap (λ (d : Device). d.program) (sym c.keep.ensures.event) in
+    let loads = subst (λ (p : Program). LoadsIn p n c.in_ok-command.field-0.held.loaded) (sym program) c.keep.ensures.apart in
+    let own = subst (λ (bytes : List (List ℕ)). LoadsIn (arc_value c.in_ok-command.field-0.program) n bytes) (sym e.command.loaded) loads in
+    record {
+      runnable = e.runs;
+      loads = subst (λ (k : ℕ). LoadsIn (arc_value c.in_ok-command.field-0.program) k c.in_ok-command.field-0.command.loaded) (sym e.command.node) own;
+      room = e.room;
+    }
 
 pub returns-clause-job : goal.returns-clause-job
 returns-clause-job c =

@@ -11,13 +11,31 @@ use Rattle.fg_device.proofs.Fitting.{still_fits}
 use Rattle.fg_device.proofs.Keeping.{kept_event}
 use Rattle.fg_device.proofs.device.Device.end.Goals as goal
 use Rattle.fg_device.specs.Code.Kept.{device_in}
+use Rattle.fg_device.specs.Code.Loads.{LoadsIn}
 use Rattle.fg_device.specs.Code.Parts.{HasState}
+use Rattle.fg_device.specs.declared.job.Command.{Command}
 use Rattle.fg_steps.specs.Agents.{agent_of, piece_range}
-use Rattle.fg_steps.specs.Devices.{state_of}
+use Rattle.fg_steps.specs.Devices.{Device, state_of}
+use Rattle.fg_steps.specs.States.{is_begun}
 use Rattle.fg_steps.specs.Ready.{is_command, kind_at}
 use Rattle.fg_steps.specs.Steps.{store_of, made, ended}
 use Rattle.fg_subs.specs.declared.program.Program.{Program}
 use Rattle.fg_view.specs.Views.{View, view_of}
+
+pub knows-known-requires : goal.knows-known-requires
+knows-known-requires c =
+    let n = c.into_parts-command.result.0.node in
+    let p = c.into_parts-command.result.2 in
+    record {
+      begun = subst (λ (d : Device). is_begun ((state_of d).phase n) ≡ true) c.self.view_is (begun_in c.self.inside c.self.invariant n (sym c.is_begun.ensures ∙ c.if-not-is_begun.false));
+      loads = subst (λ (x : Command). LoadsIn (arc_value p) x.node x.loaded) (sym c.into_parts-command.ensures.command) c.into_parts-command.ensures.loads;
+    }
+
+pub made-stored-requires-clause-known : goal.made-stored-requires-clause-known
+made-stored-requires-clause-known c e =
+    let n = c.into_parts-command.result.0.node in
+    let held = held_is c.self.inside c.self.invariant n (sym c.is_begun.ensures ∙ c.if-not-is_begun.false) c.in-Some.held (sym c.in-Some.is ∙ c.take_held.ensures.taken) in
+    c.knows-known.ensures e ∙ ap (λ (d : Device). (state_of d).loaded n) (sym c.self.view_is) ∙ sym held.loaded
 
 pub take_held-requires : goal.take_held-requires
 take_held-requires c = held_there c.self.inside c.self.invariant c.into_parts-command.result.0.node (sym c.is_begun.ensures ∙ c.if-not-is_begun.false)

@@ -1,0 +1,51 @@
+-- Frames that fly in windows of one depth, with bytes that persist under names.
+use Rattle.std.specs.Prelude.{◌≡◌, ℕ, List, [], ◌∷◌, ◌+◌, ◌-◌, ◌/◌, map, length, Option, unwrap_or}
+use Rattle.std.specs.Option.{option_map}
+use Rattle.fg_base.specs.Walks.{first_in}
+use Rattle.fg_base.specs.declared.shape.Family.{Family}
+use Rattle.fg_frame.specs.declared.frame.Frame.{Frame}
+use Rattle.fg_frame.specs.declared.frame.QueueDecl.{QueueDecl}
+use Rattle.fg_named.specs.Declared.{Declared, declared_in, holder_in}
+use Rattle.fg_named.specs.Joins.{size_of}
+use Rattle.fg_named.specs.WindowFrame.{window_frame}
+use Rattle.fg_window.specs.InTurn.{frames_in}
+
+-- the queues of all frames are those of the first one
+abbrev pub queues_of : List Frame → List QueueDecl
+queues_of [] = []
+queues_of (frame ∷ frames) = frame.queues
+
+abbrev pub families_of : List Frame → List Family
+families_of frames = map (λ q. q.family) (queues_of frames)
+
+abbrev pub all_declared : List Frame → List (List ℕ) → List Declared
+all_declared frames persist = map (declared_in persist) frames
+
+-- HELD BYTES
+
+abbrev pub size_at : List ℕ → ℕ → Frame → Option ℕ
+size_at name i frame = option_map (size_of frame.resources) (holder_in frame.resources name)
+
+-- the size of a persisting name: that in the first frame that has it, if one has
+abbrev pub size_in : List Frame → List ℕ → Option ℕ
+size_in frames name = first_in (size_at name) 0 frames
+
+abbrev pub sizes_of : List Frame → List (List ℕ) → List ℕ
+sizes_of frames persist = map (λ name. unwrap_or (size_in frames name) 0) persist
+
+-- no bytes are held under a name that no frame has
+abbrev pub held_bytes : List (Option (List ℕ)) → List (List ℕ)
+held_bytes held = map (λ bytes. unwrap_or bytes []) held
+
+-- WINDOWS
+
+abbrev pub window_count : ℕ → List Frame → ℕ
+window_count depth frames = (length frames + (depth - 1)) / depth
+
+-- window w, where these bytes are held before it
+abbrev pub window_at : List Frame → List (List ℕ) → ℕ → List (Option (List ℕ)) → ℕ → Frame
+window_at frames persist depth held w = window_frame (queues_of frames) (frames_in depth (all_declared frames persist) w) (held_bytes held)
+
+-- what is held before a window: for each persisting name bytes of its size, and none where no frame has it
+abbrev pub AreHeld : List Frame → List (List ℕ) → List (Option (List ℕ)) → Type 0
+AreHeld frames persist held = map (option_map length) held ≡ map (size_in frames) persist

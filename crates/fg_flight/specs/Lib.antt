@@ -1,0 +1,7 @@
+pub mod Alone
+pub mod Code
+pub mod Exported
+pub mod Flight
+pub mod Flights
+pub mod Fly
+pub mod Refusals

@@ -1,0 +1,32 @@
+//! Why frames do not fly together.
+
+ghost use Rattle.std.specs.Prelude.{◌≡◌};
+ghost use Rattle.fg_flight.specs.declared.fault.FlightEnd.TheVariants as ends;
+
+use fg_base::{Limit, Name, NoMemory};
+
+/// The first reason for which frames are not compiled together.
+#[derive(Clone, Copy, Debug)]
+pub enum FlightFault {
+    /// The frame has other queues than the first one: another name, family or order.
+    Queues { frame: u32 },
+    /// The frame has the name for what is no import, or for one of another size than in the first frame that has it.
+    Persist { frame: u32, name: Name },
+    /// The window is more than a frame may be.
+    Window { window: u32, limit: Limit },
+}
+
+/// Why there are no windows.
+#[derive(Clone, Copy, Debug)]
+pub enum FlightEnd {
+    Refused(FlightFault),
+    NoMemory,
+}
+
+impl From<NoMemory> for FlightEnd {
+    ghost from_gives = { λ _ e. e ≡ ends.NoMemory };
+
+    fn from(_: NoMemory) -> FlightEnd {
+        FlightEnd::NoMemory
+    }
+}

@@ -1,0 +1,22 @@
+//! Frames in flight: several frames in one, with bytes that persist from one to the next.
+#![tactic(auto)]
+
+mod begun;
+mod exports;
+mod fault;
+mod holders;
+mod joins;
+mod laws;
+mod limits;
+mod names;
+mod passes;
+mod reading;
+mod refusals;
+mod resources;
+mod spots;
+mod window;
+mod windows;
+
+pub use fault::{FlightEnd, FlightFault};
+pub use laws::flight_laws;
+pub use windows::{Windows, windows_of};

@@ -1,0 +1,124 @@
+//! Which windows are more than a frame may be.
+
+ghost use Rattle.std.specs.Prelude.{◌≡◌, ◌<◌, ◌≤◌, ◌+◌, ◌*◌, ◌-◌, ◌/◌, IfOk, length, min};
+ghost use Rattle.fg_flight.specs.Flights.{window_at, window_count};
+ghost use Rattle.fg_flight.specs.Refusals.{first_too_large, limit_in, too_large, unheld};
+ghost use Rattle.fg_window.specs.InTurn.{frames_in};
+
+use crate::fault::FlightFault;
+use crate::window::window;
+use fg_base::{Limit, List, Name, NoMemory};
+use fg_frame::{Frame, FrameEnd, GoodFrame, well_formed};
+use std::alloc::Global;
+
+#[tactic(auto, using(crate::proofs::Told::limit_told, crate::proofs::Told::none_told))]
+fn limit_in(alloc: Global, frame: Frame) -> Result<Option<Limit>, NoMemory>
+    ensures { IfOk result (λ limit. limit ≡ limit_in frame) }
+{
+    match well_formed(alloc, frame) {
+        Ok(_) => Ok(None),
+        Err(FrameEnd::Refused(fault, _)) => Ok(fault.limit),
+        Err(FrameEnd::NoMemory(_)) => Err(NoMemory),
+    }
+}
+
+fn unheld(alloc: Global, persist: &[Name]) -> Result<List<Option<List<u8>>>, NoMemory>
+    ensures held { IfOk result (λ held. held ≡ unheld persist.now) }
+    ensures each { IfOk result (λ held. length held ≡ length persist.now) }
+{
+    let mut held = List::new(alloc);
+    for _name in persist {
+        held.push(None)?;
+    }
+    Ok(held)
+}
+
+/// How many windows of this depth so many frames make.
+pub(crate) fn window_count(depth: u32, frames: usize) -> u32
+    requires some { 1 ≤ depth }
+    requires few { depth ≤ 8 }
+    requires frames { frames ≤ 64 }
+    ensures { result ≡ (frames + (depth - 1)) / depth }
+{
+    (frames as u32 + (depth - 1)) / depth
+}
+
+fn smaller(a: usize, b: usize) -> usize
+    ensures { result ≡ min a b }
+{
+    if a < b { a } else { b }
+}
+
+/// The frames of window `w`.
+#[tactic(auto, using(crate::proofs::Counted::sliced))]
+pub(crate) fn frames_of(frames: &[GoodFrame], depth: u32, w: u32) -> &[GoodFrame]
+    requires few { length frames.now ≤ 64 }
+    requires deep { depth ≤ 8 }
+    requires there { w * depth < length frames.now }
+    ensures frames { result.now ≡ frames_in depth frames.now w }
+    ensures few { length result.now ≤ 8 }
+{
+    let from = (w * depth) as usize;
+    let count = smaller(depth as usize, frames.len() - from);
+    &frames[from..from + count]
+}
+
+/// Window `w` of these frames, where these bytes are held before it.
+pub(crate) fn window_at(
+    alloc: Global,
+    frames: &[GoodFrame],
+    persist: &[Name],
+    depth: u32,
+    held: &[Option<List<u8>>],
+    w: u32,
+) -> Result<Frame, NoMemory>
+    requires few { length frames.now ≤ 64 }
+    requires deep { depth ≤ 8 }
+    requires there { w * depth < length frames.now }
+    requires held { length held.now ≡ length persist.now }
+    ensures { IfOk result (λ frame. frame ≡ window_at frames.now persist.now depth held.now w) }
+{
+    let queues = &frames[0].frame().queues;
+    window(alloc, queues, frames_of(frames, depth, w), persist, held)
+}
+
+fn too_large(
+    alloc: Global,
+    frames: &[GoodFrame],
+    persist: &[Name],
+    depth: u32,
+    w: u32,
+) -> Result<Option<FlightFault>, NoMemory>
+    requires few { length frames.now ≤ 64 }
+    requires deep { depth ≤ 8 }
+    requires there { w * depth < length frames.now }
+    ensures { IfOk result (λ fault. fault ≡ too_large frames.now persist.now depth w) }
+{
+    let held = unheld(alloc, persist)?;
+    let frame = window_at(alloc, frames, persist, depth, &held, w)?;
+    match limit_in(alloc, frame)? {
+        Some(limit) => Ok(Some(FlightFault::Window { window: w, limit })),
+        None => Ok(None),
+    }
+}
+
+/// The first window that breaks a limit.
+#[tactic(auto, using(crate::proofs::Counted::large_on, crate::proofs::Counted::large_found, crate::proofs::Counted::large_end, crate::proofs::Counted::there))]
+pub(crate) fn first_too_large(
+    alloc: Global,
+    frames: &[GoodFrame],
+    persist: &[Name],
+    depth: u32,
+) -> Result<Option<FlightFault>, NoMemory>
+    requires few { length frames.now ≤ 64 }
+    requires some { 1 ≤ depth }
+    requires deep { depth ≤ 8 }
+    ensures { IfOk result (λ fault. fault ≡ first_too_large frames.now persist.now depth (window_count depth frames.now) 0) }
+{
+    for w in 0..window_count(depth, frames.len()) {
+        if let Some(fault) = too_large(alloc, frames, persist, depth, w)? {
+            return Ok(Some(fault));
+        }
+    }
+    Ok(None)
+}

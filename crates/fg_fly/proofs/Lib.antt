@@ -1,0 +1,7 @@
+pub mod Cutting
+pub mod Flown
+pub mod Holding
+pub mod Outcomes
+pub mod Reading
+pub mod Texts
+pub mod Windows
