@@ -1,4 +1,5 @@
 pub mod Bounds
 pub mod Matched
+pub mod Named
 pub mod Numerals
 pub mod Refused

@@ -15,18 +15,22 @@ abbrev pub number_in : ℕ → ℕ → Option (List ℕ) → Option (Option ℕ)
 number_in least most None = Some None
 number_in least most (Some word) = option_map (λ n. Some n) (number_within least most word)
 
--- 1 to 16 workers, seeds and numbers below 2 ^ 32, 1 to 256 passes: by what `clap` found on the line
+-- 1 to 16 workers, seeds and numbers below 2 ^ 32, 1 to 256 passes, a depth of 1 to 8: by what `clap` found on the line
 abbrev pub given_in : List Row → Option Given
 given_in rows =
-    option_and_then (λ workers. option_and_then (λ tend. option_and_then (λ number. option_map (λ passes. record {
+    option_and_then (λ workers. option_and_then (λ tend. option_and_then (λ number. option_and_then (λ passes. option_map (λ depth. record {
       workers = workers;
       tend = tend;
       number = number;
       passes = passes;
+      depth = depth;
+      persist = is_some (first_of (codes "persist") rows);
       trace = is_given (first_of (codes "trace") rows);
       summary = is_given (first_of (codes "summary") rows);
       tight = is_given (first_of (codes "tight") rows);
+      cost = is_given (first_of (codes "cost") rows);
     })
+    (number_in 1 8 (first_of (codes "depth") rows)))
     (number_in 1 256 (first_of (codes "passes") rows)))
     (number_in 0 4294967295 (first_of (codes "number") rows)))
     (number_in 0 4294967295 (first_of (codes "tend") rows)))
@@ -34,4 +38,4 @@ given_in rows =
 
 -- there is no option
 abbrev pub is_none : Given → Bool
-is_none given = not ((is_some given.workers || is_some given.tend || is_some given.number || is_some given.passes) || given.trace || given.summary || given.tight)
+is_none given = not ((is_some given.workers || is_some given.tend || is_some given.number || is_some given.passes || is_some given.depth) || given.persist || given.trace || given.summary || given.tight || given.cost)

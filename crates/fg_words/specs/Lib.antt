@@ -4,3 +4,4 @@ pub mod Given
 pub mod Lines
 pub mod Numbers
 pub mod Options
+pub mod Persist

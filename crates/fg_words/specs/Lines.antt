@@ -33,9 +33,12 @@ framec =
     let tended : App = with_rule working (option_rule (codes "tend")) in
     let numbered : App = with_rule tended (option_rule (codes "number")) in
     let passing : App = with_rule numbered (option_rule (codes "passes")) in
-    let traced : App = with_rule passing (flag_rule (codes "trace")) in
+    let deepened : App = with_rule passing (option_rule (codes "depth")) in
+    let persisting : App = with_rule deepened (option_rule (codes "persist")) in
+    let traced : App = with_rule persisting (flag_rule (codes "trace")) in
     let summed : App = with_rule traced (flag_rule (codes "summary")) in
-    with_rule summed (flag_rule (codes "tight"))
+    let tightened : App = with_rule summed (flag_rule (codes "tight")) in
+    with_rule tightened (flag_rule (codes "cost"))
 
 -- a line, of which the program's own name is the first word: nothing in it is refused
 abbrev pub IsLine : List Text → Type 0

@@ -1,10 +1,10 @@
 //! The commands.
 
 use crate::Options;
+use fg_base::{List, Name};
 
-/// A command that the program has, by what it reads and what it needs. One that reads more than one file will stand beside
-/// these.
-#[derive(Clone, Copy, Debug, PartialEq, Eq)]
+/// A command that the program has, by what it reads and what it needs.
+#[derive(Debug, Drop)]
 pub enum Command {
     /// A command that reads a frame and needs no device.
     Frame(FrameCommand),
@@ -35,6 +35,14 @@ pub enum Command {
         passes: u32,
         options: Options,
     },
+    /// Runs several frames on devices, so many of them compiled together, and prints what they export.
+    Flight {
+        options: Options,
+        /// The names under which bytes persist from one frame to the next.
+        persist: List<Name>,
+        /// How many frames are compiled together at most, 1 to 8.
+        depth: u32,
+    },
     /// Reads a submission and a trace, and prints whether the trace is a run of it.
     Audit,
 }
@@ -52,6 +60,11 @@ pub enum FrameCommand {
     Compile {
         /// Waits, and stages of waits, that these do not need are left out.
         tight: bool,
+    },
+    /// Moves its passes to other queues where that makes its longest chain of work shorter, and prints it so.
+    Auto {
+        /// What its longest chain of work costs as given and as chosen is printed instead.
+        cost: bool,
     },
     /// Prints its exports from its sequential meaning.
     Meaning,

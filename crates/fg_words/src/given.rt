@@ -14,9 +14,13 @@ pub struct Given {
     pub tend: Option<u32>,
     pub number: Option<u32>,
     pub passes: Option<u32>,
+    pub depth: Option<u32>,
+    /// Names are given.
+    pub persist: bool,
     pub trace: bool,
     pub summary: bool,
     pub tight: bool,
+    pub cost: bool,
 }
 
 /// The first value of an argument.
@@ -54,9 +58,12 @@ pub(crate) fn given_in(matches: &ArgMatches<'_>) -> Option<Given>
         tend: number_in(text_in(matches, "tend"), 0, u32::MAX)?,
         number: number_in(text_in(matches, "number"), 0, u32::MAX)?,
         passes: number_in(text_in(matches, "passes"), 1, 256)?,
+        depth: number_in(text_in(matches, "depth"), 1, 8)?,
+        persist: text_in(matches, "persist").is_some(),
         trace: is_given(text_in(matches, "trace")),
         summary: is_given(text_in(matches, "summary")),
         tight: is_given(text_in(matches, "tight")),
+        cost: is_given(text_in(matches, "cost")),
     })
 }
 
@@ -68,7 +75,8 @@ impl Given {
         let numbers = self.workers.is_some()
             || self.tend.is_some()
             || self.number.is_some()
-            || self.passes.is_some();
-        !(numbers || self.trace || self.summary || self.tight)
+            || self.passes.is_some()
+            || self.depth.is_some();
+        !(numbers || self.persist || self.trace || self.summary || self.tight || self.cost)
     }
 }

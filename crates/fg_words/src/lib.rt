@@ -7,6 +7,7 @@ mod line;
 mod matching;
 mod number;
 mod options;
+mod persist;
 mod word;
 
 pub use command::{Command, FrameCommand, SubmissionCommand};

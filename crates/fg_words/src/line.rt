@@ -1,17 +1,19 @@
 //! Which command words are.
 
 ghost use Rattle.std.specs.Prelude.{◌≡◌, ◌∷◌, IfOk, IfSome, map, string_bytes, codes};
-ghost use Rattle.clap.specs.Words.{rows_of, found_of};
-ghost use Rattle.fg_words.specs.Commands.{IsBounded, command_in, command_of_word, generating, unless_more, without_options};
+ghost use Rattle.clap.specs.Words.{first_of, rows_of, found_of};
+ghost use Rattle.fg_words.specs.Commands.{IsBounded, command_in, command_of_word, flying, generating, unless_more, without_options};
 ghost use Rattle.fg_words.specs.Lines.{command_of};
+ghost use Rattle.fg_words.specs.Persist.{persist_in};
 ghost use Rattle.fg_words.specs.declared.command.Command.TheVariants as commands;
 
 use crate::given::{Given, given_in, text_in};
 use crate::matching::{Unmatched, matches};
+use crate::persist::persist_in;
 use crate::word::{Word, word_of};
 use crate::{Command, FrameCommand, Options, SubmissionCommand};
 use clap::ArgMatches;
-use fg_base::NoMemory;
+use fg_base::{List, Name, NoMemory};
 use std::alloc::Global;
 
 #[tactic(auto, using(crate::proofs::Bounds::bounded_lines))]
@@ -22,7 +24,7 @@ pub fn command_of(alloc: Global, words: &[String]) -> Result<Option<Command>, No
 {
     let line = line_of(alloc, words)?;
     match matches(alloc, line.as_slice()) {
-        Ok(matches) => Ok(command_in(&matches)),
+        Ok(matches) => command_in(alloc, &matches),
         Err(Unmatched::NoLine) => Ok(None),
         Err(Unmatched::NoMemory) => Err(NoMemory),
     }
@@ -40,11 +42,20 @@ fn line_of<'a>(alloc: Global, words: &'a [String]) -> Result<Vec<&'a str>, NoMem
     Ok(line)
 }
 
-fn command_in(matches: &ArgMatches<'_>) -> Option<Command>
+// The command, with these persisting names.
+fn command_with(matches: &ArgMatches<'_>, persist: Option<List<Name>>) -> Option<Command>
+    requires { persist ≡ persist_in (first_of (codes "persist") (rows_of (found_of matches.now))) }
     ensures { result ≡ command_in (rows_of (found_of matches.now)) }
 {
     let word = word_of(text_in(matches, "command")?)?;
-    command_of_word(word, given_in(matches)?)
+    command_of_word(word, given_in(matches)?, persist)
+}
+
+fn command_in(alloc: Global, matches: &ArgMatches<'_>) -> Result<Option<Command>, NoMemory>
+    ensures { IfOk result (λ command. command ≡ command_in (rows_of (found_of matches.now))) }
+{
+    let persist = persist_in(alloc, text_in(matches, "persist"))?;
+    Ok(command_with(matches, persist))
 }
 
 // The command, where no option is left that it does not take.
@@ -82,6 +93,15 @@ fn without_tight(given: Given) -> Given
     }
 }
 
+fn without_cost(given: Given) -> Given
+    ensures { result ≡ record given { cost = Rattle.std.specs.Prelude.false } }
+{
+    Given {
+        cost: false,
+        ..given
+    }
+}
+
 // The frame of a number, or its summary.
 fn generating(given: Given, number: u32) -> Option<Command>
     ensures { result ≡ generating given number }
@@ -108,23 +128,44 @@ fn generating(given: Given, number: u32) -> Option<Command>
     }
 }
 
+// Frames with these persisting names.
+fn flying(given: Given, persist: Option<List<Name>>) -> Option<Command>
+    ensures { result ≡ flying given persist }
+{
+    let rest = Given {
+        depth: None,
+        persist: false,
+        ..without_options(given)
+    };
+    unless_more(
+        rest,
+        Command::Flight {
+            options: Options::of(given),
+            persist: persist?,
+            depth: given.depth.unwrap_or(2),
+        },
+    )
+}
+
 fn of_frame(rest: Given, asked: FrameCommand) -> Option<Command>
     ensures { result ≡ unless_more rest (commands.Frame asked) }
 {
     unless_more(rest, Command::Frame(asked))
 }
 
-fn command_of_word(word: Word, given: Given) -> Option<Command>
-    ensures { result ≡ command_of_word word given }
+fn command_of_word(word: Word, given: Given, persist: Option<List<Name>>) -> Option<Command>
+    ensures { result ≡ command_of_word word given persist }
 {
     let options = Options::of(given);
     let trace = given.trace;
     let tight = given.tight;
+    let cost = given.cost;
     match word {
         Word::Cull => of_frame(given, FrameCommand::Cull),
         Word::Place => of_frame(given, FrameCommand::Place),
         Word::Bound => of_frame(given, FrameCommand::Bound),
         Word::Compile => of_frame(without_tight(given), FrameCommand::Compile { tight }),
+        Word::Auto => of_frame(without_cost(given), FrameCommand::Auto { cost }),
         Word::Meaning => of_frame(given, FrameCommand::Meaning),
         Word::Migrate => of_frame(given, FrameCommand::Migrate),
         Word::Check => unless_more(given, Command::Submission(SubmissionCommand::Check)),
@@ -138,6 +179,7 @@ fn command_of_word(word: Word, given: Given) -> Option<Command>
             },
         ),
         Word::Exec => unless_more(without_trace(given), Command::Exec { options, trace }),
+        Word::Flight => flying(given, persist),
         Word::Audit => unless_more(given, Command::Audit),
     }
 }

@@ -65,9 +65,12 @@ fn framec<'a>(alloc: Global) -> Result<Command<'a>, AllocError>
     let tended = with_option(working, alloc, "tend")?;
     let numbered = with_option(tended, alloc, "number")?;
     let passing = with_option(numbered, alloc, "passes")?;
-    let traced = with_flag(passing, alloc, "trace")?;
+    let deepened = with_option(passing, alloc, "depth")?;
+    let persisting = with_option(deepened, alloc, "persist")?;
+    let traced = with_flag(persisting, alloc, "trace")?;
     let summed = with_flag(traced, alloc, "summary")?;
-    let command = with_flag(summed, alloc, "tight")?;
+    let tightened = with_flag(summed, alloc, "tight")?;
+    let command = with_flag(tightened, alloc, "cost")?;
     Ok(command)
 }
 

@@ -12,26 +12,30 @@ pub enum Word {
     Place,
     Bound,
     Compile,
+    Auto,
     Meaning,
     Migrate,
     Check,
     Gen,
     Run,
     Exec,
+    Flight,
     Audit,
 }
 
-const WORDS: [Word; 11] = [
+const WORDS: [Word; 13] = [
     Word::Cull,
     Word::Place,
     Word::Bound,
     Word::Compile,
+    Word::Auto,
     Word::Meaning,
     Word::Migrate,
     Word::Check,
     Word::Gen,
     Word::Run,
     Word::Exec,
+    Word::Flight,
     Word::Audit,
 ];
 
@@ -43,12 +47,14 @@ fn text_of(word: &Word) -> &'static str
         Word::Place => "place",
         Word::Bound => "bound",
         Word::Compile => "compile",
+        Word::Auto => "auto",
         Word::Meaning => "meaning",
         Word::Migrate => "migrate",
         Word::Check => "check",
         Word::Gen => "gen",
         Word::Run => "run",
         Word::Exec => "exec",
+        Word::Flight => "flight",
         Word::Audit => "audit",
     }
 }

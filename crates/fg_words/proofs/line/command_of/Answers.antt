@@ -1,11 +1,12 @@
 use Rattle.std.proofs.Common.{Bor, ℕ, List, Err, map, string_bytes, subst}
-use Rattle.fg_words.proofs.Matched.{line_read, line_refused}
+use Rattle.fg_words.proofs.Matched.{if_ok, line_read, line_refused}
 use Rattle.fg_words.proofs.line.command_of.Goals as goal
 use Rattle.fg_words.specs.Lines.{Matches}
 use Rattle.fg_words.specs.declared.matching.Unmatched.{Unmatched}
 
 pub returns-in-Ok-clause-command : goal.returns-in-Ok-clause-command
-returns-in-Ok-clause-command c = line_read (map string_bytes c.args.words.now) _ _ c.command_in.result c.in_ok-line.ensures (rw c.as_slice.ensures.value at c.in-Ok.ensures.0) (rw c.as_slice.ensures.value at c.in-Ok.ensures.1) c.command_in.ensures
+returns-in-Ok-clause-command c =
+    if_ok c.command_in.result (λ found reads. line_read (map string_bytes c.args.words.now) _ _ found c.in_ok-line.ensures (rw c.as_slice.ensures.value at c.in-Ok.ensures.0) (rw c.as_slice.ensures.value at c.in-Ok.ensures.1) reads) c.command_in.ensures
 
 pub returns-in-Err-NoLine-clause-command : goal.returns-in-Err-NoLine-clause-command
 returns-in-Err-NoLine-clause-command c =
