@@ -10,10 +10,10 @@ use Rattle.fg_checker.specs.Sound.{IsSound}
 use Rattle.fg_steps.specs.Devices.{Device}
 use Rattle.fg_subs.specs.declared.program.Program.{Program}
 use Rattle.fg_top.specs.Audits.{Judges, verdict_answer}
-use Rattle.fg_top.specs.Statuses.{number_of}
-use Rattle.fg_top.specs.declared.answer.Answer.{Answer}
-use Rattle.fg_top.specs.declared.ended.Status.{Status}
-use Rattle.fg_top.specs.declared.ended.Status.TheVariants.{Done, Rejected}
+use Rattle.fg_answer.specs.Statuses.{number_of}
+use Rattle.fg_answer.specs.declared.answer.Answer.{Answer}
+use Rattle.fg_answer.specs.declared.status.Status.{Status}
+use Rattle.fg_answer.specs.declared.status.Status.TheVariants.{Done, Rejected}
 
 rejected : Rejected ≡ Done → ⊥
 rejected e = let n : 1 ≡ 0 = ap number_of e in absurd (omega (arith, n))

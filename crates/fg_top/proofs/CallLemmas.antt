@@ -1,5 +1,5 @@
 -- What a call comes to, from what its parts come to.
-use Rattle.std.proofs.Common.{◌≡◌, ◌+◌, ℕ, List, [], Some, None, is_some, sym, ap, subst, inl, inr, refl, arith, codes}
+use Rattle.std.proofs.Common.{◌≡◌, ℕ, List, [], Some, None, is_some, sym, ap, subst, inl, inr, refl, arith, codes}
 use Rattle.std.proofs.KnownBytes.{Keeps-refl}
 use Rattle.std.proofs.lemmas.Bool.{true≢false}
 use Rattle.std.proofs.lemmas.Option.{same_Some}
@@ -7,20 +7,21 @@ use Rattle.std.specs.Io.KnownBytes.{Appends, Consumes}
 use Rattle.std.specs.Prelude.{◌⊎◌}
 use Rattle.std.specs.declared.option.Option.{Option}
 use Rattle.fg_base.specs.Counts.{Rose}
-use Rattle.fg_steps.specs.Devices.{Device}
+use Rattle.fg_base.specs.declared.event.Event.{Event}
 use Rattle.fg_top.specs.Answers.{IsAnswered}
 use Rattle.fg_top.specs.Calls.{Call}
 use Rattle.fg_top.specs.Causes.{ReadCause, WriteCause}
 use Rattle.fg_top.specs.Complete.{Completes}
 use Rattle.fg_top.specs.Ends.{Ends}
-use Rattle.fg_top.specs.Inputs.{TakesAll, TakesFew, file_in, file_of}
+use Rattle.fg_answer.specs.Inputs.{file_of}
+use Rattle.fg_top.specs.Takes.{TakesAll, TakesFew, file_in}
 use Rattle.fg_top.specs.Outcomes.{EndsAs, IsUnanswered}
-use Rattle.fg_top.specs.declared.ended.Status.{Status}
-use Rattle.fg_top.specs.declared.ended.Status.TheVariants.{Done, Rejected, Refused, Words, ReadFault, WriteFault, NoMemory}
-use Rattle.fg_top.specs.declared.files.File.{File}
+use Rattle.fg_answer.specs.declared.status.Status.{Status}
+use Rattle.fg_answer.specs.declared.status.Status.TheVariants.{Done, Rejected, Refused, Words, ReadFault, WriteFault, NoMemory}
+use Rattle.fg_answer.specs.declared.files.File.{File}
 use Rattle.fg_words.specs.declared.command.Command.{Command}
 
-answered_still : (command : Command) (left old new : Option (List ℕ)) (told : Option Device → Type 0) (status : Status) → told None → IsAnswered command left old new (λ device. device ≡ None) status → IsAnswered command left old new told status
+answered_still : (command : Command) (left old new : Option (List ℕ)) (told : Option (List Event) → Type 0) (status : Status) → told None → IsAnswered command left old new (λ history. history ≡ None) status → IsAnswered command left old new told status
 answered_still command left old new told Done none is = (is.0, is.1, is.2, subst told (sym is.3) none)
 answered_still command left old new told Rejected none is = (is.0, is.1, is.2, subst told (sym is.3) none)
 answered_still command left old new told Refused none is = (is.0, is.1, is.2, subst told (sym is.3) none)
@@ -30,7 +31,7 @@ answered_still command left old new told WriteFault none is = (is.0, is.1, is.2,
 answered_still command left old new told NoMemory none is = (is.0, none)
 
 -- a call in which no device ran, where taps were told nothing
-pub still : (line : Option Command) (before after : Ends) (told : Option Device → Type 0) (status : Status) → told None → Call line before after (λ device. device ≡ None) status → Call line before after told status
+pub still : (line : Option Command) (before after : Ends) (told : Option (List Event) → Type 0) (status : Status) → told None → Call line before after (λ history. history ≡ None) status → Call line before after told status
 still line before after told status none call = record {
   words = λ e. ((call.words e).0, none);
   answered = λ command e. answered_still command before.left before.written after.written told status none (call.answered command e);
@@ -42,20 +43,20 @@ still line before after told status none call = record {
 }
 
 -- the same of the status that was handed on
-pub still_as : (line : Option Command) (before after : Ends) (told : Option Device → Type 0) (status given : Status) → given ≡ status → told None → Call line before after (λ device. device ≡ None) status → Call line before after told given
+pub still_as : (line : Option Command) (before after : Ends) (told : Option (List Event) → Type 0) (status given : Status) → given ≡ status → told None → Call line before after (λ history. history ≡ None) status → Call line before after told given
 still_as line before after told status given is none call = subst (λ (s : Status). Call line before after told s) (sym is) (still line before after told status none call)
 
 -- a call over ends that were left as they were
-pub from_ends : {I O : Type 0} (tell : I → O → Ends) (line : Option Command) (input input' : I) (output output' : O) (after : Ends) (told : Option Device → Type 0) (status : Status) → input' ≡ input → output' ≡ output → Call line (tell input' output') after told status → Call line (tell input output) after told status
+pub from_ends : {I O : Type 0} (tell : I → O → Ends) (line : Option Command) (input input' : I) (output output' : O) (after : Ends) (told : Option (List Event) → Type 0) (status : Status) → input' ≡ input → output' ≡ output → Call line (tell input' output') after told status → Call line (tell input output) after told status
 from_ends tell line input input' output output' after told status same_input same_output call =
     subst (λ i. Call line (tell i output) after told status) same_input (subst (λ o. Call line (tell input' o) after told status) same_output call)
 
 -- an answer that was found is written whole where no read and no write failed
-pub completes : (command : Command) (left old new : Option (List ℕ)) (told : Option Device → Type 0) (status : Status) (reads reads' writes writes' : ℕ) → IsAnswered command left old new told status → ReadCause reads reads' status → WriteCause writes writes' status → ¬ Rose reads reads' → ¬ Rose writes writes' → (status ≡ NoMemory) ⊎ Completes command left old new status
-completes command left old new told Done reads reads' writes writes' is read write steady_read steady_write = inr (record { answer = is.0; answers = is.1; given = is.2.0; written = is.2.1 })
-completes command left old new told Rejected reads reads' writes writes' is read write steady_read steady_write = inr (record { answer = is.0; answers = is.1; given = is.2.0; written = is.2.1 })
-completes command left old new told Refused reads reads' writes writes' is read write steady_read steady_write = inr (record { answer = is.0; answers = is.1; given = is.2.0; written = is.2.1 })
-completes command left old new told Words reads reads' writes writes' is read write steady_read steady_write = inr (record { answer = is.0; answers = is.1; given = is.2.0; written = is.2.1 })
+pub completes : (command : Command) (left old new : Option (List ℕ)) (told : Option (List Event) → Type 0) (status : Status) (reads reads' writes writes' : ℕ) → IsAnswered command left old new told status → ReadCause reads reads' status → WriteCause writes writes' status → ¬ Rose reads reads' → ¬ Rose writes writes' → (status ≡ NoMemory) ⊎ Completes command left old new status
+completes command left old new told Done reads reads' writes writes' is read write steady_read steady_write = inr (record { reply = is.0; answers = is.1; given = is.2.0; written = is.2.1 })
+completes command left old new told Rejected reads reads' writes writes' is read write steady_read steady_write = inr (record { reply = is.0; answers = is.1; given = is.2.0; written = is.2.1 })
+completes command left old new told Refused reads reads' writes writes' is read write steady_read steady_write = inr (record { reply = is.0; answers = is.1; given = is.2.0; written = is.2.1 })
+completes command left old new told Words reads reads' writes writes' is read write steady_read steady_write = inr (record { reply = is.0; answers = is.1; given = is.2.0; written = is.2.1 })
 completes command left old new told ReadFault reads reads' writes writes' is read write steady_read steady_write = absurd (steady_read read)
 completes command left old new told WriteFault reads reads' writes writes' is read write steady_read steady_write = absurd (steady_write write)
 completes command left old new told NoMemory reads reads' writes writes' is read write steady_read steady_write = inl refl
@@ -69,7 +70,7 @@ few_none (Some file) left = ([], none_taken left, omega arith)
     none_taken (Some all) = refl
 
 -- nothing was read, written or told
-pub nothing : (line : Option Command) (ends : Ends) (told : Option Device → Type 0) → told None → Call line ends ends told NoMemory
+pub nothing : (line : Option Command) (ends : Ends) (told : Option (List Event) → Type 0) → told None → Call line ends ends told NoMemory
 nothing line ends told none = record {
   words = λ e. (Keeps-refl ends.written, none);
   answered = λ command e. (Keeps-refl ends.written, none);
@@ -81,11 +82,11 @@ nothing line ends told none = record {
 }
 
 -- the same of a status that was handed on
-pub nothing_as : (line : Option Command) (ends : Ends) (told : Option Device → Type 0) (status : Status) → status ≡ NoMemory → told None → Call line ends ends told status
+pub nothing_as : (line : Option Command) (ends : Ends) (told : Option (List Event) → Type 0) (status : Status) → status ≡ NoMemory → told None → Call line ends ends told status
 nothing_as line ends told status is none = subst (λ (s : Status). Call line ends ends told s) (sym is) (nothing line ends told none)
 
 -- a command was answered
-pub called : (line : Option Command) (command : Command) (before after : Ends) (told : Option Device → Type 0) (status : Status) → line ≡ Some command → IsAnswered command before.left before.written after.written told status → ReadCause before.read_faults after.read_faults status → WriteCause before.write_faults after.write_faults status → TakesFew (file_of command) before.left after.left → (¬ IsUnanswered status → TakesAll (file_of command) before.left after.left) → Call line before after told status
+pub called : (line : Option Command) (command : Command) (before after : Ends) (told : Option (List Event) → Type 0) (status : Status) → line ≡ Some command → IsAnswered command before.left before.written after.written told status → ReadCause before.read_faults after.read_faults status → WriteCause before.write_faults after.write_faults status → TakesFew (file_of command) before.left after.left → (¬ IsUnanswered status → TakesAll (file_of command) before.left after.left) → Call line before after told status
 called line command before after told status is answered read write taken whole = subst (λ (l : Option Command). Call l before after told status) (sym is) (record {
   words = λ e. absurd (true≢false (ap is_some e));
   answered = λ other e. subst (λ (c : Command). IsAnswered c before.left before.written after.written told status) (same_Some command other e) answered;
@@ -97,7 +98,7 @@ called line command before after told status is answered read write taken whole 
 })
 
 -- words that are no command line: nothing is read
-pub worded : (line : Option Command) (before after : Ends) (told : Option Device → Type 0) (status : Status) → line ≡ None → told None → after.left ≡ before.left → after.read_faults ≡ before.read_faults → EndsAs Words (codes "words\n") before.written after.written status → WriteCause before.write_faults after.write_faults status → (status ≡ Words) ⊎ (status ≡ WriteFault) → Call line before after told status
+pub worded : (line : Option Command) (before after : Ends) (told : Option (List Event) → Type 0) (status : Status) → line ≡ None → told None → after.left ≡ before.left → after.read_faults ≡ before.read_faults → EndsAs Words (codes "words\n") before.written after.written status → WriteCause before.write_faults after.write_faults status → (status ≡ Words) ⊎ (status ≡ WriteFault) → Call line before after told status
 worded line before after told status is none left faults ends write either = subst (λ (l : Option Command). Call l before after told status) (sym is) (record {
   words = λ e. (ends, none);
   answered = λ command e. absurd (true≢false (sym (ap is_some e)));

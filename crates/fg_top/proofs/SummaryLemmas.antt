@@ -1,5 +1,5 @@
 -- The bytes of exports, and how many passes are kept.
-use Rattle.std.proofs.Common.{◌≡◌, ◌∙◌, ◌<◌, ◌≤◌, ◌&&◌, ℕ, Bool, true, false, List, length, nat_le, get_or, Option, Some, None, is_some, refl, sym, ap, ap₂, subst, arith}
+use Rattle.std.proofs.Common.{◌≡◌, ◌∙◌, ◌<◌, ◌≤◌, ℕ, Bool, true, false, List, length, nat_le, get_or, Some, None, is_some, sym, ap, ap₂, subst, arith}
 use Rattle.std.proofs.lemmas.Bool.{and_parts, false≢true, leb-true}
 use Rattle.std.proofs.lemmas.List.{get_or-map}
 use Rattle.std.proofs.lemmas.Option.{same_Some, slice_get-get_or}
@@ -12,12 +12,12 @@ use Rattle.fg_faithful.specs.Laws.{AreAsLong}
 use Rattle.fg_frame.specs.Good.{IsGood, shapes_in}
 use Rattle.fg_frame.specs.Numbered.{NumberedFrame}
 use Rattle.fg_frame.specs.Units.{Unit as FrameUnit}
-use Rattle.fg_meaning.specs.Meaning.{all_bytes, has_picture, meaning}
+use Rattle.fg_meaning.specs.Meaning.{all_bytes, has_picture}
 use Rattle.fg_place.specs.Placing.{Places}
 use Rattle.fg_subs.specs.declared.program.Program.{Program}
 use Rattle.fg_top.specs.Code.Totals.{IsTotal}
 use Rattle.fg_top.specs.Summaries.{summary_of, summary_with}
-use Rattle.fg_top.specs.Texts.{AreMeant}
+use Rattle.fg_stages.specs.Exports.{AreMeant}
 use Rattle.fg_top.specs.declared.totals.Total.{Total}
 
 no_unit : FrameUnit

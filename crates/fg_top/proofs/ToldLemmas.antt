@@ -2,11 +2,10 @@
 use Rattle.std.proofs.Common.{◌≡◌, ℕ, List, Some, subst, sym}
 use Rattle.std.specs.declared.option.Option.{Option}
 use Rattle.fg_base.specs.declared.event.Event.{Event}
-use Rattle.fg_steps.specs.Devices.{Device}
 use Rattle.fg_taps.specs.Served.{AreServed}
 use Rattle.fg_top.specs.Told.{AreTold}
 
--- the history of the device that ran
-pub told_of : {T : Type 0} (heard : T → Option (List Event)) (finished : T → Type 0) (lent kept spent : List T) (places : List ℕ) (o : Option Device) (d : Device) (events : List Event) → o ≡ Some d → events ≡ d.history → AreServed heard finished events lent kept spent places → AreTold heard finished lent kept spent places o
-told_of heard finished lent kept spent places o d events ran is served =
+-- what devices did
+pub told_of : {T : Type 0} (heard : T → Option (List Event)) (finished : T → Type 0) (lent kept spent : List T) (places : List ℕ) (o : Option (List Event)) (history events : List Event) → o ≡ Some history → events ≡ history → AreServed heard finished events lent kept spent places → AreTold heard finished lent kept spent places o
+told_of heard finished lent kept spent places o history events ran is served =
     subst (AreTold heard finished lent kept spent places) (sym ran) (subst (λ (h : List Event). AreServed heard finished h lent kept spent places) is served)

@@ -1,169 +1,61 @@
 -- What a command answers to the bytes of its input.
-use Rattle.std.specs.Prelude.{◌≡◌, ◌⊎◌, ℕ, ◌<◌, ◌≤◌, Bool, List, [], ◌++◌, length, Option, Some, None, Result, Ok, Err, codes}
+use Rattle.std.specs.Prelude.{◌≡◌, ◌⊎◌, ℕ, Bool, List, Option, None, Result, Ok, Err}
 use Rattle.std.specs.Io.KnownBytes.{Keeps}
-use Rattle.fg_base.specs.declared.limit.Limit.TheVariants.{Input}
-use Rattle.fg_bound.specs.Bounds.{Holds, IsBound, IsShown}
-use Rattle.fg_bound.specs.declared.bound.Bound.{Bound as Certified}
-use Rattle.fg_frame.specs.Faults.{over_limit}
-use Rattle.fg_frame.specs.Numbered.{numbered}
+use Rattle.fg_answer.specs.Answers as rest
+use Rattle.fg_answer.specs.Answers.{over_input}
+use Rattle.fg_stages.specs.Files.{frame_file, program_file}
+use Rattle.fg_answer.specs.Inputs.{ByLimit}
+use Rattle.fg_answer.specs.Plain.{Rejects, refusal, program_refusal}
+use Rattle.fg_answer.specs.declared.status.Status.{Status}
+use Rattle.fg_answer.specs.declared.status.Status.TheVariants.{ReadFault, NoMemory}
 use Rattle.fg_frame.specs.declared.fault.FrameFault.{FrameFault}
 use Rattle.fg_frame.specs.declared.frame.Frame.{Frame}
-use Rattle.fg_framefile.specs.Files.{frame_text}
-use Rattle.fg_groups.specs.Groups.{grouping}
-use Rattle.fg_groups.specs.Placed.{sizes}
-use Rattle.fg_lifetimes.specs.Ordered.{IsOrdered}
-use Rattle.fg_place.specs.Placing.{Places, IsLeast}
-use Rattle.fg_checker.specs.Sound.{IsSound}
-use Rattle.fg_report.specs.BoundLines.{bound_text}
-use Rattle.fg_report.specs.Hazards.{check_text}
-use Rattle.fg_report.specs.PlaceLines.{place_text}
-use Rattle.fg_report.specs.KeptLines.{cull_text}
 use Rattle.fg_gen.specs.Generated.{generated}
-use Rattle.fg_top.specs.Audits.{AuditsFile}
-use Rattle.fg_top.specs.Files.{frame_file, program_file}
-use Rattle.fg_top.specs.Outcomes.{Tells, EndsAs}
-use Rattle.fg_top.specs.Headline.{Compiles, RunsFrame, SummarizesFrame, Executes}
-use Rattle.fg_top.specs.Inputs.{file_of, limit_of}
-use Rattle.fg_top.specs.Plain.{Rejects, done, refusal, program_refusal}
-use Rattle.fg_top.specs.Texts.{AreMeant, exports_text}
-use Rattle.fg_steps.specs.Devices.{Device}
-use Rattle.fg_subfile.specs.Files.{program_text}
-use Rattle.fg_subs.specs.Faults as subs
-use Rattle.fg_subs.specs.Entries.{entries_of}
+use Rattle.fg_base.specs.declared.event.Event.{Event}
 use Rattle.fg_subs.specs.declared.fault.SubFault.{SubFault}
 use Rattle.fg_subs.specs.declared.program.Program.{Program}
-use Rattle.fg_top.specs.declared.answer.Answer.{Answer}
-use Rattle.fg_top.specs.declared.ended.Status.{Status}
-use Rattle.fg_top.specs.declared.ended.Status.TheVariants.{ReadFault, NoMemory}
-use Rattle.fg_top.specs.declared.files.File.{File}
-use Rattle.fg_top.specs.declared.files.File.TheVariants as files
-use Rattle.fg_versions.specs.Culled.{AreKept}
+use Rattle.fg_top.specs.Audits.{AuditsFile}
+use Rattle.fg_top.specs.Flights.{FliesBytes}
+use Rattle.fg_top.specs.Headline.{RunsFrame, SummarizesFrame, Executes}
+use Rattle.fg_top.specs.Outcomes.{Tells, EndsAs}
+use Rattle.fg_top.specs.Replies.{IsStill, still}
+use Rattle.fg_top.specs.declared.reply.Reply.{Reply}
 use Rattle.fg_words.specs.declared.command.Command.{Command}
 use Rattle.fg_words.specs.declared.command.Command.TheVariants as reads
-use Rattle.fg_words.specs.declared.command.FrameCommand.{FrameCommand}
-use Rattle.fg_words.specs.declared.command.FrameCommand.TheVariants.{Cull, Place, Bound, Compile, Meaning, Migrate}
-use Rattle.fg_words.specs.declared.command.SubmissionCommand.{SubmissionCommand}
-use Rattle.fg_words.specs.declared.command.SubmissionCommand.TheVariants.{Check}
 use Rattle.fg_words.specs.declared.options.Options.{Options}
 
--- the answer to more bytes than a file may have
-abbrev pub over_input : File → Answer
-over_input files.Frame = refusal (over_limit Input [])
-over_input files.Submission = program_refusal (subs.over_limit Input [])
+abbrev pub RunsFile : Options → Bool → Bool → Result Frame FrameFault → Reply → Type 0
+RunsFile options trace tight (Ok frame) reply = RunsFrame options trace tight frame reply
+RunsFile options trace tight (Err fault) reply = reply ≡ still (refusal fault)
 
--- the exports, with the bytes that they have after all passes
-pub record MeansFrame (frame : Frame) (answer : Answer) : Type 0 where
-  pub bytes : ℕ → List ℕ
-  pub meant : AreMeant (numbered frame) bytes
-  pub whole : answer ≡ done (exports_text frame bytes)
+abbrev pub ExecutesFile : Options → Bool → Result Program SubFault → Reply → Type 0
+ExecutesFile options trace (Ok program) reply = Executes options trace program reply ⊎ IsStill (Rejects program) reply
+ExecutesFile options trace (Err fault) reply = reply ≡ still (program_refusal fault)
 
--- what becomes of each pass
-pub record CullsFrame (frame : Frame) (answer : Answer) : Type 0 where
-  pub kept : List Bool
-  pub are_kept : AreKept (numbered frame) kept
-  pub whole : answer ≡ done (cull_text frame kept)
-
--- where the transient units lie: each at its least place, where units that are ordered may share memory
-pub record PlacesFrame (frame : Frame) (answer : Answer) : Type 0 where
-  pub kept : List Bool
-  pub are_kept : AreKept (numbered frame) kept
-  pub ordered : ℕ → ℕ → Bool
-  pub is_ordered : IsOrdered (grouping (numbered frame) kept) ordered
-  pub places : Places
-  pub least : IsLeast (sizes (grouping (numbered frame) kept)) ordered places
-  pub whole : answer ≡ done (place_text frame (grouping (numbered frame) kept) places)
-
--- how many bytes no legal placement of the transient units is smaller than, with units that show it, beside the heap of their
--- least places
-pub record BoundsFrame (frame : Frame) (answer : Answer) : Type 0 where
-  pub kept : List Bool
-  pub are_kept : AreKept (numbered frame) kept
-  pub ordered : ℕ → ℕ → Bool
-  pub is_ordered : IsOrdered (grouping (numbered frame) kept) ordered
-  pub places : Places
-  pub least : IsLeast (sizes (grouping (numbered frame) kept)) ordered places
-  pub bound : Certified
-  pub is_bound : IsBound (sizes (grouping (numbered frame) kept)) ordered bound
-  pub shown : IsShown (sizes (grouping (numbered frame) kept)) ordered bound
-  pub holds : Holds (sizes (grouping (numbered frame) kept)) ordered bound.least
-  pub whole : answer ≡ done (bound_text frame (grouping (numbered frame) kept) bound.least places.heap bound.chosen)
-
--- the canonical text of the compiled program and a line feed, from which that program is read again: it is sound, so `check`
--- accepts the text, where it is within the limit
-pub record CompilesFrame (tight : Bool) (frame : Frame) (answer : Answer) : Type 0 where
-  pub kept : List Bool
-  pub places : Places
-  pub program : Program
-  pub compiles : Compiles tight (numbered frame) kept places program
-  pub whole : answer ≡ done (program_text program ++ codes "\n")
-  pub again : program_file answer.text ≡ Ok program
-
--- the canonical text and a line feed, from which the frame is read again
-pub record MigratesFrame (frame : Frame) (answer : Answer) : Type 0 where
-  pub whole : answer ≡ done (frame_text frame ++ codes "\n")
-  pub again : frame_file answer.text ≡ Ok frame
-
--- the same of the frame that a number gives
-abbrev pub GeneratesFrame : ℕ → ℕ → Answer → Type 0
-GeneratesFrame number passes answer = MigratesFrame (generated number passes) answer
-
--- what is made of a frame without a fault
-abbrev pub AnswersFrame : FrameCommand → Frame → Answer → Type 0
-AnswersFrame Cull frame answer = CullsFrame frame answer
-AnswersFrame Place frame answer = PlacesFrame frame answer
-AnswersFrame Bound frame answer = BoundsFrame frame answer
-AnswersFrame (Compile tight) frame answer = CompilesFrame tight frame answer
-AnswersFrame Meaning frame answer = MeansFrame frame answer
-AnswersFrame Migrate frame answer = MigratesFrame frame answer
-
-abbrev pub AnswersFrameFile : FrameCommand → Result Frame FrameFault → Answer → Type 0
-AnswersFrameFile asked (Ok frame) answer = AnswersFrame asked frame answer
-AnswersFrameFile asked (Err fault) answer = answer ≡ refusal fault
-
-abbrev pub RunsFile : Options → Bool → Bool → Result Frame FrameFault → Answer → Type 0
-RunsFile options trace tight (Ok frame) answer = RunsFrame options trace tight frame answer
-RunsFile options trace tight (Err fault) answer = answer ≡ refusal fault
-
-pub record Accepts (program : Program) (answer : Answer) : Type 0 where
-  pub sound : IsSound program
-  pub whole : answer ≡ done (check_text (length (entries_of program)))
-
--- what is made of a program without a fault
-abbrev pub AnswersProgram : SubmissionCommand → Program → Answer → Type 0
-AnswersProgram Check program answer = Accepts program answer ⊎ Rejects program answer
-
-abbrev pub AnswersProgramFile : SubmissionCommand → Result Program SubFault → Answer → Type 0
-AnswersProgramFile asked (Ok program) answer = AnswersProgram asked program answer
-AnswersProgramFile asked (Err fault) answer = answer ≡ program_refusal fault
-
-abbrev pub ExecutesFile : Options → Bool → Result Program SubFault → Answer → Type 0
-ExecutesFile options trace (Ok program) answer = Executes options trace program answer ⊎ Rejects program answer
-ExecutesFile options trace (Err fault) answer = answer ≡ program_refusal fault
-
--- what is made of bytes within the limit; what is generated does not depend on them
-abbrev pub AnswersBytes : Command → List ℕ → Answer → Type 0
-AnswersBytes (reads.Frame asked) bytes answer = AnswersFrameFile asked (frame_file bytes) answer
-AnswersBytes (reads.Submission asked) bytes answer = AnswersProgramFile asked (program_file bytes) answer
-AnswersBytes (reads.Gen number passes) bytes answer = GeneratesFrame number passes answer
-AnswersBytes (reads.Run options trace tight) bytes answer = RunsFile options trace tight (frame_file bytes) answer
-AnswersBytes (reads.Exec options trace) bytes answer = ExecutesFile options trace (program_file bytes) answer
-AnswersBytes (reads.Summary number passes options) bytes answer = SummarizesFrame options (generated number passes) answer
-AnswersBytes reads.Audit bytes answer = AuditsFile bytes answer
+-- what is made of bytes within the limit; a command that needs no device answers what it answers at rest
+abbrev pub AnswersBytes : Command → List ℕ → Reply → Type 0
+AnswersBytes (reads.Frame asked) bytes reply = IsStill (rest.AnswersBytes (reads.Frame asked) bytes) reply
+AnswersBytes (reads.Submission asked) bytes reply = IsStill (rest.AnswersBytes (reads.Submission asked) bytes) reply
+AnswersBytes (reads.Gen number passes) bytes reply = IsStill (rest.AnswersBytes (reads.Gen number passes) bytes) reply
+AnswersBytes (reads.Run options trace tight) bytes reply = RunsFile options trace tight (frame_file bytes) reply
+AnswersBytes (reads.Exec options trace) bytes reply = ExecutesFile options trace (program_file bytes) reply
+AnswersBytes (reads.Summary number passes options) bytes reply = SummarizesFrame options (generated number passes) reply
+AnswersBytes (reads.Flight options persist depth) bytes reply = FliesBytes options persist depth bytes reply
+AnswersBytes reads.Audit bytes reply = IsStill (AuditsFile bytes) reply
 
 -- more bytes than the limit are refused before anything else
-pub record Answers (command : Command) (bytes : List ℕ) (answer : Answer) : Type 0 where
-  pub over : (file : File) → file_of command ≡ Some file → limit_of file < length bytes → answer ≡ over_input file
-  pub within : ((file : File) → file_of command ≡ Some file → length bytes ≤ limit_of file) → AnswersBytes command bytes answer
+abbrev pub Answers : Command → List ℕ → Reply → Type 0
+Answers command bytes reply = ByLimit command bytes (λ file. reply ≡ still (over_input file)) (AnswersBytes command bytes reply)
 
 -- the answer to the bytes that were left
-pub record AnswersLeft (command : Command) (left : Option (List ℕ)) (answer : Answer) : Type 0 where
+pub record AnswersLeft (command : Command) (left : Option (List ℕ)) (reply : Reply) : Type 0 where
   pub bytes : List ℕ
   pub told : Tells left bytes
-  pub answers : Answers command bytes answer
+  pub answers : Answers command bytes reply
 
--- the call ended with the answer to the bytes that were left, and taps were told of its device; or with a read fault or want
+-- the call ended with the answer to the bytes that were left, and taps were told of its devices; or with a read fault or want
 -- of memory, and wrote and told nothing
-abbrev pub IsAnswered : Command → Option (List ℕ) → Option (List ℕ) → Option (List ℕ) → (Option Device → Type 0) → Status → Type 0
+abbrev pub IsAnswered : Command → Option (List ℕ) → Option (List ℕ) → Option (List ℕ) → (Option (List Event) → Type 0) → Status → Type 0
 IsAnswered command left old new told ReadFault = Keeps old new × told None
 IsAnswered command left old new told NoMemory = Keeps old new × told None
-IsAnswered command left old new told status = (answer : Answer) × AnswersLeft command left answer × EndsAs answer.status answer.text old new status × told answer.device
+IsAnswered command left old new told status = (reply : Reply) × AnswersLeft command left reply × EndsAs reply.answer.status reply.answer.text old new status × told reply.history

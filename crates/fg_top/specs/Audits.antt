@@ -1,5 +1,5 @@
 -- What `audit` answers: whether a trace is a run of a submission.
-use Rattle.std.specs.Prelude.{◌≡◌, ◌⊎◌, ◌↔◌, ℕ, List, ◌++◌, length, None, Result, Ok, Err}
+use Rattle.std.specs.Prelude.{◌≡◌, ◌⊎◌, ◌↔◌, ℕ, List, ◌++◌, length, Result, Ok, Err}
 use Rattle.fg_audit.specs.Recordings.{submission_in, trace_in}
 use Rattle.fg_audit.specs.Runs.{IsRun}
 use Rattle.fg_audit.specs.Trace.{trace_of}
@@ -15,31 +15,29 @@ use Rattle.fg_report.specs.declared.audit.AuditLine.{AuditLine}
 use Rattle.fg_report.specs.declared.audit.AuditLine.TheVariants as lines
 use Rattle.fg_subs.specs.declared.fault.SubFault.{SubFault}
 use Rattle.fg_subs.specs.declared.program.Program.{Program}
-use Rattle.fg_top.specs.Files.{program_file}
-use Rattle.fg_top.specs.Plain.{Rejects, done, program_refusal}
-use Rattle.fg_top.specs.Runs.{read_by}
+use Rattle.fg_stages.specs.Files.{program_file}
+use Rattle.fg_answer.specs.Plain.{Rejects, done, program_refusal}
+use Rattle.fg_run.specs.Runs.{read_by}
 use Rattle.fg_top.specs.Texts.{readbacks_text}
-use Rattle.fg_top.specs.declared.answer.Answer.{Answer}
-use Rattle.fg_top.specs.declared.ended.Status.TheVariants.{Done, Rejected, Refused}
+use Rattle.fg_answer.specs.declared.answer.Answer.{Answer}
+use Rattle.fg_answer.specs.declared.status.Status.{Status}
+use Rattle.fg_answer.specs.declared.status.Status.TheVariants.{Done, Rejected, Refused}
 
-abbrev pub trace_refusal : AuditLine → Answer
-trace_refusal line = record { status = Refused; text = audit_text line; device = None }
-
-abbrev pub trace_rejection : AuditLine → Answer
-trace_rejection line = record { status = Rejected; text = audit_text line; device = None }
+abbrev pub line_answer : Status → AuditLine → Answer
+line_answer status line = record { status = status; text = audit_text line }
 
 -- the text is no trace: its first line that does not fit, or more events than are read
 abbrev pub RefusesTrace : TraceEnd → Answer → Type 0
-RefusesTrace (ends.Text line) answer = answer ≡ trace_refusal (lines.Text line)
-RefusesTrace (ends.Limit events) answer = answer ≡ trace_refusal (lines.Limit events)
+RefusesTrace (ends.Text line) answer = answer ≡ line_answer Refused (lines.Text line)
+RefusesTrace (ends.Limit events) answer = answer ≡ line_answer Refused (lines.Limit events)
 RefusesTrace ends.NoMemory answer = ⊥
 
 -- of a run how many events it has, and the read-backs of the device on which they came; else the first event that is not
 -- enabled, or the least node that is not done
 abbrev pub verdict_answer : Verdict → Answer
 verdict_answer (verdicts.Run device) = done (audit_text (lines.Run (length device.history)) ++ readbacks_text (read_by device) (length device.program.readbacks))
-verdict_answer (verdicts.NotEnabled at) = trace_rejection (lines.NotEnabled at)
-verdict_answer (verdicts.Unfinished node) = trace_rejection (lines.Unfinished node)
+verdict_answer (verdicts.NotEnabled at) = line_answer Rejected (lines.NotEnabled at)
+verdict_answer (verdicts.Unfinished node) = line_answer Rejected (lines.Unfinished node)
 
 -- The verdict on the events: they are accepted exactly where they are a run of the program, which is sound; each read-back then
 -- has the bytes that it has where all commands run one after another, in every order of the nodes.

@@ -1,19 +1,19 @@
 -- What a call of the program comes to.
-use Rattle.std.specs.Prelude.{◌≡◌, ◌⊎◌, Option, Some, None, codes}
+use Rattle.std.specs.Prelude.{◌≡◌, ◌⊎◌, List, Option, Some, None, codes}
 use Rattle.fg_base.specs.Counts.{Rose}
 use Rattle.fg_top.specs.Answers.{IsAnswered}
 use Rattle.fg_top.specs.Causes.{ReadCause, WriteCause}
 use Rattle.fg_top.specs.Complete.{IsComplete}
 use Rattle.fg_top.specs.Ends.{Ends}
-use Rattle.fg_top.specs.Inputs.{TakesAll, TakesFew, file_in}
-use Rattle.fg_steps.specs.Devices.{Device}
+use Rattle.fg_top.specs.Takes.{TakesAll, TakesFew, file_in}
+use Rattle.fg_base.specs.declared.event.Event.{Event}
 use Rattle.fg_top.specs.Outcomes.{EndsAs, IsUnanswered}
-use Rattle.fg_top.specs.declared.ended.Status.{Status}
-use Rattle.fg_top.specs.declared.ended.Status.TheVariants.{Words, NoMemory}
+use Rattle.fg_answer.specs.declared.status.Status.{Status}
+use Rattle.fg_answer.specs.declared.status.Status.TheVariants.{Words, NoMemory}
 use Rattle.fg_words.specs.declared.command.Command.{Command}
 
--- the command of the words, the ends before the call and after it, what taps were told of a device, and the status
-pub record Call (line : Option Command) (before after : Ends) (told : Option Device → Type 0) (status : Status) : Type 0 where
+-- the command of the words, the ends before the call and after it, what taps were told of devices, and the status
+pub record Call (line : Option Command) (before after : Ends) (told : Option (List Event) → Type 0) (status : Status) : Type 0 where
   -- words that are no command line
   pub words : line ≡ None → EndsAs Words (codes "words\n") before.written after.written status × told None
   -- a command: its answer to the bytes that were left is written

@@ -1,8 +1,8 @@
 -- Why a call ended with a fault.
 use Rattle.std.specs.Prelude.{ℕ, ◌≡◌}
 use Rattle.fg_base.specs.Counts.{Rose}
-use Rattle.fg_top.specs.declared.ended.Status.{Status}
-use Rattle.fg_top.specs.declared.ended.Status.TheVariants.{ReadFault, WriteFault}
+use Rattle.fg_answer.specs.declared.status.Status.{Status}
+use Rattle.fg_answer.specs.declared.status.Status.TheVariants.{ReadFault, WriteFault}
 
 -- the source counted a fault in this call exactly where its status is a read fault
 abbrev pub ReadCause : ℕ → ℕ → Status → Type 0

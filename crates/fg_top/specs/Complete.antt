@@ -2,17 +2,17 @@
 use Rattle.std.specs.Prelude.{◌≡◌, ℕ, List, Option, Some, None, codes}
 use Rattle.std.specs.Io.KnownBytes.{Appends}
 use Rattle.fg_top.specs.Answers.{AnswersLeft}
-use Rattle.fg_top.specs.declared.answer.Answer.{Answer}
-use Rattle.fg_top.specs.declared.ended.Status.{Status}
-use Rattle.fg_top.specs.declared.ended.Status.TheVariants.{Words}
+use Rattle.fg_answer.specs.declared.status.Status.{Status}
+use Rattle.fg_answer.specs.declared.status.Status.TheVariants.{Words}
+use Rattle.fg_top.specs.declared.reply.Reply.{Reply}
 use Rattle.fg_words.specs.declared.command.Command.{Command}
 
 -- the status is that of the answer to the bytes that were left, and its whole text was written
 pub record Completes (command : Command) (left old new : Option (List ℕ)) (status : Status) : Type 0 where
-  pub answer : Answer
-  pub answers : AnswersLeft command left answer
-  pub given : status ≡ answer.status
-  pub written : Appends old new answer.text
+  pub reply : Reply
+  pub answers : AnswersLeft command left reply
+  pub given : status ≡ reply.answer.status
+  pub written : Appends old new reply.answer.text
 
 -- the same of words that are no command line: their line was written
 abbrev pub IsComplete : Option Command → Option (List ℕ) → Option (List ℕ) → Option (List ℕ) → Status → Type 0

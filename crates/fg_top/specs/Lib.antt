@@ -6,13 +6,11 @@ pub mod Causes
 pub mod Code
 pub mod Complete
 pub mod Ends
-pub mod Files
+pub mod Flights
 pub mod Headline
-pub mod Inputs
 pub mod Outcomes
-pub mod Plain
-pub mod Runs
-pub mod Statuses
+pub mod Replies
 pub mod Summaries
+pub mod Takes
 pub mod Texts
 pub mod Told

@@ -2,8 +2,8 @@
 use Rattle.std.specs.Prelude.{ℕ, ◌+◌, ◌≤◌, List, ◌++◌, length, ◌≡◌, ◌⊎◌, Some, None}
 use Rattle.std.specs.declared.option.Option.{Option}
 use Rattle.std.specs.Io.KnownBytes.{Appends, Consumes, Keeps}
-use Rattle.fg_top.specs.declared.ended.Status.{Status}
-use Rattle.fg_top.specs.declared.ended.Status.TheVariants.{ReadFault, WriteFault, NoMemory}
+use Rattle.fg_answer.specs.declared.status.Status.{Status}
+use Rattle.fg_answer.specs.declared.status.Status.TheVariants.{ReadFault, WriteFault, NoMemory}
 
 -- these are the bytes that were left, where the source tells them
 abbrev pub Tells : Option (List ℕ) → List ℕ → Type 0

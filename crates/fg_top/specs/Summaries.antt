@@ -8,7 +8,7 @@ use Rattle.fg_place.specs.Placing.{Places}
 use Rattle.fg_report.specs.Summaries.{summary_text}
 use Rattle.fg_subs.specs.Entries.{entries_of}
 use Rattle.fg_subs.specs.declared.program.Program.{Program}
-use Rattle.fg_top.specs.Texts.{in_turn}
+use Rattle.fg_stages.specs.Exports.{in_turn}
 
 -- how many passes are kept and how many are not, how many nodes the program has, how many bytes the heap has and how many the
 -- placed units would take one by one; and of the exports how many there are, how many bytes they have and what these come to

@@ -2,14 +2,13 @@
 use Rattle.std.specs.Prelude.{◌≡◌, ℕ, List, [], Some, None}
 use Rattle.std.specs.declared.option.Option.{Option}
 use Rattle.fg_base.specs.declared.event.Event.{Event}
-use Rattle.fg_steps.specs.Devices.{Device}
 use Rattle.fg_taps.specs.Served.{AreServed}
 
 -- no tap was told anything, and none is spent
 abbrev pub IsUntold : {T : Type 0} → List T → List T → List T → List ℕ → Type 0
 IsUntold lent kept spent places = (kept ≡ lent) × (spent ≡ []) × (places ≡ [])
 
--- where a device ran, the taps were told its history
-abbrev pub AreTold : {T : Type 0} → (T → Option (List Event)) → (T → Type 0) → List T → List T → List T → List ℕ → Option Device → Type 0
+-- where devices ran, the taps were told what they did
+abbrev pub AreTold : {T : Type 0} → (T → Option (List Event)) → (T → Type 0) → List T → List T → List T → List ℕ → Option (List Event) → Type 0
 AreTold heard finished lent kept spent places None = IsUntold lent kept spent places
-AreTold heard finished lent kept spent places (Some device) = AreServed heard finished device.history lent kept spent places
+AreTold heard finished lent kept spent places (Some history) = AreServed heard finished history lent kept spent places

@@ -7,16 +7,14 @@ ghost use Rattle.fg_checker.specs.Sound.{IsSound};
 ghost use Rattle.fg_report.specs.Audits.{audit_text};
 ghost use Rattle.fg_report.specs.declared.audit.AuditLine.TheVariants as lines;
 ghost use Rattle.fg_steps.specs.Devices.{IsComplete};
-ghost use Rattle.fg_top.specs.Audits.{AuditsFile, AuditsTrace, Judges, trace_refusal, trace_rejection, verdict_answer};
-ghost use Rattle.fg_top.specs.Plain.{Rejects, done};
-ghost use Rattle.fg_top.specs.Runs.{read_by};
-ghost use Rattle.fg_top.specs.Statuses.{HasText};
+ghost use Rattle.fg_top.specs.Audits.{AuditsFile, AuditsTrace, Judges, line_answer, verdict_answer};
+ghost use Rattle.fg_answer.specs.Plain.{Rejects, done};
+ghost use Rattle.fg_run.specs.Runs.{read_by};
+ghost use Rattle.fg_answer.specs.Statuses.{HasText};
 ghost use Rattle.fg_top.specs.Texts.{readbacks_text};
 
-use crate::Status;
-use crate::answer::{Answer, done, program_refusal};
-use crate::programs::{checked, shaped};
 use crate::readbacks::add_readbacks;
+use fg_answer::{Answer, Status, checked, done, program_refusal, shaped};
 use fg_audit::{TraceEnd, Verdict, audit, read_trace, recording_in};
 use fg_base::{Event, NoMemory};
 use fg_checker::Checked;
@@ -27,27 +25,13 @@ use fg_subs::Shaped;
 use std::alloc::Global;
 use std::thread::Threads;
 
-// The answer to a text that is no trace.
-fn refused(alloc: Global, line: &AuditLine) -> Result<Answer, NoMemory>
-    ensures refusal { IfOk result (λ answer. answer ≡ trace_refusal line.now) }
-    ensures has_text { IfOk result (λ answer. HasText answer.status) }
+// The answer to a text that is no trace, or to a trace that is no run.
+fn line_answer(alloc: Global, status: Status, line: &AuditLine) -> Result<Answer, NoMemory>
+    ensures { IfOk result (λ answer. answer ≡ line_answer status line.now) }
 {
     Ok(Answer {
-        status: Status::Refused,
+        status,
         text: audit_text(alloc, line)?,
-        device: None,
-    })
-}
-
-// The answer to a trace that is no run.
-fn rejected(alloc: Global, line: &AuditLine) -> Result<Answer, NoMemory>
-    ensures rejection { IfOk result (λ answer. answer ≡ trace_rejection line.now) }
-    ensures has_text { IfOk result (λ answer. HasText answer.status) }
-{
-    Ok(Answer {
-        status: Status::Rejected,
-        text: audit_text(alloc, line)?,
-        device: None,
     })
 }
 
@@ -72,8 +56,16 @@ fn verdict_answer(alloc: Global, verdict: &Verdict) -> Result<Answer, NoMemory>
 {
     match verdict {
         Verdict::Run(device) => accepted(alloc, device),
-        Verdict::NotEnabled { at } => rejected(alloc, &AuditLine::NotEnabled { at: *at }),
-        Verdict::Unfinished { node } => rejected(alloc, &AuditLine::Unfinished { node: *node }),
+        Verdict::NotEnabled { at } => {
+            line_answer(alloc, Status::Rejected, &AuditLine::NotEnabled { at: *at })
+        }
+        Verdict::Unfinished { node } => {
+            line_answer(
+                alloc,
+                Status::Rejected,
+                &AuditLine::Unfinished { node: *node },
+            )
+        }
     }
 }
 
@@ -119,8 +111,12 @@ fn audit_trace<R: Threads + Sync>(
 {
     match read_trace(alloc, trace) {
         Ok(events) => audit_events(rt, alloc, program, events.as_slice()),
-        Err(TraceEnd::Text { line }) => refused(alloc, &AuditLine::Text { line }),
-        Err(TraceEnd::Limit { events }) => refused(alloc, &AuditLine::Limit { events }),
+        Err(TraceEnd::Text { line }) => {
+            line_answer(alloc, Status::Refused, &AuditLine::Text { line })
+        }
+        Err(TraceEnd::Limit { events }) => {
+            line_answer(alloc, Status::Refused, &AuditLine::Limit { events })
+        }
         Err(TraceEnd::NoMemory) => Err(NoMemory),
     }
 }

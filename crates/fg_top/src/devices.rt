@@ -2,27 +2,29 @@
 
 ghost use Rattle.std.specs.Prelude.{◌≡◌, ◌≤◌, ◌⊎◌, [], vec_len, vec_capacity, map, string_bytes, Some, None, true, IfOk, IfErr};
 ghost use Rattle.fg_top.specs.Answers.{AnswersBytes, AnswersLeft, IsAnswered};
-ghost use Rattle.fg_top.specs.AtRest.{needs_device};
+ghost use Rattle.fg_answer.specs.AtRest.{needs_device};
 ghost use Rattle.fg_top.specs.Calls.{Call};
 ghost use Rattle.fg_top.specs.Causes.{ReadCause, WriteCause};
 ghost use Rattle.fg_top.specs.Code.Served.{RunsOnDevice};
 ghost use Rattle.fg_top.specs.Code.Steps.{ReadsAnswer};
-ghost use Rattle.fg_top.specs.Statuses.{HasText};
+ghost use Rattle.fg_answer.specs.Statuses.{HasText};
 ghost use Rattle.fg_top.specs.Ends.{ends};
-ghost use Rattle.fg_top.specs.Inputs.{TakesAll, TakesFew, file_in, file_of};
+ghost use Rattle.fg_answer.specs.Inputs.{file_of};
+ghost use Rattle.fg_top.specs.Takes.{TakesAll, TakesFew, file_in};
 ghost use Rattle.fg_top.specs.Outcomes.{IsUnanswered};
 ghost use Rattle.fg_top.specs.Told.{AreTold};
 ghost use Rattle.fg_words.specs.Lines.{command_of};
 
-use crate::answer::Answer;
 use crate::audit::audit_file;
 use crate::exec::execute_file;
-use crate::files::{file_of, over_input};
+use crate::flight::flight_file;
 use crate::input::{Input, input_of};
+use crate::reply::{Reply, still};
 use crate::run::run_file;
 use crate::summary::summarize;
 use crate::telling::{deliver, reserved, untold};
 use crate::{Ended, Status};
+use fg_answer::{file_of, over_input};
 use fg_base::{Gate, NoMemory, Sink, Source, Tap};
 use fg_words::{Command, command_of};
 use std::alloc::Global;
@@ -32,27 +34,32 @@ use std::thread::Threads;
 fn answer_bytes<R: Threads + Wait + Sync, G: Gate + Sync>(
     rt: &R,
     alloc: Global,
-    command: Command,
+    command: &Command,
     bytes: &[u8],
     gate: &G,
-) -> Result<Answer, NoMemory>
-    requires { RunsOnDevice command }
-    ensures answer { IfOk result (AnswersBytes command bytes.now) }
-    ensures has_text { IfOk result (λ answer. HasText answer.status) }
+) -> Result<Reply, NoMemory>
+    requires { RunsOnDevice command.now }
+    ensures answer { IfOk result (AnswersBytes command.now bytes.now) }
+    ensures has_text { IfOk result (λ reply. HasText reply.answer.status) }
 {
     match command {
         Command::Run {
             options,
             trace,
             tight,
-        } => run_file(rt, alloc, options, trace, tight, bytes, gate),
-        Command::Exec { options, trace } => execute_file(rt, alloc, options, trace, bytes, gate),
+        } => run_file(rt, alloc, *options, *trace, *tight, bytes, gate),
+        Command::Exec { options, trace } => execute_file(rt, alloc, *options, *trace, bytes, gate),
         Command::Summary {
             number,
             passes,
             options,
-        } => summarize(rt, alloc, number, passes, options, gate),
-        Command::Audit => audit_file(rt, alloc, bytes),
+        } => summarize(rt, alloc, *number, *passes, *options, gate),
+        Command::Flight {
+            options,
+            persist,
+            depth,
+        } => flight_file(rt, alloc, *options, persist, *depth, bytes, gate),
+        Command::Audit => Ok(still(audit_file(rt, alloc, bytes)?)),
         Command::Frame(_) | Command::Submission(_) | Command::Gen { .. } => unreachable!(),
     }
 }
@@ -61,22 +68,22 @@ fn answer_bytes<R: Threads + Wait + Sync, G: Gate + Sync>(
 fn answer_input<R: Threads + Wait + Sync, G: Gate + Sync, I: Source>(
     rt: &R,
     alloc: Global,
-    command: Command,
+    command: &Command,
     input: &mut I,
     gate: &G,
-) -> Result<Answer, Status>
-    requires { RunsOnDevice command }
-    ensures answer { IfOk result (AnswersLeft command (I.left input.old)) }
-    ensures has_text { IfOk result (λ answer. HasText answer.status) }
+) -> Result<Reply, Status>
+    requires { RunsOnDevice command.now }
+    ensures answer { IfOk result (AnswersLeft command.now (I.left input.old)) }
+    ensures has_text { IfOk result (λ reply. HasText reply.answer.status) }
     ensures none { IfErr result (λ status. (status ≡ Status.ReadFault) ⊎ (status ≡ Status.NoMemory)) }
     ensures read { ReadsAnswer (I.faults input.old) (I.faults input.new) result }
-    ensures taken { TakesFew (file_of command) (I.left input.old) (I.left input.new) }
-    ensures whole { IfOk result (λ _. TakesAll (file_of command) (I.left input.old) (I.left input.new)) }
-    ensures unread { file_of command ≡ None → input.new ≡ input.old }
+    ensures taken { TakesFew (file_of command.now) (I.left input.old) (I.left input.new) }
+    ensures whole { IfOk result (λ _. TakesAll (file_of command.now) (I.left input.old) (I.left input.new)) }
+    ensures unread { file_of command.now ≡ None → input.new ≡ input.old }
 {
     match input_of(alloc, file_of(command), input)? {
         Input::Bytes(bytes) => Ok(answer_bytes(rt, alloc, command, bytes.as_slice(), gate)?),
-        Input::Over(file) => Ok(over_input(alloc, file)?),
+        Input::Over(file) => Ok(still(over_input(alloc, file)?)),
     }
 }
 
@@ -84,26 +91,26 @@ fn answer_input<R: Threads + Wait + Sync, G: Gate + Sync, I: Source>(
 fn answer<R: Threads + Wait + Sync, I: Source, O: Sink, G: Gate + Sync>(
     rt: &R,
     alloc: Global,
-    command: Command,
+    command: &Command,
     input: &mut I,
     output: &mut O,
     gate: &G,
     taps: &mut Vec<Box<dyn Tap>>,
     room: Ended,
 ) -> Ended
-    requires served { RunsOnDevice command }
+    requires served { RunsOnDevice command.now }
     requires spent { (room.spent.items ≡ []) × (vec_len taps.old ≤ vec_capacity room.spent) }
     requires places { (room.places.items ≡ []) × (vec_len taps.old ≤ vec_capacity room.places) }
-    ensures answered { IsAnswered command (I.left input.old) (O.taken output.old) (O.taken output.new) (AreTold (λ b. heard b) (λ b. finished b) taps.old.items taps.new.items result.spent.items result.places.items) result.status }
+    ensures answered { IsAnswered command.now (I.left input.old) (O.taken output.old) (O.taken output.new) (AreTold (λ b. heard b) (λ b. finished b) taps.old.items taps.new.items result.spent.items result.places.items) result.status }
     ensures read { ReadCause (I.faults input.old) (I.faults input.new) result.status }
     ensures write { WriteCause (O.faults output.old) (O.faults output.new) result.status }
-    ensures taken { TakesFew (file_of command) (I.left input.old) (I.left input.new) }
-    ensures whole { ¬ IsUnanswered result.status → TakesAll (file_of command) (I.left input.old) (I.left input.new) }
-    ensures unread { file_of command ≡ None → input.new ≡ input.old }
+    ensures taken { TakesFew (file_of command.now) (I.left input.old) (I.left input.new) }
+    ensures whole { ¬ IsUnanswered result.status → TakesAll (file_of command.now) (I.left input.old) (I.left input.new) }
+    ensures unread { file_of command.now ≡ None → input.new ≡ input.old }
     ensures unwritten { IsUnanswered result.status → output.new ≡ output.old }
 {
     match answer_input(rt, alloc, command, input, gate) {
-        Ok(answer) => deliver(&answer, output, taps, room),
+        Ok(reply) => deliver(&reply, output, taps, room),
         Err(status) => untold(alloc, status),
     }
 }
@@ -144,5 +151,5 @@ pub fn answer_words<R: Threads + Wait + Sync, I: Source, O: Sink, G: Gate + Sync
     let Ok(room) = reserved(alloc, taps.len()) else {
         return untold(alloc, Status::NoMemory);
     };
-    answer(rt, alloc, command, input, output, gate, taps, room)
+    answer(rt, alloc, &command, input, output, gate, taps, room)
 }

@@ -3,17 +3,18 @@
 ghost use Rattle.std.specs.Prelude.{◌≤◌, ◌⊎◌, IfOk};
 ghost use Rattle.fg_checker.specs.Sound.{IsSound};
 ghost use Rattle.fg_top.specs.Answers.{ExecutesFile};
-ghost use Rattle.fg_top.specs.Statuses.{HasText};
-ghost use Rattle.fg_top.specs.Files.{program_file};
+ghost use Rattle.fg_answer.specs.Statuses.{HasText};
+ghost use Rattle.fg_stages.specs.Files.{program_file};
 ghost use Rattle.fg_top.specs.Headline.{Executes};
-ghost use Rattle.fg_top.specs.Plain.{Rejects};
+ghost use Rattle.fg_top.specs.Replies.{IsStill};
+ghost use Rattle.fg_answer.specs.Plain.{Rejects};
 
-use crate::answer::{Answer, program_refusal, ran};
-use crate::programs::{checked, shaped};
 use crate::readbacks::exec_text;
-use crate::running::run_program;
+use crate::reply::{Reply, ran, still};
+use fg_answer::{checked, program_refusal, shaped};
 use fg_base::{Gate, NoMemory};
 use fg_checker::Checked;
+use fg_run::run_program;
 use fg_subfile::SubReadEnd;
 use fg_subs::Shaped;
 use fg_words::Options;
@@ -29,16 +30,16 @@ fn execute_checked<R: Threads + Wait + Sync, G: Gate + Sync>(
     trace: bool,
     program: &Checked,
     gate: &G,
-) -> Result<Answer, NoMemory>
+) -> Result<Reply, NoMemory>
     requires least { 1 ≤ options.workers }
     requires most { options.workers ≤ 16 }
     requires sound { IsSound program.now.program }
     ensures program { IfOk result (Executes options trace program.now.program) }
-    ensures has_text { IfOk result (λ answer. HasText answer.status) }
+    ensures has_text { IfOk result (λ reply. HasText reply.answer.status) }
 {
     let device = run_program(rt, alloc, program, options, gate)?;
     let text = exec_text(alloc, &device, trace)?;
-    Ok(ran(device, text))
+    ran(alloc, &device, text)
 }
 
 fn execute_program<R: Threads + Wait + Sync, G: Gate + Sync>(
@@ -48,15 +49,15 @@ fn execute_program<R: Threads + Wait + Sync, G: Gate + Sync>(
     trace: bool,
     program: Shaped,
     gate: &G,
-) -> Result<Answer, NoMemory>
+) -> Result<Reply, NoMemory>
     requires least { 1 ≤ options.workers }
     requires most { options.workers ≤ 16 }
-    ensures program { IfOk result (λ answer. Executes options trace program answer ⊎ Rejects program answer) }
-    ensures has_text { IfOk result (λ answer. HasText answer.status) }
+    ensures program { IfOk result (λ reply. Executes options trace program reply ⊎ IsStill (Rejects program) reply) }
+    ensures has_text { IfOk result (λ reply. HasText reply.answer.status) }
 {
     match checked(alloc, program) {
         Ok(checked) => execute_checked(rt, alloc, options, trace, &checked, gate),
-        Err(answer) => answer,
+        Err(answer) => Ok(still(answer?)),
     }
 }
 
@@ -68,15 +69,15 @@ pub fn execute_file<R: Threads + Wait + Sync, G: Gate + Sync>(
     trace: bool,
     bytes: &[u8],
     gate: &G,
-) -> Result<Answer, NoMemory>
+) -> Result<Reply, NoMemory>
     requires least { 1 ≤ options.workers }
     requires most { options.workers ≤ 16 }
     ensures file { IfOk result (ExecutesFile options trace (program_file bytes.now)) }
-    ensures has_text { IfOk result (λ answer. HasText answer.status) }
+    ensures has_text { IfOk result (λ reply. HasText reply.answer.status) }
 {
     match shaped(alloc, bytes) {
         Ok(program) => execute_program(rt, alloc, options, trace, program, gate),
-        Err(SubReadEnd::Refused(fault)) => program_refusal(alloc, &fault),
+        Err(SubReadEnd::Refused(fault)) => Ok(still(program_refusal(alloc, &fault)?)),
         Err(SubReadEnd::NoMemory) => Err(NoMemory),
     }
 }

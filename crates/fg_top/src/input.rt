@@ -3,11 +3,11 @@
 ghost use Rattle.std.specs.Prelude.{◌≡◌, ◌⊎◌, IfOk, IfErr, None};
 ghost use Rattle.fg_top.specs.Code.Intakes.{IsGiven};
 ghost use Rattle.fg_top.specs.Code.Steps.{ReadsAnswer};
-ghost use Rattle.fg_top.specs.Inputs.{TakesAll, TakesFew};
+ghost use Rattle.fg_top.specs.Takes.{TakesAll, TakesFew};
 
 use crate::Status;
-use crate::files::{File, limit_of};
 use crate::intake::{Intake, read_input};
+use fg_answer::{File, limit_of};
 use fg_base::Source;
 use std::alloc::Global;
 

@@ -1,31 +1,20 @@
 //! What the host has read of a device, and what the device did.
 
-ghost use Rattle.std.specs.Prelude.{◌≡◌, ◌<◌, ◌++◌, length, IfOk, OnOk};
+ghost use Rattle.std.specs.Prelude.{◌≡◌, ◌++◌, length, IfOk, OnOk};
 ghost use Rattle.fg_frame.specs.Numbered.{numbered};
 ghost use Rattle.fg_report.specs.KeptLines.{run_text};
 ghost use Rattle.fg_steps.specs.Devices.{IsComplete};
-ghost use Rattle.fg_top.specs.Runs.{read_by};
-ghost use Rattle.fg_top.specs.Texts.{exports_text, readbacks_text, traced};
+ghost use Rattle.fg_run.specs.Runs.{read_by};
+ghost use Rattle.fg_stages.specs.Exports.{exports_text};
+ghost use Rattle.fg_top.specs.Texts.{readbacks_text, traced};
 
 use fg_base::{List, NoMemory, Text};
 use fg_device::Device;
 use fg_frame::GoodFrame;
 use fg_report::{export_text, readback_text, run_text, trace_text};
+use fg_run::bytes_of;
 use fg_versions::Kept;
 use std::alloc::Global;
-
-/// The bytes of a read-back of a device that has run to its end.
-pub fn bytes_of(device: &Device, k: u32) -> &[u8]
-    requires complete { IsComplete device.now }
-    requires there { k < length device.now.program.readbacks }
-    ensures { result.now ≡ read_by device.now k }
-{
-    let _node = device.read_node(k);
-    match device.readback(k) {
-        Some(bytes) => bytes,
-        None => unreachable!(),
-    }
-}
 
 /// The read-backs of a device that has run to its end, one after another.
 pub fn add_readbacks(text: &mut Text, device: &Device) -> Result<(), NoMemory>

@@ -4,26 +4,27 @@ ghost use Rattle.std.specs.Prelude.{◌≤◌, Bool, IfOk};
 ghost use Rattle.fg_compile.specs.Right.{IsRightFor};
 ghost use Rattle.fg_frame.specs.Numbered.{numbered};
 ghost use Rattle.fg_top.specs.Answers.{RunsFile};
-ghost use Rattle.fg_top.specs.Statuses.{HasText};
-ghost use Rattle.fg_top.specs.Files.{frame_file};
-ghost use Rattle.fg_top.specs.Headline.{Compiles, RunsFrame};
+ghost use Rattle.fg_answer.specs.Statuses.{HasText};
+ghost use Rattle.fg_stages.specs.Files.{frame_file};
+ghost use Rattle.fg_stages.specs.Compiles.{Compiles};
+ghost use Rattle.fg_top.specs.Headline.{RunsFrame};
 ghost use Rattle.fg_versions.specs.Culled.{AreKept};
 
-use crate::answer::{Answer, ran, refusal};
-use crate::compile::compiled;
-use crate::frames::good_frame;
 use crate::readbacks::frame_text;
-use crate::running::run_program;
+use crate::reply::{Reply, ran, still};
+use fg_answer::refusal;
 use fg_base::{Gate, NoMemory};
 use fg_compile::Compiled;
 use fg_frame::GoodFrame;
 use fg_framefile::FrameReadEnd;
+use fg_run::run_program;
+use fg_stages::{compiled, good_frame};
 use fg_words::Options;
 use std::alloc::Global;
 use std::sync::Wait;
 use std::thread::Threads;
 
-#[tactic(auto, using(crate::proofs::KeptLemmas::one_each))]
+#[tactic(auto, using(fg_answer::proofs::KeptLemmas::one_each))]
 fn run_compiled<R: Threads + Wait + Sync, G: Gate + Sync>(
     rt: &R,
     alloc: Global,
@@ -32,18 +33,18 @@ fn run_compiled<R: Threads + Wait + Sync, G: Gate + Sync>(
     good: &GoodFrame,
     made: &Compiled,
     gate: &G,
-) -> Result<Answer, NoMemory>
+) -> Result<Reply, NoMemory>
     requires least { 1 ≤ options.workers }
     requires most { options.workers ≤ 16 }
     requires kept { AreKept (numbered good.now) made.now.kept }
     requires right { IsRightFor (numbered good.now) made.now.program.program }
     ensures frame { (tight : Bool) → Compiles tight (numbered good.now) made.now.kept made.now.placement made.now.program.program →
         IfOk result (RunsFrame options trace tight good.now) }
-    ensures has_text { IfOk result (λ answer. HasText answer.status) }
+    ensures has_text { IfOk result (λ reply. HasText reply.answer.status) }
 {
     let device = run_program(rt, alloc, &made.program, options, gate)?;
     let text = frame_text(alloc, good, &made.kept, &device, trace)?;
-    Ok(ran(device, text))
+    ran(alloc, &device, text)
 }
 
 fn run_frame<R: Threads + Wait + Sync, G: Gate + Sync>(
@@ -54,11 +55,11 @@ fn run_frame<R: Threads + Wait + Sync, G: Gate + Sync>(
     tight: bool,
     good: &GoodFrame,
     gate: &G,
-) -> Result<Answer, NoMemory>
+) -> Result<Reply, NoMemory>
     requires least { 1 ≤ options.workers }
     requires most { options.workers ≤ 16 }
     ensures frame { IfOk result (RunsFrame options trace tight good.now) }
-    ensures has_text { IfOk result (λ answer. HasText answer.status) }
+    ensures has_text { IfOk result (λ reply. HasText reply.answer.status) }
 {
     let made = compiled(alloc, good, tight)?;
     run_compiled(rt, alloc, options, trace, good, &made, gate)
@@ -73,15 +74,15 @@ pub fn run_file<R: Threads + Wait + Sync, G: Gate + Sync>(
     tight: bool,
     bytes: &[u8],
     gate: &G,
-) -> Result<Answer, NoMemory>
+) -> Result<Reply, NoMemory>
     requires least { 1 ≤ options.workers }
     requires most { options.workers ≤ 16 }
     ensures file { IfOk result (RunsFile options trace tight (frame_file bytes.now)) }
-    ensures has_text { IfOk result (λ answer. HasText answer.status) }
+    ensures has_text { IfOk result (λ reply. HasText reply.answer.status) }
 {
     match good_frame(alloc, bytes) {
         Ok(good) => run_frame(rt, alloc, options, trace, tight, &good, gate),
-        Err(FrameReadEnd::Refused(fault)) => refusal(alloc, &fault),
+        Err(FrameReadEnd::Refused(fault)) => Ok(still(refusal(alloc, &fault)?)),
         Err(FrameReadEnd::NoMemory) => Err(NoMemory),
     }
 }

@@ -7,15 +7,14 @@ ghost use Rattle.fg_gen.specs.Generated.{generated};
 ghost use Rattle.fg_groups.specs.Groups.{grouping};
 ghost use Rattle.fg_groups.specs.Placed.{sizes};
 ghost use Rattle.fg_top.specs.Code.Totals.{IsTotal};
-ghost use Rattle.fg_top.specs.Headline.{Compiles, SummarizesFrame};
-ghost use Rattle.fg_top.specs.Runs.{HasRun, read_by};
-ghost use Rattle.fg_top.specs.Statuses.{HasText};
+ghost use Rattle.fg_stages.specs.Compiles.{Compiles};
+ghost use Rattle.fg_top.specs.Headline.{SummarizesFrame};
+ghost use Rattle.fg_run.specs.Runs.{HasRun, read_by};
+ghost use Rattle.fg_answer.specs.Statuses.{HasText};
 ghost use Rattle.fg_top.specs.Summaries.{summary_with};
 ghost use Rattle.fg_versions.specs.Culled.{AreKept};
 
-use crate::answer::{Answer, ran};
-use crate::compile::compiled;
-use crate::running::run_program;
+use crate::reply::{Reply, ran};
 use crate::totals::{Total, sum_of_sizes, total_of};
 use fg_base::{Gate, NoMemory, Text};
 use fg_compile::Compiled;
@@ -25,6 +24,8 @@ use fg_frame::GoodFrame;
 use fg_gen::generate;
 use fg_groups::groups_of;
 use fg_report::summary_text;
+use fg_run::run_program;
+use fg_stages::compiled;
 use fg_versions::{Kept, versions_of};
 use fg_words::Options;
 use std::alloc::Global;
@@ -88,17 +89,17 @@ fn summarize_compiled<R: Threads + Wait + Sync, G: Gate + Sync>(
     good: &GoodFrame,
     made: &Compiled,
     gate: &G,
-) -> Result<Answer, NoMemory>
+) -> Result<Reply, NoMemory>
     requires least { 1 ≤ options.workers }
     requires most { options.workers ≤ 16 }
     requires compiles { Compiles false (numbered good.now) made.now.kept made.now.placement made.now.program.program }
     ensures frame { IfOk result (SummarizesFrame options good.now) }
-    ensures has_text { IfOk result (λ answer. HasText answer.status) }
+    ensures has_text { IfOk result (λ reply. HasText reply.answer.status) }
 {
     let device = run_program(rt, alloc, &made.program, options, gate)?;
     let total = exported(good, made, &device, options);
     let text = text_of(alloc, good, made, total)?;
-    Ok(ran(device, text))
+    ran(alloc, &device, text)
 }
 
 fn summarize_frame<R: Threads + Wait + Sync, G: Gate + Sync>(
@@ -107,11 +108,11 @@ fn summarize_frame<R: Threads + Wait + Sync, G: Gate + Sync>(
     options: Options,
     good: &GoodFrame,
     gate: &G,
-) -> Result<Answer, NoMemory>
+) -> Result<Reply, NoMemory>
     requires least { 1 ≤ options.workers }
     requires most { options.workers ≤ 16 }
     ensures frame { IfOk result (SummarizesFrame options good.now) }
-    ensures has_text { IfOk result (λ answer. HasText answer.status) }
+    ensures has_text { IfOk result (λ reply. HasText reply.answer.status) }
 {
     let made = compiled(alloc, good, false)?;
     summarize_compiled(rt, alloc, options, good, &made, gate)
@@ -125,13 +126,13 @@ pub fn summarize<R: Threads + Wait + Sync, G: Gate + Sync>(
     passes: u32,
     options: Options,
     gate: &G,
-) -> Result<Answer, NoMemory>
+) -> Result<Reply, NoMemory>
     requires some { 1 ≤ passes }
     requires few { passes ≤ 256 }
     requires least { 1 ≤ options.workers }
     requires most { options.workers ≤ 16 }
     ensures frame { IfOk result (SummarizesFrame options (generated number passes)) }
-    ensures has_text { IfOk result (λ answer. HasText answer.status) }
+    ensures has_text { IfOk result (λ reply. HasText reply.answer.status) }
 {
     let good = generate(alloc, number, passes)?;
     summarize_frame(rt, alloc, options, &good, gate)

@@ -1,16 +1,15 @@
-//! An answer is delivered: taps are told of its device, and its text is written.
+//! An answer is delivered: taps are told what devices did for it, and its text is written.
 
 ghost use Rattle.std.specs.Prelude.{◌≡◌, ◌⊎◌, ◌≤◌, [], vec_len, vec_capacity, IfOk};
 ghost use Rattle.fg_top.specs.Causes.{WriteCause};
-ghost use Rattle.fg_top.specs.Statuses.{HasText};
+ghost use Rattle.fg_answer.specs.Statuses.{HasText};
 ghost use Rattle.fg_top.specs.Outcomes.{EndsAs};
 ghost use Rattle.fg_top.specs.Told.{AreTold};
 
-use crate::answer::Answer;
 use crate::output::put;
+use crate::reply::Reply;
 use crate::{Ended, Status};
-use fg_base::{NoMemory, Sink, Tap};
-use fg_device::Device;
+use fg_base::{Event, List, NoMemory, Sink, Tap};
 use fg_taps::serve_all;
 use std::alloc::Global;
 
@@ -40,9 +39,9 @@ pub fn reserved(alloc: Global, count: usize) -> Result<Ended, NoMemory>
     })
 }
 
-// The taps are told what the device did, if one ran.
+// The taps are told what devices did, if any ran.
 fn tell(
-    device: &Option<Device>,
+    history: &Option<List<Event>>,
     taps: &mut Vec<Box<dyn Tap>>,
     spent: &mut Vec<Box<dyn Tap>>,
     places: &mut Vec<usize>,
@@ -51,35 +50,35 @@ fn tell(
     requires no_places { places.old.items ≡ [] }
     requires spent_room { vec_len taps.old ≤ vec_capacity spent.old }
     requires places_room { vec_len taps.old ≤ vec_capacity places.old }
-    ensures { AreTold (λ b. heard b) (λ b. finished b) taps.old.items taps.new.items spent.new.items places.new.items device.now }
+    ensures { AreTold (λ b. heard b) (λ b. finished b) taps.old.items taps.new.items spent.new.items places.new.items history.now }
 {
-    if let Some(device) = device {
-        serve_all(taps, spent, places, device.history());
+    if let Some(history) = history {
+        serve_all(taps, spent, places, history.as_slice());
     }
 }
 
-/// Tells the taps what the device of an answer did, and writes its text. A write fault takes the place of its status.
+/// Tells the taps what devices did for a reply, and writes its text. A write fault takes the place of its status.
 pub fn deliver<O: Sink>(
-    answer: &Answer,
+    reply: &Reply,
     output: &mut O,
     taps: &mut Vec<Box<dyn Tap>>,
     room: Ended,
 ) -> Ended
-    requires text { HasText answer.now.status }
+    requires text { HasText reply.now.answer.status }
     requires spent { (room.spent.items ≡ []) × (vec_len taps.old ≤ vec_capacity room.spent) }
     requires places { (room.places.items ≡ []) × (vec_len taps.old ≤ vec_capacity room.places) }
-    ensures told { AreTold (λ b. heard b) (λ b. finished b) taps.old.items taps.new.items result.spent.items result.places.items answer.now.device }
-    ensures ends { EndsAs answer.now.status answer.now.text (O.taken output.old) (O.taken output.new) result.status }
+    ensures told { AreTold (λ b. heard b) (λ b. finished b) taps.old.items taps.new.items result.spent.items result.places.items reply.now.history }
+    ensures ends { EndsAs reply.now.answer.status reply.now.answer.text (O.taken output.old) (O.taken output.new) result.status }
     ensures cause { WriteCause (O.faults output.old) (O.faults output.new) result.status }
-    ensures either { (result.status ≡ answer.now.status) ⊎ (result.status ≡ Status.WriteFault) }
+    ensures either { (result.status ≡ reply.now.answer.status) ⊎ (result.status ≡ Status.WriteFault) }
 {
     let Ended {
         status: _,
         mut spent,
         mut places,
     } = room;
-    tell(&answer.device, taps, &mut spent, &mut places);
-    let status = put(output, answer.status, answer.text.as_slice());
+    tell(&reply.history, taps, &mut spent, &mut places);
+    let status = put(output, reply.answer.status, reply.answer.text.as_slice());
     Ended {
         status,
         spent,

@@ -1,10 +1,10 @@
 //! The top call.
 
 ghost use Rattle.std.specs.Prelude.{◌≡◌, map, string_bytes, None, false};
-ghost use Rattle.fg_top.specs.AtRest.{needs_device};
+ghost use Rattle.fg_answer.specs.AtRest.{needs_device};
 ghost use Rattle.fg_top.specs.Calls.{Call};
 ghost use Rattle.fg_top.specs.Ends.{ends};
-ghost use Rattle.fg_top.specs.Inputs.{file_in};
+ghost use Rattle.fg_top.specs.Takes.{file_in};
 ghost use Rattle.fg_top.specs.Outcomes.{IsUnanswered};
 ghost use Rattle.fg_top.specs.Told.{AreTold, IsUntold};
 ghost use Rattle.fg_words.specs.Lines.{command_of};
@@ -22,7 +22,8 @@ use std::thread::Threads;
 /// submission. Where a read fails or memory runs out, nothing is written. Where no read and no write fails, the status
 /// is that of the answer and its whole text is written, unless memory runs out. Where a device ran, the taps are told what it
 /// did, one tap after another, before the text is written: each until it is finished, and then it is moved to the end of
-/// `spent`. Only `run`, `exec`, `gen --summary` and `audit` start threads, and of these `audit` alone does not call the gate.
+/// `spent`. Only `run`, `exec`, `gen --summary`, `flight` and `audit` start threads, and of these `audit` alone does not call
+/// the gate.
 pub fn framec<R: Threads + Wait + Sync, I: Source, O: Sink, G: Gate + Sync>(
     rt: &R,
     alloc: Global,

@@ -5,10 +5,10 @@ ghost use Rattle.std.specs.List.{sum};
 ghost use Rattle.fg_base.specs.Maxima.{max_resource_bytes};
 ghost use Rattle.fg_steps.specs.Devices.{IsComplete};
 ghost use Rattle.fg_top.specs.Code.Totals.{IsTotal};
-ghost use Rattle.fg_top.specs.Runs.{read_by};
+ghost use Rattle.fg_run.specs.Runs.{read_by};
 
-use crate::readbacks::bytes_of;
 use fg_device::Device;
+use fg_run::bytes_of;
 
 /// How many bytes there are, and what they come to as numbers.
 #[derive(Clone, Copy)]

@@ -3,9 +3,9 @@ use Rattle.std.specs.Prelude.{ℕ, List, ◌++◌, ◌<◌, ◌≤◌, ◌≡◌
 use Rattle.std.specs.declared.option.Option.{Option}
 use Rattle.std.specs.Io.KnownBytes.{Consumes, IsAtEnd, Keeps}
 use Rattle.fg_base.specs.Counts.{Rose}
-use Rattle.fg_top.specs.Inputs.{limit_of}
+use Rattle.fg_answer.specs.Inputs.{limit_of}
 use Rattle.fg_top.specs.Outcomes.{Tells, TakesWhole}
-use Rattle.fg_top.specs.declared.files.File.{File}
+use Rattle.fg_answer.specs.declared.files.File.{File}
 use Rattle.fg_top.specs.declared.input.Input.{Input}
 use Rattle.fg_top.specs.declared.input.Input.TheVariants.{Bytes, Over as Much}
 use Rattle.fg_top.specs.declared.intake.Intake.{Intake}

@@ -1,6 +1,6 @@
 -- Which commands are answered in which way.
 use Rattle.std.specs.Prelude.{◌≡◌, false, true, Some}
-use Rattle.fg_top.specs.AtRest.{needs_device}
+use Rattle.fg_answer.specs.AtRest.{needs_device}
 use Rattle.fg_words.specs.Commands.{IsBounded}
 use Rattle.fg_words.specs.declared.command.Command.{Command}
 

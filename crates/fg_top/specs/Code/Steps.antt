@@ -4,8 +4,7 @@ use Rattle.std.specs.Io.KnownBytes.{Appends}
 use Rattle.fg_base.specs.Counts.{Rose}
 use Rattle.fg_top.specs.Causes.{ReadCause}
 use Rattle.fg_top.specs.Outcomes.{TakesFront}
-use Rattle.fg_top.specs.declared.ended.Status.{Status}
-use Rattle.fg_top.specs.declared.ended.Status.TheVariants.{ReadFault, WriteFault, NoMemory}
+use Rattle.fg_answer.specs.declared.status.Status.{Status}
 
 -- why a file has no answer: a fault of reading leaves none
 abbrev pub ReadsAnswer : {X : Type 0} → ℕ → ℕ → Result X Status → Type 0

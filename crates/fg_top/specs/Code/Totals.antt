@@ -1,7 +1,7 @@
 -- What the bytes of all exports come to.
 use Rattle.std.specs.Prelude.{◌≡◌, ℕ, List, length}
 use Rattle.std.specs.List.{sum}
-use Rattle.fg_top.specs.Texts.{in_turn}
+use Rattle.fg_stages.specs.Exports.{in_turn}
 use Rattle.fg_top.specs.declared.totals.Total.{Total}
 
 -- the number of the bytes of so many lists, and their sum

@@ -1,4 +1,4 @@
-use Rattle.fg_top.proofs.AnswerLemmas.{if_ok}
+use Rattle.fg_answer.proofs.AnswerLemmas.{if_ok}
 use Rattle.fg_top.proofs.AuditLemmas.{few_events, judges}
 use Rattle.fg_top.proofs.audit.judge.Goals as goal
 

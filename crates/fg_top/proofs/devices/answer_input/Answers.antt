@@ -1,17 +1,7 @@
-use Rattle.std.proofs.Common.{ℕ, List, Option, subst}
-use Rattle.fg_top.proofs.AnswerLemmas.{answered_bytes}
+use Rattle.fg_top.proofs.AnswerLemmas.{answered_read}
 use Rattle.fg_top.proofs.devices.answer_input.Goals as goal
-use Rattle.fg_top.specs.Answers.{AnswersBytes}
-use Rattle.fg_top.specs.Code.Intakes.{IsGiven, IsRead}
-use Rattle.fg_top.specs.declared.files.File.{File}
-use Rattle.fg_top.specs.declared.input.Input.{Input}
 
 pub returns-in_ok-answer_bytes-in-Bytes-clause-answer : goal.returns-in_ok-answer_bytes-in-Bytes-clause-answer
 returns-in_ok-answer_bytes-in-Bytes-clause-answer g c =
-    let left = g.I.Source.left c.args.input.now in
-    let bytes = c.in-Bytes.bytes.items in
-    let answer = c.in_ok-answer_bytes-in-Bytes in
-    let given = subst (λ (input : Input). IsGiven c.file_of.result left input) c.in-Bytes.is c.in_ok-bytes.ensures.given in
-    answered_bytes c.args.command left bytes answer.field-0
-    (subst (λ (file : Option File). IsRead file left bytes) c.file_of.ensures given)
-    (subst (λ (read : List ℕ). AnswersBytes c.args.command read answer.field-0) c.as_slice.ensures.value answer.ensures.answer)
+    let reply = c.in_ok-answer_bytes-in-Bytes in
+    answered_read c.args.command.now (g.I.Source.left c.args.input.now) reply.field-0 c.file_of.result _ c.in-Bytes.bytes c.as_slice.result.now c.file_of.ensures c.in_ok-bytes.ensures.given c.in-Bytes.is c.as_slice.ensures.value reply.ensures.answer

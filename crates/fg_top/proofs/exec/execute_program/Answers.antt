@@ -1,7 +1,7 @@
 use Rattle.std.proofs.Common.{subst, sym, inl}
 use Rattle.fg_checker.specs.Sound.{IsSound}
 use Rattle.fg_subs.specs.declared.program.Program.{Program}
-use Rattle.fg_top.proofs.AnswerLemmas.{if_ok}
+use Rattle.fg_answer.proofs.AnswerLemmas.{if_ok}
 use Rattle.fg_top.proofs.exec.execute_program.Goals as goal
 use Rattle.fg_top.specs.Headline.{Executes}
 

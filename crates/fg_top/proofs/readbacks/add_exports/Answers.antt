@@ -1,8 +1,8 @@
 use Rattle.std.proofs.Common.{ap}
 use Rattle.fg_report.specs.Exports.{export_text}
-use Rattle.fg_top.proofs.RunLemmas.{one_more}
+use Rattle.fg_stages.proofs.Turns.{one_more}
 use Rattle.fg_top.proofs.readbacks.add_exports.Goals as goal
-use Rattle.fg_top.specs.Runs.{read_by}
+use Rattle.fg_run.specs.Runs.{read_by}
 
 pub loop-k-preserved : goal.loop-k-preserved
 loop-k-preserved c =

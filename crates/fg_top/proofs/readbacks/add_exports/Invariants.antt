@@ -1,7 +1,7 @@
 use Rattle.std.proofs.Common.{◌≡◌, ◌++◌}
 use Rattle.fg_report.specs.Exports.{export_text}
-use Rattle.fg_top.specs.Runs.{read_by}
-use Rattle.fg_top.specs.Texts.{in_turn}
+use Rattle.fg_run.specs.Runs.{read_by}
+use Rattle.fg_stages.specs.Exports.{in_turn}
 use Rattle.fg_top.proofs.readbacks.add_exports.Given as goal
 
 abbrev pub invariant-loop-k : goal.invariant-loop-k

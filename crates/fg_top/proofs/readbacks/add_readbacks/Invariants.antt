@@ -1,5 +1,5 @@
 use Rattle.std.proofs.Common.{◌≡◌, ◌++◌}
-use Rattle.fg_top.specs.Runs.{read_by}
+use Rattle.fg_run.specs.Runs.{read_by}
 use Rattle.fg_top.specs.Texts.{readbacks_text}
 use Rattle.fg_top.proofs.readbacks.add_readbacks.Given as goal
 

@@ -1,4 +1,5 @@
 use Rattle.std.proofs.Common.{sym, subst}
+use Rattle.fg_answer.proofs.AnswerLemmas.{if_ok}
 use Rattle.fg_top.proofs.RunLemmas.{runs_frame}
 use Rattle.fg_top.proofs.run.run_compiled.Goals as goal
 use Rattle.fg_top.specs.Headline.{RunsFrame}
@@ -6,4 +7,4 @@ use Rattle.fg_top.specs.Headline.{RunsFrame}
 pub returns-clause-frame : goal.returns-clause-frame
 returns-clause-frame g c tight compiles =
     let made = c.args.made.now in
-    subst (RunsFrame c.args.options c.args.trace tight c.args.good.now) (sym c.ran.ensures) (runs_frame c.args.options c.args.trace tight c.args.good.now made.kept made.placement made.program.program c.in_ok-device.device c.in_ok-text.text compiles c.in_ok-device.ensures c.in_ok-text.ensures)
+    if_ok c.ran.result (λ reply is. subst (RunsFrame c.args.options c.args.trace tight c.args.good.now) (sym is) (runs_frame c.args.options c.args.trace tight c.args.good.now made.kept made.placement made.program.program c.in_ok-device.device c.in_ok-text.text compiles c.in_ok-device.ensures c.in_ok-text.ensures)) c.ran.ensures.reply

@@ -1,10 +1,10 @@
-use Rattle.std.proofs.Common.{◌≤◌, ◌<◌, ℕ, length, subst, arith, ap}
+use Rattle.std.proofs.Common.{◌<◌, length, arith, ap}
 use Rattle.fg_frame.specs.Numbered.{numbered}
 use Rattle.fg_subs.specs.declared.program.Program.{Program}
-use Rattle.fg_top.proofs.RunLemmas.{meant}
+use Rattle.fg_run.proofs.RunLemmas.{meant}
 use Rattle.fg_top.proofs.SummaryLemmas.{export_short}
 use Rattle.fg_top.proofs.summary.exported.Goals as goal
-use Rattle.fg_top.specs.Runs.{read_by}
+use Rattle.fg_run.specs.Runs.{read_by}
 
 pub total_of-requires-clause-complete : goal.total_of-requires-clause-complete
 total_of-requires-clause-complete c = c.requires.has_run.complete

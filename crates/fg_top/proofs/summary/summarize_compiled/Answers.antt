@@ -1,10 +1,11 @@
 use Rattle.std.proofs.Common.{sym, subst}
+use Rattle.fg_answer.proofs.AnswerLemmas.{if_ok}
 use Rattle.fg_frame.specs.Numbered.{numbered}
 use Rattle.fg_top.proofs.RunLemmas.{summarizes_frame}
 use Rattle.fg_top.proofs.SummaryLemmas.{summary_is}
 use Rattle.fg_top.proofs.summary.summarize_compiled.Goals as goal
 use Rattle.fg_top.specs.Headline.{SummarizesFrame}
-use Rattle.fg_top.specs.Runs.{read_by}
+use Rattle.fg_run.specs.Runs.{read_by}
 
 pub returns-clause-frame : goal.returns-clause-frame
 returns-clause-frame g c =
@@ -12,4 +13,4 @@ returns-clause-frame g c =
     let device = c.in_ok-device.device in
     let text = c.in_ok-text.text in
     let is = summary_is (numbered c.args.good.now) made.kept made.placement made.program.program (read_by device) c.exported-total.result text c.exported-total.ensures c.in_ok-text.ensures in
-    subst (SummarizesFrame c.args.options c.args.good.now) (sym c.ran.ensures) (summarizes_frame c.args.options c.args.good.now made.kept made.placement made.program.program device text c.requires.compiles c.in_ok-device.ensures is)
+    if_ok c.ran.result (λ reply is'. subst (SummarizesFrame c.args.options c.args.good.now) (sym is') (summarizes_frame c.args.options c.args.good.now made.kept made.placement made.program.program device text c.requires.compiles c.in_ok-device.ensures is)) c.ran.ensures.reply

@@ -1,7 +1,7 @@
 use Rattle.std.proofs.Common.{refl, arith}
 use Rattle.fg_top.proofs.Sums.{total_more}
 use Rattle.fg_top.proofs.totals.total_of.Goals as goal
-use Rattle.fg_top.specs.Runs.{read_by}
+use Rattle.fg_run.specs.Runs.{read_by}
 
 pub total_at-more-requires-clause-short : goal.total_at-more-requires-clause-short
 total_at-more-requires-clause-short c = c.requires.short c.loop-k.k c.loop-k-test.true

@@ -1,7 +1,7 @@
 use Rattle.std.proofs.Common.{◌≤◌, ◌*◌}
 use Rattle.fg_top.proofs.totals.total_of.Given as goal
 use Rattle.fg_top.specs.Code.Totals.{IsTotal}
-use Rattle.fg_top.specs.Runs.{read_by}
+use Rattle.fg_run.specs.Runs.{read_by}
 
 abbrev pub invariant-loop-k : goal.invariant-loop-k
 invariant-loop-k l =

@@ -1,0 +1,30 @@
+-- Answers, by how their command ended.
+use Rattle.std.specs.Prelude.{◌≡◌, ℕ, List}
+use Rattle.fg_checker.specs.Verdicts.{Unsound}
+use Rattle.fg_checker.specs.declared.hazard.Hazard.{Hazard}
+use Rattle.fg_frame.specs.declared.fault.FrameFault.{FrameFault}
+use Rattle.fg_report.specs.Faults.{frame_fault_text, sub_fault_text}
+use Rattle.fg_report.specs.Hazards.{hazard_text}
+use Rattle.fg_subs.specs.declared.fault.SubFault.{SubFault}
+use Rattle.fg_subs.specs.declared.program.Program.{Program}
+use Rattle.fg_answer.specs.declared.answer.Answer.{Answer}
+use Rattle.fg_answer.specs.declared.status.Status.TheVariants.{Done, Rejected, Refused}
+
+-- the whole text of a command that was done
+abbrev pub done : List ℕ → Answer
+done text = record { status = Done; text = text }
+
+abbrev pub refusal : FrameFault → Answer
+refusal fault = record { status = Refused; text = frame_fault_text fault }
+
+abbrev pub program_refusal : SubFault → Answer
+program_refusal fault = record { status = Refused; text = sub_fault_text fault }
+
+abbrev pub rejection : Hazard → Answer
+rejection hazard = record { status = Rejected; text = hazard_text hazard }
+
+-- a program that is not sound
+pub record Rejects (program : Program) (answer : Answer) : Type 0 where
+  pub hazard : Hazard
+  pub unsound : Unsound program hazard
+  pub whole : answer ≡ rejection hazard

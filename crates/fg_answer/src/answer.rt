@@ -1,0 +1,50 @@
+//! What a command answers, before it is written.
+
+ghost use Rattle.std.specs.Prelude.{◌≡◌, IfOk};
+ghost use Rattle.fg_answer.specs.Plain.{done, refusal, program_refusal};
+
+use crate::Status;
+use fg_base::{NoMemory, Text};
+use fg_frame::FrameFault;
+use fg_report::{frame_fault_text, sub_fault_text};
+use fg_subs::SubFault;
+use std::alloc::Global;
+
+/// A status, and the whole text that goes with it.
+#[derive(Drop)]
+pub struct Answer {
+    /// How a call ends that writes the text whole.
+    pub status: Status,
+    /// The text, in lines that end with a line feed each.
+    pub text: Text,
+}
+
+/// The whole text of a command that was done.
+pub fn done(text: Text) -> Answer
+    ensures { result ≡ done text }
+{
+    Answer {
+        status: Status::Done,
+        text,
+    }
+}
+
+/// The answer to a frame file with a fault.
+pub fn refusal(alloc: Global, fault: &FrameFault) -> Result<Answer, NoMemory>
+    ensures { IfOk result (λ answer. answer ≡ refusal fault.now) }
+{
+    Ok(Answer {
+        status: Status::Refused,
+        text: frame_fault_text(alloc, fault)?,
+    })
+}
+
+/// The answer to a submission with a fault.
+pub fn program_refusal(alloc: Global, fault: &SubFault) -> Result<Answer, NoMemory>
+    ensures { IfOk result (λ answer. answer ≡ program_refusal fault.now) }
+{
+    Ok(Answer {
+        status: Status::Refused,
+        text: sub_fault_text(alloc, fault)?,
+    })
+}

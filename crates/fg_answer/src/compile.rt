@@ -1,0 +1,24 @@
+//! The command `compile`.
+
+ghost use Rattle.std.specs.Prelude.{IfOk};
+ghost use Rattle.fg_answer.specs.Answers.{CompilesFrame};
+ghost use Rattle.fg_answer.specs.Statuses.{HasText};
+
+use crate::answer::{Answer, done};
+use fg_base::NoMemory;
+use fg_frame::GoodFrame;
+use fg_lines::Lines;
+use fg_stages::compiled;
+use fg_subfile::write_program;
+use std::alloc::Global;
+
+/// The answer to the command on a good frame.
+pub fn compile_frame(alloc: Global, good: &GoodFrame, tight: bool) -> Result<Answer, NoMemory>
+    ensures frame { IfOk result (CompilesFrame tight good.now) }
+    ensures has_text { IfOk result (λ answer. HasText answer.status) }
+{
+    let made = compiled(alloc, good, tight)?;
+    let mut text = write_program(alloc, made.program.shaped().program())?;
+    text.end_line()?;
+    Ok(done(text))
+}

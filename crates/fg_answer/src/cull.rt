@@ -1,0 +1,33 @@
+//! The command `cull`.
+
+ghost use Rattle.std.specs.Prelude.{IfOk};
+ghost use Rattle.fg_frame.specs.Numbered.{numbered};
+ghost use Rattle.fg_answer.specs.Answers.{CullsFrame};
+ghost use Rattle.fg_answer.specs.Statuses.{HasText};
+ghost use Rattle.fg_versions.specs.Culled.{AreKept};
+
+use crate::answer::{Answer, done};
+use fg_base::NoMemory;
+use fg_frame::GoodFrame;
+use fg_report::cull_text;
+use fg_versions::{Kept, cull, versions_of};
+use std::alloc::Global;
+
+/// Which passes of a frame are kept.
+pub fn kept_of(alloc: Global, good: &GoodFrame) -> Result<Kept, NoMemory>
+    ensures { IfOk result (AreKept (numbered good.now)) }
+{
+    let versions = versions_of(alloc, good)?;
+    cull(alloc, good, &versions)
+}
+
+/// The answer to the command on a good frame.
+#[tactic(auto, using(crate::proofs::KeptLemmas::one_each))]
+pub fn cull_frame(alloc: Global, good: &GoodFrame) -> Result<Answer, NoMemory>
+    ensures frame { IfOk result (CullsFrame good.now) }
+    ensures has_text { IfOk result (λ answer. HasText answer.status) }
+{
+    let kept = kept_of(alloc, good)?;
+    let text = cull_text(alloc, good, &kept)?;
+    Ok(done(text))
+}

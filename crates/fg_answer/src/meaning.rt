@@ -1,0 +1,45 @@
+//! The command `meaning`.
+
+ghost use Rattle.std.specs.Prelude.{◌≡◌, ◌<◌, ◌++◌, IfOk, OnOk, length};
+ghost use Rattle.fg_frame.specs.Numbered.{numbered};
+ghost use Rattle.fg_meaning.specs.Meaning.{meaning};
+ghost use Rattle.fg_answer.specs.Answers.{MeansFrame};
+ghost use Rattle.fg_answer.specs.Code.Stages.{bytes_in};
+ghost use Rattle.fg_answer.specs.Statuses.{HasText};
+ghost use Rattle.fg_stages.specs.Exports.{exports_text};
+
+use crate::answer::{Answer, done};
+use fg_base::{List, NoMemory, Text};
+use fg_frame::GoodFrame;
+use fg_meaning::{Exports, exports_of};
+use fg_report::export_text;
+use std::alloc::Global;
+
+fn add_all(text: &mut Text, good: &GoodFrame, exports: &Exports) -> Result<(), NoMemory>
+    requires count { length exports.now ≡ length (numbered good.now).units }
+    ensures { OnOk result (text.new ≡ text.old ++ exports_text good.now (bytes_in good.now exports.now)) }
+{
+    for (k, unit) in good.exports().iter().enumerate() {
+        export_text(text, good, k as u32, exports.get(*unit))?;
+    }
+    Ok(())
+}
+
+fn exports_text(alloc: Global, good: &GoodFrame, exports: &Exports) -> Result<Text, NoMemory>
+    requires count { length exports.now ≡ length (numbered good.now).units }
+    ensures { IfOk result (λ text. text ≡ exports_text good.now (bytes_in good.now exports.now)) }
+{
+    let mut text = List::new(alloc);
+    add_all(&mut text, good, exports)?;
+    Ok(text)
+}
+
+/// The answer to the command on a good frame.
+pub fn mean_frame(alloc: Global, good: &GoodFrame) -> Result<Answer, NoMemory>
+    ensures frame { IfOk result (MeansFrame good.now) }
+    ensures has_text { IfOk result (λ answer. HasText answer.status) }
+{
+    let exports = exports_of(alloc, good)?;
+    let text = exports_text(alloc, good, &exports)?;
+    Ok(done(text))
+}

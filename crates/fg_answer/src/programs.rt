@@ -1,0 +1,95 @@
+//! The commands that read a submission.
+
+ghost use Rattle.std.specs.Prelude.{◌≡◌, IfOk, IfErr};
+ghost use Rattle.fg_checker.specs.Sound.{IsSound};
+ghost use Rattle.fg_subfile.specs.Files.{ProgramGives};
+ghost use Rattle.fg_answer.specs.Answers.{AnswersProgram, AnswersProgramFile};
+ghost use Rattle.fg_answer.specs.Statuses.{HasText};
+ghost use Rattle.fg_stages.specs.Files.{program_file};
+ghost use Rattle.fg_answer.specs.Plain.{Rejects, rejection};
+
+use crate::Status;
+use crate::answer::{Answer, done, program_refusal};
+use fg_base::NoMemory;
+use fg_checker::{CheckEnd, Checked, Hazard, check};
+use fg_report::{check_text, hazard_text};
+use fg_subfile::{SubReadEnd, read_program};
+use fg_subs::{ShapeEnd, Shaped, shape};
+use fg_words::SubmissionCommand;
+use std::alloc::Global;
+
+/// The answer to the bytes of a submission.
+pub fn answer_program_file(
+    alloc: Global,
+    asked: SubmissionCommand,
+    bytes: &[u8],
+) -> Result<Answer, NoMemory>
+    ensures file { IfOk result (AnswersProgramFile asked (program_file bytes.now)) }
+    ensures has_text { IfOk result (λ answer. HasText answer.status) }
+{
+    match shaped(alloc, bytes) {
+        Ok(program) => answer_program(alloc, asked, program),
+        Err(SubReadEnd::Refused(fault)) => program_refusal(alloc, &fault),
+        Err(SubReadEnd::NoMemory) => Err(NoMemory),
+    }
+}
+
+fn answer_program(
+    alloc: Global,
+    asked: SubmissionCommand,
+    program: Shaped,
+) -> Result<Answer, NoMemory>
+    ensures program { IfOk result (AnswersProgram asked program) }
+    ensures has_text { IfOk result (λ answer. HasText answer.status) }
+{
+    match asked {
+        SubmissionCommand::Check => check_program(alloc, program),
+    }
+}
+
+// Sound or not.
+fn check_program(alloc: Global, program: Shaped) -> Result<Answer, NoMemory>
+    ensures checked { IfOk result (AnswersProgram SubmissionCommand.Check program) }
+    ensures has_text { IfOk result (λ answer. HasText answer.status) }
+{
+    let nodes = program.node_count();
+    match check(alloc, program) {
+        Ok(_) => Ok(done(check_text(alloc, nodes)?)),
+        Err(CheckEnd::Refused(hazard, _)) => rejection(alloc, &hazard),
+        Err(CheckEnd::NoMemory) => Err(NoMemory),
+    }
+}
+
+/// The program, where it is sound, or else the answer to it.
+pub fn checked(alloc: Global, program: Shaped) -> Result<Checked, Result<Answer, NoMemory>>
+    ensures ok { IfOk result (λ checked. (checked.program ≡ program) × IsSound program) }
+    ensures err { IfErr result (λ end. IfOk end (Rejects program)) }
+    ensures has_text { IfErr result (λ end. IfOk end (λ answer. HasText answer.status)) }
+{
+    match check(alloc, program) {
+        Ok(checked) => Ok(checked),
+        Err(CheckEnd::Refused(hazard, _)) => Err(rejection(alloc, &hazard)),
+        Err(CheckEnd::NoMemory) => Err(Err(NoMemory)),
+    }
+}
+
+/// The answer to a program that is not sound.
+pub fn rejection(alloc: Global, hazard: &Hazard) -> Result<Answer, NoMemory>
+    ensures { IfOk result (λ answer. answer ≡ rejection hazard.now) }
+{
+    Ok(Answer {
+        status: Status::Rejected,
+        text: hazard_text(alloc, hazard)?,
+    })
+}
+
+/// The program that bytes are, or their first fault.
+pub fn shaped(alloc: Global, bytes: &[u8]) -> Result<Shaped, SubReadEnd>
+    ensures { ProgramGives result (program_file bytes.now) }
+{
+    match shape(alloc, read_program(alloc, bytes)?) {
+        Ok(shaped) => Ok(shaped),
+        Err(ShapeEnd::Refused(fault, _)) => Err(SubReadEnd::Refused(fault)),
+        Err(ShapeEnd::NoMemory(_)) => Err(SubReadEnd::NoMemory),
+    }
+}

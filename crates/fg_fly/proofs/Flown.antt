@@ -1,0 +1,168 @@
+-- Windows that have flown.
+use Rattle.std.proofs.Common.{◌≡◌, ◌+◌, ◌*◌, ◌<◌, ◌≤◌, ◌++◌, ℕ, zero, suc, List, [], ◌∷◌, length, get_or, false, Option, Some, slice_get, inl, inr, refl, sym, ap, ap₂, subst, ◌∙◌, add-one, append_assoc, append-nil, arith}
+use Rattle.std.specs.Prelude.{◌/◌, ◌⊎◌, IfOk, IsErrAnd, Result, Ok, Err, unwrap_or}
+use Rattle.std.specs.List.{flat_map}
+use Rattle.std.proofs.lemmas.Option.{slice_get-get_or}
+use Rattle.fg_base.specs.declared.event.Event.{Event}
+use Rattle.fg_flight.specs.Alone.{AreRead, IsHeld, alone, held_next}
+use Rattle.fg_flight.specs.Exported.{export_place, hold_place}
+use Rattle.fg_flight.specs.Flight.{Flight}
+use Rattle.fg_flight.specs.Flights.{window_at, window_count}
+use Rattle.fg_fly.proofs.Texts.{text_all}
+use Rattle.fg_fly.proofs.Windows.{all_windows}
+use Rattle.fg_fly.specs.Code.Flying.{IsFlown, Prints, text_before}
+use Rattle.fg_fly.specs.Flights.{Flies, WindowRun}
+use Rattle.fg_fly.specs.Texts.{bytes_alone}
+use Rattle.fg_fly.specs.declared.flying.Flying.{Flying}
+use Rattle.fg_fly.specs.declared.outcome.Outcome.TheVariants.{Flown}
+use Rattle.fg_frame.specs.Numbered.{NumberedFrame, numbered}
+use Rattle.fg_frame.specs.declared.frame.Frame.{Frame}
+use Rattle.fg_meaning.specs.Meaning.{meaning}
+use Rattle.fg_run.specs.FrameRuns.{RunsOn}
+use Rattle.fg_run.specs.Runs.{read_by}
+use Rattle.fg_steps.specs.Devices.{Device}
+use Rattle.fg_subs.specs.declared.program.Program.{Program}
+
+-- what laws of flights say of exports
+abbrev pub ExportsAlone : Flight → Type 0
+ExportsAlone F = (i : ℕ) (frame : Frame) → slice_get F.frames i ≡ Some frame → (held : List (Option (List ℕ))) → IsHeld F.frames F.persist ((i / F.depth) * F.depth) held → (bytes : ℕ → List ℕ) → AreRead (numbered (window_at F.frames F.persist F.depth held (i / F.depth))) bytes → AreRead (alone F.frames F.persist i frame) (λ k. bytes (export_place F.frames F.depth i k))
+
+-- and of what is held before the next window
+abbrev pub HoldsNext : Flight → Type 0
+HoldsNext F = (w : ℕ) → w < window_count F.depth F.frames → (held : List (Option (List ℕ))) → IsHeld F.frames F.persist (w * F.depth) held → (bytes : ℕ → List ℕ) → AreRead (numbered (window_at F.frames F.persist F.depth held w)) bytes → IsHeld F.frames F.persist (suc w * F.depth) (held_next (hold_place F.frames F.persist F.depth w) bytes 0 held)
+
+-- what an export means alone is printed
+printed_alone : (frames : List Frame) (persist : List (List ℕ)) (i : ℕ) (frame : Frame) (k : ℕ) (bytes : List ℕ) → meaning (alone frames persist i frame) (get_or (alone frames persist i frame).exports k 0) ≡ Some bytes → bytes_alone frames persist i frame k ≡ bytes
+unfolding bytes_alone
+printed_alone frames persist i frame k bytes means = ap (λ o. unwrap_or o []) means
+
+module _ (tend : Option ℕ) (F : Flight) (w : ℕ) (device : Device) where
+  -- the window begins with what is held, and has run
+  window_run : ExportsAlone F → (held : List (Option (List ℕ))) (good : Frame) → good ≡ window_at F.frames F.persist F.depth held w → IsHeld F.frames F.persist (w * F.depth) held → RunsOn tend false (numbered good) device → WindowRun tend F.frames F.persist F.depth w device
+  window_run laws held good is before ran =
+      let run : RunsOn tend false (numbered (window_at F.frames F.persist F.depth held w)) device = subst (λ (f : Frame). RunsOn tend false (numbered f) device) is ran in
+      record { held = held; is_held = before; run = run; printed = printed run }
+    where
+      printed : RunsOn tend false (numbered (window_at F.frames F.persist F.depth held w)) device → (i k : ℕ) (frame : Frame) → slice_get F.frames i ≡ Some frame → i / F.depth ≡ w → k < length (numbered frame).exports → bytes_alone F.frames F.persist i frame k ≡ read_by device (export_place F.frames F.depth i k)
+      printed run i k frame at e lt =
+          let lone : NumberedFrame = alone F.frames F.persist i frame in
+          let unit : ℕ = get_or lone.exports k 0 in
+          let begins : IsHeld F.frames F.persist ((i / F.depth) * F.depth) held = subst (λ v. IsHeld F.frames F.persist (v * F.depth) held) (sym e) before in
+          let read : AreRead (numbered (window_at F.frames F.persist F.depth held (i / F.depth))) (read_by device) = subst (λ v. AreRead (numbered (window_at F.frames F.persist F.depth held v)) (read_by device)) (sym e) run.meant in
+          let means : meaning lone unit ≡ Some (read_by device (export_place F.frames F.depth i k)) = laws i frame at held begins (read_by device) read k unit (slice_get-get_or lone.exports k 0 lt) in
+          printed_alone F.frames F.persist i frame k (read_by device (export_place F.frames F.depth i k)) means
+
+  -- so each of its frames can be printed
+  window_prints : WindowRun tend F.frames F.persist F.depth w device → (i : ℕ) → i / F.depth ≡ w → Prints F i device
+  window_prints run i e =
+      let same : length device.program.readbacks ≡ length run.run.program.readbacks = ap (λ (p : Program). length p.readbacks) run.run.has_run.runs in
+      record {
+        complete = run.run.has_run.complete;
+        held = run.held;
+        sized = run.is_held.sized;
+        readbacks = same ∙ run.run.compiles.right.readbacks ∙ ap (λ v. length (numbered (window_at F.frames F.persist F.depth run.held v)).exports) (sym e);
+        printed = λ k frame at lt. run.printed i k frame at e lt;
+      }
+
+-- a device has as many read-backs as its frame has exports
+as_many : (tend : Option ℕ) (frame : NumberedFrame) (device : Device) → RunsOn tend false frame device → length device.program.readbacks ≡ length frame.exports
+as_many tend frame device run = ap (λ (p : Program). length p.readbacks) run.has_run.runs ∙ run.compiles.right.readbacks
+
+-- want of memory says nothing
+pub gave_up : {X E : Type 0} (r : Result X E) (P : X → Type 0) (Q : E → Type 0) → IsErrAnd r Q → IfOk r P
+gave_up (Ok x) P Q h = absurd h
+gave_up (Err e) P Q h = tt
+
+-- of what all went well
+pub all_on : {X E : Type 0} (r : Result X E) (P Q R S : Type 0) → IfOk r (λ x. P) → IfOk r (λ x. Q) → IfOk r (λ x. R) → (P → Q → R → S) → IfOk r (λ x. S)
+all_on (Ok x) P Q R S p q r follows = follows p q r
+all_on (Err e) P Q R S p q r follows = tt
+
+pub went_on : {X E : Type 0} (r : Result X E) (P : Type 0) → P → IfOk r (λ x. P)
+went_on (Ok x) P p = p
+went_on (Err e) P p = tt
+
+-- ONE WINDOW FURTHER
+
+last_or_before : {X : Type 0} (xs : List X) (x y : X) (v : ℕ) → slice_get (xs ++ x ∷ []) v ≡ Some y → (slice_get xs v ≡ Some y) ⊎ ((v ≡ length xs) × (x ≡ y))
+last_or_before [] x y zero at = inr (refl, cc)
+last_or_before [] x y (suc v) at = absurd cc
+last_or_before (a ∷ xs) x y zero at = inl at
+last_or_before (a ∷ xs) x y (suc v) at = further (last_or_before xs x y v at)
+  where
+    further : (slice_get xs v ≡ Some y) ⊎ ((v ≡ length xs) × (x ≡ y)) → (slice_get xs v ≡ Some y) ⊎ ((suc v ≡ suc (length xs)) × (x ≡ y))
+    further (inl found) = inl found
+    further (inr last) = inr (ap suc last.0, last.1)
+
+one_longer : {X : Type 0} (xs : List X) (x : X) → length (xs ++ x ∷ []) ≡ suc (length xs)
+one_longer [] x = refl
+one_longer (a ∷ xs) x = ap suc (one_longer xs x)
+
+history_more : (devices : List Device) (device : Device) → flat_map (λ (d : Device). d.history) (devices ++ device ∷ []) ≡ flat_map (λ (d : Device). d.history) devices ++ device.history
+history_more [] device = append-nil device.history
+history_more (d ∷ devices) device = ap (λ (h : List Event). d.history ++ h) (history_more devices device) ∙ sym (append_assoc d.history (flat_map (λ (e : Device). e.history) devices) device.history)
+
+flown_more : (tend : Option ℕ) (F : Flight) (w : ℕ) (device : Device) (old new : Flying) → IsFlown tend F w old → WindowRun tend F.frames F.persist F.depth w device → IsHeld F.frames F.persist (suc w * F.depth) new.held → new.text ≡ text_before F ((w + 1) * F.depth) → new.history ≡ old.history ++ device.history → IsFlown tend F (w + 1) new
+flown_more tend F w device old new was run held text history = rw add-one (record {
+  devices = was.devices ++ device ∷ [];
+  windows = one_longer was.devices device ∙ ap suc was.windows;
+  runs = runs;
+  held = held;
+  text = rw add-one at text;
+  history = history ∙ ap (λ (h : List Event). h ++ device.history) was.history ∙ sym (history_more was.devices device);
+})
+  where
+    runs : (v : ℕ) (d : Device) → slice_get (was.devices ++ device ∷ []) v ≡ Some d → WindowRun tend F.frames F.persist F.depth v d
+    runs v d at = by (last_or_before was.devices device d v at)
+      where
+        by : (slice_get was.devices v ≡ Some d) ⊎ ((v ≡ length was.devices) × (device ≡ d)) → WindowRun tend F.frames F.persist F.depth v d
+        by (inl found) = was.runs v d found
+        by (inr last) = subst (λ (e : Device). WindowRun tend F.frames F.persist F.depth v e) last.1 (subst (λ u. WindowRun tend F.frames F.persist F.depth u device) (sym (last.0 ∙ was.windows)) run)
+
+-- a window is compiled from what is held, and has run
+module _ (tend : Option ℕ) (F : Flight) (w : ℕ) (device : Device) (old : Flying) (held : List (Option (List ℕ))) (good : Frame) where
+  made_of_held : held ≡ old.held → good ≡ window_at F.frames F.persist F.depth held w → good ≡ window_at F.frames F.persist F.depth old.held w
+  made_of_held same is = is ∙ ap (λ (h : List (Option (List ℕ))). window_at F.frames F.persist F.depth h w) same
+
+  pub ran_prints : ExportsAlone F → IsFlown tend F w old → held ≡ old.held → good ≡ window_at F.frames F.persist F.depth held w → RunsOn tend false (numbered good) device → (i : ℕ) → i / F.depth ≡ w → Prints F i device
+  ran_prints exports was same is ran = window_prints tend F w device (window_run tend F w device exports old.held good (made_of_held same is) was.held ran)
+
+  pub ran_reads : held ≡ old.held → good ≡ window_at F.frames F.persist F.depth held w → RunsOn tend false (numbered good) device → length device.program.readbacks ≡ length (numbered (window_at F.frames F.persist F.depth old.held w)).exports
+  ran_reads same is ran = as_many tend (numbered good) device ran ∙ ap (λ (f : Frame). length (numbered f).exports) (made_of_held same is)
+
+  pub ran_flown : ExportsAlone F → HoldsNext F → w < window_count F.depth F.frames → IsFlown tend F w old → held ≡ old.held → good ≡ window_at F.frames F.persist F.depth held w → RunsOn tend false (numbered good) device → (new : Flying) → new.text ≡ text_before F ((w + 1) * F.depth) → (events : List Event) → events ≡ device.history → new.history ≡ old.history ++ events → new.held ≡ held_next (hold_place F.frames F.persist F.depth w) (read_by device) 0 old.held → IsFlown tend F (w + 1) new
+  ran_flown exports holds there was same is ran new text events told history kept =
+      let made : good ≡ window_at F.frames F.persist F.depth old.held w = made_of_held same is in
+      let run : WindowRun tend F.frames F.persist F.depth w device = window_run tend F w device exports old.held good made was.held ran in
+      let read : AreRead (numbered (window_at F.frames F.persist F.depth old.held w)) (read_by device) = subst (λ (f : Frame). AreRead (numbered f) (read_by device)) made ran.meant in
+      let next : IsHeld F.frames F.persist (suc w * F.depth) (held_next (hold_place F.frames F.persist F.depth w) (read_by device) 0 old.held) = holds w there old.held was.held (read_by device) read in
+      flown_more tend F w device old new was run (subst (λ (h : List (Option (List ℕ))). IsHeld F.frames F.persist (suc w * F.depth) h) (sym kept) next) text (history ∙ ap (λ (es : List Event). old.history ++ es) told)
+
+-- nothing has flown
+pub none_flown : (tend : Option ℕ) (F : Flight) (flying : Flying) → IsHeld F.frames F.persist 0 flying.held → flying.text ≡ [] → flying.history ≡ [] → IsFlown tend F 0 flying
+none_flown tend F flying held text history = record {
+  devices = [];
+  windows = refl;
+  runs = none;
+  held = subst (λ i. IsHeld F.frames F.persist i flying.held) (sym nothing) held;
+  text = text ∙ sym (ap (text_before F) nothing);
+  history = history;
+}
+  where
+    nothing : 0 * F.depth ≡ 0
+    nothing = omega arith
+
+    none : (v : ℕ) (d : Device) → slice_get {X = Device} [] v ≡ Some d → WindowRun tend F.frames F.persist F.depth v d
+    none v d at = absurd cc
+
+-- all windows
+pub all_flown : (tend : Option ℕ) (F : Flight) (count w : ℕ) (flying : Flying) → 1 ≤ F.depth → count ≡ window_count F.depth F.frames → count ≤ w → w ≤ count → IsFlown tend F w flying → Flies tend F.persist F.depth F.frames (Flown flying.text flying.history)
+all_flown tend F count w flying deep counted far near was =
+    let last : w ≡ count = omega (arith, far, near) in
+    let end : w ≡ window_count F.depth F.frames = last ∙ counted in
+    record {
+      devices = was.devices;
+      windows = was.windows ∙ end;
+      runs = was.runs;
+      whole = ap₂ (λ t h. Flown t h) (text_all F (w * F.depth) flying.text (all_windows (length F.frames) F.depth w deep end) was.text) was.history;
+    }

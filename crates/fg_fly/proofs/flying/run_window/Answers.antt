@@ -1,0 +1,29 @@
+use Rattle.std.proofs.Common.{◌∙◌, ℕ, List, Option, IfOk, false, sym, ap, subst}
+use Rattle.fg_flight.specs.Flights.{AreHeld, window_at}
+use Rattle.fg_fly.proofs.Flown.{gave_up}
+use Rattle.fg_fly.proofs.flying.run_window.Goals as goal
+use Rattle.fg_frame.specs.Numbered.{numbered}
+use Rattle.fg_frame.specs.declared.frame.Frame.{Frame}
+use Rattle.fg_run.specs.FrameRuns.{RunsOn}
+
+pub frame-requires-clause-there : goal.frame-requires-clause-there
+frame-requires-clause-there g c = c.requires.there
+
+pub frame-requires-clause-held : goal.frame-requires-clause-held
+frame-requires-clause-held g c =
+    subst (λ (h : List (Option (List ℕ))). AreHeld c.args.windows.now.frames c.args.windows.now.persist h) (sym c.deref.ensures) c.requires.held
+
+pub returns-in_err-good : goal.returns-in_err-good
+returns-in_err-good g c = gave_up c.from_residual.result _ _ c.from_residual.ensures.1
+
+pub run_good-requires-clause-least : goal.run_good-requires-clause-least
+run_good-requires-clause-least g c κs within = c.requires.least
+
+pub run_good-requires-clause-most : goal.run_good-requires-clause-most
+run_good-requires-clause-most g c κs within = c.requires.most
+
+pub returns : goal.returns
+returns g c =
+    let F = c.args.windows.now in
+    let made = c.in_ok-good.ensures ∙ ap (λ (h : List (Option (List ℕ))). window_at F.frames F.persist F.depth h c.args.w) c.deref.ensures in
+    subst (λ (f : Frame). IfOk c.run_good.result (RunsOn c.args.options.tend false (numbered f))) made c.run_good.ensures

@@ -1,0 +1,51 @@
+use Rattle.std.proofs.Common.{◌≡◌, ◌<◌, ◌++◌, ◌∙◌, IfSome, Option, length, sym, ap, subst, arith}
+use Rattle.std.proofs.lemmas.Option.{slice_get_within}
+use Rattle.fg_fly.proofs.print.add_exports.Goals as goal
+use Rattle.fg_fly.specs.Texts.{bytes_alone}
+use Rattle.fg_frame.specs.Numbered.{numbered}
+use Rattle.fg_frame.specs.declared.frame.Frame.{Frame}
+use Rattle.fg_report.specs.Exports.{export_text}
+use Rattle.fg_run.specs.Runs.{read_by}
+use Rattle.fg_stages.proofs.Turns.{one_more}
+use Rattle.fg_stages.specs.Exports.{in_turn}
+
+pub export-requires-clause-there : goal.export-requires-clause-there
+export-requires-clause-there c = slice_get_within c.args.windows.now.frames c.args.i c.args.good.now c.requires.there
+
+pub export-requires-clause-exports : goal.export-requires-clause-exports
+export-requires-clause-exports c =
+    let same = ap length c.exports.ensures.exports in
+    let lt : c.loop-k.k < length (numbered c.args.good.now).exports = omega (arith, c.loop-k-test.true, same) in
+    subst (λ (o : Option Frame). IfSome o (λ f. c.loop-k.k < length (numbered f).exports)) (sym c.requires.there) lt
+
+pub bytes_of-requires-clause-complete : goal.bytes_of-requires-clause-complete
+bytes_of-requires-clause-complete c = c.requires.prints.complete
+
+pub bytes_of-requires-clause-there : goal.bytes_of-requires-clause-there
+bytes_of-requires-clause-there c =
+    let prints = c.requires.prints in
+    omega (arith, c.export.ensures.within prints.held prints.sized, prints.readbacks)
+
+pub export_text-requires : goal.export_text-requires
+export_text-requires c =
+    let same = ap length c.exports.ensures.exports in
+    omega (arith, c.loop-k-test.true, same)
+
+pub loop-k-preserved : goal.loop-k-preserved
+loop-k-preserved c =
+    let F = c.args.windows.now in
+    let good = c.args.good.now in
+    let i = c.args.i in
+    let k = c.loop-k.k in
+    let same = ap length c.exports.ensures.exports in
+    let lt : k < length (numbered good).exports = omega (arith, c.loop-k-test.true, same) in
+    let read = c.bytes_of.ensures ∙ ap (read_by c.args.device.now) c.export.ensures.place ∙ sym (c.requires.prints.printed k good c.requires.there lt) in
+    one_more (λ n. export_text good n (bytes_alone F.frames F.persist i good n)) k c.args.text.now c.loop-k.text _ c.export_text.new.text c.loop-k.invariant (ap (export_text good k) read) c.in_ok-export_text.ensures.ok
+
+pub returns : goal.returns
+returns c =
+    let F = c.args.windows.now in
+    let good = c.args.good.now in
+    let same = ap length c.exports.ensures.exports in
+    let all : c.loop-k.k ≡ length (numbered good).exports = omega (arith, c.loop-k-test.false, c.loop-k.auto.k-end, same) in
+    c.loop-k.invariant ∙ ap (λ m. c.args.text.now ++ in_turn (λ n. export_text good n (bytes_alone F.frames F.persist c.args.i good n)) m) all

@@ -1,0 +1,3 @@
+-- Definitions that serve the code alone: no public clause reaches them.
+pub mod Flying
+pub mod Reading

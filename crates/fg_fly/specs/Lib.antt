@@ -1,0 +1,5 @@
+pub mod Code
+pub mod Files
+pub mod Flights
+pub mod Lines
+pub mod Texts

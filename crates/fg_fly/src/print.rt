@@ -1,0 +1,83 @@
+//! What is printed of a window.
+
+ghost use Rattle.std.specs.Prelude.{◌≡◌, ◌<◌, ◌*◌, ◌+◌, ◌/◌, ◌++◌, ℕ, ◌≤◌, ◌⊎◌, Some, length, slice_get, OnOk};
+ghost use Rattle.fg_flight.specs.Flights.{window_count};
+ghost use Rattle.fg_fly.specs.Code.Flying.{Prints, text_before};
+ghost use Rattle.fg_fly.specs.Texts.{bytes_alone};
+ghost use Rattle.fg_report.specs.Flights.{flight_text};
+ghost use Rattle.fg_report.specs.declared.flight.FlightLine.TheVariants as lines;
+ghost use Rattle.fg_stages.specs.Exports.{exports_text};
+
+use fg_base::{NoMemory, Text};
+use fg_device::Device;
+use fg_flight::Windows;
+use fg_frame::GoodFrame;
+use fg_report::{FlightLine, export_text, flight_text};
+use fg_run::bytes_of;
+
+// The exports of frame `i`, as the device has left them.
+fn add_exports(
+    text: &mut Text,
+    windows: &Windows<'_>,
+    good: &GoodFrame,
+    i: u32,
+    device: &Device,
+) -> Result<(), NoMemory>
+    requires there { slice_get windows.now.frames i ≡ Some good.now }
+    requires prints { Prints windows.now i device.now }
+    ensures { OnOk result (text.new ≡ text.old ++ exports_text good.now (bytes_alone windows.now.frames windows.now.persist i good.now)) }
+{
+    let count = good.exports().len() as u32;
+    for k in 0..count {
+        export_text(text, good, k, bytes_of(device, windows.export(i, k)))?;
+    }
+    Ok(())
+}
+
+// The line of frame `i`, and its exports.
+fn add_frame(
+    text: &mut Text,
+    windows: &Windows<'_>,
+    good: &GoodFrame,
+    i: u32,
+    device: &Device,
+) -> Result<(), NoMemory>
+    requires there { slice_get windows.now.frames i ≡ Some good.now }
+    requires prints { Prints windows.now i device.now }
+    ensures { OnOk result (text.new ≡ text.old ++ (flight_text (lines.Frame i) ++ exports_text good.now (bytes_alone windows.now.frames windows.now.persist i good.now))) }
+{
+    flight_text(text, &FlightLine::Frame { frame: i })?;
+    add_exports(text, windows, good, i, device)
+}
+
+fn smaller(a: u32, b: u32) -> u32
+    ensures least { (result ≤ a) × (result ≤ b) }
+    ensures one { (result ≡ a) ⊎ (result ≡ b) }
+{
+    if a < b { a } else { b }
+}
+
+/// Adds the frames of window `w`, whose device has run.
+pub(crate) fn add_window(
+    text: &mut Text,
+    windows: &Windows<'_>,
+    frames: &[GoodFrame],
+    depth: u32,
+    w: u32,
+    device: &Device,
+) -> Result<(), NoMemory>
+    requires frames { windows.now.frames ≡ frames.now }
+    requires depth { windows.now.depth ≡ depth }
+    requires there { w < window_count windows.now.depth windows.now.frames }
+    requires prints { (i : ℕ) → i / windows.now.depth ≡ w → Prints windows.now i device.now }
+    requires text { text.old ≡ text_before windows.now (w * windows.now.depth) }
+    ensures { OnOk result (text.new ≡ text_before windows.now ((w + 1) * windows.now.depth)) }
+{
+    let _count = windows.count();
+    let from = w * depth;
+    let to = smaller(from + depth, frames.len() as u32);
+    for i in from..to {
+        add_frame(text, windows, &frames[i as usize], i, device)?;
+    }
+    Ok(())
+}

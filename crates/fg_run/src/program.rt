@@ -1,0 +1,90 @@
+//! A sound program runs on a device.
+
+ghost use Rattle.std.specs.Prelude.{◌≡◌, ◌≤◌, ℕ, Some, IfOk, IsTrue};
+ghost use Rattle.fg_steps.specs.Devices.{Device};
+ghost use Rattle.fg_steps.specs.Runs.{Runs};
+ghost use Rattle.fg_run.specs.Runs.{HasRun};
+
+use fg_base::{Gate, NoMemory};
+use fg_caches::MOVES;
+use fg_checker::Checked;
+use fg_device::Device;
+use fg_drive::{drive, tended};
+use fg_steps::{device_laws, event_laws};
+use fg_words::Options;
+use fg_worker::run_workers;
+use std::alloc::Global;
+use std::sync::Wait;
+use std::thread::Threads;
+
+// The laws of devices that run the program.
+fn run_laws(program: &Checked)
+    ensures { (d : Device) → d.program ≡ program.now.program → Runs d }
+{
+    device_laws();
+    let _faultless = program.shaped().program();
+}
+
+// Whether the device is one of the program that has run to its end, with the cache moves of the seed.
+fn has_run(
+    alloc: Global,
+    program: &Checked,
+    device: &Device,
+    tend: Option<u64>,
+) -> Result<bool, NoMemory>
+    ensures { IfOk result (λ has. IsTrue has → HasRun program.now.program tend device.now) }
+{
+    if !device.belongs(program, 0) {
+        return Ok(false);
+    }
+    if !device.complete() {
+        return Ok(false);
+    }
+    run_laws(program);
+    tended(alloc, program, device, tend)
+}
+
+// How many cache moves are made.
+fn moves_of(tend: Option<u64>) -> u32
+    ensures { (seed : ℕ) → tend ≡ Some seed → result ≡ 256 }
+{
+    match tend {
+        Some(_) => MOVES,
+        None => 0,
+    }
+}
+
+// A device that is driven by itself.
+fn driven<R: Threads + Sync>(
+    rt: &R,
+    alloc: Global,
+    program: &Checked,
+    tend: Option<u64>,
+) -> Result<Device, NoMemory>
+    ensures { IfOk result (HasRun program.now.program tend) }
+{
+    run_laws(program);
+    event_laws();
+    let mut device = Device::new(alloc, program, 0, moves_of(tend))?;
+    drive(rt, alloc, &mut device, tend)?;
+    Ok(device)
+}
+
+/// A device that has run the program: that of the workers where it is one, which is looked at, or else another one.
+pub fn run_program<R: Threads + Wait + Sync, G: Gate + Sync>(
+    rt: &R,
+    alloc: Global,
+    program: &Checked,
+    options: Options,
+    gate: &G,
+) -> Result<Device, NoMemory>
+    requires least { 1 ≤ options.workers }
+    requires most { options.workers ≤ 16 }
+    ensures { IfOk result (HasRun program.now.program options.tend) }
+{
+    let device = run_workers(rt, alloc, program, options.workers, options.tend, gate)?;
+    if has_run(alloc, program, &device, options.tend)? {
+        return Ok(device);
+    }
+    driven(rt, alloc, program, options.tend)
+}

@@ -1,0 +1,32 @@
+//! A good frame runs.
+
+ghost use Rattle.std.specs.Prelude.{◌≤◌, Bool, IfOk};
+ghost use Rattle.fg_frame.specs.Numbered.{numbered};
+ghost use Rattle.fg_run.specs.FrameRuns.{RunsOn};
+
+use crate::program::run_program;
+use fg_base::{Gate, NoMemory};
+use fg_device::Device;
+use fg_frame::GoodFrame;
+use fg_stages::compiled;
+use fg_words::Options;
+use std::alloc::Global;
+use std::sync::Wait;
+use std::thread::Threads;
+
+/// A device that has run what the frame is compiled to.
+pub fn run_good<R: Threads + Wait + Sync, G: Gate + Sync>(
+    rt: &R,
+    alloc: Global,
+    options: Options,
+    tight: bool,
+    good: &GoodFrame,
+    gate: &G,
+) -> Result<Device, NoMemory>
+    requires least { 1 ≤ options.workers }
+    requires most { options.workers ≤ 16 }
+    ensures { IfOk result (RunsOn options.tend tight (numbered good.now)) }
+{
+    let made = compiled(alloc, good, tight)?;
+    run_program(rt, alloc, &made.program, options, gate)
+}

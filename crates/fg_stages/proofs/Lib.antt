@@ -1,0 +1,2 @@
+pub mod TightLemmas
+pub mod Turns

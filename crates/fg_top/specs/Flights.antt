@@ -1,0 +1,21 @@
+-- What `flight` answers.
+use Rattle.std.specs.Prelude.{◌≡◌, ℕ, List, Some}
+use Rattle.fg_answer.specs.Plain.{done}
+use Rattle.fg_answer.specs.declared.status.Status.TheVariants as statuses
+use Rattle.fg_fly.specs.Flights.{FliesFile}
+use Rattle.fg_fly.specs.declared.outcome.Outcome.{Outcome}
+use Rattle.fg_fly.specs.declared.outcome.Outcome.TheVariants.{Flown, Refused}
+use Rattle.fg_top.specs.Replies.{still}
+use Rattle.fg_top.specs.declared.reply.Reply.{Reply}
+use Rattle.fg_words.specs.declared.options.Options.{Options}
+
+-- the text of all frames, and taps are told of all devices, one after another; or why the frames do not fly
+abbrev pub reply_of : Outcome → Reply
+reply_of (Flown text history) = record { answer = done text; history = Some history }
+reply_of (Refused text) = still (record { status = statuses.Refused; text = text })
+
+-- frames, one on each line, that fly together, or do not
+pub record FliesBytes (options : Options) (persist : List (List ℕ)) (depth : ℕ) (bytes : List ℕ) (reply : Reply) : Type 0 where
+  pub outcome : Outcome
+  pub flies : FliesFile options.tend persist depth bytes outcome
+  pub whole : reply ≡ reply_of outcome

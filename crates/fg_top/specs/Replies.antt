@@ -1,0 +1,19 @@
+-- Answers, with what devices did for them.
+use Rattle.std.specs.Prelude.{◌≡◌, ℕ, List, Some, None}
+use Rattle.fg_answer.specs.Plain.{done}
+use Rattle.fg_answer.specs.declared.answer.Answer.{Answer}
+use Rattle.fg_steps.specs.Devices.{Device}
+use Rattle.fg_top.specs.declared.reply.Reply.{Reply}
+
+-- no device ran
+abbrev pub still : Answer → Reply
+still answer = record { answer = answer; history = None }
+
+-- a device has run: its history is what taps are told
+abbrev pub ran : Device → List ℕ → Reply
+ran device text = record { answer = done text; history = Some device.history }
+
+-- an answer for which no device ran, of which this holds
+pub record IsStill (Holds : Answer → Type 0) (reply : Reply) : Type 0 where
+  pub answer : Holds reply.answer
+  pub no_device : reply.history ≡ None
