@@ -26,7 +26,7 @@ from c_library import CRATE, LIBRARY, TOP, built, missing
 from makers import Frame
 
 BUILT = TOP / "crates/framec/out/framec"
-WORDS = ("check", "compile", "cull", "place", "bound", "meaning", "migrate")
+WORDS = ("check", "compile", "cull", "place", "bound", "auto", "meaning", "migrate")
 
 
 class Runs:

@@ -20,7 +20,7 @@ static const struct {
     framec_call *call;
 } commands[] = {
     {"check", framec_check}, {"compile", framec_compile}, {"cull", framec_cull},
-    {"place", framec_place}, {"bound", framec_bound}, {"meaning", framec_meaning}, {"migrate", framec_migrate},
+    {"place", framec_place}, {"bound", framec_bound}, {"auto", framec_auto}, {"meaning", framec_meaning}, {"migrate", framec_migrate},
 };
 
 enum { MISUSED = 98, WRONG = 99, UNTOUCHED = 0xa5, MOST_THREADS = 64 };

@@ -89,6 +89,11 @@ int32_t framec_place(const uint8_t *input, size_t input_len, uint8_t *output, si
  * `bound B heap H`, with the bytes of framec_place's heap, and then the names of resources of which no two may share memory, one a line: they show the bound. */
 int32_t framec_bound(const uint8_t *input, size_t input_len, uint8_t *output, size_t output_len, uint64_t *wanted);
 
+/* Moves the passes of a frame to other queues of it, where that makes its longest chain of commands that wait one for another cost less; no
+ * byte of an export changes. Each pass gets, in their order, among the queues that run its operations one with the least cost of the whole frame, its
+ * own before all others. The text is the frame with these queues in format 2, from which framec_compile goes on. */
+int32_t framec_auto(const uint8_t *input, size_t input_len, uint8_t *output, size_t output_len, uint64_t *wanted);
+
 /* Runs the passes of a frame in turn, without a device. The text is for each export `export NAME BYTES` and its bytes in hexadecimal, 32 a
  * line. */
 int32_t framec_meaning(const uint8_t *input, size_t input_len, uint8_t *output, size_t output_len, uint64_t *wanted);

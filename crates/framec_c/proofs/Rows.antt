@@ -1,20 +1,19 @@
 -- Worked rows: what is left in a room, on written-out bytes.
-use Rattle.std.proofs.Common.{[], ◌∷◌, refl, ap, arith}
-use Rattle.std.specs.List.{sum}
-use Rattle.framec_c.specs.Calls.{IsPlaced}
+use Rattle.std.proofs.Common.{◌≡◌, [], ◌∷◌, refl}
+use Rattle.framec_c.specs.Calls.{placed}
 
 -- two bytes in a room of three, of which the last is as it was
-front_taken : IsPlaced (7 ∷ 8 ∷ []) (1 ∷ 2 ∷ 3 ∷ []) (7 ∷ 8 ∷ 3 ∷ [])
-front_taken = record { fits = λ _. refl; short = λ less. absurd (omega (arith, less)) }
+front_taken : placed (7 ∷ 8 ∷ []) (1 ∷ 2 ∷ 3 ∷ []) ≡ 7 ∷ 8 ∷ 3 ∷ []
+front_taken = refl
 
 -- a room of just so many bytes is taken
-all_taken : IsPlaced (7 ∷ 8 ∷ []) (1 ∷ 2 ∷ []) (7 ∷ 8 ∷ [])
-all_taken = record { fits = λ _. refl; short = λ less. absurd (omega (arith, less)) }
+all_taken : placed (7 ∷ 8 ∷ []) (1 ∷ 2 ∷ []) ≡ 7 ∷ 8 ∷ []
+all_taken = refl
 
--- a smaller one is as it was
-as_it_was : IsPlaced (7 ∷ 8 ∷ []) (1 ∷ []) (1 ∷ [])
-as_it_was = record { fits = λ most. absurd (omega (arith, most)); short = λ _. refl }
+-- a smaller one is as it was, and has no front of the text
+as_it_was : placed (7 ∷ 8 ∷ []) (1 ∷ []) ≡ 1 ∷ []
+as_it_was = refl
 
--- and has no front of the text
-never_cut : ¬ IsPlaced (7 ∷ 8 ∷ []) (1 ∷ []) (7 ∷ [])
-never_cut placed = omega (arith, ap sum (placed.short (omega arith)))
+-- no text leaves a room as it was
+none_placed : placed [] (1 ∷ 2 ∷ []) ≡ 1 ∷ 2 ∷ []
+none_placed = refl

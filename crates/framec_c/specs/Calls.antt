@@ -1,16 +1,15 @@
 -- What a call from C comes to.
-use Rattle.std.specs.Prelude.{ℕ, ℤ, pos, ◌≡◌, ◌<◌, ◌≤◌, ◌⊎◌, List, ◌++◌, length, drop}
-use Rattle.fg_top.specs.Answers.{Answers}
-use Rattle.fg_top.specs.Statuses.{number_of, HasText}
-use Rattle.fg_top.specs.declared.answer.Answer.{Answer}
-use Rattle.fg_top.specs.declared.ended.Status.TheVariants.{NoMemory}
+use Rattle.std.specs.Prelude.{ℕ, ℤ, pos, ◌≡◌, ◌⊎◌, List, ◌++◌, length, drop, nat_le, if◌then◌else◌}
+use Rattle.fg_answer.specs.Answers.{Answers}
+use Rattle.fg_answer.specs.Statuses.{number_of, HasText}
+use Rattle.fg_answer.specs.declared.answer.Answer.{Answer}
+use Rattle.fg_answer.specs.declared.status.Status.TheVariants.{NoMemory}
 use Rattle.fg_words.specs.declared.command.Command.{Command}
 
 -- a text that fits stands at the front of the room, and the room behind it is as it was; for one that does not fit all of the
 -- room is as it was
-pub record IsPlaced (text old new : List ℕ) : Type 0 where
-  pub fits : length text ≤ length old → new ≡ text ++ drop (length text) old
-  pub short : length old < length text → new ≡ old
+abbrev pub placed : List ℕ → List ℕ → List ℕ
+placed text room = if nat_le (length text) (length room) then text ++ drop (length text) room else room
 
 -- the number of the answer's status, the length of its text, and the text where there is room for all of it
 pub record IsGiven (command : Command) (bytes old new : List ℕ) (wanted : ℕ) (number : ℤ) : Type 0 where
@@ -19,7 +18,7 @@ pub record IsGiven (command : Command) (bytes old new : List ℕ) (wanted : ℕ)
   pub has_text : HasText answer.status
   pub given : number ≡ pos (number_of answer.status)
   pub counted : wanted ≡ length answer.text
-  pub placed : IsPlaced answer.text old new
+  pub in_room : new ≡ placed answer.text old
 
 -- memory ran out, and there is no text
 pub record IsLacking (old new : List ℕ) (wanted : ℕ) (number : ℤ) : Type 0 where

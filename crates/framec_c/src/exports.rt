@@ -7,7 +7,7 @@ ghost use Rattle.fg_words.specs.declared.command.SubmissionCommand.{SubmissionCo
 ghost use Rattle.framec_c.specs.Calls.{Gives};
 
 use crate::call::call;
-use fg_words::{Command, FrameCommand, SubmissionCommand};
+use crate::export::Export;
 use std::alloc::Global;
 
 /// Whether a submission is sound, or its first hazard.
@@ -20,13 +20,7 @@ pub extern "C" fn framec_check(
 ) -> i32
     ensures gives { Gives (Command.Submission SubmissionCommand.Check) input.now output.old output.new wanted.new result }
 {
-    call(
-        alloc,
-        Command::Submission(SubmissionCommand::Check),
-        input,
-        output,
-        wanted,
-    )
+    call(alloc, Export::Check, input, output, wanted)
 }
 
 /// Which passes of a frame are culled.
@@ -39,13 +33,7 @@ pub extern "C" fn framec_cull(
 ) -> i32
     ensures gives { Gives (Command.Frame FrameCommand.Cull) input.now output.old output.new wanted.new result }
 {
-    call(
-        alloc,
-        Command::Frame(FrameCommand::Cull),
-        input,
-        output,
-        wanted,
-    )
+    call(alloc, Export::Cull, input, output, wanted)
 }
 
 /// Where the transient resources of a frame lie in shared memory.
@@ -58,13 +46,7 @@ pub extern "C" fn framec_place(
 ) -> i32
     ensures gives { Gives (Command.Frame FrameCommand.Place) input.now output.old output.new wanted.new result }
 {
-    call(
-        alloc,
-        Command::Frame(FrameCommand::Place),
-        input,
-        output,
-        wanted,
-    )
+    call(alloc, Export::Place, input, output, wanted)
 }
 
 /// How many bytes the memory that the transient resources of a frame share has at least.
@@ -77,13 +59,7 @@ pub extern "C" fn framec_bound(
 ) -> i32
     ensures gives { Gives (Command.Frame FrameCommand.Bound) input.now output.old output.new wanted.new result }
 {
-    call(
-        alloc,
-        Command::Frame(FrameCommand::Bound),
-        input,
-        output,
-        wanted,
-    )
+    call(alloc, Export::Bound, input, output, wanted)
 }
 
 /// The submissions that the kept passes of a frame need.
@@ -96,13 +72,20 @@ pub extern "C" fn framec_compile(
 ) -> i32
     ensures gives { Gives (Command.Frame (FrameCommand.Compile false)) input.now output.old output.new wanted.new result }
 {
-    call(
-        alloc,
-        Command::Frame(FrameCommand::Compile { tight: false }),
-        input,
-        output,
-        wanted,
-    )
+    call(alloc, Export::Compile, input, output, wanted)
+}
+
+/// A frame with its passes on the queues that make its longest chain of work least.
+#[unsafe(no_mangle)]
+pub extern "C" fn framec_auto(
+    alloc: Global,
+    input: &[u8],
+    output: &mut [u8],
+    wanted: &mut u64,
+) -> i32
+    ensures gives { Gives (Command.Frame (FrameCommand.Auto false)) input.now output.old output.new wanted.new result }
+{
+    call(alloc, Export::Auto, input, output, wanted)
 }
 
 /// The exports of a frame, with the bytes that they have after all passes in turn.
@@ -115,13 +98,7 @@ pub extern "C" fn framec_meaning(
 ) -> i32
     ensures gives { Gives (Command.Frame FrameCommand.Meaning) input.now output.old output.new wanted.new result }
 {
-    call(
-        alloc,
-        Command::Frame(FrameCommand::Meaning),
-        input,
-        output,
-        wanted,
-    )
+    call(alloc, Export::Meaning, input, output, wanted)
 }
 
 /// The canonical text of a frame.
@@ -134,11 +111,5 @@ pub extern "C" fn framec_migrate(
 ) -> i32
     ensures gives { Gives (Command.Frame FrameCommand.Migrate) input.now output.old output.new wanted.new result }
 {
-    call(
-        alloc,
-        Command::Frame(FrameCommand::Migrate),
-        input,
-        output,
-        wanted,
-    )
+    call(alloc, Export::Migrate, input, output, wanted)
 }

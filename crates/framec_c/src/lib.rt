@@ -2,4 +2,5 @@
 #![tactic(auto)]
 
 mod call;
+mod export;
 mod exports;

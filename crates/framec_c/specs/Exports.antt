@@ -1,0 +1,19 @@
+-- Which commands C can call.
+use Rattle.std.specs.Prelude.{false}
+use Rattle.fg_words.specs.declared.command.Command.{Command}
+use Rattle.fg_words.specs.declared.command.Command.TheVariants.{Frame, Submission}
+use Rattle.fg_words.specs.declared.command.FrameCommand.TheVariants as frames
+use Rattle.fg_words.specs.declared.command.SubmissionCommand.TheVariants as submissions
+use Rattle.framec_c.specs.declared.export.Export.{Export}
+use Rattle.framec_c.specs.declared.export.Export.TheVariants.{Check, Cull, Place, Bound, Compile, Auto, Meaning, Migrate}
+
+-- as a command line has it, without options
+abbrev pub command_of : Export → Command
+command_of Check = Submission submissions.Check
+command_of Cull = Frame frames.Cull
+command_of Place = Frame frames.Place
+command_of Bound = Frame frames.Bound
+command_of Compile = Frame (frames.Compile false)
+command_of Auto = Frame (frames.Auto false)
+command_of Meaning = Frame frames.Meaning
+command_of Migrate = Frame frames.Migrate

@@ -1,0 +1,35 @@
+//! Which commands C can call.
+
+ghost use Rattle.std.specs.Prelude.{◌≡◌};
+ghost use Rattle.framec_c.specs.Exports.{command_of};
+
+use fg_words::{Command, FrameCommand, SubmissionCommand};
+
+/// A command that C can call.
+#[derive(Clone, Copy, Debug, PartialEq, Eq)]
+pub enum Export {
+    Check,
+    Cull,
+    Place,
+    Bound,
+    Compile,
+    Auto,
+    Meaning,
+    Migrate,
+}
+
+/// The command as a command line has it, without options.
+pub fn command_of(export: Export) -> Command
+    ensures { result ≡ command_of export }
+{
+    match export {
+        Export::Check => Command::Submission(SubmissionCommand::Check),
+        Export::Cull => Command::Frame(FrameCommand::Cull),
+        Export::Place => Command::Frame(FrameCommand::Place),
+        Export::Bound => Command::Frame(FrameCommand::Bound),
+        Export::Compile => Command::Frame(FrameCommand::Compile { tight: false }),
+        Export::Auto => Command::Frame(FrameCommand::Auto { cost: false }),
+        Export::Meaning => Command::Frame(FrameCommand::Meaning),
+        Export::Migrate => Command::Frame(FrameCommand::Migrate),
+    }
+}
