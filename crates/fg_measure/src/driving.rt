@@ -26,9 +26,9 @@ fn checked(alloc: Global, bytes: &[u8]) -> Result<Checked, Stopped> {
     }
 }
 
-/// A device of a sound submission that has done nothing.
+// A device of a sound submission that has done nothing.
 #[tactic(auto, using(fg_drive::proofs::Calming::fresh_idle))]
-pub fn device_of(alloc: Global, bytes: &[u8]) -> Result<Device, Stopped>
+fn device_of(alloc: Global, bytes: &[u8]) -> Result<Device, Stopped>
     ensures idle { IfOk result NoneBegun }
     ensures sound { IfOk result (λ device. IsSound device.program) }
 {
@@ -36,13 +36,30 @@ pub fn device_of(alloc: Global, bytes: &[u8]) -> Result<Device, Stopped>
     Ok(Device::new(alloc, &checked, 0, 0)?)
 }
 
-/// Drives it to its end.
-pub fn driven<R: Threads + Sync>(rt: &R, alloc: Global, bytes: &[u8]) -> Result<(), Stopped> {
-    let mut device = device_of(alloc, bytes)?;
-    drive(rt, alloc, &mut device, None)?;
+// To its end.
+fn driven<R: Threads + Sync>(rt: &R, alloc: Global, device: &mut Device) -> Result<(), Stopped>
+    requires idle { NoneBegun device.old }
+    requires sound { IsSound device.old.program }
+{
+    drive(rt, alloc, device, None)?;
     if device.complete() {
         Ok(())
     } else {
         Err(Stopped)
+    }
+}
+
+/// Makes the device of a submission, and drives it to its end, if that is asked for.
+pub fn make<R: Threads + Sync>(
+    rt: &R,
+    alloc: Global,
+    bytes: &[u8],
+    drives: bool,
+) -> Result<(), Stopped> {
+    let mut device = device_of(alloc, bytes)?;
+    if drives {
+        driven(rt, alloc, &mut device)
+    } else {
+        Ok(())
     }
 }

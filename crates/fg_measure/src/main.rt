@@ -10,7 +10,7 @@ mod stopped;
 mod table;
 
 use crate::call::call_of;
-use crate::driving::{device_of, driven};
+use crate::driving::make;
 use crate::repeat::repeat;
 use crate::small::{run_small, small_of};
 use crate::stopped::Stopped;
@@ -21,18 +21,12 @@ use std::process::ExitCode;
 use std::rt::{Env, Runtime};
 use std::thread::Threads;
 
-// The words after the program's name.
-fn words_of<R: Env + AllocGlobal>(rt: &R) -> Result<Vec<String>, Stopped> {
-    let mut words = Vec::new(rt.alloc());
-    let Ok(all) = env::args(rt) else {
-        return Err(Stopped);
-    };
-    for word in all.skip(1) {
-        if words.push(word).is_err() {
-            return Err(Stopped);
-        }
+// The word with this number; the program's name has the number 0.
+fn word<R: Env + AllocGlobal>(rt: &R, at: usize) -> Result<Option<String>, Stopped> {
+    match env::args(rt) {
+        Ok(mut words) => Ok(words.nth(at)),
+        Err(_) => Err(Stopped),
     }
-    Ok(words)
 }
 
 fn bytes_of<I: Read>(alloc: Global, input: &mut I) -> Result<Vec<u8>, Stopped> {
@@ -69,20 +63,38 @@ fn repeated(rt: &impl Print, alloc: Global, call: &str, times: &str) -> Result<(
     }
 }
 
-fn run<R: Runtime + AllocGlobal + Threads + Sync>(rt: &R) -> Result<(), Stopped> {
-    let alloc = rt.alloc();
-    let words = words_of(rt)?;
-    match words.as_slice() {
-        [] => Ok(()),
-        [word] if word.as_str() == "device" => {
-            device_of(alloc, &bytes_of(alloc, &mut rt.reader())?)?;
-            Ok(())
-        }
-        [word] if word.as_str() == "drive" => {
-            driven(rt, alloc, &bytes_of(alloc, &mut rt.reader())?)
-        }
-        [call, times] => repeated(rt, alloc, call.as_str(), times.as_str()),
+// The device of what is read.
+fn read<R: Runtime + AllocGlobal + Threads + Sync>(rt: &R, drives: bool) -> Result<(), Stopped> {
+    let bytes = bytes_of(rt.alloc(), &mut rt.reader())?;
+    make(rt, rt.alloc(), &bytes, drives)
+}
+
+fn obey_one<R: Runtime + AllocGlobal + Threads + Sync>(rt: &R, word: &str) -> Result<(), Stopped> {
+    match word {
+        "device" => read(rt, false),
+        "drive" => read(rt, true),
         _ => Err(Stopped),
+    }
+}
+
+fn obey_two<R: Runtime + AllocGlobal>(rt: &R, call: &str, times: &str) -> Result<(), Stopped> {
+    if word(rt, 3)?.is_some() {
+        return Err(Stopped);
+    }
+    repeated(rt, rt.alloc(), call, times)
+}
+
+fn obey<R: Runtime + AllocGlobal + Threads + Sync>(rt: &R, first: &str) -> Result<(), Stopped> {
+    match word(rt, 2)? {
+        None => obey_one(rt, first),
+        Some(second) => obey_two(rt, first, second.as_str()),
+    }
+}
+
+fn run<R: Runtime + AllocGlobal + Threads + Sync>(rt: &R) -> Result<(), Stopped> {
+    match word(rt, 1)? {
+        None => Ok(()),
+        Some(first) => obey(rt, first.as_str()),
     }
 }
 

@@ -36,22 +36,53 @@ fn sum(bytes: &[u8]) -> u64 {
     sum
 }
 
+fn act_all(
+    alloc: Global,
+    call: Call,
+    times: u32,
+    table: &mut Segments,
+    ranges: &mut Ranges,
+    from: &[u8],
+    out: &mut [u8],
+) -> Result<(), Stopped>
+    requires holds { HoldsImage table.old }
+    requires from { length from.now ≡ image }
+    requires out { length out.old ≡ image }
+{
+    for _time in 0..times {
+        act(alloc, call.action, table, from, ranges.next(), out)?;
+    }
+    Ok(())
+}
+
+// The sum of what was loaded.
+fn acted(
+    alloc: Global,
+    call: Call,
+    times: u32,
+    table: &mut Segments,
+    ranges: &mut Ranges,
+    from: &[u8],
+) -> Result<u64, Stopped>
+    requires holds { HoldsImage table.old }
+    requires from { length from.now ≡ image }
+{
+    let mut out = picture(alloc)?.into_vec();
+    act_all(alloc, call, times, table, ranges, from, &mut out)?;
+    Ok(sum(&out))
+}
+
+fn repeat_on(alloc: Global, call: Call, times: u32, table: &mut Segments) -> Result<u64, Stopped>
+    requires { HoldsImage table.old }
+{
+    let mut ranges = Ranges::new(call.random);
+    use_first(alloc, table, &mut ranges)?;
+    let from = picture(alloc)?;
+    acted(alloc, call, times, table, &mut ranges, &from)
+}
+
 /// Does a call so many times, each on the next range. The answer is a sum of the bytes that were loaded.
 pub fn repeat(alloc: Global, call: Call, times: u32) -> Result<u64, Stopped> {
-    let mut ranges = Ranges::new(call.random);
     let mut table = table(alloc, if call.random { PLACES } else { 0 }, STORES)?;
-    use_first(alloc, &mut table, &mut ranges)?;
-    let from = picture(alloc)?;
-    let mut out = picture(alloc)?.into_vec();
-    for _time in 0..times {
-        act(
-            alloc,
-            call.action,
-            &mut table,
-            &from,
-            ranges.next(),
-            &mut out,
-        )?;
-    }
-    Ok(sum(&out))
+    repeat_on(alloc, call, times, &mut table)
 }

@@ -93,13 +93,20 @@ fn put_all(table: &mut Segments, buffers: &mut Vec<List<u8>>, writes: bool) -> R
     Ok(())
 }
 
-fn round(alloc: Global, small: Small) -> Result<u64, Stopped> {
-    let mut table = row(alloc)?;
+// How many buffers are let go.
+fn left(alloc: Global, small: Small, table: &mut Segments) -> Result<u64, Stopped>
+    requires { HoldsRow table.old }
+{
     let mut buffers = buffers(alloc)?;
     if small != Small::Make {
-        put_all(&mut table, &mut buffers, small == Small::PutWrite)?;
+        put_all(table, &mut buffers, small == Small::PutWrite)?;
     }
     Ok(buffers.len() as u64)
+}
+
+fn round(alloc: Global, small: Small) -> Result<u64, Stopped> {
+    let mut table = row(alloc)?;
+    left(alloc, small, &mut table)
 }
 
 /// As many buffers as a table may have stores, so many times. The answer is how many were let go.

@@ -5,20 +5,39 @@ use fg_subs::{Program, Shaped, shape};
 use std::alloc::Global;
 use std::test::Fail;
 
-// Programs, and whether all of their nodes go on, each time the least ready one of the first queue that has one.
-const ROWS: [(&str, bool); 3] = [
-    (
-        "plain:16 buffer:16:0:0 read:0 ; graphics fill:0:16 signal:1",
-        true,
-    ),
-    (
-        "plain:16 buffer:16:0:0 ; graphics wait:1:1 fill:0:16 signal:1 ; compute signal:1",
-        true,
-    ),
-    (
-        "; graphics wait:1:1 signal:1 ; compute wait:0:1 signal:1",
-        false,
-    ),
+// A program, what its first two queues have ready, and the first one after the second has gone on once, how far the second then
+// has signalled, and whether all nodes go on, each time the least ready one of the first queue that has one.
+struct Row {
+    line: &'static str,
+    ready: [Option<u32>; 2],
+    then: Option<u32>,
+    counter: u64,
+    whole: bool,
+}
+
+const ROWS: [Row; 3] = [
+    Row {
+        line: "plain:16 buffer:16:0:0 read:0 ; graphics fill:0:16 signal:1",
+        ready: [Some(0), None],
+        then: Some(0),
+        counter: 0,
+        whole: true,
+    },
+    // A wait goes on after the signal that meets it, and not before.
+    Row {
+        line: "plain:16 buffer:16:0:0 ; graphics wait:1:1 fill:0:16 signal:1 ; compute signal:1",
+        ready: [None, Some(3)],
+        then: Some(0),
+        counter: 1,
+        whole: true,
+    },
+    Row {
+        line: "; graphics wait:1:1 signal:1 ; compute wait:0:1 signal:1",
+        ready: [None, None],
+        then: None,
+        counter: 0,
+        whole: false,
+    },
 ];
 
 fn shaped(alloc: Global, program: Program) -> Result<Shaped, SketchError> {
@@ -46,33 +65,34 @@ fn go(control: &mut Control, queue: u32) {
     }
 }
 
-fn completes(mut control: Control) -> bool {
+fn completes(control: &mut Control) -> bool {
     for _turn in 0..control.view().count() {
         for queue in 0..3 {
-            go(&mut control, queue);
+            go(control, queue);
         }
     }
     control.complete()
 }
 
-#[test]
-fn runs(rt: HostRuntime) -> Result<(), Fail> {
-    let alloc = rt.alloc();
-    for (line, whole) in &ROWS {
-        let control = control(alloc, line)?;
-        assert!(&rt; completes(control) == *whole, "{line}");
+fn begins(control: &mut Control, row: &Row) -> bool {
+    let (first, second, then) = (row.ready[0], row.ready[1], row.then);
+    if control.pick(0) != first || control.pick(1) != second {
+        return false;
     }
-    Ok(())
+    go(control, 1);
+    control.pick(0) == then && control.counter(1) == row.counter
 }
 
-// A wait goes on after the signal that meets it, and not before.
+// So that one function lets the control go.
+fn holds(alloc: Global, row: &Row) -> Result<bool, Fail> {
+    let mut control = control(alloc, row.line)?;
+    Ok(begins(&mut control, row) && completes(&mut control) == row.whole)
+}
+
 #[test]
-fn waits(rt: HostRuntime) -> Result<(), Fail> {
-    let mut control = control(rt.alloc(), ROWS[1].0)?;
-    assert!(&rt; control.pick(0) == None);
-    assert!(&rt; control.pick(1) == Some(3));
-    go(&mut control, 1);
-    assert!(&rt; control.pick(0) == Some(0));
-    assert!(&rt; control.counter(1) == 1);
+fn runs(rt: HostRuntime) -> Result<(), Fail> {
+    for row in &ROWS {
+        assert!(&rt; holds(rt.alloc(), row)?, "{}", row.line);
+    }
     Ok(())
 }

@@ -33,12 +33,20 @@ enum Act {
     WriteBack,
     // The first read-back.
     Read,
+    // What another device has computed is handed in, before all others. It is not taken.
+    Foreign,
 }
 
 const ROWS: [(&str, &[Act], [u8; 4]); 4] = [
     (
         UNORDERED,
-        &[Act::Node(1), Act::Node(0), Act::Node(2), Act::Read],
+        &[
+            Act::Foreign,
+            Act::Node(1),
+            Act::Node(0),
+            Act::Node(2),
+            Act::Read,
+        ],
         [0xef, 0xee, 0xee, 0xee],
     ),
     (
@@ -188,80 +196,9 @@ fn read(device: &mut Device) {
     }
 }
 
-fn make_act<R: Threads + Sync>(
-    rt: &R,
-    alloc: Global,
-    device: &mut Device,
-    act: Act,
-) -> Result<(), NoMemory> {
-    match act {
-        Act::Node(node) => run(rt, alloc, device, node),
-        Act::WriteBack => {
-            write_back(device);
-            Ok(())
-        }
-        Act::Read => {
-            read(device);
-            Ok(())
-        }
-    }
-}
-
-// The bytes of the first read-back.
-fn first_read(device: &Device) -> Option<&[u8]> {
-    if device.program().program().readbacks.is_empty() {
-        return None;
-    }
-    device.readback(0)
-}
-
-fn has_read(device: &Device, bytes: &[u8]) -> bool {
-    match first_read(device) {
-        Some(read) => read == bytes,
-        None => false,
-    }
-}
-
 fn device(alloc: Global, line: &str) -> Result<Device, Fail> {
     let shaped = shaped(alloc, program(alloc, line)?)?;
     Ok(Device::unchecked(alloc, shaped, 238, 1)?)
-}
-
-// Whether the acts bring a device to its end, with these bytes read back by the last of them.
-fn ends_with<R: Threads + Sync>(
-    rt: &R,
-    alloc: Global,
-    device: &mut Device,
-    acts: &[Act],
-    bytes: &[u8],
-) -> Result<bool, NoMemory> {
-    for act in acts {
-        if has_read(device, bytes) {
-            return Ok(false);
-        }
-        make_act(rt, alloc, device, *act)?;
-    }
-    Ok(device.complete() && has_read(device, bytes))
-}
-
-fn row<R: Threads + Sync>(
-    rt: &R,
-    alloc: Global,
-    line: &str,
-    acts: &[Act],
-    bytes: &[u8],
-) -> Result<bool, Fail> {
-    let mut device = device(alloc, line)?;
-    Ok(ends_with(rt, alloc, &mut device, acts, bytes)?)
-}
-
-#[test]
-fn rows(rt: HostRuntime) -> Result<(), Fail> {
-    let alloc = rt.alloc();
-    for (line, acts, bytes) in &ROWS {
-        assert!(&rt; row(&rt, alloc, line, acts, bytes)?);
-    }
-    Ok(())
 }
 
 // A device goes to another thread.
@@ -281,31 +218,86 @@ fn finished<R: Threads + Sync>(
     Ok(computed(rt, alloc, device, 0)?)
 }
 
+// What the first node of a device of its own has done.
+fn foreign<R: Threads + Sync>(rt: &R, alloc: Global) -> Result<Finished, Fail> {
+    let mut device = sent(device(alloc, UNORDERED)?);
+    Ok(finished(rt, alloc, &mut device)?)
+}
+
 // Whether a device does not take what another one has computed, and nothing happens.
 fn is_not_taken<R: Threads + Sync>(
     rt: &R,
     alloc: Global,
-    first: &mut Device,
-    second: &mut Device,
-) -> Result<bool, SketchError> {
-    let done = finished(rt, alloc, first)?;
-    let landed = second.end(done);
-    Ok(landed == Landed::NotBegun && second.history().is_empty())
+    device: &mut Device,
+) -> Result<bool, Fail> {
+    let done = foreign(rt, alloc)?;
+    let landed = device.end(done);
+    Ok(landed == Landed::NotBegun && device.history().is_empty())
 }
 
-fn other_refuses<R: Threads + Sync>(
+// Whether it went as it should.
+fn make_act<R: Threads + Sync>(
     rt: &R,
     alloc: Global,
-    first: &mut Device,
+    device: &mut Device,
+    act: Act,
 ) -> Result<bool, Fail> {
-    let mut second = device(alloc, UNORDERED)?;
-    Ok(is_not_taken(rt, alloc, first, &mut second)?)
+    match act {
+        Act::Node(node) => run(rt, alloc, device, node)?,
+        Act::WriteBack => write_back(device),
+        Act::Read => read(device),
+        Act::Foreign => return is_not_taken(rt, alloc, device),
+    }
+    Ok(true)
+}
+
+// The bytes of the first read-back.
+fn first_read(device: &Device) -> Option<&[u8]> {
+    if device.program().program().readbacks.is_empty() {
+        return None;
+    }
+    device.readback(0)
+}
+
+fn has_read(device: &Device, bytes: &[u8]) -> bool {
+    match first_read(device) {
+        Some(read) => read == bytes,
+        None => false,
+    }
+}
+
+// Whether the acts bring a device to its end, with these bytes read back by the last of them.
+fn ends_with<R: Threads + Sync>(
+    rt: &R,
+    alloc: Global,
+    device: &mut Device,
+    acts: &[Act],
+    bytes: &[u8],
+) -> Result<bool, Fail> {
+    for act in acts {
+        if has_read(device, bytes) || !make_act(rt, alloc, device, *act)? {
+            return Ok(false);
+        }
+    }
+    Ok(device.complete() && has_read(device, bytes))
+}
+
+fn row<R: Threads + Sync>(
+    rt: &R,
+    alloc: Global,
+    line: &str,
+    acts: &[Act],
+    bytes: &[u8],
+) -> Result<bool, Fail> {
+    let mut device = device(alloc, line)?;
+    ends_with(rt, alloc, &mut device, acts, bytes)
 }
 
 #[test]
-fn foreign_finished(rt: HostRuntime) -> Result<(), Fail> {
+fn rows(rt: HostRuntime) -> Result<(), Fail> {
     let alloc = rt.alloc();
-    let mut first = sent(device(alloc, UNORDERED)?);
-    assert!(&rt; other_refuses(&rt, alloc, &mut first)?);
+    for (line, acts, bytes) in &ROWS {
+        assert!(&rt; row(&rt, alloc, line, acts, bytes)?);
+    }
     Ok(())
 }

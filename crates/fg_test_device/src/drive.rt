@@ -56,7 +56,67 @@ const MOVED: [Event; 11] = [
     Event::Host { node: 6 },
 ];
 
-const ROWS: [(Option<u64>, &[Event]); 2] = [(None, &ALONE), (Some(1), &MOVED)];
+// How many moves a device has room for, the seed of a run, its whole history where it is told, another seed, and whether the run
+// has made the moves of that one.
+struct Row {
+    moves: u32,
+    tend: Option<u64>,
+    history: Option<&'static [Event]>,
+    asked: Option<u64>,
+    is: bool,
+}
+
+const ROWS: [Row; 7] = [
+    Row {
+        moves: 2,
+        tend: None,
+        history: Some(&ALONE),
+        asked: None,
+        is: true,
+    },
+    Row {
+        moves: 2,
+        tend: Some(1),
+        history: Some(&MOVED),
+        asked: None,
+        is: false,
+    },
+    Row {
+        moves: MOVES,
+        tend: Some(1),
+        history: None,
+        asked: Some(1),
+        is: true,
+    },
+    Row {
+        moves: MOVES,
+        tend: Some(1),
+        history: None,
+        asked: Some(2),
+        is: false,
+    },
+    Row {
+        moves: MOVES,
+        tend: Some(1),
+        history: None,
+        asked: None,
+        is: false,
+    },
+    Row {
+        moves: MOVES,
+        tend: None,
+        history: Some(&ALONE),
+        asked: None,
+        is: true,
+    },
+    Row {
+        moves: MOVES,
+        tend: None,
+        history: Some(&ALONE),
+        asked: Some(1),
+        is: false,
+    },
+];
 
 fn shaped(alloc: Global, program: Program) -> Result<Shaped, SketchError> {
     shape(alloc, program).map_err(|_| SketchError::Word)
@@ -75,31 +135,6 @@ fn opened(alloc: Global, program: &Checked, moves: u32) -> Result<Device, NoMemo
     Device::new(alloc, program, 238, moves)
 }
 
-fn run<R: Threads + Sync>(
-    rt: &R,
-    alloc: Global,
-    device: &mut Device,
-    tend: Option<u64>,
-) -> Result<(), NoMemory>
-    requires idle { NoneBegun device.old }
-    requires sound { IsSound device.old.program }
-{
-    drive(rt, alloc, device, tend)
-}
-
-// A device that a run has left.
-fn driven<R: Threads + Sync>(
-    rt: &R,
-    alloc: Global,
-    program: &Checked,
-    tend: Option<u64>,
-    moves: u32,
-) -> Result<Device, NoMemory> {
-    let mut device = opened(alloc, program, moves)?;
-    run(rt, alloc, &mut device, tend)?;
-    Ok(device)
-}
-
 // The bytes of the first read-back.
 fn first_read(device: &Device) -> Option<&[u8]> {
     if device.program().program().readbacks.is_empty() {
@@ -112,58 +147,53 @@ fn is_over(device: &Device) -> bool {
     device.complete() && first_read(device) == Some(BYTES.as_slice())
 }
 
-fn has_history(device: &Device, history: &[Event]) -> bool {
-    device.history() == history
+fn has_history(device: &Device, history: Option<&[Event]>) -> bool {
+    match history {
+        Some(history) => device.history() == history,
+        None => true,
+    }
 }
 
+// Whether a device is driven to its end as the row says.
+fn is_driven<R: Threads + Sync>(
+    rt: &R,
+    alloc: Global,
+    program: &Checked,
+    device: &mut Device,
+    row: &Row,
+) -> Result<bool, NoMemory>
+    requires idle { NoneBegun device.old }
+    requires sound { IsSound device.old.program }
+{
+    drive(rt, alloc, device, row.tend)?;
+    let is = tended(alloc, program, device, row.asked)?;
+    Ok(is == row.is && is_over(device) && has_history(device, row.history))
+}
+
+// So that one function lets the device go.
 fn runs<R: Threads + Sync>(
     rt: &R,
     alloc: Global,
     program: &Checked,
-    tend: Option<u64>,
-    history: &[Event],
+    row: &Row,
 ) -> Result<bool, NoMemory> {
-    let device = driven(rt, alloc, program, tend, 2)?;
-    Ok(is_over(&device) && has_history(&device, history))
+    let mut device = opened(alloc, program, row.moves)?;
+    is_driven(rt, alloc, program, &mut device, row)
+}
+
+fn all_run<R: Threads + Sync>(rt: &R, alloc: Global, program: &Checked) -> Result<bool, NoMemory> {
+    for row in &ROWS {
+        if !runs(rt, alloc, program, row)? {
+            return Ok(false);
+        }
+    }
+    Ok(true)
 }
 
 #[test]
 fn runs_of_a_seed(rt: HostRuntime) -> Result<(), Fail> {
     let alloc = rt.alloc();
     let program = checked(alloc)?;
-    for (tend, history) in &ROWS {
-        assert!(&rt; runs(&rt, alloc, &program, *tend, history)?);
-    }
-    Ok(())
-}
-
-// The seed of a run, that it is asked for, and whether it has made the moves of that one.
-const TENDED: [(Option<u64>, Option<u64>, bool); 5] = [
-    (Some(1), Some(1), true),
-    (Some(1), Some(2), false),
-    (Some(1), None, false),
-    (None, None, true),
-    (None, Some(1), false),
-];
-
-// Whether a run with one seed has made the moves of another.
-fn makes<R: Threads + Sync>(
-    rt: &R,
-    alloc: Global,
-    program: &Checked,
-    tend: Option<u64>,
-    asked: Option<u64>,
-) -> Result<bool, NoMemory> {
-    let device = driven(rt, alloc, program, tend, MOVES)?;
-    tended(alloc, program, &device, asked)
-}
-
-#[test]
-fn moves_of_a_seed(rt: HostRuntime) -> Result<(), Fail> {
-    let alloc = rt.alloc();
-    let program = checked(alloc)?;
-    for (tend, asked, is) in &TENDED {
-        assert!(&rt; makes(&rt, alloc, &program, *tend, *asked)? == *is);
-    }
+    assert!(&rt; all_run(&rt, alloc, &program)?);
     Ok(())
 }

@@ -1,6 +1,8 @@
-//! Tests of what frames are and mean: faults, versions, culling, meaning, groups, lifetimes.
+//! Tests of what frames are and mean: faults, versions, culling, meaning, groups, lifetimes, the choice of queues.
 #![tactic(auto)]
 
+#[cfg(test)]
+mod auto;
 #[cfg(test)]
 mod frames;
 #[cfg(test)]

@@ -1,4 +1,5 @@
-use fg_words::{Command, FrameCommand, Options, SubmissionCommand, command_of};
+use fg_base::Name;
+use fg_words::{Command, Options, command_of};
 use std::alloc::{AllocError, Global};
 use std::process::Abort;
 use std::test::Fail;
@@ -12,86 +13,64 @@ fn words_of(alloc: Global, line: &str) -> Result<Vec<String>, AllocError> {
     Ok(words)
 }
 
-const COMMANDS: [(&str, Command); 16] = [
-    ("-- cull", Command::Frame(FrameCommand::Cull)),
-    ("place", Command::Frame(FrameCommand::Place)),
-    ("bound", Command::Frame(FrameCommand::Bound)),
-    (
-        "compile",
-        Command::Frame(FrameCommand::Compile { tight: false }),
-    ),
-    (
-        "--tight compile",
-        Command::Frame(FrameCommand::Compile { tight: true }),
-    ),
+// Lines, and how their commands are shown.
+const COMMANDS: [(&str, &str); 18] = [
+    ("-- cull", "Frame(Cull)"),
+    ("place", "Frame(Place)"),
+    ("bound", "Frame(Bound)"),
+    ("compile", "Frame(Compile { tight: false })"),
+    ("--tight compile", "Frame(Compile { tight: true })"),
+    ("auto", "Frame(Auto { cost: false })"),
+    ("auto --cost", "Frame(Auto { cost: true })"),
     (
         "run --trace --tight --workers 3",
-        Command::Run {
-            options: Options {
-                workers: 3,
-                tend: None,
-            },
-            trace: true,
-            tight: true,
-        },
+        "Run { options: Options { workers: 3, tend: None }, trace: true, tight: true }",
     ),
-    ("meaning", Command::Frame(FrameCommand::Meaning)),
-    ("migrate", Command::Frame(FrameCommand::Migrate)),
-    ("check", Command::Submission(SubmissionCommand::Check)),
-    ("audit", Command::Audit),
-    (
-        "gen --number 0",
-        Command::Gen {
-            number: 0,
-            passes: 64,
-        },
-    ),
+    ("meaning", "Frame(Meaning)"),
+    ("migrate", "Frame(Migrate)"),
+    ("check", "Submission(Check)"),
+    ("audit", "Audit"),
+    ("gen --number 0", "Gen { number: 0, passes: 64 }"),
     (
         "--passes 1 gen --number 4294967295",
-        Command::Gen {
-            number: 4_294_967_295,
-            passes: 1,
-        },
+        "Gen { number: 4294967295, passes: 1 }",
     ),
     (
         "gen --number=0000000007 --passes=256",
-        Command::Gen {
-            number: 7,
-            passes: 256,
-        },
+        "Gen { number: 7, passes: 256 }",
     ),
     (
         "gen --summary --number 1",
-        Command::Summary {
-            number: 1,
-            passes: 64,
-            options: Options {
-                workers: 2,
-                tend: None,
-            },
-        },
+        "Summary { number: 1, passes: 64, options: Options { workers: 2, tend: None } }",
     ),
     (
         "gen --number 1 --passes 2 --workers 16 --summary",
-        Command::Summary {
-            number: 1,
-            passes: 2,
-            options: Options {
-                workers: 16,
-                tend: None,
-            },
-        },
+        "Summary { number: 1, passes: 2, options: Options { workers: 16, tend: None } }",
     ),
     (
         "--tend 0 --summary gen --workers 1 --number 1",
-        Command::Summary {
-            number: 1,
-            passes: 64,
-            options: Options {
-                workers: 1,
-                tend: Some(0),
-            },
-        },
+        "Summary { number: 1, passes: 64, options: Options { workers: 1, tend: Some(0) } }",
+    ),
+];
+
+// The line of `flight`, how many workers, the seed, the persisting names with a blank behind each, and the depth.
+const FLIGHTS: [(&str, u32, Option<u64>, &str, u32); 5] = [
+    ("flight", 2, None, "", 2),
+    ("flight --persist b", 2, None, "b ", 2),
+    (
+        "--depth 8 flight --persist=b,A_b-c.9",
+        2,
+        None,
+        "b A_b-c.9 ",
+        8,
+    ),
+    ("flight --workers 3 --depth 01 --tend 5", 3, Some(5), "", 1),
+    (
+        "flight --persist 1,2,3,4,5,6,7,8,9,10,11,12,13,14,15,16",
+        2,
+        None,
+        "1 2 3 4 5 6 7 8 9 10 11 12 13 14 15 16 ",
+        2,
     ),
 ];
 
@@ -117,7 +96,7 @@ const RUNS: [(&str, u32, Option<u64>, bool); 8] = [
     ("exec --trace --tend 5 --workers 4", 4, Some(5), true),
 ];
 
-const NO_COMMANDS: [&str; 46] = [
+const NO_COMMANDS: [&str; 68] = [
     "",
     "Run",
     "run run",
@@ -154,6 +133,10 @@ const NO_COMMANDS: [&str; 46] = [
     "compile --tight --tight",
     "compile --tight --workers 2",
     "gen --number 1 --summary --tight",
+    "auto --tight",
+    "auto --cost --cost",
+    "auto auto",
+    "cull --cost",
     "audit --workers 2",
     "gen",
     "gen --passes 3",
@@ -164,6 +147,24 @@ const NO_COMMANDS: [&str; 46] = [
     "gen --number 1 --workers 2",
     "gen --number 1 --tend 2",
     "gen --number 1 --summary --trace",
+    "auto --tight",
+    "auto --cost --cost",
+    "auto auto",
+    "cull --cost",
+    "flight --depth 0",
+    "flight --depth 9",
+    "flight --persist",
+    "flight --persist=",
+    "flight --persist b,",
+    "flight --persist ,b",
+    "flight --persist b,b",
+    "flight --persist b,c/0",
+    "flight --persist b --persist c",
+    "flight --persist 1,2,3,4,5,6,7,8,9,10,11,12,13,14,15,16,17",
+    "flight --trace",
+    "flight --tight",
+    "run --persist b",
+    "run --depth 2",
 ];
 
 fn found(alloc: Global, line: &str) -> Result<Option<Command>, Fail> {
@@ -171,9 +172,51 @@ fn found(alloc: Global, line: &str) -> Result<Option<Command>, Fail> {
     Ok(command_of(alloc, words.as_slice())?)
 }
 
-fn is_read_as(rt: &impl Abort, alloc: Global, line: &str, wanted: Command) -> Result<(), Fail> {
+fn is_read_as(rt: &impl Abort, alloc: Global, line: &str, wanted: &str) -> Result<(), Fail> {
     let found = found(alloc, line)?;
-    assert!(rt; found == Some(wanted), "{line}");
+    let shown = match found {
+        Some(command) => format!(in alloc; "{command:?}")?,
+        None => String::new(alloc),
+    };
+    assert!(rt; shown.as_str() == wanted, "{line}");
+    Ok(())
+}
+
+// The names with a blank behind each.
+fn names_shown(alloc: Global, names: &[Name]) -> Result<String, Fail> {
+    let mut shown = String::new(alloc);
+    for name in names {
+        shown.push_str(name.as_str())?;
+        shown.push_str(" ")?;
+    }
+    Ok(shown)
+}
+
+fn flies(
+    rt: &impl Abort,
+    alloc: Global,
+    line: &str,
+    wanted: Options,
+    names: &str,
+    layers: u32,
+) -> Result<(), Fail> {
+    let found = found(alloc, line)?;
+    let Some(
+        Command::Flight {
+            options,
+            persist,
+            depth,
+        },
+    ) = found
+    else {
+        assert!(rt; false, "{line}");
+        return Ok(());
+    };
+    let shown = names_shown(alloc, &persist)?;
+    assert!(rt;
+        options == wanted && shown.as_str() == names && depth == layers,
+        "{line}"
+    );
     Ok(())
 }
 
@@ -181,30 +224,39 @@ fn is_read_as(rt: &impl Abort, alloc: Global, line: &str, wanted: Command) -> Re
 fn command_lines(rt: HostRuntime) -> Result<(), Fail> {
     let alloc = rt.alloc();
     for (line, wanted) in &COMMANDS {
-        is_read_as(&rt, alloc, line, *wanted)?;
+        is_read_as(&rt, alloc, line, wanted)?;
     }
+    for line in &NO_COMMANDS {
+        is_read_as(&rt, alloc, line, "")?;
+    }
+    Ok(())
+}
+
+#[test]
+fn lines_that_run(rt: HostRuntime) -> Result<(), Fail> {
+    let alloc = rt.alloc();
     for (line, workers, tend, trace) in &RUNS {
+        let options = format!(in alloc;
+            "options: Options {{ workers: {workers}, tend: {tend:?} }}, trace: {trace}"
+        )?;
+        let exec = format!(in alloc; "Exec {{ {options} }}")?;
+        is_read_as(&rt, alloc, line, exec.as_str())?;
+        let frame_line = line.replace(alloc, "exec", "run")?;
+        let run = format!(in alloc; "Run {{ {options}, tight: false }}")?;
+        is_read_as(&rt, alloc, frame_line.as_str(), run.as_str())?;
+    }
+    Ok(())
+}
+
+#[test]
+fn lines_that_fly(rt: HostRuntime) -> Result<(), Fail> {
+    let alloc = rt.alloc();
+    for (line, workers, tend, names, depth) in &FLIGHTS {
         let options = Options {
             workers: *workers,
             tend: *tend,
         };
-        let trace = *trace;
-        is_read_as(&rt, alloc, line, Command::Exec { options, trace })?;
-        let frame_line = line.replace(alloc, "exec", "run")?;
-        is_read_as(
-            &rt,
-            alloc,
-            frame_line.as_str(),
-            Command::Run {
-                options,
-                trace,
-                tight: false,
-            },
-        )?;
-    }
-    for line in &NO_COMMANDS {
-        let found = found(alloc, line)?;
-        assert!(rt; found == None, "{line}");
+        flies(&rt, alloc, line, options, names, *depth)?;
     }
     Ok(())
 }

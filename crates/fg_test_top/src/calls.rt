@@ -1,14 +1,10 @@
 //! The worked rows of the top call, over sources and sinks in memory.
 
-ghost use Rattle.std.specs.Prelude.{◌<◌};
-
-use fg_base::{
-    CountTap, IdleGate, List, MemorySink, MemorySource, Put, Sink, Source, SteadySink,
-    SteadySource, Taken, Tap,
-};
-use fg_top::{Ended, Status, at_rest, framec};
-use std::alloc::{AllocError, Global};
-use std::process::Abort;
+use crate::given::gives;
+use fg_base::{IdleGate, List, MemorySink, NoMemory, Source, SteadySource, Taken};
+use fg_calls::{answer_from, words_of};
+use fg_top::{Status, at_rest};
+use std::alloc::Global;
 use std::sync::Wait;
 use std::test::Fail;
 use std::thread::Threads;
@@ -16,78 +12,10 @@ use std::thread::Threads;
 pub(crate) const FILL: &str =
     "{\"format\":1,\"queues\":[{\"name\":\"g\",\"family\":\"graphics\"}],\"resources\":[{\"name\":\"b\",\"buffer\":16}],\"passes\":[{\"name\":\"p\",\"queue\":\"g\",\"writes\":[{\"new\":\"b\"}],\"ops\":[{\"op\":\"fill_buffer\",\"dst\":\"b\",\"offset\":0,\"size\":16,\"word\":7}]}],\"exports\":[\"b\"]}";
 
-const FILL_TEXT: &str = "kept 1 culled 0\nexport b 16\n07000000070000000700000007000000\n";
+pub(crate) const FILL_TEXT: &str =
+    "kept 1 culled 0\nexport b 16\n07000000070000000700000007000000\n";
 
-// The words of a command line.
-pub(crate) fn words_of(alloc: Global, line: &str) -> Result<Vec<String>, AllocError> {
-    let mut words = Vec::new(alloc);
-    for word in line.split_whitespace() {
-        words.push(String::from_str(alloc, word)?)?;
-    }
-    Ok(words)
-}
-
-pub(crate) fn bytes_of(alloc: Global, text: &str) -> Result<List<u8>, AllocError> {
-    Ok(List::from_vec(text.as_bytes().to_vec(alloc)?))
-}
-
-fn calls(alloc: Global, list: &[u32]) -> Result<List<u32>, AllocError> {
-    Ok(List::from_vec(list.to_vec(alloc)?))
-}
-
-fn spaces(alloc: Global, count: usize) -> Result<List<u8>, AllocError> {
-    Ok(List::from_vec(vec![in alloc; b' '; count]?))
-}
-
-// The status of a call with one tap that stays.
-pub(crate) fn status_of<R: Threads + Wait + Sync, I: Source, O: Sink>(
-    rt: &R,
-    alloc: Global,
-    line: &str,
-    input: &mut I,
-    output: &mut O,
-) -> Result<Option<Status>, AllocError> {
-    let words = words_of(alloc, line)?;
-    let mut taps: Vec<Box<dyn Tap>> = Vec::new(alloc);
-    taps.push(Box::new(alloc, CountTap::new())?)?;
-    let Ended {
-        status,
-        spent,
-        places,
-    } = framec(
-        rt,
-        alloc,
-        words.as_slice(),
-        input,
-        output,
-        &IdleGate::new(),
-        &mut taps,
-    );
-    if taps.len() == 1 && spent.is_empty() && places.is_empty() {
-        Ok(Some(status))
-    } else {
-        Ok(None)
-    }
-}
-
-// The status and the text of a command line on a file are these.
-pub(crate) fn gives(
-    rt: &(impl Threads + Wait + Sync + Abort),
-    alloc: Global,
-    line: &str,
-    file: &str,
-    wanted: Status,
-    text: &str,
-) -> Result<(), Fail> {
-    let mut source = SteadySource::new(bytes_of(alloc, file)?, 7);
-    let mut sink = MemorySink::new(alloc, 5000, 13, List::new(alloc))?;
-    let status = status_of(rt, alloc, line, &mut source, &mut sink)?;
-    assert!(rt; status == Some(wanted), "status of {line} on {file}");
-    assert!(rt; sink.bytes() == text.as_bytes(), "text of {line} on {file}");
-    Ok(())
-}
-
-const CANONICAL: &str =
+pub(crate) const CANONICAL: &str =
     "{\"exports\":[\"b\"],\"format\":2,\"passes\":[{\"name\":\"p\",\"ops\":[{\"dst\":\"b\",\"offset\":0,\"op\":\"fill_buffer\",\"size\":16,\"word\":7}],\"queue\":\"g\",\"reads\":[],\"side_effect\":false,\"writes\":[{\"new\":\"b\"}]}],\"queues\":[{\"family\":\"graphics\",\"name\":\"g\"}],\"resources\":[{\"buffer\":16,\"name\":\"b\"}]}\n";
 
 // A command line, a piece of the file of the one fill, or all of it, another in its place, the status and the text.
@@ -304,43 +232,65 @@ fn rests(
     word: &str,
     source: &mut SteadySource,
     sink: &mut MemorySink,
-) -> Result<Option<Status>, AllocError> {
+) -> Result<Option<Status>, NoMemory> {
     let words = words_of(alloc, word)?;
-    Ok(at_rest(alloc, words.as_slice(), source, sink))
+    Ok(at_rest(alloc, &words, source, sink))
+}
+
+// Whether these need a device, and read and write nothing.
+fn need_devices(
+    alloc: Global,
+    source: &mut SteadySource,
+    sink: &mut MemorySink,
+) -> Result<bool, NoMemory> {
+    for line in &["run --workers 3", "exec --trace", "audit"] {
+        if rests(alloc, line, source, sink)?.is_some() {
+            return Ok(false);
+        }
+    }
+    Ok(sink.bytes().is_empty())
+}
+
+// Whether the source is then culled.
+fn is_culled(
+    alloc: Global,
+    source: &mut SteadySource,
+    sink: &mut MemorySink,
+) -> Result<bool, NoMemory> {
+    let unread = need_devices(alloc, source, sink)?;
+    let status = rests(alloc, "cull", source, sink)?;
+    Ok(unread && status == Some(Status::Done) && sink.bytes() == CULLED.as_bytes())
+}
+
+fn culls(alloc: Global, source: &mut SteadySource) -> Result<bool, NoMemory> {
+    let mut sink = MemorySink::new(alloc, 1000, 9, List::new(alloc))?;
+    is_culled(alloc, source, &mut sink)
 }
 
 #[test]
 fn at_rest_answers(rt: HostRuntime) -> Result<(), Fail> {
     let alloc = rt.alloc();
-    let mut source = SteadySource::new(bytes_of(alloc, CHAIN)?, 9);
-    let mut sink = MemorySink::new(alloc, 1000, 9, List::new(alloc))?;
-    for line in &["run --workers 3", "exec --trace", "audit"] {
-        let left = rests(alloc, line, &mut source, &mut sink)?;
-        assert!(&rt; left == None && sink.bytes().is_empty(), "{line}");
-    }
-    let status = rests(alloc, "cull", &mut source, &mut sink)?;
-    assert!(&rt; status == Some(Status::Done) && sink.bytes() == CULLED.as_bytes());
+    let mut source = SteadySource::new(List::from_slice(alloc, CHAIN.as_bytes())?, 9);
+    assert!(&rt; culls(alloc, &mut source)?);
     Ok(())
 }
 
-// The text of a word on a file, and how much of the file is left unread.
-fn is_refused(
-    rt: &(impl Threads + Wait + Sync + Abort),
+fn spaces(alloc: Global, count: usize) -> Result<SteadySource, NoMemory> {
+    let bytes = List::from_vec(vec![in alloc; b' '; count]?);
+    Ok(SteadySource::new(bytes, u32::MAX))
+}
+
+// Whether a word gives this text for spaces, and leaves this of them unread.
+fn is_refused<R: Threads + Wait + Sync>(
+    rt: &R,
     alloc: Global,
     word: &str,
-    file: List<u8>,
+    source: &mut SteadySource,
     text: &str,
     rest: Taken,
-) -> Result<(), Fail> {
-    let mut source = SteadySource::new(file, u32::MAX);
-    let mut sink = MemorySink::new(alloc, 100, 100, List::new(alloc))?;
-    let status = status_of(rt, alloc, word, &mut source, &mut sink)?;
-    assert!(rt;
-        status == Some(Status::Refused) && sink.bytes() == text.as_bytes(),
-        "{text}"
-    );
-    assert!(rt; source.read(&mut [0u8; 8]) == rest, "{text}");
-    Ok(())
+) -> Result<bool, NoMemory> {
+    let answer = answer_from(rt, alloc, word, source, &IdleGate)?;
+    Ok(answer.is(Status::Refused, text) && source.read(&mut [0u8; 8]) == rest)
 }
 
 // A word, how many spaces it reads, the text, and what is left.
@@ -355,141 +305,11 @@ const LENGTHS: [(&str, usize, &str, Taken); 4] = [
 fn input_limit(rt: HostRuntime) -> Result<(), Fail> {
     let alloc = rt.alloc();
     for (word, count, text, rest) in &LENGTHS {
-        is_refused(&rt, alloc, word, spaces(alloc, *count)?, text, *rest)?;
+        let mut source = spaces(alloc, *count)?;
+        assert!(&rt;
+            is_refused(&rt, alloc, word, &mut source, text, *rest)?,
+            "{text}"
+        );
     }
     Ok(())
-}
-
-// Takes four bytes of each write, and keeps how many were offered.
-#[derive(Drop)]
-struct Offers {
-    lengths: Vec<usize>,
-}
-
-impl Sink for Offers {
-    ghost use Rattle.std.specs.Prelude.{None};
-
-    ghost taken = { λ _. None };
-
-    ghost faults = { λ _. 0 };
-
-    fn write(&mut self, bytes: &[u8]) -> Put {
-        let _ = self.lengths.push(bytes.len());
-        Put::Took(bytes.len().min(4))
-    }
-}
-
-// The status and the text that were found, where the read or write with this number fails, are these.
-fn are(
-    rt: &impl Abort,
-    failing: u32,
-    status: Option<Status>,
-    bytes: &[u8],
-    wanted: Status,
-    text: &str,
-) {
-    assert!(rt; status == Some(wanted), "status where {failing} fails");
-    assert!(rt; bytes == text.as_bytes(), "text where {failing} fails");
-}
-
-// The one fill, of which so many bytes are read a call and so many written a call; which read fails and which write.
-// Gives the source as the call left it.
-fn ends(
-    rt: &(impl Threads + Wait + Sync + Abort),
-    alloc: Global,
-    read: (u32, u32),
-    write: (u32, u32),
-    wanted: Status,
-    text: &str,
-) -> Result<MemorySource, Fail>
-    requires read { 0 < read.0 }
-    requires write { 0 < write.0 }
-{
-    let mut source = MemorySource::new(bytes_of(alloc, FILL)?, read.0, calls(alloc, &[read.1])?);
-    let mut sink = MemorySink::new(alloc, 1000, write.0, calls(alloc, &[write.1])?)?;
-    let status = status_of(rt, alloc, "run", &mut source, &mut sink)?;
-    let failing = read.1.min(write.1);
-    are(rt, failing, status, sink.bytes(), wanted, text);
-    Ok(source)
-}
-
-// Which read fails of 100 bytes each, and which write of 10, the status and the text.
-const ENDS: [(u32, u32, Status, &str); 4] = [
-    (1, 9, Status::ReadFault, ""),
-    (3, 9, Status::ReadFault, ""),
-    (99, 2, Status::WriteFault, "kept 1 cul"),
-    (99, 9, Status::Done, FILL_TEXT),
-];
-
-#[test]
-fn failing_ends(rt: HostRuntime) -> Result<(), Fail> {
-    let alloc = rt.alloc();
-    for (read, write, status, text) in &ENDS {
-        ends(&rt, alloc, (100, *read), (10, *write), *status, text)?;
-    }
-    ends(&rt, alloc, (1, 999), (10, 9), Status::Done, FILL_TEXT)?;
-    Ok(())
-}
-
-// Three reads give the one fill and the fourth its end: the fifth, which would fail, is not made.
-#[test]
-fn end_asked_once(rt: HostRuntime) -> Result<(), Fail> {
-    let alloc = rt.alloc();
-    let mut source = ends(&rt, alloc, (100, 5), (10, 99), Status::Done, FILL_TEXT)?;
-    assert!(rt; source.read(&mut [0u8]) == Taken::Failed);
-    Ok(())
-}
-
-// The read after the one that failed gives the next byte: it was not tried again.
-#[test]
-fn each_read_fails(rt: HostRuntime) -> Result<(), Fail> {
-    let alloc = rt.alloc();
-    for k in 1..41 {
-        let mut source = ends(&rt, alloc, (1, k), (10, 99), Status::ReadFault, "")?;
-        let mut byte = [0u8];
-        assert!(rt; source.read(&mut byte) == Taken::Got(1));
-        let rest = FILL.get(k as usize - 1..).unwrap_or("");
-        assert!(rt; rest.as_bytes().starts_with(&byte), "byte {k}");
-    }
-    Ok(())
-}
-
-#[test]
-fn each_write_fails(rt: HostRuntime) -> Result<(), Fail> {
-    let alloc = rt.alloc();
-    for k in 1..41 {
-        let front = FILL_TEXT.get(..k as usize - 1).unwrap_or("no front");
-        ends(&rt, alloc, (100, 99), (1, k), Status::WriteFault, front)?;
-    }
-    Ok(())
-}
-
-// How many bytes of the text are offered to a sink that takes four of each write.
-fn is_offered(
-    rt: &(impl Threads + Wait + Sync + Abort),
-    alloc: Global,
-    line: &str,
-    wanted: Status,
-    lengths: &[usize],
-) -> Result<(), Fail> {
-    let mut source = SteadySource::new(bytes_of(alloc, FILL)?, 1);
-    let mut offers = Offers {
-        lengths: Vec::new(alloc),
-    };
-    let status = status_of(rt, alloc, line, &mut source, &mut offers)?;
-    assert!(rt; status == Some(wanted));
-    assert!(rt; offers.lengths.as_slice() == lengths);
-    Ok(())
-}
-
-// The text of the one fill has 61 bytes, in lines of 16, 12 and 33.
-#[test]
-fn whole_rest_at_each_write(rt: HostRuntime) -> Result<(), Fail> {
-    let alloc = rt.alloc();
-    let mut source = SteadySource::new(bytes_of(alloc, FILL)?, 1);
-    let status = status_of(&rt, alloc, "run", &mut source, &mut SteadySink::new())?;
-    assert!(rt; status == Some(Status::Done));
-    is_offered(&rt, alloc, "run run", Status::Words, &[6, 2])?;
-    let lengths = [61, 57, 53, 49, 45, 41, 37, 33, 29, 25, 21, 17, 13, 9, 5, 1];
-    is_offered(&rt, alloc, "run", Status::Done, &lengths)
 }

@@ -1,6 +1,6 @@
 //! Submissions, checked.
 
-use crate::calls::gives;
+use crate::given::gives;
 use fg_top::Status;
 use std::test::Fail;
 

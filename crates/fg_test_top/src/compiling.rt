@@ -1,10 +1,10 @@
 //! What frames are compiled to, and that it is accepted.
 
-use crate::calls::{bytes_of, gives, status_of};
-use fg_base::{List, MemorySink, SteadySource};
+use crate::given::gives;
+use fg_base::{IdleGate, NoMemory};
+use fg_calls::answer_of;
 use fg_top::Status;
 use std::alloc::Global;
-use std::process::Abort;
 use std::sync::Wait;
 use std::test::Fail;
 use std::thread::Threads;
@@ -49,20 +49,6 @@ const FRAMES: [(&str, &str); 7] = [
     ),
 ];
 
-// The text of a command that does its work on a file.
-fn text_of(
-    rt: &(impl Threads + Wait + Sync + Abort),
-    alloc: Global,
-    line: &str,
-    file: List<u8>,
-) -> Result<List<u8>, Fail> {
-    let mut source = SteadySource::new(file, 100);
-    let mut sink = MemorySink::new(alloc, 5000, 100, List::new(alloc))?;
-    let status = status_of(rt, alloc, line, &mut source, &mut sink)?;
-    assert!(rt; status == Some(Status::Done), "status of {line}");
-    Ok(List::from_slice(alloc, sink.bytes())?)
-}
-
 #[test]
 fn compiles(rt: HostRuntime) -> Result<(), Fail> {
     gives(
@@ -75,13 +61,32 @@ fn compiles(rt: HostRuntime) -> Result<(), Fail> {
     )
 }
 
+// Whether `check` says this of a file.
+fn is_accepted<R: Threads + Wait + Sync>(
+    rt: &R,
+    alloc: Global,
+    file: &[u8],
+    accepted: &str,
+) -> Result<bool, NoMemory> {
+    let answer = answer_of(rt, alloc, "check", file, &IdleGate)?;
+    Ok(answer.is(Status::Done, accepted))
+}
+
+// Whether it says this of what a frame is compiled to.
+fn is_compiled<R: Threads + Wait + Sync>(
+    rt: &R,
+    alloc: Global,
+    frame: &str,
+    accepted: &str,
+) -> Result<bool, NoMemory> {
+    let answer = answer_of(rt, alloc, "compile", frame.as_bytes(), &IdleGate)?;
+    is_accepted(rt, alloc, answer.text(), accepted)
+}
+
 #[test]
 fn compiled_frames_are_accepted(rt: HostRuntime) -> Result<(), Fail> {
-    let alloc = rt.alloc();
     for (frame, accepted) in &FRAMES {
-        let text = text_of(&rt, alloc, "compile", bytes_of(alloc, frame)?)?;
-        let verdict = text_of(&rt, alloc, "check", text)?;
-        assert!(rt; verdict.as_slice() == accepted.as_bytes(), "{frame}");
+        assert!(&rt; is_compiled(&rt, rt.alloc(), frame, accepted)?, "{frame}");
     }
     Ok(())
 }

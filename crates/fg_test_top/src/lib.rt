@@ -1,20 +1,18 @@
-//! Tests of the one top call over memory forms.
+//! Tests of the one top call over memory forms: command lines that need no device, and ends that fail.
 #![tactic(auto)]
 
-#[cfg(test)]
-mod auditing;
 #[cfg(test)]
 mod calls;
 #[cfg(test)]
 mod checking;
 #[cfg(test)]
+mod choosing;
+#[cfg(test)]
 mod compiling;
 #[cfg(test)]
-mod executing;
+mod ends;
 #[cfg(test)]
-mod generating;
-#[cfg(test)]
-mod operations;
+mod given;
 #[cfg(test)]
 mod placing;
 #[cfg(test)]

@@ -1,6 +1,6 @@
 //! Where transient resources lie, and how much memory they need at least.
 
-use crate::calls::gives;
+use crate::given::gives;
 use fg_top::Status;
 use std::test::Fail;
 

@@ -1,6 +1,6 @@
 //! Submissions without the waits that they do not need.
 
-use crate::calls::gives;
+use crate::given::gives;
 use fg_top::Status;
 use std::test::Fail;
 

@@ -4,7 +4,7 @@
 #[cfg(test)]
 mod alone;
 #[cfg(test)]
-mod meeting;
+mod outcome;
 #[cfg(test)]
 mod programs;
 #[cfg(test)]

@@ -1,10 +1,9 @@
-use crate::meeting::Meeting;
-use crate::programs::{APART, CHAINED, checked, is_over};
-use fg_base::{Event, Gate, IdleGate, NoMemory};
+use crate::alone::is_own_first;
+use crate::outcome::{Outcome, run_by};
+use crate::programs::{APART, CHAINED, checked};
+use fg_base::{Event, IdleGate, NoMemory};
 use fg_checker::Checked;
-use fg_device::Device;
-use fg_drive::tended;
-use fg_worker::run_workers;
+use fg_meeting::Meeting;
 use std::alloc::Global;
 use std::sync::Wait;
 use std::test::Fail;
@@ -36,32 +35,31 @@ fn side_by_side(history: &[Event]) -> bool {
     begun.count() == 2
 }
 
-#[test]
-fn two_commands_meet(rt: HostRuntime) -> Result<(), Fail> {
-    let alloc = rt.alloc();
-    let program = checked(alloc, APART)?;
-    let gate = Meeting::new(0, 3);
-    let device = run_workers(&rt, alloc, &program, 2, None, &gate)?;
-    assert!(&rt; gate.took_place());
-    assert!(&rt; side_by_side(device.history()));
-    assert!(&rt; is_over(&device));
-    Ok(())
+fn are_side_by_side(outcome: &Outcome, gate: &Meeting) -> bool {
+    gate.took_place() && side_by_side(&outcome.history) && outcome.is_whole
 }
 
-#[test]
-fn one_worker_takes_every_queue(rt: HostRuntime) -> Result<(), Fail> {
-    let alloc = rt.alloc();
-    let program = checked(alloc, APART)?;
-    let device = run_workers(&rt, alloc, &program, 1, None, &IdleGate)?;
-    assert!(&rt; device.history() == ALONE.as_slice());
-    assert!(&rt; is_over(&device));
-    Ok(())
+// Whether two workers bring two commands to a gate at the same time.
+fn meet<R: Threads + Wait + Sync>(
+    rt: &R,
+    alloc: Global,
+    program: &Checked,
+    gate: &Meeting,
+) -> Result<bool, NoMemory> {
+    let outcome = run_by(rt, alloc, program, 2, None, gate)?;
+    Ok(are_side_by_side(&outcome, gate))
 }
 
-// How many workers, and a seed.
-const ROWS: [(u32, u64); 3] = [(1, 5), (4, 1), (16, 2)];
+fn is_alone<R: Threads + Wait + Sync>(
+    rt: &R,
+    alloc: Global,
+    program: &Checked,
+) -> Result<bool, NoMemory> {
+    let outcome = run_by(rt, alloc, program, 1, None, &IdleGate)?;
+    Ok(outcome.is_whole && outcome.history.as_slice() == ALONE.as_slice())
+}
 
-// Whether workers bring the program to its end, with the moves of the seed beside them.
+// Whether workers bring a program to its end, with the moves of the seed beside them.
 fn comes_through<R: Threads + Wait + Sync>(
     rt: &R,
     alloc: Global,
@@ -69,25 +67,81 @@ fn comes_through<R: Threads + Wait + Sync>(
     workers: u32,
     seed: u64,
 ) -> Result<bool, NoMemory> {
-    if workers == 0 || workers > 16 {
-        return Ok(false);
+    let outcome = run_by(rt, alloc, program, workers, Some(seed), &IdleGate)?;
+    Ok(outcome.is_whole)
+}
+
+// What is done with a program.
+#[derive(Clone, Copy)]
+enum Way {
+    // Two workers meet.
+    Meeting,
+    // One worker takes every queue.
+    Alone,
+    // A worker of the second queue takes its own nodes first.
+    OwnFirst,
+    // So many workers, and a tender with a seed.
+    Tended(u32, u64),
+}
+
+fn goes<R: Threads + Wait + Sync>(
+    rt: &R,
+    alloc: Global,
+    program: &Checked,
+    way: Way,
+) -> Result<bool, NoMemory> {
+    match way {
+        Way::Meeting => meet(rt, alloc, program, &Meeting::new(0, 3)),
+        Way::Alone => is_alone(rt, alloc, program),
+        Way::OwnFirst => is_own_first(rt, alloc, program),
+        Way::Tended(workers, seed) => comes_through(rt, alloc, program, workers, seed),
     }
-    let device = run_workers(rt, alloc, program, workers, Some(seed), &IdleGate)?;
-    let moved = tended(alloc, program, &device, Some(seed))?;
-    Ok(moved && device.moves_left() == 0 && device.belongs(program, 0) && is_over(&device))
+}
+
+// So that one function lets the program go.
+fn holds<R: Threads + Wait + Sync>(
+    rt: &R,
+    alloc: Global,
+    line: &str,
+    way: Way,
+) -> Result<bool, Fail> {
+    let program = checked(alloc, line)?;
+    Ok(goes(rt, alloc, &program, way)?)
 }
 
 #[test]
+fn two_commands_meet(rt: HostRuntime) -> Result<(), Fail> {
+    assert!(&rt; holds(&rt, rt.alloc(), APART, Way::Meeting)?);
+    Ok(())
+}
+
+#[test]
+fn one_worker_takes_every_queue(rt: HostRuntime) -> Result<(), Fail> {
+    assert!(&rt; holds(&rt, rt.alloc(), APART, Way::Alone)?);
+    Ok(())
+}
+
+#[test]
+fn own_queue_first(rt: HostRuntime) -> Result<(), Fail> {
+    assert!(&rt; holds(&rt, rt.alloc(), APART, Way::OwnFirst)?);
+    Ok(())
+}
+
+// A program, how many workers, and a seed.
+const ROWS: [(&str, u32, u64); 6] = [
+    (APART, 1, 5),
+    (APART, 4, 1),
+    (APART, 16, 2),
+    (CHAINED, 1, 5),
+    (CHAINED, 4, 1),
+    (CHAINED, 16, 2),
+];
+
+#[test]
 fn a_tender_beside_workers(rt: HostRuntime) -> Result<(), Fail> {
-    let alloc = rt.alloc();
-    for line in [APART, CHAINED] {
-        let program = checked(alloc, line)?;
-        for (workers, seed) in &ROWS {
-            assert!(&rt;
-                comes_through(&rt, alloc, &program, *workers, *seed)?,
-                "{workers}"
-            );
-        }
+    for (line, workers, seed) in &ROWS {
+        let way = Way::Tended(*workers, *seed);
+        assert!(&rt; holds(&rt, rt.alloc(), line, way)?, "{workers}");
     }
     Ok(())
 }

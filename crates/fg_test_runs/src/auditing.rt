@@ -1,11 +1,11 @@
 //! Recorded runs, judged.
 
-use crate::calls::{bytes_of, gives, status_of};
 use crate::executing::{FILL, FILL_TEXT};
-use fg_base::{List, MemorySink, SteadySource};
+use crate::given::gives;
+use fg_base::{IdleGate, List, NoMemory};
+use fg_calls::answer_of;
 use fg_top::Status;
 use std::alloc::Global;
-use std::process::Abort;
 use std::sync::Wait;
 use std::test::Fail;
 use std::thread::Threads;
@@ -78,32 +78,47 @@ fn audits(rt: HostRuntime) -> Result<(), Fail> {
     Ok(())
 }
 
-// A submission and the trace of a run of it.
-fn recorded(
-    rt: &(impl Threads + Wait + Sync + Abort),
-    alloc: Global,
-    line: &str,
-) -> Result<List<u8>, Fail> {
-    let mut source = SteadySource::new(bytes_of(alloc, FILL)?, 900);
-    let mut sink = MemorySink::new(alloc, 20_000, 900, List::new(alloc))?;
-    let status = status_of(rt, alloc, line, &mut source, &mut sink)?;
-    let trace = sink.bytes().strip_prefix(FILL_TEXT.as_bytes());
-    assert!(rt; status == Some(Status::Done) && trace.is_some(), "{line}");
-    let mut bytes = bytes_of(alloc, FILL)?;
-    bytes.extend_from_slice(b"\n")?;
-    bytes.extend_from_slice(trace.unwrap_or(b""))?;
+// A submission, and behind it a trace.
+fn joined(alloc: Global, submission: &[u8], trace: &[u8]) -> Result<List<u8>, NoMemory> {
+    let mut bytes = List::from_slice(alloc, submission)?;
+    bytes.push(b'\n')?;
+    bytes.extend_from_slice(trace)?;
     Ok(bytes)
+}
+
+// Whether a trace is a run of a submission, with a verdict that begins so.
+fn is_run<R: Threads + Wait + Sync>(
+    rt: &R,
+    alloc: Global,
+    submission: &[u8],
+    trace: &[u8],
+    front: &str,
+) -> Result<bool, NoMemory> {
+    let file = joined(alloc, submission, trace)?;
+    let answer = answer_of(rt, alloc, "audit", &file, &IdleGate)?;
+    Ok(answer.status == Some(Status::Done) && answer.text().starts_with(front.as_bytes()))
+}
+
+// Whether a command line gives for a file this text and then a trace, which is a run of this submission, with a verdict that
+// begins so.
+pub(crate) fn is_audited<R: Threads + Wait + Sync>(
+    rt: &R,
+    alloc: Global,
+    (line, file, text): (&str, &str, &str),
+    (submission, front): (&[u8], &str),
+) -> Result<bool, NoMemory> {
+    let answer = answer_of(rt, alloc, line, file.as_bytes(), &IdleGate)?;
+    match answer.text().strip_prefix(text.as_bytes()) {
+        Some(trace) => is_run(rt, alloc, submission, trace, front),
+        None => Ok(false),
+    }
 }
 
 // What four workers and a tender have done is a run.
 #[test]
 fn audits_workers(rt: HostRuntime) -> Result<(), Fail> {
-    let alloc = rt.alloc();
-    let bytes = recorded(&rt, alloc, "exec --trace --workers 4 --tend 1")?;
-    let mut source = SteadySource::new(bytes, 9000);
-    let mut sink = MemorySink::new(alloc, 100, 100, List::new(alloc))?;
-    let status = status_of(&rt, alloc, "audit", &mut source, &mut sink)?;
-    assert!(&rt; status == Some(Status::Done));
-    assert!(&rt; sink.bytes().starts_with(b"run 264 events\n"));
+    let row = ("exec --trace --workers 4 --tend 1", FILL, FILL_TEXT);
+    let judged = (FILL.as_bytes(), "run 264 events\n");
+    assert!(&rt; is_audited(&rt, rt.alloc(), row, judged)?);
     Ok(())
 }

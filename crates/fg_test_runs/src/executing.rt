@@ -1,16 +1,17 @@
 //! Frames and submissions, run on a device.
 
-use crate::calls::{FILL as ONE_FILL, bytes_of, gives, status_of, words_of};
-use fg_base::{Event, IdleGate, List, MemorySink, Sink, SteadySource, Tap, Tell};
-use fg_taps::ListTap;
-use fg_top::{Ended, Status, framec};
-use std::alloc::{AllocError, Global};
-use std::cell::Cell;
-use std::process::Abort;
-use std::rc::Rc;
+use crate::given::gives;
+use fg_base::{IdleGate, NoMemory};
+use fg_calls::answer_of;
+use fg_top::Status;
+use std::alloc::Global;
 use std::sync::Wait;
 use std::test::Fail;
 use std::thread::Threads;
+
+// A fill of one buffer.
+pub(crate) const ONE_FILL: &str =
+    "{\"format\":1,\"queues\":[{\"name\":\"g\",\"family\":\"graphics\"}],\"resources\":[{\"name\":\"b\",\"buffer\":16}],\"passes\":[{\"name\":\"p\",\"queue\":\"g\",\"writes\":[{\"new\":\"b\"}],\"ops\":[{\"op\":\"fill_buffer\",\"dst\":\"b\",\"offset\":0,\"size\":16,\"word\":7}]}],\"exports\":[\"b\"]}";
 
 // A fill, a copy into a read-back, and a barrier after each.
 pub(crate) const FILL: &str =
@@ -108,19 +109,16 @@ const TENDED: [(&str, &str, &str); 2] = [
     ),
 ];
 
-fn begins_with(
-    rt: &(impl Threads + Wait + Sync + Abort),
+// Whether the text of a command line on a file begins so.
+fn begins_with<R: Threads + Wait + Sync>(
+    rt: &R,
     alloc: Global,
     line: &str,
     file: &str,
     front: &str,
-) -> Result<(), Fail> {
-    let mut source = SteadySource::new(bytes_of(alloc, file)?, 9);
-    let mut sink = MemorySink::new(alloc, 20_000, 900, List::new(alloc))?;
-    let status = status_of(rt, alloc, line, &mut source, &mut sink)?;
-    assert!(rt; status == Some(Status::Done), "{line}");
-    assert!(rt; sink.bytes().starts_with(front.as_bytes()), "{line}");
-    Ok(())
+) -> Result<bool, NoMemory> {
+    let answer = answer_of(rt, alloc, line, file.as_bytes(), &IdleGate)?;
+    Ok(answer.status == Some(Status::Done) && answer.text().starts_with(front.as_bytes()))
 }
 
 // With a seed 256 cache moves stand among the events of the nodes.
@@ -128,106 +126,7 @@ fn begins_with(
 fn tended_trace(rt: HostRuntime) -> Result<(), Fail> {
     let alloc = rt.alloc();
     for (line, file, front) in &TENDED {
-        begins_with(&rt, alloc, line, file, front)?;
+        assert!(&rt; begins_with(&rt, alloc, line, file, front)?, "{line}");
     }
     Ok(())
-}
-
-// A call with these taps.
-fn called<R: Threads + Wait + Sync, O: Sink>(
-    rt: &R,
-    alloc: Global,
-    line: &str,
-    source: &mut SteadySource,
-    sink: &mut O,
-    taps: &mut Vec<Box<dyn Tap>>,
-) -> Ended {
-    let Ok(words) = words_of(alloc, line) else {
-        return Ended {
-            status: Status::NoMemory,
-            spent: Vec::new(alloc),
-            places: Vec::new(alloc),
-        };
-    };
-    framec(
-        rt,
-        alloc,
-        words.as_slice(),
-        source,
-        sink,
-        &IdleGate::new(),
-        taps,
-    )
-}
-
-// Is finished at an event with this number, from 1. What it heard before is counted outside.
-#[derive(Drop)]
-struct Until {
-    last: u64,
-    seen: u64,
-    heard: Rc<Cell<u64>>,
-}
-
-impl Tap for Until {
-    ghost use Rattle.std.specs.Prelude.{◌≤◌, None};
-
-    ghost heard = { λ _. None };
-
-    ghost finished = { λ t. t.last ≤ t.seen };
-
-    fn told(&mut self, _event: &Event) -> Tell {
-        self.seen = self.seen.saturating_add(1);
-        if self.seen >= self.last {
-            return Tell::Finished;
-        }
-        self.heard.set(self.heard.get().saturating_add(1));
-        Tell::More
-    }
-}
-
-fn finished_at(last: u64, heard: &Rc<Cell<u64>>) -> Result<Until, AllocError> {
-    Ok(Until {
-        last,
-        seen: 0,
-        heard: heard.clone()?,
-    })
-}
-
-// A command line and a file, the events at which taps are finished, or none, how many stay, the places of the others, and how
-// many events all heard. Behind them stands a tap with room for eight events.
-fn hear(
-    rt: &(impl Threads + Wait + Sync + Abort),
-    alloc: Global,
-    line: &str,
-    file: &str,
-    lasts: &[u64],
-    stay: usize,
-    places: &[usize],
-    count: u64,
-) -> Result<(), Fail> {
-    let heard = Rc::new(alloc, Cell::new(0))?;
-    let mut taps: Vec<Box<dyn Tap>> = Vec::new(alloc);
-    for last in lasts {
-        taps.push(Box::new(alloc, finished_at(*last, &heard)?)?)?;
-    }
-    taps.push(Box::new(alloc, ListTap::new(alloc, 8)?)?)?;
-    let mut source = SteadySource::new(bytes_of(alloc, file)?, 900);
-    let mut sink = MemorySink::new(alloc, 1000, 900, List::new(alloc))?;
-    let ended = called(rt, alloc, line, &mut source, &mut sink, &mut taps);
-    assert!(rt; taps.len() == stay && ended.spent.len() == places.len());
-    assert!(rt; ended.places.as_slice() == places && heard.get() == count);
-    Ok(())
-}
-
-// Eight events: one tap hears them all, one is finished at the third, two at the first.
-#[test]
-fn taps(rt: HostRuntime) -> Result<(), Fail> {
-    let alloc = rt.alloc();
-    hear(&rt, alloc, "run", ONE_FILL, &[3], 1, &[0], 2)?;
-    hear(&rt, alloc, "run", ONE_FILL, &[9, 1], 2, &[1], 8)?;
-    hear(&rt, alloc, "exec", FILL, &[1, 9, 1], 2, &[0, 2], 8)?;
-    hear(&rt, alloc, "exec", FILL, &[4, 4, 8], 1, &[0, 1, 2], 13)?;
-    // With cache moves there are more events than the last tap has room for.
-    hear(&rt, alloc, "exec --tend 1", FILL, &[], 0, &[0], 0)?;
-    hear(&rt, alloc, "exec", "", &[1, 1], 3, &[], 0)
 }

@@ -1,8 +1,13 @@
 //! Frames of every operation, run and meant.
 
-use crate::calls::gives;
+use crate::given::gives;
+use fg_base::NoMemory;
+use fg_calls::gives as is_given;
 use fg_top::Status;
+use std::alloc::{AllocError, Global};
+use std::sync::Wait;
 use std::test::Fail;
+use std::thread::Threads;
 
 // A frame, the text of its exports, and what `run` prints before them.
 const FRAMES: [(&str, &str, &str); 10] = [
@@ -68,62 +73,6 @@ const FRAMES: [(&str, &str, &str); 10] = [
     ),
 ];
 
-const DEFERRED: &str =
-    r#"{"format":1,"queues":[{"name":"g","family":"graphics"},{"name":"c","family":"compute"},{"name":"t","family":"transfer"}],
-"resources":[
-{"name":"depth","image":[1920,1080],"texel":"r32"},
-{"name":"albedo","image":[1920,1080],"texel":"r32"},
-{"name":"normal","image":[1920,1080],"texel":"r32"},
-{"name":"rough","image":[1920,1080],"texel":"r32"},
-{"name":"motion","image":[1920,1080],"texel":"r32"},
-{"name":"shadow","image":[1920,1080],"texel":"r32"},
-{"name":"lin","image":[1920,1080],"texel":"r32"},
-{"name":"ao0","image":[1920,1080],"texel":"r32"},
-{"name":"ao1","image":[1920,1080],"texel":"r32"},
-{"name":"occ","image":[1920,1080],"texel":"r32"},
-{"name":"li0","image":[1920,1080],"texel":"r32"},
-{"name":"li1","image":[1920,1080],"texel":"r32"},
-{"name":"li2","image":[1920,1080],"texel":"r32"},
-{"name":"sp","image":[1920,1080],"texel":"r32"},
-{"name":"hdr","image":[1920,1080],"texel":"r32"},
-{"name":"br","image":[1920,1080],"texel":"r32"},
-{"name":"h1","image":[960,540],"texel":"r32"},
-{"name":"h2","image":[480,270],"texel":"r32"},
-{"name":"h3","image":[480,270],"texel":"r32"},
-{"name":"e8","image":[480,270],"texel":"r8"},
-{"name":"dbg","image":[1920,1080],"texel":"r32"},
-{"name":"tm","image":[1920,1080],"texel":"r32"},
-{"name":"ldr","image":[1920,1080],"texel":"r8"},
-{"name":"exph","buffer":1024},
-{"name":"hist","buffer":1024},
-{"name":"stats","buffer":2048}
-],"passes":[
-{"name":"depth","queue":"g","writes":[{"new":"depth"}],"ops":[{"op":"draw","dst":"depth","clear":0,"rects":[{"x":0,"y":0,"width":1920,"height":1080,"value":100}]}]},
-{"name":"albedo","queue":"g","writes":[{"new":"albedo"}],"ops":[{"op":"draw","dst":"albedo","clear":3,"rects":[]}]},
-{"name":"normal","queue":"g","writes":[{"new":"normal"}],"ops":[{"op":"draw","dst":"normal","clear":5,"rects":[]}]},
-{"name":"rough","queue":"g","writes":[{"new":"rough"}],"ops":[{"op":"draw","dst":"rough","clear":7,"rects":[]}]},
-{"name":"motion","queue":"g","writes":[{"new":"motion"}],"ops":[{"op":"draw","dst":"motion","clear":1,"rects":[]}]},
-{"name":"shadow","queue":"g","writes":[{"new":"shadow"}],"ops":[{"op":"draw","dst":"shadow","clear":2,"rects":[]}]},
-{"name":"linear","queue":"c","reads":["depth"],"writes":[{"new":"lin"}],"ops":[{"op":"map","src":"depth","dst":"lin","fun":"shr","value":2}]},
-{"name":"ao","queue":"c","reads":["lin","normal"],"writes":[{"new":"ao0"}],"ops":[{"op":"combine","a":"lin","b":"normal","dst":"ao0","fun":"add"}]},
-{"name":"aoblur","queue":"c","reads":["ao0"],"writes":[{"new":"ao1"}],"ops":[{"op":"box3","src":"ao0","dst":"ao1"}]},
-{"name":"occlude","queue":"c","reads":["ao1"],"writes":[{"new":"occ"}],"ops":[{"op":"map","src":"ao1","dst":"occ","fun":"min","value":20}]},
-{"name":"light","queue":"g","reads":["albedo","normal"],"writes":[{"new":"li0"}],"ops":[{"op":"combine","a":"albedo","b":"normal","dst":"li0","fun":"mul"}]},
-{"name":"lshadow","queue":"g","reads":["li0","shadow"],"writes":[{"new":"li1"}],"ops":[{"op":"combine","a":"li0","b":"shadow","dst":"li1","fun":"mul"}]},
-{"name":"locc","queue":"g","reads":["li1","occ"],"writes":[{"new":"li2"}],"ops":[{"op":"combine","a":"li1","b":"occ","dst":"li2","fun":"add"}]},
-{"name":"spec","queue":"g","reads":["rough","normal"],"writes":[{"new":"sp"}],"ops":[{"op":"combine","a":"rough","b":"normal","dst":"sp","fun":"mul"}]},
-{"name":"sum","queue":"g","reads":["li2","sp"],"writes":[{"new":"hdr"}],"ops":[{"op":"combine","a":"li2","b":"sp","dst":"hdr","fun":"add"}]},
-{"name":"bright","queue":"c","reads":["hdr"],"writes":[{"new":"br"}],"ops":[{"op":"map","src":"hdr","dst":"br","fun":"max","value":40}]},
-{"name":"down1","queue":"c","reads":["br"],"writes":[{"new":"h1"}],"ops":[{"op":"halve","src":"br","dst":"h1"}]},
-{"name":"down2","queue":"c","reads":["h1"],"writes":[{"new":"h2"}],"ops":[{"op":"halve","src":"h1","dst":"h2"}]},
-{"name":"blur","queue":"c","reads":["h2"],"writes":[{"new":"h3"}],"ops":[{"op":"box3","src":"h2","dst":"h3"}]},
-{"name":"expose","queue":"c","reads":["h3"],"writes":[{"new":"e8"},{"new":"exph"}],"ops":[{"op":"convert","src":"h3","dst":"e8"},{"op":"histogram","src":"e8","dst":"exph"}]},
-{"name":"debug","queue":"g","reads":["motion"],"writes":[{"new":"dbg"}],"ops":[{"op":"map","src":"motion","dst":"dbg","fun":"add","value":9}]},
-{"name":"tone","queue":"g","reads":["hdr","br"],"writes":[{"new":"tm"},{"new":"ldr"}],"ops":[{"op":"combine","a":"hdr","b":"br","dst":"tm","fun":"min"},{"op":"convert","src":"tm","dst":"ldr"}]},
-{"name":"hist","queue":"c","reads":["ldr"],"writes":[{"new":"hist"}],"ops":[{"op":"histogram","src":"ldr","dst":"hist"}]},
-{"name":"stats","queue":"t","reads":["hist","exph"],"writes":[{"new":"stats"}],"ops":[{"op":"fill_buffer","dst":"stats","offset":0,"size":2048,"word":0},{"op":"copy_buffer","src":"hist","dst":"stats","src_offset":0,"dst_offset":0,"size":1024},{"op":"copy_buffer","src":"exph","dst":"stats","src_offset":0,"dst_offset":1024,"size":1024}]}
-],"exports":["stats"]}"#;
-
 #[test]
 fn operations(rt: HostRuntime) -> Result<(), Fail> {
     let alloc = rt.alloc();
@@ -135,52 +84,50 @@ fn operations(rt: HostRuntime) -> Result<(), Fail> {
     Ok(())
 }
 
-// As many passes as there can be, none of which does anything; and one more.
+// So many passes, none of which does anything.
+fn passes(alloc: Global, count: u32) -> Result<String, AllocError> {
+    let mut passes = String::new(alloc);
+    for k in 0..count {
+        let comma = if k == 0 { "" } else { "," };
+        write!(passes, "{comma}{{\"name\":\"p{k}\",\"queue\":\"g\"}}")?;
+    }
+    Ok(passes)
+}
+
+fn frame(alloc: Global, count: u32) -> Result<String, AllocError> {
+    let front =
+        "{\"format\":1,\"queues\":[{\"name\":\"g\",\"family\":\"transfer\"}],\"resources\":[],\"passes\":[";
+    let passes = passes(alloc, count)?;
+    format!(in alloc; "{front}{passes}],\"exports\":[]}}")
+}
+
+// That all are culled.
+fn culled(alloc: Global, count: u32) -> Result<String, AllocError> {
+    let mut text = format!(in alloc; "kept 0 culled {count}\n")?;
+    for k in 0..count {
+        write!(text, "culled p{k}\n")?;
+    }
+    Ok(text)
+}
+
+fn run_passes<R: Threads + Wait + Sync>(
+    rt: &R,
+    alloc: Global,
+    count: u32,
+    status: Status,
+    text: &str,
+) -> Result<bool, NoMemory> {
+    let file = frame(alloc, count)?;
+    is_given(rt, alloc, "run", file.as_str(), status, text)
+}
+
+// As many passes as there can be, and one more.
 #[test]
 fn many_passes(rt: HostRuntime) -> Result<(), Fail> {
     let alloc = rt.alloc();
-    let mut passes = String::from_str(alloc, "\"passes\":[")?;
-    let mut text = String::from_str(alloc, "kept 0 culled 256\n")?;
-    for k in 0..256 {
-        let comma = if k == 0 { "" } else { "," };
-        write!(passes, "{comma}{{\"name\":\"p{k}\",\"queue\":\"g\"}}")?;
-        write!(text, "culled p{k}\n")?;
-    }
-    let front =
-        "{\"format\":1,\"queues\":[{\"name\":\"g\",\"family\":\"transfer\"}],\"resources\":[],";
-    let file = format!(in alloc; "{front}{passes}],\"exports\":[]}}")?;
-    gives(
-        &rt,
-        alloc,
-        "run",
-        file.as_str(),
-        Status::Done,
-        text.as_str(),
-    )?;
-    let more = file.replace(
-        alloc,
-        "],\"exports\"",
-        ",{\"name\":\"q\",\"queue\":\"g\"}],\"exports\"",
-    )?;
+    let text = culled(alloc, 256)?;
+    assert!(&rt; run_passes(&rt, alloc, 256, Status::Done, text.as_str())?);
     let fault = "fault F4 Passes $.passes\n";
-    gives(&rt, alloc, "run", more.as_str(), Status::Refused, fault)
-}
-
-// Counts of texels by their lowest byte: 1,920 by 1,080 of them in one table, and 480 by 270 in the other.
-#[test]
-fn deferred_frame(rt: HostRuntime) -> Result<(), Fail> {
-    let alloc = rt.alloc();
-    let mut text = String::from_str(
-        alloc,
-        "kept 22 culled 2\nculled motion\nculled debug\nexport stats 2048\n",
-    )?;
-    for line in 0..64 {
-        let middle = match line {
-            10 => "00a41f00",
-            42 => "40fa0100",
-            _ => "00000000",
-        };
-        write!(text, "{:040}{middle}{:016}\n", 0, 0)?;
-    }
-    gives(&rt, alloc, "run", DEFERRED, Status::Done, text.as_str())
+    assert!(&rt; run_passes(&rt, alloc, 257, Status::Refused, fault)?);
+    Ok(())
 }

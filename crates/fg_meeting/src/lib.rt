@@ -1,9 +1,12 @@
+//! A gate in which two commands meet, for tests. No crate of the product stands on it.
+#![tactic(auto)]
+
 use fg_base::Gate;
 use std::sync::atomic::{AtomicBool, AtomicU32, Ordering};
 
 const TURNS: u32 = 1_000_000_000;
 
-// A gate in which two commands meet: each goes on only after the other has come, or after many turns.
+/// A gate in which two commands meet: each goes on only after the other has come, or after many turns.
 #[derive(Drop)]
 pub struct Meeting {
     nodes: [u32; 2],
@@ -12,6 +15,7 @@ pub struct Meeting {
 }
 
 impl Meeting {
+    /// For the commands that are these nodes.
     pub fn new(first: u32, second: u32) -> Meeting {
         Meeting {
             nodes: [first, second],
@@ -20,7 +24,7 @@ impl Meeting {
         }
     }
 
-    // Whether both have come, and neither was missed.
+    /// Whether both have come, and neither was missed.
     pub fn took_place(&self) -> bool {
         self.came[0].load(Ordering::SeqCst)
             && self.came[1].load(Ordering::SeqCst)

@@ -1,0 +1,23 @@
+//! Tests of the one top call over memory forms: command lines that run on a device, and generated frames.
+#![tactic(auto)]
+
+#[cfg(test)]
+mod auditing;
+#[cfg(test)]
+mod choosing;
+#[cfg(test)]
+mod deferred;
+#[cfg(test)]
+mod executing;
+#[cfg(test)]
+mod flying;
+#[cfg(test)]
+mod generating;
+#[cfg(test)]
+mod given;
+#[cfg(test)]
+mod meeting;
+#[cfg(test)]
+mod operations;
+#[cfg(test)]
+mod taps;
