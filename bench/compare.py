@@ -4,7 +4,7 @@
     bench/compare.py OTHER [--ours PROGRAM] [--runs 5] [--case NAME ..]
 
 First whole commands: `run`, with one worker and with four, `meaning`, `cull`, `place` and `compile` of the deferred frame of
-examples/frames/, `cull` of nearly 16 MiB of imports and of 256 passes that read and change each of 256 buffers, `place`, `bound`, `compile`
+examples/frames/, `cull` of nearly 16 MiB of imports and of 256 passes that read and change each of 256 buffers, `place`, `bound`, `auto`, `compile`
 and `run` of a frame of 256 passes none of which is culled (the other program makes it, by its word `gen`, and each pass is given a side
 effect; one that has no such word is left out), the summary of that frame as it is made, and `check` of submissions with as many nodes as there can be:
 barriers alone; fills of one buffer with a full barrier between each two; one fill and its many readers; fills of many
@@ -208,7 +208,7 @@ def commands(folder, other):
     made = generated(other)
     if made:
         path = written(folder, "made.json", made)
-        for word in ("place", "bound", "compile"):
+        for word in ("place", "bound", "auto", "compile"):
             yield f"{word} 256 passes", [word], path
         yield "run 256 passes, 1", ONE, path
         yield "run 256 passes, 4", FOUR, path

@@ -8,7 +8,7 @@ examples/profile/ are accepted. A submission that is run has to print what the t
 seed. A frame's `cull` has to begin
 with the line of the table, and so has its `place`; `run` has to print the former line, the culled passes and then what `meaning`
 prints; the frame's canonical text has to be its own canonical text, and to run as the frame does; and what the frame is compiled to has to
-leave the bytes of the exports on the device. Each file of the folders needs a row, and each
+leave the bytes of the exports on the device. A list of frames has to print the same at each depth. Each file of the folders needs a row, and each
 hazard H1 to H9 a file.
 """
 
@@ -23,6 +23,7 @@ BUILT = TOP / "crates/framec/out/framec"
 FRAMES = TOP / "examples/frames"
 SUBMISSIONS = TOP / "examples/submissions"
 PROFILE = TOP / "examples/profile"
+FLIGHTS = TOP / "examples/flights"
 
 
 def rows(heading):
@@ -71,6 +72,12 @@ class Runs:
         for options in ("", "--workers 1", "--workers 4", "--tend 1", "--tend 2 --workers 3"):
             self.expect(f"exec {options} < {path.name}", self.run(f"exec {options}", path.read_bytes()), wanted)
 
+    def flight(self, path, words):
+        wanted = self.run(f"{words} --depth 1", path.read_bytes())
+        self.expect(f"status of {words} < {path.name}", wanted[0], 0)
+        for options in (*(f"--depth {depth}" for depth in range(2, 9)), "--workers 4 --tend 1"):
+            self.expect(f"{words} {options} < {path.name}", self.run(f"{words} {options}", path.read_bytes()), wanted)
+
     def frame(self, path, first, heap):
         text = path.read_bytes()
         status, placed = self.run("place", text)
@@ -112,6 +119,10 @@ def main():
     for name, (first, heap) in frames.items():
         runs.frame(FRAMES / name, first, heap)
     runs.expect("files of examples/frames", {path.name for path in FRAMES.iterdir()}, set(frames))
+    flights = {code(row[0]): row for row in rows("Frames in flight")}
+    for name, row in flights.items():
+        runs.flight(FLIGHTS / name, code(row[2]))
+    runs.expect("files of examples/flights", {path.name for path in FLIGHTS.iterdir()}, set(flights))
     for line in runs.differences:
         print(line, file=sys.stderr)
     print(f"examples: {runs.count} runs, {len(runs.differences)} differences")

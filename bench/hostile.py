@@ -190,9 +190,13 @@ def broken_frames():
 
 # Numbers that are a float, or no number, in the place of `format`; which they are is told by another program alone.
 FLOATS = ("0e999999999999", "0.0e-999999999999", "1e-400", "1E+5", "1e00000000000005", "0." + "0" * 1000 + "1", "-0.0", "9" * 300, "1" + "0" * 308)
-FLOATS += ("1" + "0" * 309, "1.7976931348623157e308", "1.7976931348623158e308", "1.7976931348623159e308", "17976931348623158" + "0" * 292, "4.9e-324", "2e-324")
+FLOATS += ("1" + "0" * 309, "1.7976931348623157e308", "1.7976931348623159e308", "4.9e-324", "2e-324")
 FLOATS += ("1e309", "0.1e309", "0." + "0" * 400 + "1e709", "1" * 100_000 + "e-99999", "1e99999999999999999999", "1e-99999999999999999999", "18446744073709551615", "-1e999")
 FLOATS += ("1.0000000000000000000000000001", "1e1.5", "1e+-5", "1ee5", "1.2.3", "-", "--0", "- 1", "1e ", "+0", "00", "-00", "0x0", "1d5", "١", "1,2", "1" + "0" * 400 + ".0")
+
+# Numbers above the greatest float, and nearer to it than to the next power of two: a float is near. (serde_json says so with its feature
+# `float_roundtrip`, and without it that none is.)
+GREATEST = ("1.7976931348623158e308", "17976931348623158" + "0" * 292)
 
 
 def one_of(count):
@@ -270,6 +274,9 @@ def frame_rows(commands):
     for number in FLOATS:
         yield Row("numbers", number[:20], "migrate", b'{"format":' + number.encode() + b"}", 2, None)
         yield Row("numbers", number[:20], "cull", TEXT[:-1] + b',"x":[' + number.encode() + b"]}", 2, None)
+    for number in GREATEST:
+        yield Row("numbers", number[:20], "migrate", b'{"format":' + number.encode() + b"}", 2, "fault F2 $.format\n")
+        yield Row("numbers", number[:20], "cull", TEXT[:-1] + b',"x":[' + number.encode() + b"]}", 2, "fault F2 $.x\n")
     for name, text, told in good_frames():
         for words in commands:
             yield Row("good frames", name, words, text, 0, told.get(words))
@@ -777,6 +784,9 @@ class Rows:
         if row.printed is None and self.other:
             wanted = (*self.answer(self.other, words, row.text)[:2], b"")
         self.counts[row.kind] += 1
+        if "--trace" in words and row.printed is None:
+            # Which of the same events comes first is the workers' choice.
+            printed, wanted = sorted(printed.split(b"\n")), (wanted[0], sorted(wanted[1].split(b"\n")), b"")
         if (status, printed, told) != wanted:
             self.fails(row.kind, row.name, str(row.words)[:200], wanted, (status, printed, told))
 
