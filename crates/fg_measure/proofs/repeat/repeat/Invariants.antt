@@ -1,9 +1,0 @@
-use Rattle.std.proofs.Common.{◌≡◌, length}
-use Rattle.fg_measure.specs.Code.Tables.{image, HoldsImage}
-use Rattle.fg_measure.proofs.repeat.repeat.Given as goal
-
-abbrev pub invariant-loop-time : goal.invariant-loop-time
-invariant-loop-time l = record {
-  holds : HoldsImage l.table;
-  out : length l.out.items ≡ image;
-}
