@@ -14,7 +14,7 @@ const WRITTEN: u32 = 13;
 
 const ROOM: u32 = 600_000;
 
-/// The status, none if a tap did not stay, and the sink with the text.
+/// The status, none if a tap was finished where there is none, and the sink with the text.
 #[derive(Drop)]
 pub struct Answer {
     pub status: Option<Status>,

@@ -1,6 +1,6 @@
 //! A command line, and the status that it ends with.
 
-use fg_base::{CountTap, Gate, NoMemory, Sink, Source, Tap};
+use fg_base::{Gate, NoMemory, Sink, Source, Tap};
 use fg_top::{Ended, Status, framec};
 use std::alloc::Global;
 use std::sync::Wait;
@@ -15,12 +15,6 @@ pub fn words_of(alloc: Global, line: &str) -> Result<Vec<String>, NoMemory> {
     Ok(words)
 }
 
-fn one_tap(alloc: Global) -> Result<Vec<Box<dyn Tap>>, NoMemory> {
-    let mut taps: Vec<Box<dyn Tap>> = Vec::new(alloc);
-    taps.push(Box::new(alloc, CountTap::new())?)?;
-    Ok(taps)
-}
-
 // The status, if no tap was finished.
 fn unspent(ended: Ended) -> Option<Status> {
     if ended.spent.is_empty() && ended.places.is_empty() {
@@ -30,22 +24,6 @@ fn unspent(ended: Ended) -> Option<Status> {
     }
 }
 
-// The status, if each tap stays.
-fn stays<R: Threads + Wait + Sync, I: Source, O: Sink, G: Gate + Sync>(
-    rt: &R,
-    alloc: Global,
-    words: &[String],
-    input: &mut I,
-    output: &mut O,
-    gate: &G,
-    taps: &mut Vec<Box<dyn Tap>>,
-) -> Option<Status> {
-    let count = taps.len();
-    let status = unspent(framec(rt, alloc, words, input, output, gate, taps));
-    if taps.len() == count { status } else { None }
-}
-
-// The status of these words, with one tap; none if the tap does not stay.
 fn called<R: Threads + Wait + Sync, I: Source, O: Sink, G: Gate + Sync>(
     rt: &R,
     alloc: Global,
@@ -53,12 +31,12 @@ fn called<R: Threads + Wait + Sync, I: Source, O: Sink, G: Gate + Sync>(
     input: &mut I,
     output: &mut O,
     gate: &G,
-) -> Result<Option<Status>, NoMemory> {
-    let mut taps = one_tap(alloc)?;
-    Ok(stays(rt, alloc, words, input, output, gate, &mut taps))
+) -> Option<Status> {
+    let mut taps: Vec<Box<dyn Tap>> = Vec::new(alloc);
+    unspent(framec(rt, alloc, words, input, output, gate, &mut taps))
 }
 
-/// The status of a command line, with one tap; none if the tap does not stay.
+/// The status of a command line without taps; none if one is finished all the same.
 pub fn status_of<R: Threads + Wait + Sync, I: Source, O: Sink, G: Gate + Sync>(
     rt: &R,
     alloc: Global,
@@ -68,5 +46,5 @@ pub fn status_of<R: Threads + Wait + Sync, I: Source, O: Sink, G: Gate + Sync>(
     gate: &G,
 ) -> Result<Option<Status>, NoMemory> {
     let words = words_of(alloc, line)?;
-    called(rt, alloc, &words, input, output, gate)
+    Ok(called(rt, alloc, &words, input, output, gate))
 }
