@@ -194,8 +194,8 @@ FLOATS += ("1" + "0" * 309, "1.7976931348623157e308", "1.7976931348623159e308", 
 FLOATS += ("1e309", "0.1e309", "0." + "0" * 400 + "1e709", "1" * 100_000 + "e-99999", "1e99999999999999999999", "1e-99999999999999999999", "18446744073709551615", "-1e999")
 FLOATS += ("1.0000000000000000000000000001", "1e1.5", "1e+-5", "1ee5", "1.2.3", "-", "--0", "- 1", "1e ", "+0", "00", "-00", "0x0", "1d5", "١", "1,2", "1" + "0" * 400 + ".0")
 
-# Numbers above the greatest float, and nearer to it than to the next power of two: a float is near. (serde_json says so with its feature
-# `float_roundtrip`, and without it that none is.)
+# Numbers above the greatest float, and nearer to it than to the next power of two: a float is near. (So serde_json reads with its feature
+# for exact floats; without it there is none.)
 GREATEST = ("1.7976931348623158e308", "17976931348623158" + "0" * 292)
 
 
