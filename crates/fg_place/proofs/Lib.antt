@@ -1,4 +1,5 @@
 pub mod Filled
+pub mod Grown
 pub mod Legal
 pub mod Moved
 pub mod Only

@@ -3,7 +3,7 @@ use Rattle.std.proofs.Common.{◌≡◌, ℕ, ◌+◌, ◌%◌, ◌<◌, ◌≤�
 use Rattle.std.proofs.lemmas.Bool.{cases_lt}
 use Rattle.std.proofs.lemmas.List.{get_or_default}
 use Rattle.fg_place.specs.Placing.{collides, granule}
-use Rattle.fg_place.specs.Code.Moving.{IsClear, IsTaken}
+use Rattle.fg_place.specs.Code.Moving.{IsPast, IsTaken}
 
 module _ (sizes : List ℕ) (ordered : ℕ → ℕ → Bool) (offsets placed : List ℕ) (i k : ℕ) (lt : k < length placed) where
   pub taken_more : (old new : ℕ) → IsTaken sizes ordered offsets placed i old → ((lower : ℕ) → old ≤ lower → lower < new → lower % granule ≡ 0 → collides sizes ordered offsets i lower (get_or placed k 0) ≡ true) → IsTaken sizes ordered offsets placed i new
@@ -15,8 +15,8 @@ module _ (sizes : List ℕ) (ordered : ℕ → ℕ → Bool) (offsets placed : L
       clash : true ≡ false → ⊥
       clash e = cc
 
-  pub clear_more : (offset : ℕ) → IsClear sizes ordered offsets placed k i offset → collides sizes ordered offsets i offset (get_or placed k 0) ≡ false → IsClear sizes ordered offsets placed (k + 1) i offset
-  clear_more offset clear here = λ m d less. ⊎_elim
-      (λ l. clear m d l)
-      (λ g. let e : m ≡ k = omega (arith, g, less) in ap (λ j. collides sizes ordered offsets i offset j) (ap (λ x. get_or placed x d) e ∙ get_or_default placed k d 0 lt) ∙ here)
+  pub past_more : (old new : ℕ) → IsPast sizes ordered offsets placed k i old → old ≤ new → ((later : ℕ) → new ≤ later → collides sizes ordered offsets i later (get_or placed k 0) ≡ false) → IsPast sizes ordered offsets placed (k + 1) i new
+  past_more old new past up here = λ later le m d less. ⊎_elim
+      (λ l. past later (omega arith) m d l)
+      (λ g. let e : m ≡ k = omega (arith, g, less) in ap (λ j. collides sizes ordered offsets i later j) (ap (λ x. get_or placed x d) e ∙ get_or_default placed k d 0 lt) ∙ here later le)
       (cases_lt m k)

@@ -2,3 +2,4 @@
 pub mod Choosing
 pub mod Filling
 pub mod Moving
+pub mod Rising

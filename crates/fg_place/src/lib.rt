@@ -5,6 +5,7 @@ mod least;
 mod next;
 mod pairs;
 mod placement;
+mod rising;
 
 pub use pairs::Pairs;
 pub use placement::{Placement, place};

@@ -8,6 +8,10 @@ use Rattle.fg_place.specs.Placing.{collides, granule}
 abbrev pub IsClear : List ℕ → (ℕ → ℕ → Bool) → List ℕ → List ℕ → ℕ → ℕ → ℕ → Type 0
 IsClear sizes ordered offsets placed k i offset = (m d : ℕ) → m < k → collides sizes ordered offsets i offset (slice_index_or placed m d) ≡ false
 
+-- neither at this offset nor at a later one it collides with any of the first k of these
+abbrev pub IsPast : List ℕ → (ℕ → ℕ → Bool) → List ℕ → List ℕ → ℕ → ℕ → ℕ → Type 0
+IsPast sizes ordered offsets placed k i offset = (later : ℕ) → offset ≤ later → IsClear sizes ordered offsets placed k i later
+
 -- at no lower multiple of the granule it is clear of all of these
 abbrev pub IsTaken : List ℕ → (ℕ → ℕ → Bool) → List ℕ → List ℕ → ℕ → ℕ → Type 0
 IsTaken sizes ordered offsets placed i offset = (lower : ℕ) → lower < offset → lower % granule ≡ 0 → IsClear sizes ordered offsets placed (length placed) i lower → ⊥
