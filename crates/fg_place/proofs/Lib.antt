@@ -1,8 +1,10 @@
+pub mod Chosen
 pub mod Filled
 pub mod Grown
 pub mod Legal
 pub mod Moved
 pub mod Only
 pub mod Order
+pub mod Sorted
 pub mod Squares
 pub mod Stepped

@@ -1,8 +1,8 @@
 //! Where transient resources lie in one heap, so that those that are used one after another share memory.
 #![tactic(auto)]
 
+mod falling;
 mod least;
-mod next;
 mod pairs;
 mod placement;
 mod rising;
