@@ -93,12 +93,16 @@ impl Slot {
         }
     }
 
-    /// The memory of the bytes, where it is no one else's.
+    /// The memory of the bytes, where it is no one else's; what is in it does not count.
     pub(crate) fn into_spare(self) -> Option<Vec<u8>> {
         let Slot { form } = self;
         match form {
             Form::Own(own) => Some(own.into_vec()),
-            Form::Shared(bytes) => bytes.reclaim()?.into_vec().ok(),
+            Form::Shared(mut bytes) => {
+                // Bytes that are kept would be moved to the front of the memory, one by one.
+                bytes.clear();
+                bytes.reclaim()?.into_vec().ok()
+            }
             Form::Filled { .. } => None,
         }
     }

@@ -1,15 +1,19 @@
 -- One access more in the tables.
-use Rattle.std.proofs.Common.{◌≡◌, ◌==◌, ◌&&◌, nat_lt, ℕ, zero, suc, ◌+◌, ◌<◌, Bool, true, false, List, [], ◌∷◌, length, ◌≢◌, get_or, take, drop, slice_set, get_or-set_same, get_or-set_other, ⊎_elim, Option, Some, None, refl, sym, ap, ◌∙◌, subst, arith}
+use Rattle.std.proofs.Common.{◌≡◌, ◌==◌, ◌&&◌, ◌||◌, ℕ, zero, suc, ◌+◌, ◌<◌, Bool, true, false, List, [], ◌∷◌, length, ◌≢◌, get_or, take, drop, slice_set, get_or-set_same, get_or-set_other, ⊎_elim, Option, Some, None, refl, sym, ap, ◌∙◌, subst, arith}
 use Rattle.std.proofs.lemmas.Bool.{cases_eq}
-use Rattle.std.proofs.lemmas.Bool.Decides.{nat_tests}
-use Rattle.std.specs.List.{find}
+use Rattle.std.proofs.Math.Bool.{and-true}
+use Rattle.std.proofs.lemmas.List.{take_all}
+use Rattle.std.proofs.lemmas.List.Folds.{list_any_more}
+use Rattle.std.specs.List.{find, list_any}
 use Rattle.std.specs.Option.{option_or}
 use Rattle.std.specs.Prelude.{if◌then◌else◌}
 use Rattle.fg_view.specs.ShapedView.{NodeAccessAt}
-use Rattle.fg_view.specs.AccessKinds.{transfers}
+use Rattle.fg_view.proofs.Overlapping.{has_overlapping}
+use Rattle.fg_view.specs.AccessKinds.{changes, transfers}
+use Rattle.fg_view.specs.Views.{View, overlap, overlapping}
 use Rattle.fg_view.specs.declared.access.AccessKind.{AccessKind}
 use Rattle.fg_view.specs.declared.node_access.NodeAccess.{NodeAccess}
-use Rattle.fg_stated.specs.PieceStates.{last_that, on_piece, kind_of}
+use Rattle.fg_stated.specs.PieceStates.{changes_bytes, last_that, on_piece, kind_of}
 use Rattle.fg_stated.specs.Code.Tables.{PutWhere, IsLast, IsFirst, NextFrom}
 
 last_more : (test : NodeAccess → Bool) (accesses : List NodeAccess) (j : ℕ) (a : NodeAccess) → NodeAccessAt accesses j a → last_that test (take (suc j) accesses) ≡ (if test a then Some a else last_that test (take j accesses))
@@ -46,18 +50,36 @@ is_first_more test pieces accesses j a old new h F K = record {
       rw (first_more (test p) accesses j a h, ← f) (K.each p (omega (arith, lt, F.size)));
 }
 
+-- the first k pieces of a list
+abbrev pub among : List ℕ → ℕ → ℕ → Bool
+among pieces k q = list_any (λ x. x == q) (take k pieces)
+
 -- one piece more
-pub put_more : (test : ℕ → Bool) (p : ℕ) (a : NodeAccess) (first old new : List (Option NodeAccess)) → PutWhere (λ q. nat_lt q p && test q) a first old → PutWhere (λ q. (p == q) && test p) a old new → PutWhere (λ q. nat_lt q (p + 1) && test q) a first new
-put_more test p a first old new F K = record {
+pub put_more : (pieces : List ℕ) (k d : ℕ) (a : NodeAccess) (first old new : List (Option NodeAccess)) → k < length pieces → PutWhere (among pieces k) a first old → PutWhere (λ q. get_or pieces k d == q) a old new → PutWhere (among pieces (k + 1)) a first new
+put_more pieces k d a first old new within F K = record {
   size = K.size ∙ F.size;
-  each = λ q lt. K.each q (omega (arith, lt, F.size)) ∙ ap (λ z. if (p == q) && test p then Some a else z) (F.each q lt) ∙ step q;
+  each = λ q lt.
+      K.each q (omega (arith, lt, F.size))
+      ∙ ap (λ z. if get_or pieces k d == q then Some a else z) (F.each q lt)
+      ∙ either (get_or pieces k d == q) (among pieces k q) (get_or first q None)
+      ∙ ap (λ b. if b then Some a else get_or first q None) (sym (list_any_more (λ x. x == q) pieces k d within));
 }
   where
-    step : (q : ℕ) → (if (p == q) && test p then Some a else (if nat_lt q p && test q then Some a else get_or first q None)) ≡ (if nat_lt q (p + 1) && test q then Some a else get_or first q None)
-    step q = grind (arith, nat_tests)
+    either : (here before : Bool) (old : Option NodeAccess) → (if here then Some a else (if before then Some a else old)) ≡ (if before || here then Some a else old)
+    either true true old = refl
+    either true false old = refl
+    either false true old = refl
+    either false false old = refl
 
-pub put_nowhere : (test : ℕ → Bool) (a : NodeAccess) (first : List (Option NodeAccess)) → PutWhere (λ q. nat_lt q 0 && test q) a first first
-put_nowhere test a first = record { size = refl; each = λ q lt. grind (arith, nat_tests) }
+-- the pieces that a change overlaps
+pub put_over : (V : View) (a : NodeAccess) (first new : List (Option NodeAccess)) → length first ≡ length V.pieces → changes a.access.kind ≡ true → PutWhere (among (overlapping V a.access.piece) (length (overlapping V a.access.piece))) a first new → PutWhere (λ p. changes_bytes V p a) a first new
+put_over V a first new size change F = record {
+  size = F.size;
+  each = λ q lt. F.each q lt ∙ ap (λ b. if b then Some a else get_or first q None)
+      (ap (list_any (λ x. x == q)) (take_all (length (overlapping V a.access.piece)) (overlapping V a.access.piece) (omega arith))
+      ∙ has_overlapping V a.access.piece q (omega (arith, lt, size))
+      ∙ sym (ap (λ b. overlap V a.access.piece q && b) change ∙ and-true (overlap V a.access.piece q)));
+}
 
 -- the access is of the piece, and so
 abbrev pub own : (NodeAccess → Bool) → ℕ → NodeAccess → Bool

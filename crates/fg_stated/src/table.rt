@@ -1,7 +1,6 @@
 //! An access for each piece.
 
 ghost use Rattle.std.specs.Prelude.{◌≡◌, ◌==◌, ◌&&◌, ◌<◌, ◌≤◌, length, get_or, replicate, IfOk, None};
-ghost use Rattle.fg_base.specs.Maxima.{max_pieces};
 ghost use Rattle.fg_stated.specs.PieceStates.{changes_bytes, kind_of};
 ghost use Rattle.fg_stated.specs.Code.Tables.{PutWhere};
 
@@ -41,14 +40,12 @@ impl Table {
         self.accesses[piece as usize]
     }
 
-    // Puts the access to a piece, if it `is_so`.
-    fn put_for(&mut self, piece: usize, node_access: NodeAccess, is_so: bool)
+    // Puts the access to a piece.
+    fn put_at(&mut self, piece: u32, node_access: NodeAccess)
         requires { piece < length self.old }
-        ensures { PutWhere (λ p. (piece == p) && is_so) node_access self.old self.new }
+        ensures { PutWhere (λ p. piece == p) node_access self.old self.new }
     {
-        if is_so {
-            self.accesses.set(piece, Some(node_access));
-        }
+        self.accesses.set(piece as usize, Some(node_access));
     }
 
     /// Puts the access to its own piece, if it `is_so`.
@@ -56,22 +53,22 @@ impl Table {
         requires { node_access.access.piece < length self.old }
         ensures { PutWhere (λ p. (node_access.access.piece == p) && is_so) node_access self.old self.new }
     {
-        self.put_for(node_access.access.piece as usize, node_access, is_so);
+        if is_so {
+            self.put_at(node_access.access.piece, node_access);
+        }
     }
 
     /// Puts the access to each piece whose bytes it may change.
     pub(crate) fn put_over(&mut self, view: &View, node_access: NodeAccess)
         requires size { length self.old ≡ length view.now.pieces }
-        requires few { length self.old ≤ max_pieces }
         requires piece { node_access.access.piece < length self.old }
         ensures { PutWhere (λ p. changes_bytes view.now p node_access) node_access self.old self.new }
     {
         if !node_access.access.kind.changes() {
             return;
         }
-        for p in 0..view.piece_count() {
-            let overlaps = view.overlap(node_access.access.piece, p as u32);
-            self.put_for(p, node_access, overlaps);
+        for p in view.overlapping(node_access.access.piece) {
+            self.put_at(*p, node_access);
         }
     }
 }

@@ -1,20 +1,25 @@
 -- Behind a change all is tied that was tied with it.
-use Rattle.std.proofs.Common.{◌≡◌, ◌≢◌, ◌⊎◌, inl, inr, ℕ, ◌+◌, ◌-◌, ◌<◌, ◌≤◌, ◌==◌, ◌&&◌, ◌||◌, Bool, true, false, List, length, sym, ap, ◌∙◌, subst, ⊎_elim, eqb-true, arith}
+use Rattle.std.proofs.Common.{◌≡◌, ◌≢◌, ◌⊎◌, inl, inr, ℕ, ◌+◌, ◌-◌, ◌<◌, ◌≤◌, ◌==◌, ◌&&◌, ◌||◌, Bool, true, false, List, length, take, get_or, sym, ap, ◌∙◌, subst, ⊎_elim, eqb-true, arith}
 use Rattle.std.proofs.lemmas.Bool.{cases_Bool, cases_eq, false≢true, cases_lt, and_parts, or_cases, or_left, or_right}
+use Rattle.std.proofs.lemmas.List.{take_all}
+use Rattle.std.proofs.lemmas.List.Folds.{list_any_more}
+use Rattle.std.specs.List.{list_any}
 use Rattle.std.proofs.lemmas.Option.{slice_get-get_or, get_or_from_slice_get}
+use Rattle.fg_view.proofs.Overlapping.{has_overlapping}
 use Rattle.fg_view.specs.AccessKinds.{changes, transfers}
 use Rattle.fg_view.specs.ShapedView.{ShapedView, Listed, NodeAccessAt}
 use Rattle.fg_view.specs.Views as views
-use Rattle.fg_view.specs.Views.{View, overlap}
+use Rattle.fg_view.specs.Views.{View, overlap, overlapping}
 use Rattle.fg_view.specs.declared.access.Access.{Access}
 use Rattle.fg_view.specs.declared.access.AccessKind.{AccessKind}
 use Rattle.fg_view.specs.declared.node_access.NodeAccess.{NodeAccess}
-use Rattle.fg_ties.specs.Code.Chains.{IsIn, Latest, Links, BothLinks}
+use Rattle.fg_ties.specs.Code.Chains.{IsIn, Latest, Links}
 use Rattle.fg_ties.specs.First.{IsFirst}
-use Rattle.fg_ties.specs.Code.Places.{no_node_access, node_access_at, piece_of, kind_of, clashes_with_loads, Known, HasFlaw, IsFirstWith, TiedAt, PlacesTiedBelow}
+use Rattle.fg_ties.specs.Code.Places.{no_node_access, node_access_at, piece_of, kind_of, clashes_with_loads, Known, IsFirstWith, TiedAt, PlacesTiedBelow}
 use Rattle.fg_ties.specs.Tied.{PairTied, TiedBelow}
 use Rattle.fg_ties.specs.declared.chain.Chain.{Chain}
 use Rattle.fg_ties.specs.declared.tie.Untied.{Untied}
+use Rattle.fg_ties.proofs.Clashes.{overlap_turned}
 use Rattle.fg_ties.proofs.Through.{itself, clash_change, through}
 
 here : (accesses : List NodeAccess) (i : ℕ) → i < length accesses → NodeAccessAt accesses i (node_access_at accesses i)
@@ -30,11 +35,11 @@ clash_cases V a b h = ⊎_elim
     (or_cases (overlap V a.piece b.piece && (changes a.kind || changes b.kind)) ((a.piece == b.piece) && (transfers a.kind || transfers b.kind)) h)
 
 -- pieces without common bytes give no clash
-pub apart : (V : View) (accesses : List NodeAccess) (i j q : ℕ) → ShapedView V → Listed V accesses → i < length accesses → piece_of accesses i ≡ q → overlap V q (piece_of accesses j) ≡ false → TiedAt V accesses i j
-apart V accesses i j q S L h e far C = absurd (none (clash_cases V (node_access_at accesses i).access (node_access_at accesses j).access C.clash))
+apart : (V : View) (accesses : List NodeAccess) (i j : ℕ) → ShapedView V → Listed V accesses → i < length accesses → overlap V (piece_of accesses j) (piece_of accesses i) ≡ false → TiedAt V accesses i j
+apart V accesses i j S L h far C = absurd (none (clash_cases V (node_access_at accesses i).access (node_access_at accesses j).access C.clash))
   where
     far_off : overlap V (piece_of accesses i) (piece_of accesses j) ≡ false
-    far_off = ap (λ p. overlap V p (piece_of accesses j)) e ∙ far
+    far_off = ⊎_elim (λ e. absurd (false≢true (sym far ∙ overlap_turned V (piece_of accesses i) (piece_of accesses j) e))) (λ e. e) (cases_Bool (overlap V (piece_of accesses i) (piece_of accesses j)))
 
     none : ((overlap V (piece_of accesses i) (piece_of accesses j) ≡ true) × ((changes (kind_of accesses i) || changes (kind_of accesses j)) ≡ true)) ⊎ ((piece_of accesses i ≡ piece_of accesses j) × ((transfers (kind_of accesses i) || transfers (kind_of accesses j)) ≡ true)) → ⊥
     none (inl (over, c)) = false≢true (sym far_off ∙ over)
@@ -54,7 +59,7 @@ both_load V accesses i j p q C = absurd (none (clash_cases V (node_access_at acc
     none (inl (over, c)) = never_either (changes (kind_of accesses i)) (changes (kind_of accesses j)) (still (kind_of accesses i) p).0 (still (kind_of accesses j) q).0 c
     none (inr (same, t)) = never_either (transfers (kind_of accesses i)) (transfers (kind_of accesses j)) (still (kind_of accesses i) p).1 (still (kind_of accesses j) q).1 t
 
-module _ (V : View) (accesses : List NodeAccess) (S : ShapedView V) (L : Listed V accesses) (j q : ℕ) (within : j < length accesses) (G : PlacesTiedBelow V accesses j) (over : overlap V q (piece_of accesses j) ≡ true) (own : q < length V.pieces) where
+module _ (V : View) (accesses : List NodeAccess) (S : ShapedView V) (L : Listed V accesses) (j q : ℕ) (within : j < length accesses) (G : PlacesTiedBelow V accesses j) (over : overlap V (piece_of accesses j) q ≡ true) (own : q < length V.pieces) where
   -- a change of the piece that is tied with j stands for all earlier accesses of the piece
   pub behind : (m : ℕ) → m < j → piece_of accesses m ≡ q → changes (kind_of accesses m) ≡ true → TiedAt V accesses m j → (i : ℕ) → i < m → piece_of accesses i ≡ q → TiedAt V accesses i j
   behind m lm em change good i li ei =
@@ -65,7 +70,7 @@ module _ (V : View) (accesses : List NodeAccess) (S : ShapedView V) (L : Listed 
       (subst (λ p. overlap V p (piece_of accesses m) ≡ true) (sym ei) (subst (λ p. overlap V q p ≡ true) (sym em) (itself V q S own)))
       (or_right (changes (kind_of accesses i)) (changes (kind_of accesses m)) change))
       (clash_change V (node_access_at accesses m).access (node_access_at accesses j).access
-      (subst (λ p. overlap V p (piece_of accesses j) ≡ true) (sym em) over)
+      (subst (λ p. overlap V p (piece_of accesses j) ≡ true) (sym em) (overlap_turned V (piece_of accesses j) q over))
       (or_left (changes (kind_of accesses m)) (changes (kind_of accesses j)) change))
       (λ e h. L.last i m (node_access_at accesses i) (node_access_at accesses m) (here accesses i li_in) (here accesses m lm_in) li e h)
       (λ e. L.last m j (node_access_at accesses m) (node_access_at accesses j) (here accesses m lm_in) (here accesses j within) lm e change)
@@ -101,9 +106,32 @@ pub tied_below : (V : View) (accesses : List NodeAccess) (n : ℕ) → PlacesTie
 tied_below V accesses n G i j a b ha hb lt h =
     subst (λ c. PairTied V c b) (get_or_from_slice_get accesses i a no_node_access ha) (subst (λ c. PairTied V (node_access_at accesses i) c) (get_or_from_slice_get accesses j b no_node_access hb) (G i j lt h))
 
+-- of the first k pieces of a list all accesses in the chain are tied with the one at place j
+abbrev pub TiedAmong : View → List NodeAccess → Bool → ℕ → List ℕ → ℕ → Type 0
+TiedAmong V accesses loads j pieces k = (i : ℕ) → i < j → list_any (λ q. q == piece_of accesses i) (take k pieces) ≡ true → IsIn loads accesses i → TiedAt V accesses i j
+
 -- one piece more
-pub pieces_more : (V : View) (accesses : List NodeAccess) (loads : Bool) (j q : ℕ) → ((i : ℕ) → i < j → piece_of accesses i < q → IsIn loads accesses i → TiedAt V accesses i j) → ((i : ℕ) → i < j → piece_of accesses i ≡ q → IsIn loads accesses i → TiedAt V accesses i j) → (i : ℕ) → i < j → piece_of accesses i < q + 1 → IsIn loads accesses i → TiedAt V accesses i j
-pieces_more V accesses loads j q old new i lt h n = ⊎_elim (λ e. new i lt e n) (λ ne. old i lt (omega (arith, h, ne)) n) (cases_eq (piece_of accesses i) q)
+pub pieces_more : (V : View) (accesses : List NodeAccess) (loads : Bool) (j : ℕ) (pieces : List ℕ) (k d : ℕ) → k < length pieces → TiedAmong V accesses loads j pieces k → ((i : ℕ) → i < j → piece_of accesses i ≡ get_or pieces k d → IsIn loads accesses i → TiedAt V accesses i j) → TiedAmong V accesses loads j pieces (k + 1)
+pieces_more V accesses loads j pieces k d within old new i lt h n = ⊎_elim
+    (λ e. old i lt e n)
+    (λ e. new i lt (sym (eqb-true (get_or pieces k d) (piece_of accesses i) e)) n)
+    (or_cases (list_any (λ q. q == piece_of accesses i) (take k pieces)) (get_or pieces k d == piece_of accesses i) (sym (list_any_more (λ q. q == piece_of accesses i) pieces k d within) ∙ h))
+
+-- those of pieces that overlap no byte are tied anyway
+pub all_pieces : (V : View) (accesses : List NodeAccess) (loads : Bool) (j : ℕ) → ShapedView V → Listed V accesses → j < length accesses → TiedAmong V accesses loads j (overlapping V (piece_of accesses j)) (length (overlapping V (piece_of accesses j))) → (i : ℕ) → i < j → IsIn loads accesses i → TiedAt V accesses i j
+all_pieces V accesses loads j S L within among i lt n = ⊎_elim
+    (λ (over : overlap V (piece_of accesses j) (piece_of accesses i) ≡ true). among i lt (ap (list_any (λ q. q == piece_of accesses i)) (take_all (length all) all (omega arith)) ∙ has_overlapping V (piece_of accesses j) (piece_of accesses i) known ∙ over) n)
+    (λ (far : overlap V (piece_of accesses j) (piece_of accesses i) ≡ false). apart V accesses i j S L here_in far)
+    (cases_Bool (overlap V (piece_of accesses j) (piece_of accesses i)))
+  where
+    all : List ℕ
+    all = overlapping V (piece_of accesses j)
+
+    here_in : i < length accesses
+    here_in = omega (arith, lt, within)
+
+    known : piece_of accesses i < length V.pieces
+    known = (known_at V accesses i S L here_in).piece
 
 -- as many pieces as the chain has, and of its kind
 pub links_own : (accesses : List NodeAccess) (pieces j : ℕ) (loads : Bool) (chain : Chain) → Links accesses pieces j loads chain → Links accesses (length chain.last.items) j chain.loads chain

@@ -1,6 +1,6 @@
 -- A program whose pairs are tied is tied, and one with a flaw is not.
 use Rattle.std.specs.Prelude.{◌↔◌}
-use Rattle.std.proofs.Common.{◌≡◌, ◌⊎◌, inl, inr, ℕ, ◌<◌, true, false, List, length, slice_get, Option, Some, None, Result, Ok, Err, IfOk, sym, ap, subst, ◌∙◌, ⊎_elim, arith}
+use Rattle.std.proofs.Common.{◌≡◌, ◌⊎◌, inl, inr, ℕ, ◌<◌, true, List, length, slice_get, Option, Some, None, Result, Ok, Err, IfOk, sym, ap, subst, ◌∙◌, ⊎_elim, arith}
 use Rattle.std.proofs.lemmas.Bool.{cases_eq, cases_lt}
 use Rattle.std.proofs.lemmas.Option.{slice_get_within}
 use Rattle.std.specs.Option.{option_map_or}
@@ -11,14 +11,12 @@ use Rattle.fg_hb.specs.Nodes.{program_nodes}
 use Rattle.fg_hb.specs.Orders.{Order}
 use Rattle.fg_hb.specs.declared.node.Node.{Node}
 use Rattle.fg_reach.specs.Paths.{Path, then_on}
-use Rattle.fg_view.specs.AccessKinds.{changes, transfers}
 use Rattle.fg_view.specs.ShapedView.{ShapedView, Has, NodeAccessAt}
 use Rattle.fg_view.specs.Views.{View, view_of, node_access, node_accesses_of}
 use Rattle.fg_view.specs.declared.access.Access.{Access}
 use Rattle.fg_view.specs.declared.node_access.NodeAccess.{NodeAccess}
 use Rattle.fg_ties.specs.First.{DecidesTied, FindsFirst, IsFirst}
 use Rattle.fg_subs.specs.declared.program.Program.{Program}
-use Rattle.fg_ties.specs.Passing.{Before}
 use Rattle.fg_ties.specs.Rows.{Rows}
 use Rattle.fg_ties.specs.Tied.{Clashing, Tied, PairTied, Flawed, TiedBelow, FirstFlaw}
 use Rattle.fg_ties.specs.declared.tie.Flaw.{Flaw}

@@ -45,7 +45,7 @@ impl<'a> Listing<'a> {
         requires q { q < length self.now.view.pieces }
         requires links { Links self.now.accesses (length self.now.view.pieces) j chain.now.loads chain.now }
         requires below { PlacesTiedBelow self.now.view self.now.accesses j }
-        requires over { overlap self.now.view q (piece_of self.now.accesses j) ≡ true }
+        requires over { overlap self.now.view (piece_of self.now.accesses j) q ≡ true }
         ensures { result ≡ true → (i : ℕ) → i < j → piece_of self.now.accesses i ≡ q → IsIn chain.now.loads self.now.accesses i → TiedAt self.now.view self.now.accesses i j }
     {
         let mut m = chain.last(q);
@@ -62,26 +62,17 @@ impl<'a> Listing<'a> {
         true
     }
 
-    // The same, for a piece that may have no byte in common with that of the access at place `j`.
-    fn is_piece_tied(&self, chain: &Chain, j: usize, q: u32) -> bool
-        requires j { j < length self.now.accesses }
-        requires q { q < length self.now.view.pieces }
-        requires links { Links self.now.accesses (length self.now.view.pieces) j chain.now.loads chain.now }
-        requires below { PlacesTiedBelow self.now.view self.now.accesses j }
-        ensures { result ≡ true → (i : ℕ) → i < j → piece_of self.now.accesses i ≡ q → IsIn chain.now.loads self.now.accesses i → TiedAt self.now.view self.now.accesses i j }
-    {
-        !self.view.overlap(q, self.access(j).access.piece) || self.is_chain_tied(chain, j, q)
-    }
-
-    // Whether all accesses in the chain are tied with the one at place `j`.
+    // Whether all accesses in the chain are tied with the one at place `j`. Those of pieces that have no byte in common with its
+    // piece are.
     fn are_pieces_tied(&self, chain: &Chain, j: usize) -> bool
         requires j { j < length self.now.accesses }
         requires links { Links self.now.accesses (length self.now.view.pieces) j chain.now.loads chain.now }
         requires below { PlacesTiedBelow self.now.view self.now.accesses j }
         ensures { result ≡ true → (i : ℕ) → i < j → IsIn chain.now.loads self.now.accesses i → TiedAt self.now.view self.now.accesses i j }
     {
-        for q in 0..self.view.piece_count() as u32 {
-            if !self.is_piece_tied(chain, j, q) {
+        let piece = self.access(j).access.piece;
+        for q in self.view.overlapping(piece) {
+            if !self.is_chain_tied(chain, j, *q) {
                 return false;
             }
         }

@@ -4,5 +4,6 @@ pub mod EntryFits
 pub mod Fitting
 pub mod Growing
 pub mod Listing
+pub mod Overlapping
 pub mod Viewing
 mod Worked

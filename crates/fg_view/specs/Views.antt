@@ -1,6 +1,6 @@
 -- A program as it is checked, by the numbers of its nodes and pieces.
-use Rattle.std.specs.Prelude.{ℕ, List, ◌+◌, ◌==◌, ◌&&◌, ◌||◌, nat_lt, map, get_or, slice_get, Bool, true, false, Option}
-use Rattle.std.specs.List.{filter, flat_map}
+use Rattle.std.specs.Prelude.{ℕ, List, ◌+◌, ◌==◌, ◌&&◌, ◌||◌, nat_lt, length, map, get_or, slice_get, Bool, true, false, Option}
+use Rattle.std.specs.List.{filter, flat_map, range_with_len}
 use Rattle.std.specs.Option.{option_map_or}
 use Rattle.fg_base.specs.Shapes.{bytes_of, is_buffer}
 use Rattle.fg_base.specs.declared.shape.Family.{Family}
@@ -107,6 +107,13 @@ pieces_overlap a b = (a.memory == b.memory) && (is_before_end a b && is_before_e
 
 abbrev pub overlap : View → ℕ → ℕ → Bool
 overlap V p q = pieces_overlap (piece_at V p) (piece_at V q)
+
+-- the numbers of those pieces that overlap this one, in rising order
+abbrev pub overlapping_in : List Piece → Piece → List ℕ
+overlapping_in pieces a = filter (λ q. pieces_overlap a (get_or pieces q no_piece)) (range_with_len 0 (length pieces))
+
+abbrev pub overlapping : View → ℕ → List ℕ
+overlapping V p = overlapping_in V.pieces (piece_at V p)
 
 abbrev pub shared_at : View → ℕ → Bool
 shared_at V p = is_shared (piece_at V p).sharing

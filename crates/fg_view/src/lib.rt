@@ -8,6 +8,7 @@ mod effect;
 mod effects;
 mod laws;
 mod node_access;
+mod overlaps;
 mod view;
 
 pub use access::{Access, AccessKind, Agent, Handover};

@@ -5,9 +5,10 @@ ghost use Rattle.std.specs.Option.{option_map_or};
 ghost use Rattle.fg_base.specs.Maxima.{max_nodes};
 ghost use Rattle.fg_hb.specs.Edges.{node_at};
 ghost use Rattle.fg_view.specs.ShapedView.{ShapedView};
-ghost use Rattle.fg_view.specs.Views.{view_of, is_import, piece_imported, effect_at, piece_at, pieces_overlap, is_before_end, has_agent, is_on, makes_available, makes_visible, clash, overlap, imported_at, shared_at, family_at};
+ghost use Rattle.fg_view.specs.Views.{view_of, is_import, piece_imported, effect_at, piece_at, has_agent, is_on, makes_available, makes_visible, clash, overlap, overlapping, imported_at, shared_at, family_at};
 
 use crate::effects::effects_of;
+use crate::overlaps::{lists_of, pieces_overlap};
 use crate::{Access, Agent, Effect, Scope};
 use fg_base::{Family, List, NoMemory};
 use fg_bits::HOST_AGENT;
@@ -22,17 +23,21 @@ pub struct View {
     edges: Edges,
     effects: List<Effect>,
     pieces: List<Piece>,
+    // By the number of the piece, which it overlaps.
+    overlapping: List<List<u32>>,
     imported: List<bool>,
     families: List<Family>,
 }
 
 impl Model for View {
     ghost use Rattle.fg_view.specs.Views.{View};
-    ghost use Rattle.fg_view.specs.Code.Inside.{view_in};
+    ghost use Rattle.fg_view.specs.Code.Inside.{view_in, KnowsOverlaps};
 
     ghost Value = { View };
 
     ghost view = { view_in };
+
+    ghost invariant = { KnowsOverlaps };
 }
 
 impl View {
@@ -99,6 +104,14 @@ impl View {
         pieces_overlap(self.piece(p), self.piece(q))
     }
 
+    /// The pieces that have bytes of a memory in common with this one, in rising order.
+    pub fn overlapping(&self, p: u32) -> &[u32]
+        requires { p < length self.now.pieces }
+        ensures { result.now ≡ overlapping self.now p }
+    {
+        self.overlapping[p as usize].as_slice()
+    }
+
     /// Whether the piece needs no owner.
     pub fn is_shared(&self, p: u32) -> bool
         requires { p < length self.now.pieces }
@@ -145,19 +158,6 @@ impl View {
         self.overlap(a.piece, b.piece) && (a.kind.changes() || b.kind.changes())
             || a.piece == b.piece && (a.kind.transfers() || b.kind.transfers())
     }
-}
-
-// Whether `a` begins before `b` ends, in bytes of one memory.
-fn is_before_end(a: Piece, b: Piece) -> bool
-    ensures { result ≡ is_before_end a b }
-{
-    (a.offset as u128) < b.offset as u128 + b.shape.bytes()
-}
-
-fn pieces_overlap(a: Piece, b: Piece) -> bool
-    ensures { result ≡ pieces_overlap a b }
-{
-    a.memory == b.memory && is_before_end(a, b) && is_before_end(b, a)
 }
 
 // Whether a set of agents of a queue, and of the host, has the agent.
@@ -230,6 +230,7 @@ pub fn view_of(alloc: Global, program: &Shaped) -> Result<View, NoMemory>
         edges,
         effects,
         pieces: plain.pieces.copy(alloc)?,
+        overlapping: lists_of(alloc, &plain.pieces)?,
         imported: imported_of(alloc, plain)?,
         families: families_of(alloc, &plain.queues)?,
     })

@@ -1,5 +1,6 @@
--- What contracts see of the fields of a view.
-use Rattle.fg_view.specs.Views.{View}
+-- What contracts see of the fields of a view, and what is known of them.
+use Rattle.std.specs.Prelude.{◌≡◌, map}
+use Rattle.fg_view.specs.Views.{View, overlapping_in}
 use Rattle.fg_view.specs.declared.view.View.TheInside.{Inside}
 
 abbrev pub view_in : Inside → View
@@ -10,3 +11,7 @@ view_in inside = record {
   imported = inside.imported;
   families = inside.families;
 }
+
+-- for each piece those that overlap it are listed
+abbrev pub KnowsOverlaps : Inside → Type 0
+KnowsOverlaps inside = inside.overlapping ≡ map (overlapping_in inside.pieces) inside.pieces

@@ -1,16 +1,34 @@
-use Rattle.std.proofs.Common.{length, ◌≡◌, ◌<◌, subst, arith}
-use Rattle.fg_ties.specs.Code.Listings.{IsListing}
-use Rattle.fg_ties.specs.Code.Places.{piece_of}
-use Rattle.fg_ties.proofs.Walks.{known_at, pieces_more}
+use Rattle.std.proofs.Common.{◌≡◌, ◌<◌, ℕ, List, true, length, get_or, ap, ◌∙◌, subst, sym, arith}
+use Rattle.fg_view.proofs.Overlapping.{known_overlapping, each_overlapping}
+use Rattle.fg_view.specs.Views.{View, overlap, overlapping}
+use Rattle.fg_view.specs.declared.node_access.NodeAccess.{NodeAccess}
+use Rattle.fg_ties.specs.Code.Places.{node_access_at, piece_of}
+use Rattle.fg_ties.proofs.Walks.{TiedAmong, pieces_more, all_pieces}
 use Rattle.fg_ties.proofs.listing.Listing.are_pieces_tied.Goals as goal
 
+-- what is walked through
+listed : (V W : View) (accesses : List NodeAccess) (a : NodeAccess) (j : ℕ) (pieces : List ℕ) → pieces ≡ overlapping V a.access.piece → V ≡ W → a ≡ node_access_at accesses j → pieces ≡ overlapping W (piece_of accesses j)
+listed V W accesses a j pieces e v h = e ∙ ap (λ u. overlapping u a.access.piece) v ∙ ap (λ b. overlapping W b.access.piece) h
+
+pub is_chain_tied-requires-clause-q : goal.is_chain_tied-requires-clause-q
+is_chain_tied-requires-clause-q c =
+    subst (λ ps. c.loop-q.q-index < length ps → get_or ps c.loop-q.q-index 0 < length c.args.self.now.view.pieces)
+    (sym (listed _ c.args.self.now.view c.args.self.now.accesses c.access-piece.result c.args.j c.overlapping-q-items.result.now c.overlapping-q-items.ensures (ap (λ l. l.view) c.self.view_is) c.access-piece.ensures.is))
+    (known_overlapping c.args.self.now.view (piece_of c.args.self.now.accesses c.args.j) c.loop-q.q-index 0) c.loop-q-test.true
+
+pub is_chain_tied-requires-clause-over : goal.is_chain_tied-requires-clause-over
+is_chain_tied-requires-clause-over c =
+    subst (λ ps. c.loop-q.q-index < length ps → overlap c.args.self.now.view (piece_of c.args.self.now.accesses c.args.j) (get_or ps c.loop-q.q-index 0) ≡ true)
+    (sym (listed _ c.args.self.now.view c.args.self.now.accesses c.access-piece.result c.args.j c.overlapping-q-items.result.now c.overlapping-q-items.ensures (ap (λ l. l.view) c.self.view_is) c.access-piece.ensures.is))
+    (each_overlapping c.args.self.now.view (piece_of c.args.self.now.accesses c.args.j) c.loop-q.q-index 0) c.loop-q-test.true
+
 pub loop-q-preserved : goal.loop-q-preserved
-loop-q-preserved c = pieces_more c.args.self.now.view c.args.self.now.accesses c.args.chain.now.loads c.args.j c.loop-q.q c.loop-q.invariant (c.is_piece_tied.ensures c.if-not-is_piece_tied.false)
+loop-q-preserved c = pieces_more c.args.self.now.view c.args.self.now.accesses c.args.chain.now.loads c.args.j c.overlapping-q-items.result.now c.loop-q.q-index 0 c.loop-q-test.true c.loop-q.invariant (c.is_chain_tied.ensures c.if-not-is_chain_tied.false)
 
 pub returns : goal.returns
-returns c = λ same i lt n.
-    let known : IsListing c.args.self.now = subst IsListing c.self.view_is c.self.invariant.listing in
-    let within : i < length c.args.self.now.accesses = omega (arith, lt, c.requires.j) in
-    let here : piece_of c.args.self.now.accesses i < length c.args.self.now.view.pieces = (known_at c.args.self.now.view c.args.self.now.accesses i known.shaped known.listed within).piece in
-    let count : c.piece_count-q-end.result ≡ length c.args.self.now.view.pieces = subst (λ v. c.piece_count-q-end.result ≡ length v.view.pieces) c.self.view_is c.piece_count-q-end.ensures in
-    c.loop-q.invariant i lt (omega (arith, here, c.loop-q-test.false, count)) n
+returns c = λ same.
+    let all : c.loop-q.q-index ≡ length c.overlapping-q-items.result.now = omega (arith, c.loop-q-test.false, c.loop-q.auto.q-index-end) in
+    all_pieces c.args.self.now.view c.args.self.now.accesses c.args.chain.now.loads c.args.j c.access-piece.ensures.listing.shaped c.access-piece.ensures.listing.listed c.requires.j
+    (subst (λ ps. TiedAmong c.args.self.now.view c.args.self.now.accesses c.args.chain.now.loads c.args.j ps (length ps))
+    (listed _ c.args.self.now.view c.args.self.now.accesses c.access-piece.result c.args.j c.overlapping-q-items.result.now c.overlapping-q-items.ensures (ap (λ l. l.view) c.self.view_is) c.access-piece.ensures.is)
+    (subst (TiedAmong c.args.self.now.view c.args.self.now.accesses c.args.chain.now.loads c.args.j c.overlapping-q-items.result.now) all c.loop-q.invariant))

@@ -1,4 +1,4 @@
-use Rattle.std.proofs.Common.{◌≡◌, ◌<◌, length, sym, ap, ◌∙◌, subst, arith}
+use Rattle.std.proofs.Common.{◌≡◌, ◌<◌, length, ap, ◌∙◌, subst, arith}
 use Rattle.fg_ties.specs.Code.Chains.{BothLinks}
 use Rattle.fg_ties.specs.Code.Places.{PlacesTiedBelow}
 use Rattle.fg_ties.proofs.Walks.{tied_more, tied_below, is_first}

@@ -1,4 +1,4 @@
-use Rattle.std.proofs.Common.{IfSome, sym, subst}
+use Rattle.std.proofs.Common.{IfSome, subst}
 use Rattle.std.proofs.lemmas.Bool.{false≢true}
 use Rattle.fg_ties.specs.Code.Passings.{InvisibleFrom}
 use Rattle.fg_ties.proofs.Passes.{invisible_on}
