@@ -15,6 +15,7 @@ ghost use Rattle.fg_steps.specs.States.{is_done};
 
 use crate::buffer::Buffer;
 use crate::held::Held;
+use crate::helpers::Helpers;
 use crate::nodes::read_node;
 use crate::opening::{Lists, Stored, lists_of, stored_of};
 use crate::origin::weight_of;
@@ -49,6 +50,7 @@ pub struct Device {
     held: Vec<Option<Held>>,
     // By the number of the read-back.
     reads: Vec<Buffer>,
+    helpers: Helpers,
 }
 
 impl Model for Device {
@@ -124,6 +126,7 @@ impl Device {
             reads,
             history,
         } = lists;
+        let helpers = Helpers::new(usize::MAX);
         let weight = weight_of(&program.program().memories, count);
         Ok(Device {
             program,
@@ -137,7 +140,16 @@ impl Device {
             table,
             held,
             reads,
+            helpers,
         })
+    }
+
+    /// Commands that are on their way start no more threads than so many, all together. Until it is called nothing but the number
+    /// of processors bounds what each of them starts.
+    pub fn lend_threads(&mut self, threads: usize)
+        ensures { self.new ≡ self.old }
+    {
+        self.helpers = Helpers::new(threads);
     }
 
     /// The number of nodes.

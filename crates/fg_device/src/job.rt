@@ -6,10 +6,12 @@ ghost use Rattle.fg_device.specs.Code.Loads.{IsRunnable, LoadsIn};
 ghost use Rattle.fg_device.specs.Code.Results.{IsResult};
 ghost use Rattle.fg_steps.specs.Outputs.{no_old, stored_by};
 
+use crate::helpers::Helpers;
 use crate::room::Room;
 use crate::running::stored_fast;
 use bytes::Bytes;
 use fg_base::{List, Op, Shape};
+use fg_lanes::helpers_for;
 use fg_subs::Shaped;
 use std::alloc::Global;
 use std::marker::Model;
@@ -31,6 +33,8 @@ pub struct Job {
     room: Room,
     // Of the device that began it.
     program: Arc<Shaped, Global>,
+    // The threads that it may start.
+    helpers: usize,
 }
 
 impl Model for Job {
@@ -49,6 +53,8 @@ pub struct Finished {
     command: Command,
     bytes: List<u8>,
     program: Arc<Shaped, Global>,
+    // Those that it might start.
+    helpers: usize,
 }
 
 impl Model for Finished {
@@ -81,6 +87,26 @@ impl Job {
             command,
             room,
             program,
+            helpers: 0,
+        }
+    }
+
+    /// The same, which may start some of these threads.
+    pub(crate) fn helped(self, helpers: &mut Helpers) -> Job
+        ensures { result ≡ self }
+    {
+        let Job {
+            command,
+            room,
+            program,
+            helpers: _,
+        } = self;
+        let helpers = helpers.take(helpers_for(room.len()));
+        Job {
+            command,
+            room,
+            program,
+            helpers,
         }
     }
 
@@ -91,7 +117,7 @@ impl Job {
         &self.command
     }
 
-    /// Runs the operation, by lanes and by bands. It has no part in the device.
+    /// Runs the operation, by lanes and by bands, in as many threads as the device had left for it. It has no part in the device.
     pub fn compute<R: Threads + Sync>(self, rt: &R) -> Finished
         ensures { result ≡ self }
     {
@@ -99,12 +125,21 @@ impl Job {
             command,
             room,
             program,
+            helpers,
         } = self;
-        let bytes = stored_fast(rt, &command.op, &command.shapes, &command.loaded, room);
+        let bytes = stored_fast(
+            rt,
+            helpers,
+            &command.op,
+            &command.shapes,
+            &command.loaded,
+            room,
+        );
         Finished {
             command,
             bytes,
             program,
+            helpers,
         }
     }
 }
@@ -124,6 +159,11 @@ impl Finished {
         &self.bytes
     }
 
+    /// The threads that it might start, which others may start now.
+    pub(crate) fn helpers(&self) -> usize {
+        self.helpers
+    }
+
     /// The command, its bytes, and the program of the device that began it.
     pub(crate) fn into_parts(self) -> (Command, List<u8>, Arc<Shaped, Global>)
         ensures command { result.0 ≡ self }
@@ -134,6 +174,7 @@ impl Finished {
             command,
             bytes,
             program,
+            helpers: _,
         } = self;
         (command, bytes, program)
     }

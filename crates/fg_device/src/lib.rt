@@ -7,6 +7,7 @@ mod buffer;
 mod comparing;
 mod device;
 mod held;
+mod helpers;
 mod job;
 mod nodes;
 mod opening;

@@ -41,6 +41,11 @@ impl Room {
         Ok(Room { held, len })
     }
 
+    /// For how many bytes.
+    pub fn len(&self) -> usize {
+        self.len
+    }
+
     /// Any bytes. It takes no memory.
     pub fn into_any(self) -> Vec<u8>
         ensures { length result.items ≡ length self }

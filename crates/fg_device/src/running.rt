@@ -58,9 +58,10 @@ fn run(op: &Op<u32>, shapes: &[Shape], loaded: &[Bytes], out: &mut [u8])
     }
 }
 
-// The same, by lanes and by bands.
+// The same, by lanes and by bands, in so many threads more.
 fn run_fast<R: Threads + Sync>(
     rt: &R,
+    helpers: usize,
     op: &Op<u32>,
     shapes: &[Shape],
     loaded: &[Bytes],
@@ -75,6 +76,7 @@ fn run_fast<R: Threads + Sync>(
     } else {
         apply_fast(
             rt,
+            helpers,
             op,
             shapes,
             source(op, loaded, 0),
@@ -133,6 +135,7 @@ fn store_in(op: &Op<u32>, shapes: &[Shape], loaded: &[Bytes], out: &mut [u8])
 // The same, by lanes and by bands.
 fn store_fast_in<R: Threads + Sync>(
     rt: &R,
+    helpers: usize,
     op: &Op<u32>,
     shapes: &[Shape],
     loaded: &[Bytes],
@@ -143,7 +146,7 @@ fn store_fast_in<R: Threads + Sync>(
     requires same { LeadsOn shapes.now op.now out.old (slice_index_or loaded.now (length (sources_of op.now)) (no_old shapes.now op.now)) }
     ensures { out.new ≡ stored_by shapes.now op.now loaded.now }
 {
-    run_fast(rt, op, shapes, loaded, out);
+    run_fast(rt, helpers, op, shapes, loaded, out);
 }
 
 /// What a command stores. The room takes the old bytes where these were loaded.
@@ -161,6 +164,7 @@ pub(crate) fn stored_by(op: &Op<u32>, shapes: &[Shape], loaded: &[Bytes], room: 
 /// The same, by lanes and by bands.
 pub(crate) fn stored_fast<R: Threads + Sync>(
     rt: &R,
+    helpers: usize,
     op: &Op<u32>,
     shapes: &[Shape],
     loaded: &[Bytes],
@@ -172,6 +176,6 @@ pub(crate) fn stored_fast<R: Threads + Sync>(
     ensures long { length result ≡ bytes_of (shape_at shapes.now (destination_of op.now)) }
 {
     let mut out = first_bytes(op, shapes, loaded, room);
-    store_fast_in(rt, op, shapes, loaded, &mut out);
+    store_fast_in(rt, helpers, op, shapes, loaded, &mut out);
     List::from_vec(out)
 }

@@ -14,9 +14,11 @@ use std::thread::Threads;
 
 /// What an operation other than a draw leaves in `out`, as `apply` of `fg_pixels` does under the same conditions. Fills
 /// of buffers, ramps, maps, combinations and selections go by vector lanes; these but the fills, and convert, box3 and
-/// halve, go by bands of rows in threads of their own where the destination is large. It takes no memory.
+/// halve, go by bands of rows where the destination is large: in so many threads beside the one that calls, or fewer. It takes no
+/// memory.
 pub fn apply_fast<R: Threads + Sync>(
     rt: &R,
+    helpers: usize,
     op: &Op<u32>,
     shapes: &[Shape],
     first: &[u8],
@@ -42,6 +44,7 @@ pub fn apply_fast<R: Threads + Sync>(
         } => whole::fill_buffer(shape_at(shapes, *dst), *offset, *size, *word, out),
         Op::Ramp { dst, base, dx, dy } => whole::ramp(
             rt,
+            helpers,
             shape_at(shapes, *dst),
             *base,
             *dx,
@@ -55,6 +58,7 @@ pub fn apply_fast<R: Threads + Sync>(
             value,
         } => whole::map(
             rt,
+            helpers,
             shape_at(shapes, *src),
             shape_at(shapes, *dst),
             *fun,
@@ -64,7 +68,16 @@ pub fn apply_fast<R: Threads + Sync>(
         ),
         Op::Combine { a, b, dst, fun } => {
             let from = (shape_at(shapes, *a), shape_at(shapes, *b));
-            whole::combine(rt, from, shape_at(shapes, *dst), *fun, first, second, out)
+            whole::combine(
+                rt,
+                helpers,
+                from,
+                shape_at(shapes, *dst),
+                *fun,
+                first,
+                second,
+                out,
+            )
         }
         Op::Select { mask, a, b, dst } => {
             let from = (
@@ -72,10 +85,20 @@ pub fn apply_fast<R: Threads + Sync>(
                 shape_at(shapes, *a),
                 shape_at(shapes, *b),
             );
-            whole::select(rt, from, shape_at(shapes, *dst), first, second, third, out)
+            whole::select(
+                rt,
+                helpers,
+                from,
+                shape_at(shapes, *dst),
+                first,
+                second,
+                third,
+                out,
+            )
         }
         Op::Convert { src, dst } => whole::convert(
             rt,
+            helpers,
             shape_at(shapes, *src),
             shape_at(shapes, *dst),
             first,
@@ -83,6 +106,7 @@ pub fn apply_fast<R: Threads + Sync>(
         ),
         Op::Box3 { src, dst } => whole::box3(
             rt,
+            helpers,
             shape_at(shapes, *src),
             shape_at(shapes, *dst),
             first,
@@ -90,6 +114,7 @@ pub fn apply_fast<R: Threads + Sync>(
         ),
         Op::Halve { src, dst } => whole::halve(
             rt,
+            helpers,
             shape_at(shapes, *src),
             shape_at(shapes, *dst),
             first,

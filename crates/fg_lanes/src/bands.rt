@@ -15,13 +15,18 @@ use std::thread::Threads;
 /// The least bytes for which a thread is started.
 const LEAST: usize = 1 << 19;
 
+/// How many threads an operation that stores so many bytes has use for, beside the one that calls.
+pub fn helpers_for(bytes: usize) -> usize {
+    (bytes / LEAST).saturating_sub(1)
+}
+
 // How many bands are painted side by side: no more than there are processors.
-fn band_count(rt: &impl Threads, bytes: usize) -> usize {
-    let wanted = bytes / LEAST;
-    if wanted < 2 {
+fn band_count(rt: &impl Threads, helpers: usize, bytes: usize) -> usize {
+    let wanted = helpers_for(bytes).min(helpers);
+    if wanted == 0 {
         1
     } else {
-        wanted.min(current_num_threads(rt))
+        current_num_threads(rt).min(wanted.saturating_add(1))
     }
 }
 
@@ -94,9 +99,10 @@ fn both<R: Threads + Sync, F: Fn(u32, u32, &mut [u8]) + Sync>(
     join_mut(rt, &mut upper, &mut lower);
 }
 
-/// Calls `f(first, count, rows)` with bands of the rows of `out`, each in a thread of its own where one can be made.
+/// Calls `f(first, count, rows)` with bands of the rows of `out`, in no more than so many threads beside the one that calls.
 pub(crate) fn paint_bands<R: Threads + Sync, F: Fn(u32, u32, &mut [u8]) + Sync>(
     rt: &R,
+    helpers: usize,
     texel: Texel,
     width: u32,
     height: u32,
@@ -107,6 +113,6 @@ pub(crate) fn paint_bands<R: Threads + Sync, F: Fn(u32, u32, &mut [u8]) + Sync>(
     requires calls { AcceptsBands (F.pre f) texel width 0 height }
     ensures { (p : ℕ → ℕ → ℕ) → Paints (F.post f) texel width 0 height p → out.new ≡ band texel width 0 height p }
 {
-    let bands = band_count(rt, out.len());
+    let bands = band_count(rt, helpers, out.len());
     halve(rt, &f, texel, width, bands, 0, height, out);
 }

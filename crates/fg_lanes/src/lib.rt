@@ -17,3 +17,4 @@ mod whole;
 mod words;
 
 pub use apply_op::apply_fast;
+pub use bands::helpers_for;

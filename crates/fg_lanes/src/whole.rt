@@ -30,6 +30,7 @@ pub(crate) fn fill_buffer(to: Shape, offset: u32, size: u32, word: u32, out: &mu
 #[tactic(auto, using(fg_pixels::proofs::Fitting::grid_bytes))]
 pub(crate) fn ramp<R: Threads + Sync>(
     rt: &R,
+    helpers: usize,
     to: Shape,
     base: u32,
     dx: u32,
@@ -43,6 +44,7 @@ pub(crate) fn ramp<R: Threads + Sync>(
     let grid = canvas(to);
     paint_bands(
         rt,
+        helpers,
         grid.texel,
         grid.width,
         grid.height,
@@ -57,6 +59,7 @@ pub(crate) fn ramp<R: Threads + Sync>(
 #[tactic(auto, using(fg_pixels::proofs::Fitting::same_bytes, fg_pixels::proofs::Fitting::same_bytes_to))]
 pub(crate) fn map<R: Threads + Sync>(
     rt: &R,
+    helpers: usize,
     from: Shape,
     to: Shape,
     fun: Fun,
@@ -72,6 +75,7 @@ pub(crate) fn map<R: Threads + Sync>(
     let grid = canvas(to);
     paint_bands(
         rt,
+        helpers,
         grid.texel,
         grid.width,
         grid.height,
@@ -86,6 +90,7 @@ pub(crate) fn map<R: Threads + Sync>(
 #[tactic(auto, using(fg_pixels::proofs::Fitting::two_first, fg_pixels::proofs::Fitting::two_second, fg_pixels::proofs::Fitting::two_to))]
 pub(crate) fn combine<R: Threads + Sync>(
     rt: &R,
+    helpers: usize,
     from: (Shape, Shape),
     to: Shape,
     fun: Fun,
@@ -102,6 +107,7 @@ pub(crate) fn combine<R: Threads + Sync>(
     let grid = canvas(to);
     paint_bands(
         rt,
+        helpers,
         grid.texel,
         grid.width,
         grid.height,
@@ -116,6 +122,7 @@ pub(crate) fn combine<R: Threads + Sync>(
 #[tactic(auto, using(fg_pixels::proofs::Fitting::three_pair, fg_pixels::proofs::Fitting::two_first, fg_pixels::proofs::Fitting::two_second, fg_pixels::proofs::Fitting::three_third, fg_pixels::proofs::Fitting::three_to))]
 pub(crate) fn select<R: Threads + Sync>(
     rt: &R,
+    helpers: usize,
     from: (Shape, Shape, Shape),
     to: Shape,
     mask: &[u8],
@@ -133,6 +140,7 @@ pub(crate) fn select<R: Threads + Sync>(
     let grid = canvas(to);
     paint_bands(
         rt,
+        helpers,
         grid.texel,
         grid.width,
         grid.height,
@@ -145,7 +153,14 @@ pub(crate) fn select<R: Threads + Sync>(
 }
 
 #[tactic(auto, using(fg_pixels::proofs::Fitting::one_size))]
-pub(crate) fn convert<R: Threads + Sync>(rt: &R, from: Shape, to: Shape, src: &[u8], out: &mut [u8])
+pub(crate) fn convert<R: Threads + Sync>(
+    rt: &R,
+    helpers: usize,
+    from: Shape,
+    to: Shape,
+    src: &[u8],
+    out: &mut [u8],
+)
     requires fits { fits (Op.Convert from to) ≡ true }
     requires src { length src.now ≡ bytes_of from }
     requires out { length out.old ≡ bytes_of to }
@@ -155,6 +170,7 @@ pub(crate) fn convert<R: Threads + Sync>(rt: &R, from: Shape, to: Shape, src: &[
     let texel = canvas(to).texel;
     paint_bands(
         rt,
+        helpers,
         texel,
         grid.width,
         grid.height,
@@ -167,7 +183,14 @@ pub(crate) fn convert<R: Threads + Sync>(rt: &R, from: Shape, to: Shape, src: &[
 }
 
 #[tactic(auto, using(fg_pixels::proofs::Fitting::images_from, fg_pixels::proofs::Fitting::images_to))]
-pub(crate) fn box3<R: Threads + Sync>(rt: &R, from: Shape, to: Shape, src: &[u8], out: &mut [u8])
+pub(crate) fn box3<R: Threads + Sync>(
+    rt: &R,
+    helpers: usize,
+    from: Shape,
+    to: Shape,
+    src: &[u8],
+    out: &mut [u8],
+)
     requires fits { fits (Op.Box3 from to) ≡ true }
     requires src { length src.now ≡ bytes_of from }
     requires out { length out.old ≡ bytes_of to }
@@ -176,6 +199,7 @@ pub(crate) fn box3<R: Threads + Sync>(rt: &R, from: Shape, to: Shape, src: &[u8]
     let grid = canvas(to);
     paint_bands(
         rt,
+        helpers,
         grid.texel,
         grid.width,
         grid.height,
@@ -188,7 +212,14 @@ pub(crate) fn box3<R: Threads + Sync>(rt: &R, from: Shape, to: Shape, src: &[u8]
 }
 
 #[tactic(auto, using(fg_pixels::proofs::Fitting::twice))]
-pub(crate) fn halve<R: Threads + Sync>(rt: &R, from: Shape, to: Shape, src: &[u8], out: &mut [u8])
+pub(crate) fn halve<R: Threads + Sync>(
+    rt: &R,
+    helpers: usize,
+    from: Shape,
+    to: Shape,
+    src: &[u8],
+    out: &mut [u8],
+)
     requires fits { fits (Op.Halve from to) ≡ true }
     requires src { length src.now ≡ bytes_of from }
     requires out { length out.old ≡ bytes_of to }
@@ -197,6 +228,7 @@ pub(crate) fn halve<R: Threads + Sync>(rt: &R, from: Shape, to: Shape, src: &[u8
     let (grid, half) = (canvas(from), canvas(to));
     paint_bands(
         rt,
+        helpers,
         half.texel,
         half.width,
         half.height,

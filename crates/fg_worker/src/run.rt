@@ -10,6 +10,7 @@ use fg_caches::MOVES;
 use fg_checker::Checked;
 use fg_device::Device;
 use fg_drive::sizes_of;
+use rayon::current_num_threads;
 use std::alloc::Global;
 use std::sync::{Condvar, Mutex, Wait};
 use std::thread;
@@ -32,13 +33,15 @@ struct Run {
 
 impl Run {
     fn new(
+        rt: &impl Threads,
         alloc: Global,
         program: &Checked,
         workers: u32,
         tend: Option<u64>,
     ) -> Result<Run, NoMemory> {
         let moves = if tend.is_some() { MOVES } else { 0 };
-        let device = Device::new(alloc, program, 0, moves)?;
+        let mut device = Device::new(alloc, program, 0, moves)?;
+        device.lend_threads(current_num_threads(rt).saturating_sub(1));
         let plain = program.shaped().program();
         Ok(Run {
             device: Mutex::new(device),
@@ -73,7 +76,7 @@ impl Run {
 
 /// A device of the program, opened with zeros, after so many workers have run it. Worker i is of queue i modulo the number of
 /// queues. With a seed a tender beside them makes the first `MOVES` cache moves of the seed, also after all nodes are done.
-/// Where no thread can be made its part is run in its turn by the one that calls: a worker by itself takes every queue, and the
+/// What the commands of all workers start beside them are fewer threads than there are processors. Where no thread can be made its part is run in its turn by the one that calls: a worker by itself takes every queue, and the
 /// tender comes last. Memory has run out only where the device could not be made, or is not complete and a part found none.
 pub fn run_workers<R: Threads + Wait + Sync, G: Gate + Sync>(
     rt: &R,
@@ -85,7 +88,7 @@ pub fn run_workers<R: Threads + Wait + Sync, G: Gate + Sync>(
 ) -> Result<Device, NoMemory>
     requires { (1 ≤ workers) × (workers ≤ 16) }
 {
-    let run = Run::new(alloc, program, workers, tend)?;
+    let run = Run::new(rt, alloc, program, workers, tend)?;
     let parts = workers as usize + tend.is_some() as usize;
     let ends = thread::map_indices(rt, alloc, parts, &|i| run.part(rt, alloc, i, gate))?;
     let device = run.device.into_inner();

@@ -85,6 +85,27 @@ impl Device {
         ensures apart { IfOk result (λ job. LoadsApart self.new node job.loaded) }
         ensures err { OnErr result (self.new ≡ self.old) }
     {
+        let job = self.begin_alone(alloc, node)?;
+        Ok(self.helped(job))
+    }
+
+    // The job with threads that it may start.
+    fn helped(&mut self, job: Job) -> Job
+        ensures job { result ≡ job }
+        ensures same { self.new ≡ self.old }
+    {
+        job.helped(&mut self.helpers)
+    }
+
+    // The same of a job that starts no thread.
+    fn begin_alone(&mut self, alloc: Global, node: u32) -> Result<Job, NoMemory>
+        requires command { is_command (kind_at (view_in self.old) node) ≡ true }
+        requires ready { is_ready self.old node ≡ true }
+        ensures event { IfOk result (λ job. self.new ≡ did self.old (events.Begin node)) }
+        ensures job { IfOk result (Carries self.new node) }
+        ensures apart { IfOk result (λ job. LoadsApart self.new node job.loaded) }
+        ensures err { OnErr result (self.new ≡ self.old) }
+    {
         self.share()?;
         let spare = self.spare(node);
         self.begun(alloc, node, spare)

@@ -153,6 +153,22 @@ impl Device {
         ensures landed { MatchLanded result (is_begun ((state_of self.old).phase done.node) ≡ true) (is_begun ((state_of self.old).phase done.node) ≡ false) }
         ensures event { MatchLanded result (self.new ≡ did self.old (events.End done.node)) (self.new ≡ self.old) }
     {
+        self.take_back(done.helpers());
+        self.end_alone(done)
+    }
+
+    // Threads that a command is done with.
+    fn take_back(&mut self, helpers: usize)
+        ensures { self.new ≡ self.old }
+    {
+        self.helpers.give_back(helpers);
+    }
+
+    // The same of a command whose threads were given back.
+    fn end_alone(&mut self, done: Finished) -> Landed
+        ensures landed { MatchLanded result (is_begun ((state_of self.old).phase done.node) ≡ true) (is_begun ((state_of self.old).phase done.node) ≡ false) }
+        ensures event { MatchLanded result (self.new ≡ did self.old (events.End done.node)) (self.new ≡ self.old) }
+    {
         event_laws();
         let (command, bytes, program) = done.into_parts();
         let node = command.node;

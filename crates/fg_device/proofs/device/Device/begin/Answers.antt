@@ -1,26 +1,9 @@
-use Rattle.std.proofs.Common.{◌≡◌, ◌∙◌, ◌<◌, length, true, IfOk, OnErr, sym, subst}
-use Rattle.fg_base.specs.declared.event.Event.TheVariants.{Begin}
-use Rattle.fg_device.proofs.Keeping.{ready_inside}
+use Rattle.std.proofs.Common.{sym, subst}
 use Rattle.fg_device.proofs.device.Device.begin.Goals as goal
-use Rattle.fg_steps.specs.Devices.{Device, view_in, did, is_ready}
-use Rattle.fg_steps.specs.Ready.{is_command, kind_at}
+use Rattle.fg_device.specs.declared.job.Command.{Command}
+use Rattle.fg_steps.specs.Devices.{Device, LoadsApart}
 
-pub spare-spare-requires : goal.spare-spare-requires
-spare-spare-requires c = record {
-  command = subst (λ (d : Device). is_command (kind_at (view_in d) c.args.node) ≡ true) (sym c.share.ensures) c.requires.command;
-  node = subst (λ (d : Device). c.args.node < length (view_in d).nodes) (sym c.share.ensures) (ready_inside c.args.self.now c.args.node c.requires.ready);
-}
-
-pub begun-requires : goal.begun-requires
-begun-requires c =
-    let same = c.spare-spare.ensures ∙ c.share.ensures in
-    record {
-      command = subst (λ (d : Device). is_command (kind_at (view_in d) c.args.node) ≡ true) (sym same) c.requires.command;
-      ready = subst (λ (d : Device). is_ready d c.args.node ≡ true) (sym same) c.requires.ready;
-    }
-
-pub returns-clause-event : goal.returns-clause-event
-returns-clause-event c = subst (λ (d : Device). IfOk c.begun.result (λ job. c.begun.new.self ≡ did d (Begin c.args.node))) (c.spare-spare.ensures ∙ c.share.ensures) c.begun.ensures.event
-
-pub returns-clause-err : goal.returns-clause-err
-returns-clause-err c = subst (λ (d : Device). OnErr c.begun.result (c.begun.new.self ≡ d)) (c.spare-spare.ensures ∙ c.share.ensures) c.begun.ensures.err
+pub returns-clause-apart : goal.returns-clause-apart
+returns-clause-apart c =
+    let apart = subst (λ (job : Command). LoadsApart c.begin_alone.new.self c.args.node job.loaded) (sym c.helped.ensures.job) c.in_ok-job.ensures.apart in
+    subst (λ (d : Device). LoadsApart d c.args.node c.helped.result.loaded) (sym c.helped.ensures.same) apart

@@ -48,7 +48,7 @@ invariant_of-result c =
     let same : c.program-plain.result.now ≡ program = P.program ∙ c.deref.ensures in
     let view : c.in_ok-control.control.view ≡ view_of program = c.in_ok-control.ensures.view ∙ ap view_of c.deref-2.ensures in
     let count : c.count-count.result ≡ node_count program = c.count-count.ensures.count ∙ ap (λ (v : View). length v.nodes) (c.view.ensures.view ∙ view) in
-    let i : Inside = record { program = c.args.program; sound = c.args.sound; weight = c.weight_of-weight.result; shapes = c.in_ok-stored.stored.shapes; fill = c.args.fill; moves = c.args.moves; history = c.in_ok-lists.lists.history; control = c.in_ok-control.control; table = c.in_ok-stored.stored.table; held = c.in_ok-lists.lists.held; reads = c.in_ok-lists.lists.reads } in
+    let i : Inside = record { program = c.args.program; sound = c.args.sound; weight = c.weight_of-weight.result; shapes = c.in_ok-stored.stored.shapes; fill = c.args.fill; moves = c.args.moves; history = c.in_ok-lists.lists.history; control = c.in_ok-control.control; table = c.in_ok-stored.stored.table; held = c.in_ok-lists.lists.held; reads = c.in_ok-lists.lists.reads; helpers = c.new-helpers.result } in
     opens_kept i c.count-count.result c.in_ok-lists.ensures.items (c.event_laws.ensures.opens program c.args.fill c.args.moves)
     (subst (λ (p : Program). first_fault p ≡ None) c.deref.ensures P.shaped)
     c.requires

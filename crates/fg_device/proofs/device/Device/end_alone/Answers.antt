@@ -9,7 +9,7 @@ use Rattle.fg_device.proofs.Ended.{begun_in, held_there, node_there, held_is, is
 use Rattle.fg_device.proofs.Events as events
 use Rattle.fg_device.proofs.Fitting.{still_fits}
 use Rattle.fg_device.proofs.Keeping.{kept_event}
-use Rattle.fg_device.proofs.device.Device.end.Goals as goal
+use Rattle.fg_device.proofs.device.Device.end_alone.Goals as goal
 use Rattle.fg_device.specs.Code.Kept.{device_in}
 use Rattle.fg_device.specs.Code.Loads.{LoadsIn}
 use Rattle.fg_device.specs.Code.Parts.{HasState}
