@@ -72,7 +72,16 @@ fn words_alike<R: Threads + Sync>(rt: &R, width: u32, fun: Fun) -> bool
     let (a, b) = (&BYTES[..n], &BYTES[268 - n..]);
     let (mut plain, mut fast) = ([0u8; 268], [0u8; 268]);
     apply(&op, &[shape, shape, shape], a, b, &[], &mut plain[..n]);
-    apply_fast(rt, usize::MAX, &op, &[shape, shape, shape], a, b, &[], &mut fast[..n]);
+    apply_fast(
+        rt,
+        usize::MAX,
+        &op,
+        &[shape, shape, shape],
+        a,
+        b,
+        &[],
+        &mut fast[..n],
+    );
     plain == fast
 }
 
