@@ -11,7 +11,7 @@ use crate::constants::by_texel;
 use crate::painting::paint_framed;
 use fg_base::{Grid, Texel};
 
-// The mean of three columns, round row y.
+// The mean of three columns, round row y. Its numbers have 32 bits, so that the compiler makes four means at once.
 #[inline(always)]
 #[tactic(auto, unfolding(fg_base::specs::Kernels::three))]
 fn mean_at(grid: Grid, src: &[u8], left: u32, x: u32, right: u32, y: u32) -> u32
@@ -20,10 +20,15 @@ fn mean_at(grid: Grid, src: &[u8], left: u32, x: u32, right: u32, y: u32) -> u32
     requires y { y < grid.height }
     ensures { result ≡ three grid.height (λ row. picture grid src.now left row + picture grid src.now x row + picture grid src.now right row) y / 9 }
 {
-    let sum = column_sum(grid, src, left, y)
-        + column_sum(grid, src, x, y)
-        + column_sum(grid, src, right, y);
-    (sum / 9) as u32
+    let left = column_sum(grid, src, left, y);
+    let here = column_sum(grid, src, x, y);
+    let right = column_sum(grid, src, right, y);
+    let low = left.low.wrapping_add(here.low).wrapping_add(right.low);
+    let shares = left.shares + here.shares + right.shares;
+    // The sum is 64 * shares and the little that was rounded off. As 64 is 7 * 9 + 1, it is 9 * 7 * shares and a rest of
+    // less than 2 ^ 30, which the low bits tell.
+    let rest = low.wrapping_sub(shares.wrapping_mul(63));
+    7 * shares + rest / 9
 }
 
 #[inline(always)]

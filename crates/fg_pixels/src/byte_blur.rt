@@ -24,7 +24,7 @@ fn sum_columns(grid: Grid, src: &[u8], y: u32, sums: &mut [u16])
     ensures small { AreSmall grid.width sums.new }
 {
     for x in 0..grid.width {
-        sums[x as usize] = column_sum(grid, src, x, y) as u16;
+        sums[x as usize] = column_sum(grid, src, x, y).low as u16;
     }
 }
 
