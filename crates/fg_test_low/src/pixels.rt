@@ -1,3 +1,5 @@
+ghost use Rattle.std.specs.Prelude.{◌≤◌};
+
 use fg_base::{Fun, Op, Shape, Texel};
 use fg_pixels::*;
 use std::process::Abort;
@@ -84,6 +86,71 @@ fn means_of_wide_rows(rt: HostRuntime) {
     let mut out = [0u8; 4097];
     apply(&op, &[wide, wide], &row, &[], &[], &mut out);
     assert!(&rt; (out[0], out[4094], out[4095], out[4096]) == (90, 60, 30, 0));
+}
+
+// Words whose sums need more than 32 bits.
+const LARGE: [u8; 20] = [
+    255, 255, 255, 255, 254, 255, 255, 255, 5, 0, 0, 0, 64, 0, 0, 1, 239, 205, 171, 137,
+];
+
+// The means of the first few of them, as a row of an image.
+const MEANS: [(u32, [u8; 20]); 4] = [
+    (
+        1,
+        [
+            255, 255, 255, 255, 0, 0, 0, 0, 0, 0, 0, 0, 0, 0, 0, 0, 0, 0, 0, 0,
+        ],
+    ),
+    (
+        2,
+        [
+            254, 255, 255, 255, 254, 255, 255, 255, 0, 0, 0, 0, 0, 0, 0, 0, 0, 0, 0, 0,
+        ],
+    ),
+    (
+        3,
+        [
+            254, 255, 255, 255, 171, 170, 170, 170, 88, 85, 85, 85, 0, 0, 0, 0, 0, 0, 0, 0,
+        ],
+    ),
+    (
+        5,
+        [
+            254, 255, 255, 255, 171, 170, 170, 170, 193, 170, 170, 85, 188, 68, 57, 46, 10, 52, 29,
+            92,
+        ],
+    ),
+];
+
+fn means_of(width: u32) -> [u8; 20]
+    requires { width ≤ 5 }
+{
+    let row = Shape::Image {
+        width,
+        height: 1,
+        texel: Texel::R32,
+    };
+    let op = Op::Box3 { src: 0, dst: 1 };
+    let n = 4 * width as usize;
+    let mut out = [0u8; 20];
+    apply(&op, &[row, row], &LARGE[..n], &[], &[], &mut out[..n]);
+    out
+}
+
+#[test]
+fn means_of_large_words(rt: HostRuntime) {
+    for (width, means) in &MEANS {
+        assert!(&rt; means_of(*width) == *means, "{width}");
+    }
+    let op = Op::Box3 { src: 0, dst: 1 };
+    let square = Shape::Image {
+        width: 16,
+        height: 16,
+        texel: Texel::R32,
+    };
+    let mut out = [0u8; 1024];
+    apply(&op, &[square, square], &[255; 1024], &[], &[], &mut out);
+    assert!(&rt; out == [255; 1024]);
 }
 
 #[test]
