@@ -12,7 +12,7 @@ buffers that share memory. Then each operation: a frame applies it again and aga
 exports one texel, so that little is printed; a frame without it is timed too, and its time is taken off. Each is timed by `meaning`,
 which takes the plain way, and by `run` with one worker, whose device computes by lanes and bands. For each case one
 line: the medians of the processor time in both programs in milliseconds, of the command or of one operation, their ratio,
-and the ratio of the most memory that the programs took. The texts of both have to be the same.
+the ratio of the times by the clock, and that of the most memory that the programs took. The texts of both have to be the same.
 """
 
 import argparse
@@ -22,6 +22,7 @@ import statistics
 import subprocess
 import sys
 import tempfile
+import time
 from pathlib import Path
 
 TOP = Path(__file__).resolve().parent.parent
@@ -160,32 +161,37 @@ def submissions():
 
 
 def once(program, words, path):
-    """Processor time in milliseconds, most memory in KiB, and the text."""
+    """Processor time and time by the clock in milliseconds, most memory in KiB, and the text."""
     with open(path, "rb") as text:
+        began = time.perf_counter()
         child = subprocess.Popen([program, *words], stdin=text, stdout=subprocess.PIPE)
         printed = child.stdout.read()
         child.stdout.close()
         _, status, usage = os.wait4(child.pid, 0)
+        clock = time.perf_counter() - began
     child.returncode = os.waitstatus_to_exitcode(status)
-    return (usage.ru_utime + usage.ru_stime) * 1e3, usage.ru_maxrss, (child.returncode, printed)
+    return ((usage.ru_utime + usage.ru_stime) * 1e3, clock * 1e3), usage.ru_maxrss, (child.returncode, printed)
 
 
 def measured(programs, words, runs, path):
+    """Of each program the medians of processor time and of the time by the clock, and its most memory."""
     took = [[], []]
     most = [0, 0]
     texts = [None, None]
     for _ in range(runs):
         for k, program in enumerate(programs):
-            ms, kib, texts[k] = once(program, words, path)
-            took[k].append(ms)
+            times, kib, texts[k] = once(program, words, path)
+            took[k].append(times)
             most[k] = max(most[k], kib)
     if texts[0] != texts[1]:
         sys.exit(f"{path}: the programs differ: {texts[0]!r} and {texts[1]!r}"[:400])
-    return [statistics.median(ms) for ms in took], most
+    return [[statistics.median(ms) for ms in zip(*times)] for times in took], most
 
 
 def row(name, own, other, most):
-    print(f"{name:24} {own:8.2f} {other:8.2f} {own / other:6.2f} {most[0] / most[1]:6.2f}", flush=True)
+    (cpu, clock), (other_cpu, other_clock) = own, other
+    ratios = f"{cpu / other_cpu:6.2f} {clock / other_clock:6.2f} {most[0] / most[1]:6.2f}"
+    print(f"{name:24} {cpu:8.2f} {other_cpu:8.2f} {ratios}", flush=True)
 
 
 def written(folder, name, value):
@@ -247,7 +253,7 @@ def main():
     def wanted(name):
         return not options.case or any(name.startswith(word) for word in options.case)
 
-    print(f"{'case':24} {'ms':>8} {'other':>8} {'ratio':>6} {'memory':>6}")
+    print(f"{'case':24} {'ms':>8} {'other':>8} {'ratio':>6} {'clock':>6} {'memory':>6}")
     with tempfile.TemporaryDirectory() as folder:
         for name, words, path in commands(folder, options.other):
             if wanted(name):
@@ -257,7 +263,7 @@ def main():
             if wanted(name):
                 idle, _ = measured(programs, words, options.runs, idle_path)
                 busy, most = measured(programs, words, options.runs, busy_path)
-                own, other = [max(b - i, 0.001) / TIMES for b, i in zip(busy, idle)]
+                own, other = [[max(b - i, 0.001) / TIMES for b, i in zip(*times)] for times in zip(busy, idle)]
                 row(name, own, other, most)
 
 
