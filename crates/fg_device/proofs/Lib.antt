@@ -1,8 +1,10 @@
+pub mod Changed
 pub mod Ended
 pub mod Events
 pub mod Facts
 pub mod Fitting
 pub mod Flushing
+pub mod Going
 pub mod Holding
 pub mod Hosted
 pub mod Junk

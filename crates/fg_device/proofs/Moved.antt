@@ -6,19 +6,23 @@ use Rattle.std.specs.Prelude.{vec_capacity}
 use Rattle.std.proofs.lemmas.Bool.{false≢true, and_parts, leb-true, ltb-true}
 use Rattle.std.proofs.lemmas.Option.{slice_get_within}
 use Rattle.fg_base.specs.declared.event.Event.{Event}
+use Rattle.fg_base.specs.declared.event.Event.TheVariants.{WriteBack, Fill, DropLine}
+use Rattle.fg_caches.specs.Effects.{Caches, write_back, fill, drop_clean}
 use Rattle.fg_caches.specs.Lines.{Line, Range, range}
 use Rattle.fg_caches.specs.Tables.{Table, caches_of, missing, InMemory, Keeps}
 use Rattle.fg_control.specs.Controls.{Control, Agrees}
+use Rattle.fg_device.proofs.Changed.{kept_with}
 use Rattle.fg_device.proofs.Events.{moves, room_moved}
 use Rattle.fg_device.proofs.Fitting.{missing_le, still_fits}
+use Rattle.fg_device.proofs.SeenBytes as seen
 use Rattle.fg_device.specs.Code.Kept.{device_in, IsKept}
-use Rattle.fg_device.specs.Code.Parts.{HasState, HasRoom}
 use Rattle.fg_device.specs.Code.Tables.{memory_size, HasBytes}
 use Rattle.fg_device.specs.declared.device.Device.TheInside.{Inside}
 use Rattle.fg_steps.specs.Devices.{Device, state_of}
 use Rattle.fg_steps.specs.Histories.{moved}
+use Rattle.fg_steps.specs.Moves.{MovesBy}
 use Rattle.fg_steps.specs.States.{State}
-use Rattle.fg_steps.specs.Steps.{may_move}
+use Rattle.fg_steps.specs.Steps.{may_move, written_back, lines_filled, lines_dropped}
 use Rattle.fg_subs.specs.Limits.{memory_bytes}
 use Rattle.fg_subs.specs.declared.program.Memory.{Memory}
 use Rattle.fg_subs.specs.declared.program.Program.{Program}
@@ -48,48 +52,53 @@ pub record IsAsked (i : Inside) (agent memory start len : ℕ) : Type 0 where
   pub within : InMemory i.table memory start len
   pub room : missing i.table memory start len ≤ i.table.cuts_left
 
-pub asked : (i : Inside) → IsKept i → (d : Device) → device_in i ≡ d → (agent memory start len : ℕ) → may_move d.program agent (range memory start len) ≡ true → 0 < d.moves → IsAsked i agent memory start len
-asked i K d same agent memory start len may some =
-    let F = K.table in
-    let here = subst (λ (d : Device). (may_move d.program agent (range memory start len) ≡ true) × (0 < d.moves)) (sym same) (may, some) in
-    let M = is_move (arc_value i.program) agent (range memory start len) here.0 in
-    record {
-      may = here.0;
-      move = M;
-      some = here.1;
-      known = omega (arith, M.known, F.agents);
-      within = record { there = omega (arith, M.there, F.memories); within = omega (arith, M.within, F.sizes memory) };
-      room = omega (arith, missing_le i.table memory start len, K.room.for_moves, here.1);
-    }
-
 -- phases, marks, layouts, owners and counters are as before
 agrees_still : (control : Control) (s : State) (main : ℕ → ℕ → ℕ) (lines : ℕ → ℕ → ℕ → Line) → Agrees control s → Agrees control (record s { main = main; line = lines })
 agrees_still control s main lines A = record { phase = A.phase; mark = A.mark; layout = A.layout; owner = A.owner; counter = A.counter }
 
-module _ (i : Inside) (u : Table) (h : Vec Event Global) (event : Event) (r : State) (K : IsKept i) (some : 0 < i.moves) (is : state_of (moved (device_in i) event) ≡ r) (agrees : Agrees i.control r) (bytes : HasBytes (arc_value i.program) (caches_of u) r) (phase : (n : ℕ) → r.phase n ≡ (state_of (device_in i)).phase n) (loaded : (n : ℕ) → r.loaded n ≡ (state_of (device_in i)).loaded n) (host : (n : ℕ) → r.host n ≡ (state_of (device_in i)).host n) (memory start len : ℕ) (keeps : Keeps i.table u) (cuts : i.table.cuts_left ≤ u.cuts_left + missing i.table memory start len) (stores : u.stores_left ≡ i.table.stores_left) (items : h.items ≡ i.history.items ++ event ∷ []) (longer : vec_len h ≡ vec_len i.history + 1) (capacity : vec_capacity h ≡ vec_capacity i.history) where
-  new_state : state_of (device_in (record i { table = u; history = h; moves = i.moves - 1 })) ≡ r
-  new_state = ap (λ (history : List Event). state_of (record { program = arc_value i.program; fill = i.fill; history = history; moves = i.moves - 1 })) items ∙ is
-
-  pub kept_move : IsKept (record i { table = u; history = h; moves = i.moves - 1 })
-  kept_move =
-      let program = arc_value i.program in
-      let s = state_of (device_in i) in
+module _ (i : Inside) (K : IsKept i) {d : Device} (same : device_in i ≡ d) (agent memory start len : ℕ) (may : may_move d.program agent (range memory start len) ≡ true) (some : 0 < d.moves) where
+  pub asked : IsAsked i agent memory start len
+  asked =
+      let F = K.table in
+      let here = subst (λ (d : Device). (may_move d.program agent (range memory start len) ≡ true) × (0 < d.moves)) (sym same) (may, some) in
+      let M = is_move (arc_value i.program) agent (range memory start len) here.0 in
       record {
-        faultless = K.faultless;
-        sound = K.sound;
-        small = K.small;
-        obeys = K.obeys;
-        view = K.view;
-        shapes = K.shapes;
-        places = K.places;
-        table = still_fits i.table u program i.fill keeps K.table;
-        state = subst (HasState program i.control u i.held.items i.reads.items) (sym new_state) (moves program i.control i.table u i.held.items i.reads.items s r K.state agrees bytes phase loaded host);
-        room = subst (λ (z : State). HasRoom program z (i.moves - 1) u.cuts_left u.stores_left (vec_len h) (vec_capacity h)) (sym new_state) (room_moved program s r i.moves i.table.cuts_left i.table.stores_left (vec_len i.history) (vec_capacity i.history) u.cuts_left u.stores_left (vec_len h) (vec_capacity h) K.room some phase (omega (arith, cuts, missing_le i.table memory start len)) stores longer capacity);
+        may = here.0;
+        move = M;
+        some = here.1;
+        known = omega (arith, M.known, F.agents);
+        within = record { there = omega (arith, M.there, F.memories); within = omega (arith, M.within, F.sizes memory) };
+        room = omega (arith, missing_le i.table memory start len, K.room.for_moves, here.1);
       }
 
--- main and lines alone are others
-pub kept_by : (i : Inside) (u : Table) (h : Vec Event Global) (event : Event) (main : ℕ → ℕ → ℕ) (lines : ℕ → ℕ → ℕ → Line) (agent memory start len : ℕ) → IsKept i → IsAsked i agent memory start len → (let s = state_of (device_in i) in let r : State = record s { main = main; line = lines } in state_of (moved (device_in i) event) ≡ r → HasBytes (arc_value i.program) (caches_of u) r → Keeps i.table u → i.table.cuts_left ≤ u.cuts_left + missing i.table memory start len → u.stores_left ≡ i.table.stores_left → h.items ≡ i.history.items ++ event ∷ [] → vec_len h ≡ vec_len i.history + 1 → vec_capacity h ≡ vec_capacity i.history → IsKept (record i { table = u; history = h; moves = i.moves - 1 }))
-kept_by i u h event main lines agent memory start len K A is bytes keeps cuts stores items longer capacity =
-    let s = state_of (device_in i) in
-    let after : State = record s { main = main; line = lines } in
-    kept_move i u h event after K A.some is (agrees_still i.control s main lines K.state.agrees) bytes (λ n. refl) (λ n. refl) (λ n. refl) memory start len keeps cuts stores items longer capacity
+  module _ (u : Table) (keeps : Keeps i.table u) (cuts : i.table.cuts_left ≤ u.cuts_left + missing i.table memory start len) (stores : u.stores_left ≡ i.table.stores_left) (h : Vec Event Global) (longer : vec_len h ≡ vec_len i.history + 1) (capacity : vec_capacity h ≡ vec_capacity i.history) where
+    -- main and lines alone are others
+    kept_by : (event : Event) (main : ℕ → ℕ → ℕ) (lines : ℕ → ℕ → ℕ → Line) (c : Caches) → (let r : State = record (state_of (device_in i)) { main = main; line = lines } in state_of (moved (device_in i) event) ≡ r → HasBytes (arc_value i.program) c r → caches_of u ≡ c → h.items ≡ i.history.items ++ event ∷ [] → IsKept (record i { table = u; history = h; moves = i.moves - 1 }))
+    kept_by event main lines c is bytes made items =
+        let program = arc_value i.program in
+        let s = state_of (device_in i) in
+        let r : State = record s { main = main; line = lines } in
+        kept_with i K i.control u i.held i.reads h (i.moves - 1) refl refl (still_fits i.table u program i.fill keeps K.table) r
+        (ap (λ (history : List Event). state_of (record { program = program; fill = i.fill; history = history; moves = i.moves - 1 })) items ∙ is)
+        (moves program i.control i.table u i.held.items i.reads.items s r K.state (agrees_still i.control s main lines K.state.agrees) (subst (λ (c : Caches). HasBytes program c r) (sym made) bytes) (λ n. refl) (λ n. refl) (λ n. refl))
+        (room_moved program s r i.moves i.table.cuts_left i.table.stores_left (vec_len i.history) (vec_capacity i.history) u.cuts_left u.stores_left (vec_len h) (vec_capacity h) K.room asked.some (λ n. refl) (omega (arith, cuts, missing_le i.table memory start len)) stores longer capacity)
+
+    -- each kind of move
+    module _ (laws : (d : Device) (agent memory start len : ℕ) → MovesBy d agent memory start len) where
+      pub kept_write_back : caches_of u ≡ write_back agent (range memory start len) (caches_of i.table) → h.items ≡ i.history.items ++ WriteBack agent memory start len ∷ [] → IsKept (record i { table = u; history = h; moves = i.moves - 1 })
+      kept_write_back made items =
+          let r = range memory start len in
+          let after = written_back (state_of (device_in i)) agent r in
+          kept_by (WriteBack agent memory start len) after.main after.line (write_back agent r (caches_of i.table)) ((laws (device_in i) agent memory start len).writes_back asked.may) (seen.writes_back (arc_value i.program) (caches_of i.table) (state_of (device_in i)) K.state.bytes agent r) made items
+
+      pub kept_fill : caches_of u ≡ fill agent (range memory start len) (caches_of i.table) → h.items ≡ i.history.items ++ Fill agent memory start len ∷ [] → IsKept (record i { table = u; history = h; moves = i.moves - 1 })
+      kept_fill made items =
+          let r = range memory start len in
+          let after = lines_filled (state_of (device_in i)) agent r in
+          kept_by (Fill agent memory start len) after.main after.line (fill agent r (caches_of i.table)) ((laws (device_in i) agent memory start len).fills asked.may) (seen.fills (arc_value i.program) (caches_of i.table) (state_of (device_in i)) K.state.bytes agent r asked.move.within) made items
+
+      pub kept_drop : caches_of u ≡ drop_clean agent (range memory start len) (caches_of i.table) → h.items ≡ i.history.items ++ DropLine agent memory start len ∷ [] → IsKept (record i { table = u; history = h; moves = i.moves - 1 })
+      kept_drop made items =
+          let r = range memory start len in
+          let after = lines_dropped (state_of (device_in i)) agent r in
+          kept_by (DropLine agent memory start len) after.main after.line (drop_clean agent r (caches_of i.table)) ((laws (device_in i) agent memory start len).drops asked.may) (seen.drops (arc_value i.program) (caches_of i.table) (state_of (device_in i)) K.state.bytes agent r) made items

@@ -1,8 +1,9 @@
 -- Memory that a table needs no more is taken from it.
-use Rattle.std.proofs.Common.{◌≡◌, ℕ, ◌*◌, ◌≤◌, sym, subst}
+use Rattle.std.proofs.Common.{◌≡◌, ℕ, ◌*◌, ◌≤◌, refl, sym, subst}
 use Rattle.std.specs.Arc.{arc_value}
 use Rattle.fg_caches.specs.Effects.{Caches}
 use Rattle.fg_caches.specs.Tables.{Table, caches_of, Keeps}
+use Rattle.fg_device.proofs.Changed.{kept_with}
 use Rattle.fg_device.proofs.Fitting.{still_fits}
 use Rattle.fg_device.specs.Code.Kept.{device_in, IsKept}
 use Rattle.fg_device.specs.Code.Parts.{node_count}
@@ -16,24 +17,15 @@ pub kept_table : (i : Inside) → IsKept i → (table : Table) → caches_of tab
 kept_table i K table bytes keeps cuts stores =
     let program = arc_value i.program in
     let s = state_of (device_in i) in
-    record {
-      faultless = K.faultless;
-      sound = K.sound;
-      small = K.small;
-      obeys = K.obeys;
-      view = K.view;
-      shapes = K.shapes;
-      places = K.places;
-      table = still_fits i.table table program i.fill keeps K.table;
-      state = record {
-        agrees = K.state.agrees;
-        bytes = subst (λ (c : Caches). HasBytes program c s) (sym bytes) K.state.bytes;
-        holds = K.state.holds;
-        has_read = K.state.has_read;
-      };
-      room = record {
-        for_moves = subst (λ (n : ℕ). 2 * i.moves ≤ n) (sym cuts) K.room.for_moves;
-        for_stores = subst (λ (n : ℕ). left_of stores_left s.phase (node_count program) ≤ n) (sym stores) K.room.for_stores;
-        for_events = K.room.for_events;
-      };
-    }
+    kept_with i K i.control table i.held i.reads i.history i.moves refl refl (still_fits i.table table program i.fill keeps K.table) s refl
+    (record {
+      agrees = K.state.agrees;
+      bytes = subst (λ (c : Caches). HasBytes program c s) (sym bytes) K.state.bytes;
+      holds = K.state.holds;
+      has_read = K.state.has_read;
+    })
+    (record {
+      for_moves = subst (λ (n : ℕ). 2 * i.moves ≤ n) (sym cuts) K.room.for_moves;
+      for_stores = subst (λ (n : ℕ). left_of stores_left s.phase (node_count program) ≤ n) (sym stores) K.room.for_stores;
+      for_events = K.room.for_events;
+    })

@@ -1,12 +1,11 @@
 //! What barriers, waits and signals do to main and to lines.
 
-ghost use Rattle.std.specs.Prelude.{◌≡◌, ◌<◌, ◌^◌, length, true, false, if◌then◌else◌};
+ghost use Rattle.std.specs.Prelude.{◌≡◌, ◌<◌, ◌^◌, length, if◌then◌else◌};
 ghost use Rattle.fg_caches.specs.Effects.{overwrite};
 ghost use Rattle.fg_caches.specs.Tables.{caches_of, junk_of};
 ghost use Rattle.fg_control.specs.Controls.{Agrees};
 ghost use Rattle.fg_device.specs.Code.Syncs.{range_of, passes, moved_one, moved_agents, moved_by, junked, synced_caches, IsThere};
 ghost use Rattle.fg_device.specs.Code.Tables.{HasCut, Stays};
-ghost use Rattle.fg_device.specs.declared.syncing.Move.TheVariants as moves;
 ghost use Rattle.fg_steps.specs.Agents.{piece_range};
 ghost use Rattle.fg_steps.specs.States.{State};
 ghost use Rattle.fg_steps.specs.Steps.{agent_count, junks};
@@ -54,38 +53,6 @@ pub(crate) fn extent_of(view: &View, piece: u32) -> Extent
     }
 }
 
-fn write_back(table: &mut Segments, view: &View, agent: u32, scope: Scope)
-    requires agent { agent < table.old.agents }
-    requires cut { HasCut table.old view.now }
-    requires scope { IsThere view.now scope }
-    ensures bytes { caches_of table.new ≡ moved_one view.now moves.WriteBack agent scope (caches_of table.old) }
-    ensures stays { Stays table.old table.new }
-{
-    match scope {
-        Scope::Everywhere => table.write_back_all(agent),
-        Scope::Piece(piece) => {
-            let extent = extent_of(view, piece);
-            table.write_back(agent, extent.memory, extent.start, extent.len);
-        }
-    }
-}
-
-fn drop_clean(table: &mut Segments, view: &View, agent: u32, scope: Scope)
-    requires agent { agent < table.old.agents }
-    requires cut { HasCut table.old view.now }
-    requires scope { IsThere view.now scope }
-    ensures bytes { caches_of table.new ≡ moved_one view.now moves.DropClean agent scope (caches_of table.old) }
-    ensures stays { Stays table.old table.new }
-{
-    match scope {
-        Scope::Everywhere => table.drop_clean_all(agent),
-        Scope::Piece(piece) => {
-            let extent = extent_of(view, piece);
-            table.drop_clean(agent, extent.memory, extent.start, extent.len);
-        }
-    }
-}
-
 // The lines of one agent, in a scope.
 fn move_lines(table: &mut Segments, view: &View, kind: Move, agent: u32, scope: Scope)
     requires agent { agent < table.old.agents }
@@ -94,9 +61,18 @@ fn move_lines(table: &mut Segments, view: &View, kind: Move, agent: u32, scope: 
     ensures bytes { caches_of table.new ≡ moved_one view.now kind agent scope (caches_of table.old) }
     ensures stays { Stays table.old table.new }
 {
-    match kind {
-        Move::WriteBack => write_back(table, view, agent, scope),
-        Move::DropClean => drop_clean(table, view, agent, scope),
+    match scope {
+        Scope::Everywhere => match kind {
+            Move::WriteBack => table.write_back_all(agent),
+            Move::DropClean => table.drop_clean_all(agent),
+        },
+        Scope::Piece(piece) => {
+            let Extent { memory, start, len } = extent_of(view, piece);
+            match kind {
+                Move::WriteBack => table.write_back(agent, memory, start, len),
+                Move::DropClean => table.drop_clean(agent, memory, start, len),
+            }
+        }
     }
 }
 

@@ -1,26 +1,16 @@
-use Rattle.std.proofs.Common.{◌≡◌, ◌∙◌, ℕ, List, [], ◌∷◌, length, true, Some, None, refl, sym, ap, subst}
+use Rattle.std.proofs.Common.{◌≡◌, ◌∙◌, true, Some, sym, ap, subst}
 use Rattle.std.specs.Arc.{arc_value}
-use Rattle.std.proofs.lemmas.List.{length-set}
-use Rattle.fg_base.specs.declared.event.Event.TheVariants.{End}
-use Rattle.fg_caches.specs.Effects as effects
-use Rattle.fg_caches.specs.Tables.{caches_of}
 use Rattle.fg_checker.specs.Apart.{op_at}
-use Rattle.fg_device.proofs.Ended.{begun_in, held_there, node_there, held_is, is_no_read, held_runs, held_room, is_made, len_is, store_piece, store_agent, store_cut, phase_is, room_there}
-use Rattle.fg_device.proofs.Events as events
-use Rattle.fg_device.proofs.Fitting.{still_fits}
-use Rattle.fg_device.proofs.Keeping.{kept_event}
+use Rattle.fg_device.proofs.Ended.{begun_in, held_there, held_is, held_runs, held_room, is_made, len_is, store_piece, store_agent, store_cut, room_there}
+use Rattle.fg_device.proofs.Going.{kept_end}
 use Rattle.fg_device.proofs.device.Device.end_alone.Goals as goal
-use Rattle.fg_device.specs.Code.Kept.{device_in}
 use Rattle.fg_device.specs.Code.Loads.{LoadsIn}
-use Rattle.fg_device.specs.Code.Parts.{HasState}
 use Rattle.fg_device.specs.declared.job.Command.{Command}
-use Rattle.fg_steps.specs.Agents.{agent_of, piece_range}
 use Rattle.fg_steps.specs.Devices.{Device, state_of}
 use Rattle.fg_steps.specs.States.{is_begun}
 use Rattle.fg_steps.specs.Ready.{is_command, kind_at}
-use Rattle.fg_steps.specs.Steps.{store_of, made, ended}
 use Rattle.fg_subs.specs.declared.program.Program.{Program}
-use Rattle.fg_view.specs.Views.{View, view_of}
+use Rattle.fg_view.specs.Views.{view_of}
 
 pub knows-known-requires : goal.knows-known-requires
 knows-known-requires c =
@@ -68,7 +58,7 @@ pub store-requires-clause-len : goal.store-requires-clause-len
 store-requires-clause-len c =
     let n = c.into_parts-command.result.0.node in
     let at : op_at (arc_value c.self.inside.program) n ≡ Some c.op_of-op.result.now = ap (λ (p : Program). op_at p n) (sym c.deref.ensures) ∙ c.op_of-op.ensures in
-    len_is c.self.inside c.self.invariant n (sym c.is_begun.ensures ∙ c.if-not-is_begun.false) c.in-Some.held (sym c.in-Some.is ∙ c.take_held.ensures.taken) c.op_of-op.result.now at c.deref-2.result.now c.deref-2.ensures c.made-stored.result c.view.result.now c.view.ensures.view c.made-stored.ensures.long
+    len_is c.self.inside c.self.invariant n (sym c.is_begun.ensures ∙ c.if-not-is_begun.false) c.in-Some.held (sym c.in-Some.is ∙ c.take_held.ensures.taken) c.op_of-op.result.now at c.deref-2.result.now c.deref-2.ensures c.made-stored.result.items c.view.result.now c.view.ensures.view c.made-stored.ensures.long
 
 pub store-requires-clause-cut : goal.store-requires-clause-cut
 store-requires-clause-cut c = store_cut c.self.inside c.self.invariant c.into_parts-command.result.0.node (sym c.is_begun.ensures ∙ c.if-not-is_begun.false) c.in-Some.held (sym c.in-Some.is ∙ c.take_held.ensures.taken) c.view.result.now c.view.ensures.view
@@ -83,26 +73,14 @@ pub invariant_of-self : goal.invariant_of-self
 invariant_of-self c =
     let i = c.self.inside in
     let K = c.self.invariant in
-    let d = device_in i in
-    let program = arc_value i.program in
-    let V = view_of program in
-    let s = state_of d in
     let n = c.into_parts-command.result.0.node in
     let begun = sym c.is_begun.ensures ∙ c.if-not-is_begun.false in
     let h = c.in-Some.held in
     let is = sym c.in-Some.is ∙ c.take_held.ensures.taken in
     let op = c.op_of-op.result.now in
-    let at : op_at program n ≡ Some op = ap (λ (p : Program). op_at p n) (sym c.deref.ensures) ∙ c.op_of-op.ensures in
-    let all = made program s n (i.fill ∷ []) in
-    let stored : c.made-stored.result ≡ all = is_made i K n begun h is op at c.deref-2.result.now c.deref-2.ensures c.made-stored.result c.view.result.now c.view.ensures.view c.junk_if-junk.result c.is_marked.result c.is_marked.ensures c.junk_if-junk.ensures c.made-stored.ensures.junk c.made-stored.ensures.stored in
-    let old = caches_of i.table in
-    let put : caches_of c.store.new.table ≡ effects.put (agent_of (store_of V n).kind) (piece_range V (store_of V n).piece) all old =
-    c.store.ensures.bytes
-    ∙ ap (λ (v : View). effects.put (agent_of (store_of v n).kind) (piece_range v (store_of v n).piece) c.made-stored.result old) (c.view.ensures.view ∙ K.view)
-    ∙ ap (λ (bytes : List ℕ). effects.put (agent_of (store_of V n).kind) (piece_range V (store_of V n).piece) bytes old) stored in
+    let at : op_at (arc_value i.program) n ≡ Some op = ap (λ (p : Program). op_at p n) (sym c.deref.ensures) ∙ c.op_of-op.ensures in
+    let stored = is_made i K n begun h is op at c.deref-2.result.now c.deref-2.ensures c.made-stored.result.items c.view.result.now c.view.ensures.view c.junk_if-junk.result c.is_marked.result c.is_marked.ensures c.junk_if-junk.ensures c.made-stored.ensures.junk c.made-stored.ensures.stored in
+    let e = c.store.ensures in
     let p = c.push_reserved.ensures in
-    let r = ended V s n all in
-    kept_event i (End n) r K ((c.event_laws.ensures.nodes d n).ends (begun_in i K n begun)) c.end.new.self c.store.new.table c.take_held.new.list i.reads c.push_reserved.new.self p.items
-    c.end.ensures.view (ap length c.take_held.ensures.rest ∙ length-set i.held.items n None) (still_fits i.table c.store.new.table program i.fill c.store.ensures.keeps K.table)
-    (subst (λ held. HasState program c.end.new.self c.store.new.table held i.reads.items r) (sym c.take_held.ensures.rest) (events.ends program i.control c.end.new.self i.table c.store.new.table i.held.items i.reads.items s K.state n all K.view c.end.ensures.agrees (held_there i K n begun) (is_no_read i K n begun h is) put))
-    (events.room_ended program s i.moves i.table.cuts_left i.table.stores_left _ _ K.room n (node_there i K n begun) r c.store.new.table.cuts_left c.store.new.table.stores_left _ _ (phase_is i K n begun) (λ k. refl) c.store.ensures.cuts c.store.ensures.stores p.len p.capacity)
+    kept_end i K n c.end.new.self c.end.ensures.view c.push_reserved.new.self p.len p.capacity c.event_laws.ensures.nodes
+    begun h is c.made-stored.result.items stored c.end.ensures.agrees c.store.new.table c.view.result.now c.view.ensures.view e.bytes e.keeps e.cuts e.stores c.take_held.new.list c.take_held.ensures.rest p.items
