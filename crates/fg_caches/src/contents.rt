@@ -3,14 +3,14 @@
 ghost use Rattle.std.specs.Prelude.{◌≡◌, ◌<◌, ◌≤◌, ◌+◌, ◌^◌, ℕ, length, replicate, slice_index, slice_range, IfSome};
 ghost use Rattle.fg_caches.specs.Code.Contents.{bytes_of};
 
-use bytes::Bytes;
-use fg_base::{List, NoMemory};
+use bytes::{Bytes, BytesMut};
+use fg_base::NoMemory;
 use std::marker::Model;
 
 /// The forms in which bytes are kept.
 #[derive(Drop)]
 pub(crate) enum Form {
-    Own(List<u8>),
+    Own(BytesMut),
     Shared(Bytes),
     // One byte, so many times.
     Filled { byte: u8, len: usize },
@@ -45,9 +45,9 @@ fn shared(form: Form) -> (Form, Result<(), NoMemory>)
     ensures { bytes_of result.0 ≡ bytes_of form }
 {
     match form {
-        Form::Own(own) => match Bytes::from_vec(own.into_vec()) {
+        Form::Own(own) => match own.freeze() {
             Ok(bytes) => (Form::Shared(bytes), Ok(())),
-            Err(failed) => (Form::Own(List::from_vec(failed.value)), Err(NoMemory)),
+            Err(failed) => (Form::Own(failed.value), Err(NoMemory)),
         },
         form => (form, Ok(())),
     }
@@ -55,8 +55,8 @@ fn shared(form: Form) -> (Form, Result<(), NoMemory>)
 
 impl Slot {
     /// Bytes of one's own. It takes no memory.
-    pub fn own(bytes: List<u8>) -> Slot
-        ensures { result ≡ bytes }
+    pub fn own(bytes: BytesMut) -> Slot
+        ensures { result ≡ bytes.items }
     {
         Slot {
             form: Form::Own(bytes),
@@ -93,16 +93,12 @@ impl Slot {
         }
     }
 
-    /// The memory of the bytes, where it is no one else's; what is in it does not count.
-    pub(crate) fn into_spare(self) -> Option<Vec<u8>> {
+    /// The bytes, where they are no one else's; what they are does not count.
+    pub(crate) fn into_spare(self) -> Option<BytesMut> {
         let Slot { form } = self;
         match form {
-            Form::Own(own) => Some(own.into_vec()),
-            Form::Shared(mut bytes) => {
-                // Bytes that are kept would be moved to the front of the memory, one by one.
-                bytes.clear();
-                bytes.reclaim()?.into_vec().ok()
-            }
+            Form::Own(own) => Some(own),
+            Form::Shared(bytes) => bytes.reclaim(),
             Form::Filled { .. } => None,
         }
     }

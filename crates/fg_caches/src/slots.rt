@@ -5,7 +5,8 @@ ghost use Rattle.fg_caches.specs.Code.Uses.{count_at, Counts};
 ghost use Rattle.fg_caches.specs.Tables.{slot_at};
 
 use crate::contents::Slot;
-use fg_base::{List, NoMemory};
+use bytes::BytesMut;
+use fg_base::NoMemory;
 
 // The least slot after slot 0 that no part names.
 fn free_slot(counts: &[u32]) -> Option<usize>
@@ -39,8 +40,8 @@ pub(crate) fn spare_slot(slots: &[Slot], counts: &[u32], len: usize) -> Option<u
     None
 }
 
-/// The memory of a slot, which has no bytes from now on.
-pub(crate) fn empty_slot(slots: &mut Vec<Slot>, slot: usize) -> Option<Vec<u8>>
+/// What a slot had, where it is no one else's. The slot has no bytes from now on.
+pub(crate) fn empty_slot(slots: &mut Vec<Slot>, slot: usize) -> Option<BytesMut>
     requires { slot < length slots.old.items }
     ensures others { (k : ℕ) → k < length slots.old.items → k ≢ slot → slot_at slots.new.items k ≡ slot_at slots.old.items k }
     ensures length { length slots.new.items ≡ length slots.old.items }
@@ -52,7 +53,7 @@ pub(crate) fn empty_slot(slots: &mut Vec<Slot>, slot: usize) -> Option<Vec<u8>>
 }
 
 /// Puts bytes into the least slot after slot 0 that no part names, in place of what it held, or into a new one.
-pub(crate) fn store_in(slots: &mut Vec<Slot>, counts: &mut Vec<u32>, bytes: List<u8>) -> u32
+pub(crate) fn store_in(slots: &mut Vec<Slot>, counts: &mut Vec<u32>, bytes: BytesMut) -> u32
     requires counts { length counts.old.items ≡ length slots.old.items }
     requires some { 0 < length slots.old.items }
     requires few { length slots.old.items + 1 < 2 ^ 32 }
@@ -60,7 +61,7 @@ pub(crate) fn store_in(slots: &mut Vec<Slot>, counts: &mut Vec<u32>, bytes: List
     requires counts_room { vec_len counts.old < vec_capacity counts.old }
     ensures slot { result < length slots.new.items }
     ensures later { 0 < result }
-    ensures here { slot_at slots.new.items result ≡ bytes }
+    ensures here { slot_at slots.new.items result ≡ bytes.items }
     ensures others { (k : ℕ) → k < length slots.old.items → k ≢ result → slot_at slots.new.items k ≡ slot_at slots.old.items k }
     ensures unnamed { (f : ℕ → ℕ) → Counts counts.old.items f → f (length slots.old.items) ≡ 0 → f result ≡ 0 }
     ensures counts { length counts.new.items ≡ length slots.new.items }
@@ -82,12 +83,12 @@ pub(crate) fn store_in(slots: &mut Vec<Slot>, counts: &mut Vec<u32>, bytes: List
 }
 
 // Puts bytes into a new slot.
-fn push_slot(slots: &mut Vec<Slot>, counts: &mut Vec<u32>, bytes: List<u8>) -> u32
+fn push_slot(slots: &mut Vec<Slot>, counts: &mut Vec<u32>, bytes: BytesMut) -> u32
     requires few { length slots.old.items < 2 ^ 32 }
     requires room { vec_len slots.old < vec_capacity slots.old }
     requires counts_room { vec_len counts.old < vec_capacity counts.old }
     ensures slot { result ≡ length slots.old.items }
-    ensures items { slots.new.items ≡ slots.old.items ++ bytes ∷ [] }
+    ensures items { slots.new.items ≡ slots.old.items ++ bytes.items ∷ [] }
     ensures counts { counts.new.items ≡ counts.old.items ++ 0 ∷ [] }
     ensures len { vec_len slots.new ≡ vec_len slots.old + 1 }
     ensures capacity { vec_capacity slots.new ≡ vec_capacity slots.old }

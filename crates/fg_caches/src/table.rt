@@ -18,7 +18,7 @@ use crate::part::Part;
 use crate::runs::{copy_out, seen_bytes};
 use crate::segment::{Segment, change_all, cut_at, place_of};
 use crate::slots::{empty_slot, share_all, spare_slot, store_in};
-use bytes::Bytes;
+use bytes::{Bytes, BytesMut};
 use fg_base::{List, NoMemory};
 use std::alloc::Global;
 use std::marker::Model;
@@ -377,11 +377,11 @@ impl Segments {
     }
 
     // Puts bytes into a slot that no part names.
-    fn store(&mut self, bytes: List<u8>) -> u32
+    fn store(&mut self, bytes: BytesMut) -> u32
         requires { 0 < self.old.stores_left }
         ensures same { self.new ≡ record self.old { slots = self.new.slots; stores_left = self.old.stores_left - 1 } }
         ensures slot { result < length self.new.slots }
-        ensures here { slot_at self.new.slots result ≡ bytes }
+        ensures here { slot_at self.new.slots result ≡ bytes.items }
         ensures junk { junk_of self.new ≡ junk_of self.old }
         ensures bytes { caches_of self.new ≡ caches_of self.old }
     {
@@ -392,14 +392,14 @@ impl Segments {
     }
 
     /// The agent stores bytes. They are moved into the table and not copied.
-    pub fn put(&mut self, agent: u32, memory: u32, start: u32, bytes: List<u8>)
+    pub fn put(&mut self, agent: u32, memory: u32, start: u32, bytes: BytesMut)
         requires agent { agent < self.old.agents }
-        requires within { InMemory self.old memory start (length bytes) }
-        requires room { missing self.old memory start (length bytes) ≤ self.old.cuts_left }
+        requires within { InMemory self.old memory start (length bytes.items) }
+        requires room { missing self.old memory start (length bytes.items) ≤ self.old.cuts_left }
         requires store { 0 < self.old.stores_left }
-        ensures bytes { caches_of self.new ≡ effects.put agent (range memory start (length bytes)) bytes (caches_of self.old) }
+        ensures bytes { caches_of self.new ≡ effects.put agent (range memory start (length bytes.items)) bytes.items (caches_of self.old) }
         ensures keeps { Keeps self.old self.new }
-        ensures cuts { self.old.cuts_left ≤ self.new.cuts_left + missing self.old memory start (length bytes) }
+        ensures cuts { self.old.cuts_left ≤ self.new.cuts_left + missing self.old memory start (length bytes.items) }
         ensures stores { self.new.stores_left ≡ self.old.stores_left - 1 }
     {
         let len = self.checked_len(memory, start, bytes.len());
@@ -437,8 +437,8 @@ impl Segments {
         self.change(agent, memory, start, len, Change::Put(part));
     }
 
-    /// Memory of just so many bytes, whatever they are, that the table has no use for.
-    pub fn take_spare(&mut self, len: usize) -> Option<Vec<u8>>
+    /// Just so many bytes, whatever they are, in memory that the table has no use for.
+    pub fn take_spare(&mut self, len: usize) -> Option<BytesMut>
         ensures bytes { caches_of self.new ≡ caches_of self.old }
         ensures keeps { Keeps self.old self.new }
         ensures cuts { self.new.cuts_left ≡ self.old.cuts_left }
@@ -449,7 +449,7 @@ impl Segments {
     }
 
     // Takes the bytes out of a slot that no part names.
-    fn empty(&mut self, slot: usize) -> Option<Vec<u8>>
+    fn empty(&mut self, slot: usize) -> Option<BytesMut>
         requires later { 0 < slot }
         requires there { slot < length self.old.slots }
         requires unnamed { uses slot self.old.segments ≡ 0 }

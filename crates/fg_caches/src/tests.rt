@@ -5,6 +5,7 @@ ghost use Rattle.fg_caches.specs.Code.Kept.{Knows};
 use super::plain::{Byte, Plain};
 use super::step::{Call, Step};
 use super::*;
+use bytes::BytesMut;
 use fg_base::{Event, List, NoMemory};
 use std::alloc::Global;
 use std::process::Abort;
@@ -19,14 +20,14 @@ const SMALL: u32 = 16;
 const EVENTS: u32 = 1000;
 
 // The bytes that a step stores.
-fn stored(alloc: Global, step: Step) -> Result<List<u8>, NoMemory>
-    ensures { IfOk result (λ bytes. length bytes ≡ step.len) }
+fn stored(alloc: Global, step: Step) -> Result<BytesMut, NoMemory>
+    ensures { IfOk result (λ bytes. length bytes.items ≡ step.len) }
 {
     let mut bytes = Vec::new(alloc);
     for k in 0..step.len {
         bytes.push(step.byte(k))?;
     }
-    Ok(List::from_vec(bytes))
+    Ok(BytesMut::from_vec(bytes))
 }
 
 fn make(alloc: Global, table: &mut Segments, step: Step) -> Result<(), NoMemory>
@@ -171,8 +172,8 @@ fn rounds(
 }
 
 // Bytes that differ from place to place.
-fn some_bytes(alloc: Global, count: u32) -> Result<List<u8>, NoMemory>
-    ensures { IfOk result (λ bytes. length bytes ≡ count) }
+fn some_bytes(alloc: Global, count: u32) -> Result<BytesMut, NoMemory>
+    ensures { IfOk result (λ bytes. length bytes.items ≡ count) }
 {
     stored(
         alloc,
@@ -186,18 +187,18 @@ fn some_bytes(alloc: Global, count: u32) -> Result<List<u8>, NoMemory>
     )
 }
 
-fn junk(alloc: Global) -> Result<List<u8>, NoMemory>
-    ensures { IfOk result (λ bytes. length bytes ≡ LARGE) }
+fn junk(alloc: Global) -> Result<BytesMut, NoMemory>
+    ensures { IfOk result (λ bytes. length bytes.items ≡ LARGE) }
 {
     let mut bytes = Vec::new(alloc);
     for k in 0..LARGE {
         bytes.push((k % 251) as u8)?;
     }
-    Ok(List::from_vec(bytes))
+    Ok(BytesMut::from_vec(bytes))
 }
 
-fn two(alloc: Global, large: List<u8>, small: List<u8>) -> Result<List<Slot>, NoMemory>
-    ensures { IfOk result (λ opening. opening ≡ large ∷ small ∷ []) }
+fn two(alloc: Global, large: BytesMut, small: BytesMut) -> Result<List<Slot>, NoMemory>
+    ensures { IfOk result (λ opening. opening ≡ large.items ∷ small.items ∷ []) }
 {
     let mut opening = List::new(alloc);
     opening.push(Slot::own(large))?;
@@ -205,9 +206,9 @@ fn two(alloc: Global, large: List<u8>, small: List<u8>) -> Result<List<Slot>, No
     Ok(opening)
 }
 
-fn table(alloc: Global, large: List<u8>, small: List<u8>) -> Result<Segments, NoMemory>
-    requires large { length large ≡ LARGE }
-    requires small { length small ≡ SMALL }
+fn table(alloc: Global, large: BytesMut, small: BytesMut) -> Result<Segments, NoMemory>
+    requires large { length large.items ≡ LARGE }
+    requires small { length small.items ≡ SMALL }
     ensures agents { IfOk result (λ t. t.agents ≡ AGENTS) }
     ensures memories { IfOk result (λ t. length t.memories ≡ 2) }
     ensures large { IfOk result (λ t. size_of t 0 ≡ LARGE) }
@@ -234,10 +235,10 @@ fn table_does_as_single_bytes_do(rt: HostRuntime) -> Result<(), Fail> {
     let alloc = rt.alloc();
     let large = some_bytes(alloc, LARGE)?;
     let small = some_bytes(alloc, SMALL)?;
-    let mut main = large.copy(alloc)?;
+    let mut main = Vec::from_slice(alloc, &large)?;
     main.extend_from_slice(&small)?;
     let mut plain = Plain {
-        main: main.into_vec(),
+        main,
         lines: vec![in alloc; Byte::Absent; 240]?,
     };
     let mut table = table(alloc, large, small)?;

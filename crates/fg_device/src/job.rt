@@ -9,7 +9,7 @@ ghost use Rattle.fg_steps.specs.Outputs.{no_old, stored_by};
 use crate::helpers::Helpers;
 use crate::room::Room;
 use crate::running::stored_fast;
-use bytes::Bytes;
+use bytes::{Bytes, BytesMut};
 use fg_base::{List, Op, Shape};
 use fg_lanes::helpers_for;
 use fg_subs::Shaped;
@@ -51,7 +51,7 @@ impl Model for Job {
 /// A command that was computed, with the bytes that it stores. It is of the device that began it, and cannot be let go.
 pub struct Finished {
     command: Command,
-    bytes: List<u8>,
+    bytes: BytesMut,
     program: Arc<Shaped, Global>,
     // Those that it might start.
     helpers: usize,
@@ -156,7 +156,7 @@ impl Finished {
     pub fn bytes(&self) -> &[u8]
         ensures { result.now ≡ stored_by self.now.shapes self.now.op self.now.loaded }
     {
-        &self.bytes
+        self.bytes.as_slice()
     }
 
     /// The threads that it might start, which others may start now.
@@ -165,9 +165,9 @@ impl Finished {
     }
 
     /// The command, its bytes, and the program of the device that began it.
-    pub(crate) fn into_parts(self) -> (Command, List<u8>, Arc<Shaped, Global>)
+    pub(crate) fn into_parts(self) -> (Command, BytesMut, Arc<Shaped, Global>)
         ensures command { result.0 ≡ self }
-        ensures bytes { IsResult self result.1 }
+        ensures bytes { IsResult self result.1.items }
         ensures loads { LoadsIn (arc_value result.2) self.node self.loaded }
     {
         let Finished {

@@ -10,8 +10,8 @@ ghost use Rattle.fg_device.specs.Code.Loads.{IsRunnable, LeadsOn};
 ghost use Rattle.fg_steps.specs.Outputs.{no_old, stored_by};
 
 use crate::room::Room;
-use bytes::Bytes;
-use fg_base::{List, Op, Shape};
+use bytes::{Bytes, BytesMut};
+use fg_base::{Op, Shape};
 use fg_draw::draw;
 use fg_lanes::apply_fast;
 use fg_pixels::{apply, whole_leaves_nothing_old};
@@ -97,7 +97,7 @@ fn is_whole(op: &Op<u32>, shapes: &[Shape]) -> bool
 }
 
 // The old bytes of the destination, if they were loaded after the sources, and else zeros.
-fn old_bytes(op: &Op<u32>, loaded: &[Bytes], room: Room) -> Vec<u8>
+fn old_bytes(op: &Op<u32>, loaded: &[Bytes], room: Room) -> BytesMut
     requires { (bytes : List ℕ) → slice_get loaded.now (length (sources_of op.now)) ≡ Some bytes → length bytes ≡ length room }
     ensures bytes { result.items ≡ slice_index_or loaded.now (length (sources_of op.now)) room }
     ensures long { length result.items ≡ length room }
@@ -109,7 +109,7 @@ fn old_bytes(op: &Op<u32>, loaded: &[Bytes], room: Room) -> Vec<u8>
 }
 
 // The same, or any bytes where the operation leaves none of them.
-fn first_bytes(op: &Op<u32>, shapes: &[Shape], loaded: &[Bytes], room: Room) -> Vec<u8>
+fn first_bytes(op: &Op<u32>, shapes: &[Shape], loaded: &[Bytes], room: Room) -> BytesMut
     requires runnable { IsRunnable shapes.now op.now loaded.now }
     requires room { room ≡ no_old shapes.now op.now }
     ensures long { length result.items ≡ bytes_of (shape_at shapes.now (destination_of op.now)) }
@@ -150,15 +150,15 @@ fn store_fast_in<R: Threads + Sync>(
 }
 
 /// What a command stores. The room takes the old bytes where these were loaded.
-pub(crate) fn stored_by(op: &Op<u32>, shapes: &[Shape], loaded: &[Bytes], room: Room) -> List<u8>
+pub(crate) fn stored_by(op: &Op<u32>, shapes: &[Shape], loaded: &[Bytes], room: Room) -> BytesMut
     requires runnable { IsRunnable shapes.now op.now loaded.now }
     requires room { room ≡ no_old shapes.now op.now }
-    ensures stored { result ≡ stored_by shapes.now op.now loaded.now }
-    ensures long { length result ≡ bytes_of (shape_at shapes.now (destination_of op.now)) }
+    ensures stored { result.items ≡ stored_by shapes.now op.now loaded.now }
+    ensures long { length result.items ≡ bytes_of (shape_at shapes.now (destination_of op.now)) }
 {
     let mut out = first_bytes(op, shapes, loaded, room);
-    store_in(op, shapes, loaded, &mut out);
-    List::from_vec(out)
+    store_in(op, shapes, loaded, out.as_mut_slice());
+    out
 }
 
 /// The same, by lanes and by bands.
@@ -169,13 +169,13 @@ pub(crate) fn stored_fast<R: Threads + Sync>(
     shapes: &[Shape],
     loaded: &[Bytes],
     room: Room,
-) -> List<u8>
+) -> BytesMut
     requires runnable { IsRunnable shapes.now op.now loaded.now }
     requires room { room ≡ no_old shapes.now op.now }
-    ensures stored { result ≡ stored_by shapes.now op.now loaded.now }
-    ensures long { length result ≡ bytes_of (shape_at shapes.now (destination_of op.now)) }
+    ensures stored { result.items ≡ stored_by shapes.now op.now loaded.now }
+    ensures long { length result.items ≡ bytes_of (shape_at shapes.now (destination_of op.now)) }
 {
     let mut out = first_bytes(op, shapes, loaded, room);
-    store_fast_in(rt, helpers, op, shapes, loaded, &mut out);
-    List::from_vec(out)
+    store_fast_in(rt, helpers, op, shapes, loaded, out.as_mut_slice());
+    out
 }

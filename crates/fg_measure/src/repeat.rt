@@ -67,9 +67,9 @@ fn acted(
     requires holds { HoldsImage table.old }
     requires from { length from.now ≡ image }
 {
-    let mut out = picture(alloc)?.into_vec();
-    act_all(alloc, call, times, table, ranges, from, &mut out)?;
-    Ok(sum(&out))
+    let mut out = picture(alloc)?;
+    act_all(alloc, call, times, table, ranges, from, out.as_mut_slice())?;
+    Ok(sum(out.as_slice()))
 }
 
 fn repeat_on(alloc: Global, call: Call, times: u32, table: &mut Segments) -> Result<u64, Stopped>
@@ -78,7 +78,7 @@ fn repeat_on(alloc: Global, call: Call, times: u32, table: &mut Segments) -> Res
     let mut ranges = Ranges::new(call.random);
     use_first(alloc, table, &mut ranges)?;
     let from = picture(alloc)?;
-    acted(alloc, call, times, table, &mut ranges, &from)
+    acted(alloc, call, times, table, &mut ranges, from.as_slice())
 }
 
 /// Does a call so many times, each on the next range. The answer is a sum of the bytes that were loaded.

@@ -5,7 +5,8 @@ ghost use Rattle.fg_measure.specs.Code.Tables.{row, HoldsRow};
 
 use crate::stopped::Stopped;
 use crate::table::{STORES, row, zeros};
-use fg_base::{List, NoMemory};
+use bytes::BytesMut;
+use fg_base::NoMemory;
 use fg_caches::Segments;
 use std::alloc::Global;
 
@@ -34,7 +35,7 @@ pub fn small_of(word: &str) -> Option<Small> {
     }
 }
 
-fn buffers(alloc: Global) -> Result<Vec<List<u8>>, NoMemory> {
+fn buffers(alloc: Global) -> Result<Vec<BytesMut>, NoMemory> {
     let mut buffers = Vec::new(alloc);
     for _k in 0..STORES {
         buffers.push(zeros(alloc, LEN)?)?;
@@ -42,7 +43,7 @@ fn buffers(alloc: Global) -> Result<Vec<List<u8>>, NoMemory> {
     Ok(buffers)
 }
 
-fn put(table: &mut Segments, start: u32, bytes: List<u8>) -> Result<(), Stopped>
+fn put(table: &mut Segments, start: u32, bytes: BytesMut) -> Result<(), Stopped>
     requires holds { HoldsRow table.old }
     requires within { start + LEN ≤ row }
     ensures holds { OnOk result (HoldsRow table.new) }
@@ -69,7 +70,7 @@ fn write(table: &mut Segments, start: u32) -> Result<(), Stopped>
 // The last of the buffers goes to the k-th piece, round and round.
 fn put_last(
     table: &mut Segments,
-    buffers: &mut Vec<List<u8>>,
+    buffers: &mut Vec<BytesMut>,
     k: u32,
     writes: bool,
 ) -> Result<(), Stopped>
@@ -84,7 +85,7 @@ fn put_last(
     if writes { write(table, start) } else { Ok(()) }
 }
 
-fn put_all(table: &mut Segments, buffers: &mut Vec<List<u8>>, writes: bool) -> Result<(), Stopped>
+fn put_all(table: &mut Segments, buffers: &mut Vec<BytesMut>, writes: bool) -> Result<(), Stopped>
     requires { HoldsRow table.old }
 {
     for k in 0..STORES {

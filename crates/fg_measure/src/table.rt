@@ -6,6 +6,7 @@ ghost use Rattle.fg_base.specs.Maxima.{max_nodes};
 ghost use Rattle.fg_measure.specs.Code.Tables.{image, row, HoldsImage, HoldsRow};
 
 use crate::ranges::{IMAGE, place};
+use bytes::BytesMut;
 use fg_base::{List, NoMemory};
 use fg_caches::{Segments, Slot};
 use std::alloc::Global;
@@ -19,21 +20,21 @@ pub const STORES: u32 = 20_000;
 const SPARE: u32 = 2;
 
 /// A buffer of zeros.
-pub fn zeros(alloc: Global, len: u32) -> Result<List<u8>, NoMemory>
-    ensures { IfOk result (λ bytes. length bytes ≡ len) }
+pub fn zeros(alloc: Global, len: u32) -> Result<BytesMut, NoMemory>
+    ensures { IfOk result (λ bytes. length bytes.items ≡ len) }
 {
-    Ok(List::from_vec(vec![in alloc; 0u8; len as usize]?))
+    Ok(BytesMut::zeroed(alloc, len as usize)?)
 }
 
 /// An image whose bytes differ from place to place.
-pub fn picture(alloc: Global) -> Result<List<u8>, NoMemory>
-    ensures { IfOk result (λ bytes. length bytes ≡ image) }
+pub fn picture(alloc: Global) -> Result<BytesMut, NoMemory>
+    ensures { IfOk result (λ bytes. length bytes.items ≡ image) }
 {
     let mut bytes = vec![in alloc; 0u8; IMAGE as usize]?;
     for (k, byte) in bytes.iter_mut().enumerate() {
         *byte = (k % 251) as u8;
     }
-    Ok(List::from_vec(bytes))
+    Ok(BytesMut::from_vec(bytes))
 }
 
 fn cuts(alloc: Global, count: u32) -> Result<Vec<(u32, u32)>, NoMemory>
@@ -46,8 +47,8 @@ fn cuts(alloc: Global, count: u32) -> Result<Vec<(u32, u32)>, NoMemory>
     Ok(cuts)
 }
 
-fn one(alloc: Global, bytes: List<u8>) -> Result<List<Slot>, NoMemory>
-    ensures { IfOk result (λ opening. opening ≡ bytes ∷ []) }
+fn one(alloc: Global, bytes: BytesMut) -> Result<List<Slot>, NoMemory>
+    ensures { IfOk result (λ opening. opening ≡ bytes.items ∷ []) }
 {
     let mut opening = List::new(alloc);
     opening.push(Slot::own(bytes))?;

@@ -4,6 +4,6 @@ use Rattle.fg_caches.specs.declared.contents.Form.{Form}
 use Rattle.fg_caches.specs.declared.contents.Form.TheVariants.{Own, Shared, Filled}
 
 abbrev pub bytes_of : Form → List ℕ
-bytes_of (Own bytes) = bytes
+bytes_of (Own bytes) = bytes.items
 bytes_of (Shared bytes) = bytes
 bytes_of (Filled byte len) = replicate len byte

@@ -23,7 +23,7 @@ use crate::held::{Held, hold};
 use crate::job::{Command, Job};
 use crate::nodes::op_of;
 use crate::room::Room;
-use bytes::Bytes;
+use bytes::{Bytes, BytesMut};
 use fg_base::{Event, List, NoMemory};
 use fg_caches::Segments;
 use fg_steps::event_laws;
@@ -120,7 +120,7 @@ impl Device {
     }
 
     // Memory that the table needs no more, for as many bytes as the command stores.
-    fn spare(&mut self, node: u32) -> Option<Vec<u8>>
+    fn spare(&mut self, node: u32) -> Option<BytesMut>
         requires command { is_command (kind_at (view_in self.old) node) ≡ true }
         requires node { node < length (view_in self.old).nodes }
         ensures { self.new ≡ self.old }
@@ -130,7 +130,7 @@ impl Device {
     }
 
     // The same without that.
-    fn begun(&mut self, alloc: Global, node: u32, spare: Option<Vec<u8>>) -> Result<Job, NoMemory>
+    fn begun(&mut self, alloc: Global, node: u32, spare: Option<BytesMut>) -> Result<Job, NoMemory>
         requires command { is_command (kind_at (view_in self.old) node) ≡ true }
         requires ready { is_ready self.old node ≡ true }
         ensures event { IfOk result (λ job. self.new ≡ did self.old (events.Begin node)) }
@@ -164,7 +164,7 @@ impl Device {
     }
 
     // All that a Begin takes memory for.
-    fn taken(&self, alloc: Global, node: u32, spare: Option<Vec<u8>>) -> Result<Taken, NoMemory>
+    fn taken(&self, alloc: Global, node: u32, spare: Option<BytesMut>) -> Result<Taken, NoMemory>
         requires command { is_command (kind_at (view_in self.now) node) ≡ true }
         requires node { node < length (view_in self.now).nodes }
         ensures held { IfOk result (λ t. IsTaken self.now node t.held) }
@@ -227,7 +227,7 @@ impl Device {
     }
 
     // Room for as many bytes.
-    fn room(&self, alloc: Global, node: u32, spare: Option<Vec<u8>>) -> Result<Room, NoMemory>
+    fn room(&self, alloc: Global, node: u32, spare: Option<BytesMut>) -> Result<Room, NoMemory>
         requires command { is_command (kind_at (view_in self.now) node) ≡ true }
         requires node { node < length (view_in self.now).nodes }
         ensures { IfOk result (λ room. room ≡ replicate (store_size (view_in self.now) node) 0) }

@@ -26,8 +26,8 @@ use crate::job::{Command, Finished, Landed};
 use crate::nodes::op_of;
 use crate::origin::are_more;
 use crate::running::stored_by;
-use bytes::Bytes;
-use fg_base::{Event, List, Op, Shape};
+use bytes::BytesMut;
+use fg_base::{Event, Op, Shape};
 use fg_caches::Segments;
 use fg_same::Same;
 use fg_steps::{device_laws, event_laws};
@@ -62,14 +62,14 @@ fn computed(
     held: Held,
     known: bool,
     command: &Command,
-    bytes: List<u8>,
-) -> List<u8>
+    bytes: BytesMut,
+) -> BytesMut
     requires runs { IsRunnable shapes.now op.now held.loaded }
     requires room { held.room ≡ no_old shapes.now op.now }
     requires known { known ≡ true → command.now.loaded ≡ held.loaded }
-    requires bytes { IsResult command.now bytes }
-    ensures stored { result ≡ stored_by shapes.now op.now held.loaded }
-    ensures long { length result ≡ bytes_of (shape_at shapes.now (destination_of op.now)) }
+    requires bytes { IsResult command.now bytes.items }
+    ensures stored { result.items ≡ stored_by shapes.now op.now held.loaded }
+    ensures long { length result.items ≡ bytes_of (shape_at shapes.now (destination_of op.now)) }
 {
     let Held { loaded, room } = held;
     if has_op(command, op, shapes) && (known || same_loads(&command.loaded, &loaded)) {
@@ -79,11 +79,11 @@ fn computed(
 }
 
 // Junk, as much as there is room for.
-fn filled(held: Held, byte: u8) -> List<u8>
-    ensures { result ≡ replicate (length held.room) byte }
+fn filled(held: Held, byte: u8) -> BytesMut
+    ensures { result.items ≡ replicate (length held.room) byte }
 {
     let Held { room, .. } = held;
-    List::from_vec(room.into_filled(byte))
+    room.into_filled(byte)
 }
 
 // What a begun command stores: its bytes, or junk where it is marked.
@@ -94,15 +94,15 @@ fn made(
     held: Held,
     known: bool,
     command: &Command,
-    bytes: List<u8>,
-) -> List<u8>
+    bytes: BytesMut,
+) -> BytesMut
     requires runs { IsRunnable shapes.now op.now held.loaded }
     requires room { held.room ≡ no_old shapes.now op.now }
     requires known { known ≡ true → command.now.loaded ≡ held.loaded }
-    requires bytes { IsResult command.now bytes }
-    ensures junk { IfSome junk (λ byte. result ≡ replicate (length held.room) byte) }
-    ensures stored { IfNone junk (result ≡ stored_by shapes.now op.now held.loaded) }
-    ensures long { length result ≡ bytes_of (shape_at shapes.now (destination_of op.now)) }
+    requires bytes { IsResult command.now bytes.items }
+    ensures junk { IfSome junk (λ byte. result.items ≡ replicate (length held.room) byte) }
+    ensures stored { IfNone junk (result.items ≡ stored_by shapes.now op.now held.loaded) }
+    ensures long { length result.items ≡ bytes_of (shape_at shapes.now (destination_of op.now)) }
 {
     match junk {
         Some(byte) => filled(held, byte),
@@ -111,15 +111,15 @@ fn made(
 }
 
 // The agent of the command stores.
-fn store(table: &mut Segments, view: &View, node: u32, bytes: List<u8>)
+fn store(table: &mut Segments, view: &View, node: u32, bytes: BytesMut)
     requires node { node < length view.now.effects }
     requires piece { (store_of view.now node).piece < length view.now.pieces }
     requires agent { agent_of (store_of view.now node).kind < table.old.agents }
     requires few { table.old.agents < 2 ^ 32 }
-    requires len { length bytes ≡ (piece_range view.now (store_of view.now node).piece).len }
+    requires len { length bytes.items ≡ (piece_range view.now (store_of view.now node).piece).len }
     requires cut { IsCutOut table.old (piece_range view.now (store_of view.now node).piece) }
     requires room { 0 < table.old.stores_left }
-    ensures bytes { caches_of table.new ≡ put (agent_of (store_of view.now node).kind) (piece_range view.now (store_of view.now node).piece) bytes (caches_of table.old) }
+    ensures bytes { caches_of table.new ≡ put (agent_of (store_of view.now node).kind) (piece_range view.now (store_of view.now node).piece) bytes.items (caches_of table.old) }
     ensures keeps { Keeps table.old table.new }
     ensures cuts { table.old.cuts_left ≤ table.new.cuts_left }
     ensures stores { table.new.stores_left ≡ table.old.stores_left - 1 }

@@ -1,4 +1,3 @@
-use Rattle.std.proofs.Common.{◌∙◌, arith}
 use Rattle.fg_device.proofs.Fitting.{still_fits}
 use Rattle.fg_device.proofs.opening.cut_table.Goals as goal
 

@@ -1,6 +1,5 @@
 use Rattle.std.proofs.Common.{◌≡◌, ◌∙◌, ℕ, ◌*◌, ◌^◌, ◌<◌, ◌≤◌, List, length, map, true, IfOk, sym, ap, subst}
 use Rattle.std.specs.List.{All}
-use Rattle.std.specs.Prelude.{replicate}
 use Rattle.fg_base.specs.Shapes.{bytes_of}
 use Rattle.fg_caches.specs.Tables.{is_cut, slot_at, IsMade}
 use Rattle.fg_device.proofs.Openings.{ends_small, few_bytes, cuts_there, fits_made}

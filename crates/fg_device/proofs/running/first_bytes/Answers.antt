@@ -1,4 +1,4 @@
-use Rattle.std.proofs.Common.{◌≡◌, ◌∙◌, ℕ, [], length, List, sym, ap, arith}
+use Rattle.std.proofs.Common.{◌∙◌, ℕ, [], length, List, sym, ap, arith}
 use Rattle.std.specs.Prelude.{slice_index_or}
 use Rattle.std.proofs.lemmas.List.{length-replicate}
 use Rattle.std.proofs.lemmas.Option.{get_or_from_slice_get, slice_get_within}
@@ -7,7 +7,6 @@ use Rattle.fg_base.specs.Shapes.{bytes_of, shape_at}
 use Rattle.fg_device.proofs.Olds.{same_leads, any_lead}
 use Rattle.fg_device.proofs.Sources.{old_long}
 use Rattle.fg_device.proofs.running.first_bytes.Goals as goal
-use Rattle.fg_steps.specs.Outputs.{no_old}
 
 pub old_bytes-requires : goal.old_bytes-requires
 old_bytes-requires c bytes is =

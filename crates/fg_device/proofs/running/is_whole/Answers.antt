@@ -1,4 +1,4 @@
-use Rattle.std.proofs.Common.{length, arith}
+use Rattle.std.proofs.Common.{arith}
 use Rattle.fg_device.proofs.Olds.{last_touch}
 use Rattle.fg_device.proofs.Sources.{one_more}
 use Rattle.fg_device.proofs.running.is_whole.Goals as goal
