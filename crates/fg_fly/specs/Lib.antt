@@ -2,4 +2,5 @@ pub mod Code
 pub mod Files
 pub mod Flights
 pub mod Lines
+pub mod Plans
 pub mod Texts

@@ -7,9 +7,11 @@ mod frames;
 mod held;
 mod lines;
 mod outcome;
+mod plan;
 mod print;
 mod refusal;
 
 pub use file::fly_file;
 pub use outcome::Outcome;
+pub use plan::FlightPlan;
 pub use refusal::{Refusal, refusal_text};

@@ -26,6 +26,7 @@ use crate::telling::{deliver, reserved, untold};
 use crate::{Ended, Status};
 use fg_answer::{file_of, over_input};
 use fg_base::{Gate, NoMemory, Sink, Source, Tap};
+use fg_fly::FlightPlan;
 use fg_words::{Command, command_of};
 use std::alloc::Global;
 use std::sync::Wait;
@@ -58,7 +59,14 @@ fn answer_bytes<R: Threads + Wait + Sync, G: Gate + Sync>(
             options,
             persist,
             depth,
-        } => flight_file(rt, alloc, *options, persist, *depth, bytes, gate),
+        } => {
+            let plan = FlightPlan {
+                options: *options,
+                persist,
+                depth: *depth,
+            };
+            flight_file(rt, alloc, &plan, bytes, gate)
+        }
         Command::Audit => Ok(still(audit_file(rt, alloc, bytes)?)),
         Command::Frame(_) | Command::Submission(_) | Command::Gen { .. } => unreachable!(),
     }

@@ -1,15 +1,14 @@
 //! The command `flight`.
 
-ghost use Rattle.std.specs.Prelude.{◌≡◌, ◌≤◌, IfOk, None, length};
+ghost use Rattle.std.specs.Prelude.{◌≡◌, IfOk};
 ghost use Rattle.fg_answer.specs.Statuses.{HasText};
-ghost use Rattle.fg_frame.specs.Repeats.{first_repeat};
+ghost use Rattle.fg_fly.specs.Plans.{CanFly};
 ghost use Rattle.fg_top.specs.Flights.{FliesBytes, reply_of};
 
 use crate::reply::{Reply, still};
 use fg_answer::{Answer, Status, done};
-use fg_base::{Gate, Name, NoMemory};
-use fg_fly::{Outcome, fly_file};
-use fg_words::Options;
+use fg_base::{Gate, NoMemory};
+use fg_fly::{FlightPlan, Outcome, fly_file};
 use std::alloc::Global;
 use std::sync::Wait;
 use std::thread::Threads;
@@ -34,21 +33,14 @@ fn reply_of(outcome: Outcome) -> Reply
 pub fn flight_file<R: Threads + Wait + Sync, G: Gate + Sync>(
     rt: &R,
     alloc: Global,
-    options: Options,
-    persist: &[Name],
-    depth: u32,
+    plan: &FlightPlan<'_>,
     bytes: &[u8],
     gate: &G,
 ) -> Result<Reply, NoMemory>
-    requires least { 1 ≤ options.workers }
-    requires most { options.workers ≤ 16 }
-    requires deep { 1 ≤ depth }
-    requires shallow { depth ≤ 8 }
-    requires names { length persist.now ≤ 16 }
-    requires different { first_repeat persist.now ≡ None }
-    ensures file { IfOk result (FliesBytes options persist.now depth bytes.now) }
+    requires plan { CanFly plan.now }
+    ensures file { IfOk result (FliesBytes plan.now.options plan.now.persist.now plan.now.depth bytes.now) }
     ensures has_text { IfOk result (λ reply. HasText reply.answer.status) }
 {
-    let outcome = fly_file(rt, alloc, options, persist, depth, bytes, gate)?;
+    let outcome = fly_file(rt, alloc, plan, bytes, gate)?;
     Ok(reply_of(outcome))
 }
