@@ -15,26 +15,7 @@ use fg_frame::GoodFrame;
 use fg_report::{FlightLine, export_text, flight_text};
 use fg_run::bytes_of;
 
-// The exports of frame `i`, as the device has left them.
-fn add_exports(
-    text: &mut Text,
-    windows: &Windows<'_>,
-    good: &GoodFrame,
-    i: u32,
-    device: &Device,
-) -> Result<(), NoMemory>
-    requires there { slice_get windows.now.frames i ≡ Some good.now }
-    requires prints { Prints windows.now i device.now }
-    ensures { OnOk result (text.new ≡ text.old ++ exports_text good.now (bytes_alone windows.now.frames windows.now.persist i good.now)) }
-{
-    let count = good.exports().len() as u32;
-    for k in 0..count {
-        export_text(text, good, k, bytes_of(device, windows.export(i, k)))?;
-    }
-    Ok(())
-}
-
-// The line of frame `i`, and its exports.
+// The line of frame `i`, and its exports, as the device has left them.
 fn add_frame(
     text: &mut Text,
     windows: &Windows<'_>,
@@ -47,7 +28,11 @@ fn add_frame(
     ensures { OnOk result (text.new ≡ text.old ++ (flight_text (lines.Frame i) ++ exports_text good.now (bytes_alone windows.now.frames windows.now.persist i good.now))) }
 {
     flight_text(text, &FlightLine::Frame { frame: i })?;
-    add_exports(text, windows, good, i, device)
+    let count = good.exports().len() as u32;
+    for k in 0..count {
+        export_text(text, good, k, bytes_of(device, windows.export(i, k)))?;
+    }
+    Ok(())
 }
 
 fn smaller(a: u32, b: u32) -> u32

@@ -1,10 +1,12 @@
-use Rattle.std.proofs.Common.{◌≡◌, ◌<◌, ◌++◌, ◌∙◌, IfSome, Option, length, sym, ap, subst, arith}
+use Rattle.std.proofs.Common.{◌≡◌, ◌<◌, ◌++◌, ◌∙◌, IfSome, Option, List, ℕ, append_assoc, append-nil, length, sym, ap, subst, arith}
 use Rattle.std.proofs.lemmas.Option.{slice_get_within}
-use Rattle.fg_fly.proofs.print.add_exports.Goals as goal
+use Rattle.fg_fly.proofs.print.add_frame.Goals as goal
 use Rattle.fg_fly.specs.Texts.{bytes_alone}
 use Rattle.fg_frame.specs.Numbered.{numbered}
 use Rattle.fg_frame.specs.declared.frame.Frame.{Frame}
 use Rattle.fg_report.specs.Exports.{export_text}
+use Rattle.fg_report.specs.Flights.{flight_text}
+use Rattle.fg_report.specs.declared.flight.FlightLine.TheVariants as lines
 use Rattle.fg_run.specs.Runs.{read_by}
 use Rattle.fg_stages.proofs.Turns.{one_more}
 use Rattle.fg_stages.specs.Exports.{in_turn}
@@ -31,6 +33,9 @@ export_text-requires c =
     let same = ap length c.exports.ensures.exports in
     omega (arith, c.loop-k-test.true, same)
 
+pub loop-k-init : goal.loop-k-init
+loop-k-init c = c.in_ok-flight_text.ensures.ok ∙ sym (append-nil (c.args.text.now ++ flight_text (lines.Frame c.args.i)))
+
 pub loop-k-preserved : goal.loop-k-preserved
 loop-k-preserved c =
     let F = c.args.windows.now in
@@ -40,12 +45,16 @@ loop-k-preserved c =
     let same = ap length c.exports.ensures.exports in
     let lt : k < length (numbered good).exports = omega (arith, c.loop-k-test.true, same) in
     let read = c.bytes_of.ensures ∙ ap (read_by c.args.device.now) c.export.ensures.place ∙ sym (c.requires.prints.printed k good c.requires.there lt) in
-    one_more (λ n. export_text good n (bytes_alone F.frames F.persist i good n)) k c.args.text.now c.loop-k.text _ c.export_text.new.text c.loop-k.invariant (ap (export_text good k) read) c.in_ok-export_text.ensures.ok
+    one_more (λ n. export_text good n (bytes_alone F.frames F.persist i good n)) k (c.args.text.now ++ flight_text (lines.Frame i)) c.loop-k.text _ c.export_text.new.text c.loop-k.invariant (ap (export_text good k) read) c.in_ok-export_text.ensures.ok
 
 pub returns : goal.returns
 returns c =
     let F = c.args.windows.now in
     let good = c.args.good.now in
+    let i = c.args.i in
+    let old = c.args.text.now in
+    let line = flight_text (lines.Frame i) in
+    let texts : ℕ → List ℕ = in_turn (λ n. export_text good n (bytes_alone F.frames F.persist i good n)) in
     let same = ap length c.exports.ensures.exports in
     let all : c.loop-k.k ≡ length (numbered good).exports = omega (arith, c.loop-k-test.false, c.loop-k.auto.k-end, same) in
-    c.loop-k.invariant ∙ ap (λ m. c.args.text.now ++ in_turn (λ n. export_text good n (bytes_alone F.frames F.persist c.args.i good n)) m) all
+    c.loop-k.invariant ∙ ap (λ m. (old ++ line) ++ texts m) all ∙ append_assoc old line (texts (length (numbered good).exports))
