@@ -7,10 +7,10 @@ use Rattle.fg_base.specs.declared.event.Event.{Event}
 use Rattle.fg_flight.specs.Alone.{AreRead, IsHeld, alone, held_next}
 use Rattle.fg_flight.specs.Exported.{export_place, hold_place}
 use Rattle.fg_flight.specs.Flight.{Flight}
-use Rattle.fg_flight.specs.Flights.{window_at, window_count}
+use Rattle.fg_flight.specs.Flights.{AreHeld, window_at, window_count}
 use Rattle.fg_fly.proofs.Texts.{text_all}
 use Rattle.fg_fly.proofs.Windows.{all_windows}
-use Rattle.fg_fly.specs.Code.Flying.{IsFlown, Prints, text_before}
+use Rattle.fg_fly.specs.Code.Flying.{CanRead, IsFlown, IsKept, Prints, text_before}
 use Rattle.fg_fly.specs.Flights.{Flies, WindowRun}
 use Rattle.fg_fly.specs.Texts.{bytes_alone}
 use Rattle.fg_fly.specs.declared.flying.Flying.{Flying}
@@ -38,13 +38,11 @@ printed_alone frames persist i frame k bytes means = ap (λ o. unwrap_or o []) m
 
 module _ (tend : Option ℕ) (F : Flight) (w : ℕ) (device : Device) where
   -- the window begins with what is held, and has run
-  window_run : ExportsAlone F → (held : List (Option (List ℕ))) (good : Frame) → good ≡ window_at F.frames F.persist F.depth held w → IsHeld F.frames F.persist (w * F.depth) held → RunsOn tend false (numbered good) device → WindowRun tend F.frames F.persist F.depth w device
-  window_run laws held good is before ran =
-      let run : RunsOn tend false (numbered (window_at F.frames F.persist F.depth held w)) device = subst (λ (f : Frame). RunsOn tend false (numbered f) device) is ran in
-      record { held = held; is_held = before; run = run; printed = printed run }
+  window_run : ExportsAlone F → (held : List (Option (List ℕ))) → IsHeld F.frames F.persist (w * F.depth) held → RunsOn tend false (numbered (window_at F.frames F.persist F.depth held w)) device → WindowRun tend F.frames F.persist F.depth w device
+  window_run laws held before run = record { held = held; is_held = before; run = run; printed = printed }
     where
-      printed : RunsOn tend false (numbered (window_at F.frames F.persist F.depth held w)) device → (i k : ℕ) (frame : Frame) → slice_get F.frames i ≡ Some frame → i / F.depth ≡ w → k < length (numbered frame).exports → bytes_alone F.frames F.persist i frame k ≡ read_by device (export_place F.frames F.depth i k)
-      printed run i k frame at e lt =
+      printed : (i k : ℕ) (frame : Frame) → slice_get F.frames i ≡ Some frame → i / F.depth ≡ w → k < length (numbered frame).exports → bytes_alone F.frames F.persist i frame k ≡ read_by device (export_place F.frames F.depth i k)
+      printed i k frame at e lt =
           let lone : NumberedFrame = alone F.frames F.persist i frame in
           let unit : ℕ = get_or lone.exports k 0 in
           let begins : IsHeld F.frames F.persist ((i / F.depth) * F.depth) held = subst (λ v. IsHeld F.frames F.persist (v * F.depth) held) (sym e) before in
@@ -52,35 +50,31 @@ module _ (tend : Option ℕ) (F : Flight) (w : ℕ) (device : Device) where
           let means : meaning lone unit ≡ Some (read_by device (export_place F.frames F.depth i k)) = laws i frame at held begins (read_by device) read k unit (slice_get-get_or lone.exports k 0 lt) in
           printed_alone F.frames F.persist i frame k (read_by device (export_place F.frames F.depth i k)) means
 
-  -- so each of its frames can be printed
-  window_prints : WindowRun tend F.frames F.persist F.depth w device → (i : ℕ) → i / F.depth ≡ w → Prints F i device
-  window_prints run i e =
-      let same : length device.program.readbacks ≡ length run.run.program.readbacks = ap (λ (p : Program). length p.readbacks) run.run.has_run.runs in
-      record {
-        complete = run.run.has_run.complete;
-        held = run.held;
-        sized = run.is_held.sized;
-        readbacks = same ∙ run.run.compiles.right.readbacks ∙ ap (λ v. length (numbered (window_at F.frames F.persist F.depth run.held v)).exports) (sym e);
-        printed = λ k frame at lt. run.printed i k frame at e lt;
-      }
+  -- so what it exports can be read
+  window_read : (held : List (Option (List ℕ))) → AreHeld F.frames F.persist held → RunsOn tend false (numbered (window_at F.frames F.persist F.depth held w)) device → CanRead F w held device
+  window_read held sized run = record {
+    complete = run.has_run.complete;
+    sized = sized;
+    readbacks = ap (λ (p : Program). length p.readbacks) run.has_run.runs ∙ run.compiles.right.readbacks;
+  }
 
--- a device has as many read-backs as its frame has exports
-as_many : (tend : Option ℕ) (frame : NumberedFrame) (device : Device) → RunsOn tend false frame device → length device.program.readbacks ≡ length frame.exports
-as_many tend frame device run = ap (λ (p : Program). length p.readbacks) run.has_run.runs ∙ run.compiles.right.readbacks
+  -- and each of its frames can be printed
+  window_prints : WindowRun tend F.frames F.persist F.depth w device → (i : ℕ) → i / F.depth ≡ w → Prints F i device
+  window_prints run i e = record {
+    held = run.held;
+    read = subst (λ v. CanRead F v run.held device) (sym e) (window_read run.held run.is_held.sized run.run);
+    printed = λ k frame at lt. run.printed i k frame at e lt;
+  }
 
 -- want of memory says nothing
 pub gave_up : {X E : Type 0} (r : Result X E) (P : X → Type 0) (Q : E → Type 0) → IsErrAnd r Q → IfOk r P
 gave_up (Ok x) P Q h = absurd h
 gave_up (Err e) P Q h = tt
 
--- of what all went well
-pub all_on : {X E : Type 0} (r : Result X E) (P Q R S : Type 0) → IfOk r (λ x. P) → IfOk r (λ x. Q) → IfOk r (λ x. R) → (P → Q → R → S) → IfOk r (λ x. S)
-all_on (Ok x) P Q R S p q r follows = follows p q r
-all_on (Err e) P Q R S p q r follows = tt
-
-pub went_on : {X E : Type 0} (r : Result X E) (P : Type 0) → P → IfOk r (λ x. P)
-went_on (Ok x) P p = p
-went_on (Err e) P p = tt
+-- of what went well
+pub on_ok : {X E : Type 0} (r : Result X E) (P Q : Type 0) → IfOk r (λ x. P) → (P → Q) → IfOk r (λ x. Q)
+on_ok (Ok x) P Q p follows = follows p
+on_ok (Err e) P Q p follows = tt
 
 -- ONE WINDOW FURTHER
 
@@ -102,14 +96,14 @@ history_more : (devices : List Device) (device : Device) → flat_map (λ (d : D
 history_more [] device = append-nil device.history
 history_more (d ∷ devices) device = ap (λ (h : List Event). d.history ++ h) (history_more devices device) ∙ sym (append_assoc d.history (flat_map (λ (e : Device). e.history) devices) device.history)
 
-flown_more : (tend : Option ℕ) (F : Flight) (w : ℕ) (device : Device) (old new : Flying) → IsFlown tend F w old → WindowRun tend F.frames F.persist F.depth w device → IsHeld F.frames F.persist (suc w * F.depth) new.held → new.text ≡ text_before F ((w + 1) * F.depth) → new.history ≡ old.history ++ device.history → IsFlown tend F (w + 1) new
-flown_more tend F w device old new was run held text history = rw add-one (record {
+flown_more : (tend : Option ℕ) (F : Flight) (w : ℕ) (device : Device) (old new : Flying) → IsFlown tend F w old → WindowRun tend F.frames F.persist F.depth w device → IsHeld F.frames F.persist (suc w * F.depth) new.held → IsKept F w device old new → IsFlown tend F (w + 1) new
+flown_more tend F w device old new was run held kept = rw add-one (record {
   devices = was.devices ++ device ∷ [];
   windows = one_longer was.devices device ∙ ap suc was.windows;
   runs = runs;
   held = held;
-  text = rw add-one at text;
-  history = history ∙ ap (λ (h : List Event). h ++ device.history) was.history ∙ sym (history_more was.devices device);
+  text = rw add-one at kept.text;
+  history = kept.history ∙ ap (λ (h : List Event). h ++ device.history) was.history ∙ sym (history_more was.devices device);
 })
   where
     runs : (v : ℕ) (d : Device) → slice_get (was.devices ++ device ∷ []) v ≡ Some d → WindowRun tend F.frames F.persist F.depth v d
@@ -120,23 +114,18 @@ flown_more tend F w device old new was run held text history = rw add-one (recor
         by (inr last) = subst (λ (e : Device). WindowRun tend F.frames F.persist F.depth v e) last.1 (subst (λ u. WindowRun tend F.frames F.persist F.depth u device) (sym (last.0 ∙ was.windows)) run)
 
 -- a window is compiled from what is held, and has run
-module _ (tend : Option ℕ) (F : Flight) (w : ℕ) (device : Device) (old : Flying) (held : List (Option (List ℕ))) (good : Frame) where
-  made_of_held : held ≡ old.held → good ≡ window_at F.frames F.persist F.depth held w → good ≡ window_at F.frames F.persist F.depth old.held w
-  made_of_held same is = is ∙ ap (λ (h : List (Option (List ℕ))). window_at F.frames F.persist F.depth h w) same
+module _ (tend : Option ℕ) (F : Flight) (w : ℕ) (device : Device) (old : Flying) (was : IsFlown tend F w old) (ran : RunsOn tend false (numbered (window_at F.frames F.persist F.depth old.held w)) device) where
+  pub ran_reads : CanRead F w old.held device
+  ran_reads = window_read tend F w device old.held was.held.sized ran
 
-  pub ran_prints : ExportsAlone F → IsFlown tend F w old → held ≡ old.held → good ≡ window_at F.frames F.persist F.depth held w → RunsOn tend false (numbered good) device → (i : ℕ) → i / F.depth ≡ w → Prints F i device
-  ran_prints exports was same is ran = window_prints tend F w device (window_run tend F w device exports old.held good (made_of_held same is) was.held ran)
+  pub ran_prints : ExportsAlone F → (i : ℕ) → i / F.depth ≡ w → Prints F i device
+  ran_prints exports = window_prints tend F w device (window_run tend F w device exports old.held was.held ran)
 
-  pub ran_reads : held ≡ old.held → good ≡ window_at F.frames F.persist F.depth held w → RunsOn tend false (numbered good) device → length device.program.readbacks ≡ length (numbered (window_at F.frames F.persist F.depth old.held w)).exports
-  ran_reads same is ran = as_many tend (numbered good) device ran ∙ ap (λ (f : Frame). length (numbered f).exports) (made_of_held same is)
-
-  pub ran_flown : ExportsAlone F → HoldsNext F → w < window_count F.depth F.frames → IsFlown tend F w old → held ≡ old.held → good ≡ window_at F.frames F.persist F.depth held w → RunsOn tend false (numbered good) device → (new : Flying) → new.text ≡ text_before F ((w + 1) * F.depth) → (events : List Event) → events ≡ device.history → new.history ≡ old.history ++ events → new.held ≡ held_next (hold_place F.frames F.persist F.depth w) (read_by device) 0 old.held → IsFlown tend F (w + 1) new
-  ran_flown exports holds there was same is ran new text events told history kept =
-      let made : good ≡ window_at F.frames F.persist F.depth old.held w = made_of_held same is in
-      let run : WindowRun tend F.frames F.persist F.depth w device = window_run tend F w device exports old.held good made was.held ran in
-      let read : AreRead (numbered (window_at F.frames F.persist F.depth old.held w)) (read_by device) = subst (λ (f : Frame). AreRead (numbered f) (read_by device)) made ran.meant in
-      let next : IsHeld F.frames F.persist (suc w * F.depth) (held_next (hold_place F.frames F.persist F.depth w) (read_by device) 0 old.held) = holds w there old.held was.held (read_by device) read in
-      flown_more tend F w device old new was run (subst (λ (h : List (Option (List ℕ))). IsHeld F.frames F.persist (suc w * F.depth) h) (sym kept) next) text (history ∙ ap (λ (es : List Event). old.history ++ es) told)
+  pub ran_flown : ExportsAlone F → HoldsNext F → w < window_count F.depth F.frames → (new : Flying) → IsKept F w device old new → IsFlown tend F (w + 1) new
+  ran_flown exports holds there new kept =
+      let run : WindowRun tend F.frames F.persist F.depth w device = window_run tend F w device exports old.held was.held ran in
+      let next : IsHeld F.frames F.persist (suc w * F.depth) (held_next (hold_place F.frames F.persist F.depth w) (read_by device) 0 old.held) = holds w there old.held was.held (read_by device) ran.meant in
+      flown_more tend F w device old new was run (subst (λ (h : List (Option (List ℕ))). IsHeld F.frames F.persist (suc w * F.depth) h) (sym kept.held) next) kept
 
 -- nothing has flown
 pub none_flown : (tend : Option ℕ) (F : Flight) (flying : Flying) → IsHeld F.frames F.persist 0 flying.held → flying.text ≡ [] → flying.history ≡ [] → IsFlown tend F 0 flying

@@ -1,5 +1,5 @@
 -- The frames of one window.
-use Rattle.std.proofs.Common.{◌≡◌, ◌+◌, ◌*◌, ◌/◌, ◌<◌, ◌≤◌, ℕ, List, length, get_or, Some, slice_get, inl, inr, sym, ap, subst, ◌∙◌, arith}
+use Rattle.std.proofs.Common.{◌≡◌, ◌+◌, ◌*◌, ◌/◌, ◌<◌, ◌≤◌, ℕ, min, List, length, get_or, Some, slice_get, inl, inr, sym, ap, subst, ◌∙◌, arith}
 use Rattle.std.specs.Prelude.{◌⊎◌}
 use Rattle.std.proofs.lemmas.Option.{slice_get-get_or}
 use Rattle.fg_flight.proofs.Counted.{there}
@@ -26,19 +26,18 @@ pub frame_here : (all frames : List Frame) (i : ℕ) (frame : Frame) → all ≡
 frame_here all frames i frame same lt is =
     ap (λ (fs : List Frame). slice_get fs i) same ∙ (slice_get-get_or frames i frame lt ∙ ap (λ (f : Frame). Some f) (sym is))
 
--- all frames of the window
-pub window_end : (F : Flight) (w d n to i : ℕ) (text : List ℕ) → F.depth ≡ d → length F.frames ≡ n → w * d < n → to ≤ w * d + d → (to ≡ w * d + d) ⊎ (to ≡ n) → to ≤ i → (w * d ≤ to → i ≤ to) → text ≡ text_before F i → text ≡ text_before F ((w + 1) * F.depth)
-window_end F w d n to i text is many lt near one far up so_far =
-    let begun : w * d ≤ to = starts one in
-    let e : i ≡ to = omega (arith, far, up begun) in
-    let next : w * d + d ≡ (w + 1) * d = next_window w d in
-    let below : i ≤ (w + 1) * d = omega (arith, e, near, next) in
-    subst (λ m. text ≡ text_before F ((w + 1) * m)) (sym is) (text_to F i ((w + 1) * d) text below (which e one) so_far)
-  where
-    starts : (to ≡ w * d + d) ⊎ (to ≡ n) → w * d ≤ to
-    starts (inl last) = omega (arith, last)
-    starts (inr last) = omega (arith, last, lt)
+one_of : (a b : ℕ) → (min a b ≡ a) ⊎ (min a b ≡ b)
+one_of a b = grind arith
 
-    which : i ≡ to → (to ≡ w * d + d) ⊎ (to ≡ n) → (i ≡ (w + 1) * d) ⊎ (i ≡ length F.frames)
+-- all frames of the window
+pub window_end : (F : Flight) (w d n to i : ℕ) (text : List ℕ) → F.depth ≡ d → length F.frames ≡ n → w * d < n → to ≡ min (w * d + d) n → to ≤ i → (w * d ≤ to → i ≤ to) → text ≡ text_before F i → text ≡ text_before F ((w + 1) * F.depth)
+window_end F w d n to i text is many lt least far up so_far =
+    let begun : w * d ≤ to = omega (arith, least, lt) in
+    let e : i ≡ min (w * d + d) n = omega (arith, far, up begun, least) in
+    let next : w * d + d ≡ (w + 1) * d = next_window w d in
+    let below : i ≤ (w + 1) * d = omega (arith, e, next) in
+    subst (λ m. text ≡ text_before F ((w + 1) * m)) (sym is) (text_to F i ((w + 1) * d) text below (which e (one_of (w * d + d) n)) so_far)
+  where
+    which : i ≡ min (w * d + d) n → (min (w * d + d) n ≡ w * d + d) ⊎ (min (w * d + d) n ≡ n) → (i ≡ (w + 1) * d) ⊎ (i ≡ length F.frames)
     which e (inl last) = inl (e ∙ last ∙ next_window w d)
     which e (inr last) = inr (e ∙ last ∙ sym many)

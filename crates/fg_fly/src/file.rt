@@ -43,7 +43,7 @@ fn fly_frames<R: Threads + Wait + Sync, G: Gate + Sync>(
     ensures { IfOk result (FliesFrames plan.now.options.tend plan.now.persist.now plan.now.depth (unless_refused plan.now.persist.now plan.now.depth frames.now)) }
 {
     match windows_of(alloc, frames, plan.persist, plan.depth) {
-        Ok(windows) => fly_windows(rt, alloc, plan.options, &windows, frames, plan.depth, gate),
+        Ok(windows) => fly_windows(rt, alloc, plan, &windows, frames, gate),
         Err(FlightEnd::Refused(fault)) => refused(alloc, &Refusal::Flight(fault)),
         Err(FlightEnd::NoMemory) => Err(NoMemory),
     }

@@ -1,18 +1,17 @@
 //! Windows fly one after another.
 
-ghost use Rattle.std.specs.Prelude.{◌≡◌, ◌<◌, ◌≤◌, ◌+◌, ◌*◌, ◌/◌, ◌++◌, ℕ, Option, IfOk, OnOk, false, length};
-ghost use Rattle.fg_flight.specs.Alone.{held_next};
-ghost use Rattle.fg_flight.specs.Exported.{hold_place};
+ghost use Rattle.std.specs.Prelude.{◌≡◌, ◌<◌, ◌+◌, ◌*◌, ◌/◌, ℕ, Option, IfOk, OnOk, false};
 ghost use Rattle.fg_flight.specs.Flights.{AreHeld, window_at, window_count};
-ghost use Rattle.fg_fly.specs.Code.Flying.{IsFlown, Prints, text_before};
+ghost use Rattle.fg_fly.specs.Code.Flying.{AreWindows, CanRead, IsFlown, IsKept, Prints, text_before};
 ghost use Rattle.fg_fly.specs.Flights.{Flies};
+ghost use Rattle.fg_fly.specs.Plans.{CanFly};
 ghost use Rattle.fg_frame.specs.Numbered.{numbered};
 ghost use Rattle.fg_run.specs.FrameRuns.{RunsOn};
-ghost use Rattle.fg_run.specs.Runs.{read_by};
-ghost use Rattle.fg_steps.specs.Devices.{IsComplete};
+ghost use Rattle.fg_words.specs.Commands.{HasWorkers};
 
 use crate::held::hold;
 use crate::outcome::Outcome;
+use crate::plan::FlightPlan;
 use crate::print::add_window;
 use fg_base::{Event, Gate, List, NoMemory, Text};
 use fg_device::Device;
@@ -55,8 +54,7 @@ fn run_window<R: Threads + Wait + Sync, G: Gate + Sync>(
     held: &List<Option<List<u8>>>,
     gate: &G,
 ) -> Result<Device, NoMemory>
-    requires least { 1 ≤ options.workers }
-    requires most { options.workers ≤ 16 }
+    requires workers { HasWorkers options }
     requires there { w < window_count windows.now.depth windows.now.frames }
     requires held { AreHeld windows.now.frames windows.now.persist held.now }
     ensures { IfOk result (RunsOn options.tend false (numbered (window_at windows.now.frames windows.now.persist windows.now.depth held.now w))) }
@@ -76,17 +74,12 @@ fn keep(
     device: &Device,
     flying: &mut Flying,
 ) -> Result<(), NoMemory>
-    requires frames { windows.now.frames ≡ frames.now }
-    requires depth { windows.now.depth ≡ depth }
+    requires windows { AreWindows frames.now depth windows.now }
     requires there { w < window_count windows.now.depth windows.now.frames }
-    requires complete { IsComplete device.now }
-    requires sized { AreHeld windows.now.frames windows.now.persist flying.old.held }
-    requires readbacks { length device.now.program.readbacks ≡ length (numbered (window_at windows.now.frames windows.now.persist windows.now.depth flying.old.held w)).exports }
+    requires read { CanRead windows.now w flying.old.held device.now }
     requires prints { (i : ℕ) → i / windows.now.depth ≡ w → Prints windows.now i device.now }
     requires text { flying.old.text ≡ text_before windows.now (w * windows.now.depth) }
-    ensures text { OnOk result (flying.new.text ≡ text_before windows.now ((w + 1) * windows.now.depth)) }
-    ensures history { OnOk result (flying.new.history ≡ flying.old.history ++ device.now.history) }
-    ensures held { OnOk result (flying.new.held ≡ held_next (hold_place windows.now.frames windows.now.persist windows.now.depth w) (read_by device.now) 0 flying.old.held) }
+    ensures { OnOk result (IsKept windows.now w device.now flying.old flying.new) }
 {
     add_window(&mut flying.text, windows, frames, depth, w, device)?;
     flying.history.extend_from_slice(device.history())?;
@@ -98,57 +91,41 @@ fn keep(
 fn fly_window<R: Threads + Wait + Sync, G: Gate + Sync>(
     rt: &R,
     alloc: Global,
-    options: Options,
+    plan: &FlightPlan<'_>,
     windows: &Windows<'_>,
     frames: &[GoodFrame],
-    depth: u32,
     w: u32,
     flying: &mut Flying,
     gate: &G,
 ) -> Result<(), NoMemory>
-    requires least { 1 ≤ options.workers }
-    requires most { options.workers ≤ 16 }
-    requires frames { windows.now.frames ≡ frames.now }
-    requires depth { windows.now.depth ≡ depth }
+    requires plan { CanFly plan.now }
+    requires windows { AreWindows frames.now plan.now.depth windows.now }
     requires there { w < window_count windows.now.depth windows.now.frames }
-    requires flown { IsFlown options.tend windows.now w flying.old }
-    ensures { OnOk result (IsFlown options.tend windows.now (w + 1) flying.new) }
+    requires flown { IsFlown plan.now.options.tend windows.now w flying.old }
+    ensures { OnOk result (IsFlown plan.now.options.tend windows.now (w + 1) flying.new) }
 {
     flight_laws();
     let _count = windows.count();
-    let device = run_window(rt, alloc, options, windows, w, &flying.held, gate)?;
-    keep(alloc, windows, frames, depth, w, &device, flying)
+    let device = run_window(rt, alloc, plan.options, windows, w, &flying.held, gate)?;
+    keep(alloc, windows, frames, plan.depth, w, &device, flying)
 }
 
 /// Flies all windows.
 pub(crate) fn fly_windows<R: Threads + Wait + Sync, G: Gate + Sync>(
     rt: &R,
     alloc: Global,
-    options: Options,
+    plan: &FlightPlan<'_>,
     windows: &Windows<'_>,
     frames: &[GoodFrame],
-    depth: u32,
     gate: &G,
 ) -> Result<Outcome, NoMemory>
-    requires least { 1 ≤ options.workers }
-    requires most { options.workers ≤ 16 }
-    requires frames { windows.now.frames ≡ frames.now }
-    requires depth { windows.now.depth ≡ depth }
-    ensures { IfOk result (Flies options.tend windows.now.persist windows.now.depth windows.now.frames) }
+    requires plan { CanFly plan.now }
+    requires windows { AreWindows frames.now plan.now.depth windows.now }
+    ensures { IfOk result (Flies plan.now.options.tend windows.now.persist windows.now.depth windows.now.frames) }
 {
     let mut flying = begun(alloc, windows)?;
     for w in 0..windows.count() {
-        fly_window(
-            rt,
-            alloc,
-            options,
-            windows,
-            frames,
-            depth,
-            w,
-            &mut flying,
-            gate,
-        )?;
+        fly_window(rt, alloc, plan, windows, frames, w, &mut flying, gate)?;
     }
     let Flying {
         held: _,

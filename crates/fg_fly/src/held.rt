@@ -1,12 +1,11 @@
 //! What is held from one window to the next.
 
-ghost use Rattle.std.specs.Prelude.{◌≡◌, ◌<◌, length, OnOk};
+ghost use Rattle.std.specs.Prelude.{◌≡◌, ◌<◌, OnOk};
 ghost use Rattle.fg_flight.specs.Alone.{held_next};
 ghost use Rattle.fg_flight.specs.Exported.{hold_place};
-ghost use Rattle.fg_flight.specs.Flights.{AreHeld, window_at, window_count};
-ghost use Rattle.fg_frame.specs.Numbered.{numbered};
+ghost use Rattle.fg_flight.specs.Flights.{window_count};
+ghost use Rattle.fg_fly.specs.Code.Flying.{CanRead};
 ghost use Rattle.fg_run.specs.Runs.{read_by};
-ghost use Rattle.fg_steps.specs.Devices.{IsComplete};
 
 use fg_base::{List, NoMemory};
 use fg_device::Device;
@@ -23,9 +22,7 @@ pub(crate) fn hold(
     held: &mut List<Option<List<u8>>>,
 ) -> Result<(), NoMemory>
     requires there { w < window_count windows.now.depth windows.now.frames }
-    requires complete { IsComplete device.now }
-    requires sized { AreHeld windows.now.frames windows.now.persist held.old }
-    requires readbacks { length device.now.program.readbacks ≡ length (numbered (window_at windows.now.frames windows.now.persist windows.now.depth held.old w)).exports }
+    requires read { CanRead windows.now w held.old device.now }
     ensures { OnOk result (held.new ≡ held_next (hold_place windows.now.frames windows.now.persist windows.now.depth w) (read_by device.now) 0 held.old) }
 {
     let _fly = windows.count();

@@ -1,8 +1,8 @@
 //! What is printed of a window.
 
-ghost use Rattle.std.specs.Prelude.{◌≡◌, ◌<◌, ◌*◌, ◌+◌, ◌/◌, ◌++◌, ℕ, ◌≤◌, ◌⊎◌, Some, length, slice_get, OnOk};
+ghost use Rattle.std.specs.Prelude.{◌≡◌, ◌<◌, ◌*◌, ◌+◌, ◌/◌, ◌++◌, ℕ, Some, slice_get, OnOk};
 ghost use Rattle.fg_flight.specs.Flights.{window_count};
-ghost use Rattle.fg_fly.specs.Code.Flying.{Prints, text_before};
+ghost use Rattle.fg_fly.specs.Code.Flying.{AreWindows, Prints, text_before};
 ghost use Rattle.fg_fly.specs.Texts.{bytes_alone};
 ghost use Rattle.fg_report.specs.Flights.{flight_text};
 ghost use Rattle.fg_report.specs.declared.flight.FlightLine.TheVariants as lines;
@@ -35,13 +35,6 @@ fn add_frame(
     Ok(())
 }
 
-fn smaller(a: u32, b: u32) -> u32
-    ensures least { (result ≤ a) × (result ≤ b) }
-    ensures one { (result ≡ a) ⊎ (result ≡ b) }
-{
-    if a < b { a } else { b }
-}
-
 /// Adds the frames of window `w`, whose device has run.
 pub(crate) fn add_window(
     text: &mut Text,
@@ -51,8 +44,7 @@ pub(crate) fn add_window(
     w: u32,
     device: &Device,
 ) -> Result<(), NoMemory>
-    requires frames { windows.now.frames ≡ frames.now }
-    requires depth { windows.now.depth ≡ depth }
+    requires windows { AreWindows frames.now depth windows.now }
     requires there { w < window_count windows.now.depth windows.now.frames }
     requires prints { (i : ℕ) → i / windows.now.depth ≡ w → Prints windows.now i device.now }
     requires text { text.old ≡ text_before windows.now (w * windows.now.depth) }
@@ -60,7 +52,7 @@ pub(crate) fn add_window(
 {
     let _count = windows.count();
     let from = w * depth;
-    let to = smaller(from + depth, frames.len() as u32);
+    let to = (from + depth).min(frames.len() as u32);
     for i in from..to {
         add_frame(text, windows, &frames[i as usize], i, device)?;
     }

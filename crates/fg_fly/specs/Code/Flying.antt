@@ -1,8 +1,8 @@
 -- What has flown so far.
-use Rattle.std.specs.Prelude.{◌≡◌, ◌<◌, ℕ, ◌*◌, ◌/◌, List, length, slice_get, take, Option, Some}
+use Rattle.std.specs.Prelude.{◌≡◌, ◌<◌, ℕ, ◌+◌, ◌*◌, ◌/◌, ◌++◌, List, length, slice_get, take, Option, Some}
 use Rattle.std.specs.List.{flat_map}
-use Rattle.fg_flight.specs.Alone.{IsHeld}
-use Rattle.fg_flight.specs.Exported.{export_place}
+use Rattle.fg_flight.specs.Alone.{IsHeld, held_next}
+use Rattle.fg_flight.specs.Exported.{export_place, hold_place}
 use Rattle.fg_flight.specs.Flight.{Flight}
 use Rattle.fg_flight.specs.Flights.{AreHeld, window_at}
 use Rattle.fg_fly.specs.Flights.{WindowRun}
@@ -12,6 +12,11 @@ use Rattle.fg_frame.specs.Numbered.{numbered}
 use Rattle.fg_frame.specs.declared.frame.Frame.{Frame}
 use Rattle.fg_run.specs.Runs.{read_by}
 use Rattle.fg_steps.specs.Devices.{Device, IsComplete}
+
+-- the windows of all these frames, so many frames in each
+pub record AreWindows (all : List Frame) (each : ℕ) (flight : Flight) : Type 0 where
+  pub frames : flight.frames ≡ all
+  pub depth : flight.depth ≡ each
 
 -- the lines of the first frames
 abbrev pub text_before : Flight → ℕ → List ℕ
@@ -26,10 +31,20 @@ pub record IsFlown (tend : Option ℕ) (flight : Flight) (w : ℕ) (flying : Fly
   pub text : flying.text ≡ text_before flight (w * flight.depth)
   pub history : flying.history ≡ flat_map (λ d. d.history) devices
 
+-- all that window w exports can be read on the device; the window began with these bytes
+pub record CanRead (flight : Flight) (w : ℕ) (held : List (Option (List ℕ))) (device : Device) : Type 0 where
+  pub complete : IsComplete device
+  pub sized : AreHeld flight.frames flight.persist held
+  pub readbacks : length device.program.readbacks ≡ length (numbered (window_at flight.frames flight.persist flight.depth held w)).exports
+
 -- what is printed of frame i stands on the device of its window
 pub record Prints (flight : Flight) (i : ℕ) (device : Device) : Type 0 where
-  pub complete : IsComplete device
   pub held : List (Option (List ℕ))
-  pub sized : AreHeld flight.frames flight.persist held
-  pub readbacks : length device.program.readbacks ≡ length (numbered (window_at flight.frames flight.persist flight.depth held (i / flight.depth))).exports
+  pub read : CanRead flight (i / flight.depth) held device
   pub printed : (k : ℕ) (frame : Frame) → slice_get flight.frames i ≡ Some frame → k < length (numbered frame).exports → bytes_alone flight.frames flight.persist i frame k ≡ read_by device (export_place flight.frames flight.depth i k)
+
+-- what window w has left on its device is taken
+pub record IsKept (flight : Flight) (w : ℕ) (device : Device) (old new : Flying) : Type 0 where
+  pub text : new.text ≡ text_before flight ((w + 1) * flight.depth)
+  pub history : new.history ≡ old.history ++ device.history
+  pub held : new.held ≡ held_next (hold_place flight.frames flight.persist flight.depth w) (read_by device) 0 old.held

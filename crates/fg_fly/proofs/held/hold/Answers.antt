@@ -9,18 +9,18 @@ use Rattle.fg_run.specs.Runs.{read_by}
 pub overflow_cast-k : goal.overflow_cast-k
 overflow_cast-k c =
     let F = c.args.windows.now in
-    let many = held_many F.frames F.persist c.args.held.now c.requires.sized in
+    let many = held_many F.frames F.persist c.args.held.now c.requires.read.sized in
     omega (arith, many, c.count-fly.ensures.fly.names, c.loop-k.invariant.many, c.loop-k-test.true)
 
 pub holds-requires-clause-name : goal.holds-requires-clause-name
 holds-requires-clause-name c =
     let F = c.args.windows.now in
-    let many = held_many F.frames F.persist c.args.held.now c.requires.sized in
+    let many = held_many F.frames F.persist c.args.held.now c.requires.read.sized in
     omega (arith, many, c.loop-k.invariant.many, c.loop-k-test.true)
 
 pub bytes_of-requires-clause-there : goal.bytes_of-requires-clause-there
 bytes_of-requires-clause-there c =
-    omega (arith, c.in-Some.ensures.within c.args.held.now c.requires.sized, c.requires.readbacks)
+    omega (arith, c.in-Some.ensures.within c.args.held.now c.requires.read.sized, c.requires.read.readbacks)
 
 pub loop-k-preserved : goal.loop-k-preserved
 loop-k-preserved c =

@@ -21,12 +21,12 @@ export-requires-clause-exports c =
     subst (λ (o : Option Frame). IfSome o (λ f. c.loop-k.k < length (numbered f).exports)) (sym c.requires.there) lt
 
 pub bytes_of-requires-clause-complete : goal.bytes_of-requires-clause-complete
-bytes_of-requires-clause-complete c = c.requires.prints.complete
+bytes_of-requires-clause-complete c = c.requires.prints.read.complete
 
 pub bytes_of-requires-clause-there : goal.bytes_of-requires-clause-there
 bytes_of-requires-clause-there c =
     let prints = c.requires.prints in
-    omega (arith, c.export.ensures.within prints.held prints.sized, prints.readbacks)
+    omega (arith, c.export.ensures.within prints.held prints.read.sized, prints.read.readbacks)
 
 pub export_text-requires : goal.export_text-requires
 export_text-requires c =
