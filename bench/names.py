@@ -12,8 +12,9 @@ Looked at are README.md, HACKING.md, docs/ and the README.md of each crate, outs
   clause, or a field of one, has to be there.
 - A sentence of README.md that says "proved" has to name a clause of docs/PROMISES.md.
 - The table of docs/ARCHITECTURE.md has to have each crate of crates.txt, with what it stands on.
-- docs/MODEL.md has to name each file of definitions but those in a folder Code; files of its reading lists have to be there, and
-  --count writes how many lines each has, without imports.
+- docs/MODEL.md has to name each file of definitions but those in a folder Code; files of its reading lists have to be there, with as
+  many lines as it says, without imports, and the sum of each list, in tens, stands there and in README.md. --count writes the
+  lines, and prints the sums.
 """
 
 import argparse
@@ -213,6 +214,24 @@ def length(name):
     return sum(1 for line in lines if line.strip() and not line.startswith("use "))
 
 
+def look_at_reading():
+    path = TOP / "docs/MODEL.md"
+    totals, heading = {}, ""
+    for number, line in lines_of(path):
+        heading = line if line.startswith("#") else heading
+        found = READING.match(line)
+        if found and (TOP / "crates" / found.group(1)).exists():
+            lines = length(found.group(1))
+            totals[heading] = totals.get(heading, 0) + lines
+            if lines != int(found.group(2)):
+                problem(path, number, f"{found.group(1)} has {lines} lines")
+    tens = [str((total + 5) // 10 * 10) for total in totals.values()]
+    for page in (path, TOP / "README.md"):
+        told = re.search(r"some \d+ lines for [^.]*", page.read_text(encoding="utf-8"))
+        if not told or re.findall(r"\d+", told.group()) != tens:
+            problem(page, 1, f"the reading lists have {', '.join(tens)} lines")
+
+
 def count():
     """Writes the lengths of the reading lists' files, and prints the sum of each list."""
     path = TOP / "docs/MODEL.md"
@@ -240,6 +259,7 @@ def main():
     look_at_readme(look_at_promises())
     look_at_architecture()
     look_at_model()
+    look_at_reading()
     for line in problems:
         print(line, file=sys.stderr)
     print(f"names: {len(PAGES)} pages, {len(problems)} names that are not there")
