@@ -9,7 +9,8 @@ Looked at are README.md, HACKING.md, docs/ and the README.md of each crate, outs
   before it in the same section, or in the page's own.
 - A name in backticks has to be a word of the sources.
 - In docs/PROMISES.md each function has to be a function of the row's crates, and each clause one of theirs; in its text a
-  clause, or a field of one, has to be there.
+  clause, or a field of one, has to be there. Each function that a crate of the product hands out has to be named in a row of
+  its crate, or in a line that names the crate.
 - A sentence of README.md that says "proved" has to name a clause of docs/PROMISES.md.
 - The table of docs/ARCHITECTURE.md has to have each crate of crates.txt, with what it stands on.
 - docs/MODEL.md has to name each file of definitions but those in a folder Code; files of its reading lists have to be there, with as
@@ -163,6 +164,34 @@ def look_at_promises():
     return clauses
 
 
+def product():
+    """The crates that the program and the library for C are made of."""
+    found, left = set(), {"framec", "framec_c"}
+    while left:
+        found |= left
+        left = set().union(*(CRATES[crate] for crate in left)) - found
+    return sorted(found)
+
+
+def look_at_calls():
+    path = TOP / "docs/PROMISES.md"
+    named = set()
+    for _, line in lines_of(path):
+        words = {word for code in re.findall(r"`([^`]+)`", line) for word in re.findall(r"\w+", code)}
+        crates = crates_in(line.strip("|").split("|")[-1]) if line.startswith("|") else re.findall(r"\w+", line)
+        named |= {(crate, word) for crate in crates for word in words}
+    for crate in product():
+        own = [text for source, text in TEXTS.items() if source.parent == TOP / "crates" / crate / "src" and source.suffix == ".rt"]
+        handed = set(re.findall(r"\w+", " ".join(use for text in own for use in re.findall(r"^pub use ([^;]+);", text, re.M))))
+        for line in "\n".join(own).splitlines():
+            if line.startswith("impl"):
+                plain = re.sub(r"<[^<>]*>", "", re.sub(r"<[^<>]*>", "", line))
+                owner = plain.removeprefix("impl").split(" for ")[-1].split()[0]
+            found = re.match(r"( *)pub fn (\w+)", line)
+            if found and (owner if found[1] else found[2]) in handed and (crate, found[2]) not in named:
+                problem(path, 1, f"no {found[2]} of {crate}")
+
+
 def look_at_readme(clauses):
     path = TOP / "README.md"
     for number, line in lines_of(path):
@@ -257,6 +286,7 @@ def main():
     for path in PAGES:
         look_at(path)
     look_at_readme(look_at_promises())
+    look_at_calls()
     look_at_architecture()
     look_at_model()
     look_at_reading()
