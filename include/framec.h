@@ -82,11 +82,14 @@ int32_t framec_compile(const uint8_t *input, size_t input_len, uint8_t *output, 
 int32_t framec_cull(const uint8_t *input, size_t input_len, uint8_t *output, size_t output_len, uint64_t *wanted);
 
 /* Lays the transient resources of a frame into one heap, where those that are used one after another share memory. The text is
- * `heap H separate S`, the bytes of that heap and those of all resources together, and then for each resource `OFFSET SIZE NAME`. */
+ * `heap H separate S`, the bytes of that heap and those of all resources together, and then for each resource `OFFSET SIZE NAME`: the first
+ * byte, the number of bytes, and the name. Each layer of an image that has several is a resource by itself, with
+ * `NAME/LAYER` for its name, the layer a digit from 0. */
 int32_t framec_place(const uint8_t *input, size_t input_len, uint8_t *output, size_t output_len, uint64_t *wanted);
 
 /* Tells how many bytes the heap of a frame's transient resources has at least, wherever they are placed at multiples of 256 bytes. The text is
- * `bound B heap H`, with the bytes of framec_place's heap, and then the names of resources of which no two may share memory, one a line: they show the bound. */
+ * `bound B heap H`, with the bytes of framec_place's heap, and then the names of resources of which no two may share memory, one a line and
+ * written as framec_place writes them: they show the bound. */
 int32_t framec_bound(const uint8_t *input, size_t input_len, uint8_t *output, size_t output_len, uint64_t *wanted);
 
 /* Moves the passes of a frame to other queues of it, where that makes its longest chain of commands that wait one for another cost less; no
@@ -95,7 +98,7 @@ int32_t framec_bound(const uint8_t *input, size_t input_len, uint8_t *output, si
 int32_t framec_auto(const uint8_t *input, size_t input_len, uint8_t *output, size_t output_len, uint64_t *wanted);
 
 /* Runs the passes of a frame in turn, without a device. The text is for each export `export NAME BYTES` and its bytes in hexadecimal, 32 a
- * line. */
+ * line; of an image of several layers for each exported layer `export NAME/LAYER BYTES` and the bytes of that layer. */
 int32_t framec_meaning(const uint8_t *input, size_t input_len, uint8_t *output, size_t output_len, uint64_t *wanted);
 
 /* Writes a frame in format 2, as its one canonical text, from which the same frame is read again. */
