@@ -20,6 +20,8 @@ import subprocess
 import sys
 from concurrent.futures import ThreadPoolExecutor
 
+from makers import PERSISTS
+
 LIMIT = 300
 MIB = 2**20
 FRAMES = ("run", "run --tight", "run --workers 4 --tend 1", "cull", "place", "bound", "compile", "compile --tight", "meaning", "migrate")
@@ -514,30 +516,13 @@ def submission_rows(commands):
 
 # Lists of frames.
 
-FLOWN = {
-    **A,
-    "resources": [{"name": "b", "buffer": 4, "import": "01000000"}, {"name": "c", "buffer": 4}],
-    "passes": [
-        {
-            "name": "p",
-            "queue": "g",
-            "writes": [{"new": "c"}, {"change": "b"}],
-            "ops": [
-                {"op": "map", "src": "b", "dst": "c", "fun": "add", "value": 1},
-                {"op": "copy_buffer", "src": "c", "dst": "b", "src_offset": 0, "dst_offset": 0, "size": 4},
-            ],
-        }
-    ],
-    "exports": ["c"],
-}
-
 
 def flown(count, first=2, step=1):
     return "".join(f"frame {k} export c 4 {first + step * k:02x}000000\n".replace(" export", "\nexport").replace(" 4 ", " 4\n") for k in range(count))
 
 
 def flight_rows():
-    line = packed(FLOWN)
+    line = packed(PERSISTS)
 
     def row(name, words, text, status, printed):
         return Row("flights", name, " ".join(("flight", *words.split(" "))) if words else "flight", text, status, printed)
@@ -557,7 +542,7 @@ def flight_rows():
     yield row("line feed within", "", TEXT.replace(b",", b",\n", 1), 2, "frame 0 fault F1 $\n")
     yield row("NUL behind", "", line + b"\n\0", 2, "frame 1 fault F1 $\n")
     yield row("first fault", "--persist c", b"\n".join((line, a(format=3), b"[")), 2, "frame 1 fault F3 $.format\n")
-    yield row("other queues", "--persist c", line + b"\n" + packed({**FLOWN, "queues": [G, {**G, "name": "h"}]}), 2, "fault L2 1\n")
+    yield row("other queues", "--persist c", line + b"\n" + packed({**PERSISTS, "queues": [G, {**G, "name": "h"}]}), 2, "fault L2 1\n")
     yield row("other family", "", TEXT + b"\n" + a(queues=[{**G, "family": "compute"}]), 2, "fault L2 1\n")
     yield row("other name of the queue", "", line + b"\n" + line.replace(b'"g"', b'"h"'), 2, "fault L2 1\n")
     yield row("no import", "--persist c", line, 2, "fault L3 0 c\n")

@@ -6,6 +6,25 @@ import json
 SIDE = 8
 FUNS = ["add", "sub", "mul", "and", "or", "xor", "min", "max", "shl", "shr"]
 
+# A buffer that persists, and what is exported from it.
+PERSISTS = {
+    "format": 1,
+    "queues": [{"name": "g", "family": "graphics"}],
+    "resources": [{"name": "b", "buffer": 4, "import": "01000000"}, {"name": "c", "buffer": 4}],
+    "passes": [
+        {
+            "name": "p",
+            "queue": "g",
+            "writes": [{"new": "c"}, {"change": "b"}],
+            "ops": [
+                {"op": "map", "src": "b", "dst": "c", "fun": "add", "value": 1},
+                {"op": "copy_buffer", "src": "c", "dst": "b", "src_offset": 0, "dst_offset": 0, "size": 4},
+            ],
+        }
+    ],
+    "exports": ["c"],
+}
+
 
 def some_families(rng):
     return [rng.choice(["graphics", "graphics", "compute", "transfer"]) for _ in range(rng.choice([1, 1, 2, 2, 3, 4]))]

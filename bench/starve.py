@@ -20,6 +20,7 @@ import tempfile
 from concurrent.futures import ThreadPoolExecutor
 
 from compare import BARRIER, TOP, built, fill, submission
+from makers import PERSISTS
 
 LIBRARY = r"""
 #define _GNU_SOURCE
@@ -106,26 +107,6 @@ void _exit(int status) {
 
 EXAMPLES = TOP / "examples/frames"
 WORDS = ("run", "run --tight", "meaning", "cull", "place", "bound", "compile", "compile --tight", "migrate", "auto", "auto --cost")
-
-# A buffer that persists, and what is exported from it.
-PERSISTS = {
-    "format": 1,
-    "queues": [{"name": "g", "family": "graphics"}],
-    "resources": [{"name": "b", "buffer": 4, "import": "01000000"}, {"name": "c", "buffer": 4}],
-    "passes": [
-        {
-            "name": "p",
-            "queue": "g",
-            "writes": [{"new": "c"}, {"change": "b"}],
-            "ops": [
-                {"op": "map", "src": "b", "dst": "c", "fun": "add", "value": 1},
-                {"op": "copy_buffer", "src": "c", "dst": "b", "src_offset": 0, "dst_offset": 0, "size": 4},
-            ],
-        }
-    ],
-    "exports": ["c"],
-}
-
 
 def two_lives():
     """Two buffers that share memory, one after another."""
