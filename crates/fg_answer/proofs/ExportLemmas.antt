@@ -1,5 +1,5 @@
 -- Exports with their bytes.
-use Rattle.std.proofs.Common.{◌≡◌, ◌+◌, ◌++◌, ◌∙◌, ℕ, List, get_or, Some, add-one, ap, ap₂, append_assoc, subst}
+use Rattle.std.proofs.Common.{◌≡◌, ℕ, List, get_or, Some, ap, subst}
 use Rattle.std.proofs.lemmas.List.Elements.{All-get_or}
 use Rattle.std.proofs.lemmas.Option.{slice_get_within, get_or_from_slice_get}
 use Rattle.std.specs.List.{All}
@@ -10,7 +10,7 @@ use Rattle.fg_meaning.specs.Meaning.{meaning}
 use Rattle.fg_answer.specs.Answers.{MeansFrame}
 use Rattle.fg_answer.specs.Plain.{done}
 use Rattle.fg_answer.specs.Code.Stages.{bytes_in}
-use Rattle.fg_stages.specs.Exports.{exports_text, in_turn}
+use Rattle.fg_stages.specs.Exports.{exports_text}
 
 -- what the exported units hold is printed
 pub means_frame : (frame : Frame) (units : List (List ℕ)) (text : List ℕ) → All (λ unit. meaning (numbered frame) unit ≡ Some (bytes_at units unit)) (numbered frame).exports → text ≡ exports_text frame (bytes_in frame units) → MeansFrame frame (done text)

@@ -2,7 +2,6 @@
 
 ghost use Rattle.std.specs.Prelude.{◌≡◌, ◌<◌, ◌++◌, IfOk, OnOk, length};
 ghost use Rattle.fg_frame.specs.Numbered.{numbered};
-ghost use Rattle.fg_meaning.specs.Meaning.{meaning};
 ghost use Rattle.fg_answer.specs.Answers.{MeansFrame};
 ghost use Rattle.fg_answer.specs.Code.Stages.{bytes_in};
 ghost use Rattle.fg_answer.specs.Statuses.{HasText};

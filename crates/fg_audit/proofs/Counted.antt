@@ -1,5 +1,5 @@
 -- A trace has as many events as its first line tells, and these are no more than are read.
-use Rattle.std.proofs.Common.{◌≡◌, ℕ, zero, suc, ◌≤◌, ◌==◌, nat_lt, Bool, true, false, List, [], length, Option, Some, None, Result, Ok, Err, IfOk, if◌then◌else◌, refl, sym, ap, subst, arith}
+use Rattle.std.proofs.Common.{◌≡◌, ℕ, zero, suc, ◌≤◌, ◌==◌, nat_lt, Bool, true, false, List, [], length, Option, Some, None, Result, Ok, Err, IfOk, if◌then◌else◌, refl, ap, subst, arith}
 use Rattle.std.proofs.lemmas.Bool.{ltb-false}
 use Rattle.fg_audit.specs.Lines.{Cut, count_of, cut_at}
 use Rattle.fg_audit.specs.Trace.{IsAnswer, Told, after_event, counted_events, events_from, first_event, lined_events, trace_of}

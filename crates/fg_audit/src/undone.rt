@@ -1,6 +1,6 @@
 //! Which nodes events leave undone.
 
-ghost use Rattle.std.specs.Prelude.{◌≡◌, IfOk, IfSome, IfNone, [], false, replicate, take};
+ghost use Rattle.std.specs.Prelude.{◌≡◌, IfOk, IfSome, IfNone, false};
 ghost use Rattle.std.specs.List.{position};
 ghost use Rattle.fg_audit.specs.Code.Following.{ended_by, AreEnded, AreMarked, IsLeastUnended, Marks};
 

@@ -1,15 +1,14 @@
 //! What the cost of a frame asks of its commands, whatever queues its passes run on.
 
-ghost use Rattle.std.specs.Prelude.{◌≡◌, ◌<◌, ◌≤◌, ◌^◌, ◌+◌, ◌/◌, ◌++◌, ◌==◌, [], ◌∷◌, map, length, if◌then◌else◌, IfOk, OnOk};
-ghost use Rattle.std.specs.List.{All, filter, flat_map, range_with_len};
-ghost use Rattle.fg_auto.specs.Code.Spans.{use_at};
+ghost use Rattle.std.specs.Prelude.{◌≡◌, ◌<◌, ◌≤◌, ◌+◌, ◌/◌, ◌++◌, ◌==◌, [], ◌∷◌, map, length, if◌then◌else◌, IfOk, OnOk};
+ghost use Rattle.std.specs.List.{All, range_with_len};
 ghost use Rattle.fg_auto.specs.Code.Sweep.{most_cost};
 ghost use Rattle.fg_auto.specs.Code.Work.{IsOf, IsWork, places};
 ghost use Rattle.fg_auto.specs.Cost.{command_cost, costs};
 ghost use Rattle.fg_base.specs.Operands.{destination_of, operands_of};
 ghost use Rattle.fg_base.specs.Shapes.{bytes_of, shape_at};
 ghost use Rattle.fg_frame.specs.Numbered.{numbered};
-ghost use Rattle.fg_groups.specs.Groups.{grouping, sharings_in};
+ghost use Rattle.fg_groups.specs.Groups.{sharings_in};
 ghost use Rattle.fg_groups.specs.Laws.{flat};
 
 use crate::owners::owners;

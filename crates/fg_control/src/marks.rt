@@ -1,6 +1,6 @@
 //! Begun commands that clash with other nodes.
 
-ghost use Rattle.std.specs.Prelude.{◌≡◌, ◌<◌, ◌≤◌, ◌==◌, ◌&&◌, ◌||◌, ℕ, not, length, get_or, false};
+ghost use Rattle.std.specs.Prelude.{◌≡◌, ◌<◌, ◌==◌, ◌&&◌, ◌||◌, ℕ, not, length, get_or, false};
 ghost use Rattle.std.specs.List.{list_any};
 ghost use Rattle.fg_control.specs.Code.Running.{is_among, IsOfNodes, any_of};
 ghost use Rattle.fg_steps.specs.Ready.{hits, stores_over};

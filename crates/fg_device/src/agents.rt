@@ -1,6 +1,6 @@
 //! Agents by number, eight for each queue, and what commands do to memory.
 
-ghost use Rattle.std.specs.Prelude.{◌≡◌, ◌<◌, ◌≤◌, ◌*◌, ◌+◌, ◌==◌, ◌&&◌, ◌^◌, ℕ, length, true, option_copied};
+ghost use Rattle.std.specs.Prelude.{◌≡◌, ◌<◌, ◌*◌, ◌+◌, ◌==◌, ◌&&◌, ◌^◌, length, option_copied};
 ghost use Rattle.std.specs.List.{find};
 ghost use Rattle.fg_steps.specs.Agents.{agent_at, agent_number, agent_of};
 ghost use Rattle.fg_steps.specs.Steps.{store_of};

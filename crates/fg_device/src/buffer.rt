@@ -1,6 +1,6 @@
 //! Bytes whose memory was taken before they are known.
 
-ghost use Rattle.std.specs.Prelude.{◌≡◌, ◌<◌, true, false, if◌then◌else◌, length, replicate, Some, None, IfOk};
+ghost use Rattle.std.specs.Prelude.{◌≡◌, ◌<◌, if◌then◌else◌, length, replicate, Some, None, IfOk};
 ghost use Rattle.fg_caches.specs.Effects.{read_main};
 ghost use Rattle.fg_caches.specs.Lines.{range};
 ghost use Rattle.fg_caches.specs.Tables.{InMemory, caches_of};

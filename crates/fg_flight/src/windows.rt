@@ -1,6 +1,6 @@
 //! Frames in windows of one depth.
 
-ghost use Rattle.std.specs.Prelude.{◌≡◌, ◌<◌, ◌≤◌, ◌+◌, ◌/◌, ℕ, List, Option, IfErr, IfOk, IfSome, None, is_some, length, slice_get};
+ghost use Rattle.std.specs.Prelude.{◌≡◌, ◌<◌, ◌≤◌, ◌/◌, ℕ, List, Option, IfErr, IfOk, IfSome, None, is_some, length, slice_get};
 ghost use Rattle.std.specs.List.{All, list_any};
 ghost use Rattle.fg_flight.specs.Alone.{IsHeld};
 ghost use Rattle.fg_flight.specs.Exported.{export_place, has_name, hold_place};

@@ -1,5 +1,5 @@
 -- What the limits leave of a frame, counted by its numbers.
-use Rattle.std.proofs.Common.{subst, ◌≡◌, ◌≤◌, length, None, sym}
+use Rattle.std.proofs.Common.{subst, ◌≡◌, ◌≤◌, None, sym}
 use Rattle.std.proofs.lemmas.List.{length-map}
 use Rattle.fg_frame.proofs.Exports.{few_each, within_room}
 use Rattle.fg_frame.proofs.Small.{exports_none, few_units, length_units, ops_none, passes_few, rects_none, total_none}

@@ -1,5 +1,5 @@
 -- Spots of different names name different units.
-use Rattle.std.proofs.Common.{◌≡◌, ℕ, zero, suc, ◌+◌, ◌-◌, ◌<◌, ◌≤◌, ◌==◌, ◌||◌, nat_lt, Bool, true, false, List, [], ◌∷◌, get_or, slice_get, if◌then◌else◌, Option, Some, None, refl, sym, ap, ap₂, ◌∙◌, subst, ne_eqb, eq-eqb, arith, ⊎_elim}
+use Rattle.std.proofs.Common.{◌≡◌, ℕ, ◌+◌, ◌-◌, ◌<◌, ◌≤◌, ◌==◌, ◌||◌, nat_lt, Bool, true, false, List, [], ◌∷◌, get_or, slice_get, if◌then◌else◌, Option, Some, None, refl, sym, ap, ap₂, ◌∙◌, subst, ne_eqb, eq-eqb, arith, ⊎_elim}
 use Rattle.std.specs.Prelude.{option_and_then}
 use Rattle.std.specs.List.{All, flat_map, list_any, position, range_with_len}
 use Rattle.std.specs.Option.{option_map_or}
@@ -15,7 +15,6 @@ use Rattle.fg_frame.proofs.Once.{one_after}
 use Rattle.fg_frame.specs.Units.{Numbering, layer_unit, no_units, numbering, span_in, stretch_of, stretches, unit_of, units_in, units_of}
 use Rattle.fg_frame.specs.Unknowns.{has_layer, is_known}
 use Rattle.fg_frame.specs.declared.frame.Frame.{Frame}
-use Rattle.fg_frame.specs.declared.frame.Resource.{Resource}
 use Rattle.fg_frame.specs.declared.frame.Spot.{Spot}
 use Rattle.fg_frame.specs.declared.numbered.Stretch.{Stretch}
 use Rattle.fg_named.proofs.PassNumbers.{IsSingle}

@@ -1,31 +1,27 @@
 -- At which steps what is recorded stands.
-use Rattle.std.proofs.Common.{◌≡◌, ◌≢◌, ◌⊎◌, inl, inr, ⊎_elim, ℕ, zero, suc, ◌+◌, ◌-◌, ◌<◌, ◌≤◌, ◌==◌, ◌&&◌, Bool, true, false, List, [], ◌∷◌, ◌++◌, length, map, get_or, Option, Some, None, if◌then◌else◌, refl, sym, ap, ◌∙◌, subst, eqb-true, eq-eqb, arith}
-use Rattle.std.specs.List.{All, Contains, flat_map, range_with_len}
+use Rattle.std.proofs.Common.{◌≡◌, ◌≢◌, ◌⊎◌, inl, inr, ⊎_elim, ℕ, suc, ◌+◌, ◌-◌, ◌<◌, ◌≤◌, ◌==◌, Bool, true, false, List, [], ◌∷◌, ◌++◌, length, map, Option, Some, None, if◌then◌else◌, refl, sym, ap, ◌∙◌, subst, eqb-true, eq-eqb, arith}
+use Rattle.std.specs.List.{Contains, range_with_len}
 use Rattle.std.specs.Option.{option_map_or}
 use Rattle.std.specs.Prelude.{slice_get}
-use Rattle.std.proofs.lemmas.Bool.{and_from, false≢true}
+use Rattle.std.proofs.lemmas.Bool.{and_from}
 use Rattle.std.proofs.lemmas.Bool.Decides.{eqb_tells}
-use Rattle.std.proofs.lemmas.List.Elements.{Contains-append_left}
 use Rattle.std.proofs.lemmas.List.FromFn.{length-range_with_len, get_or-range_with_len}
 use Rattle.std.proofs.lemmas.Option.{slice_get-get_or, slice_get_within}
 use Rattle.fg_base.proofs.Lists.{entry_of}
 use Rattle.fg_groups.specs.Laws.{IsGrouped}
-use Rattle.fg_groups.specs.Needs.{group_at, queue_of}
+use Rattle.fg_groups.specs.Needs.{group_at}
 use Rattle.fg_groups.specs.declared.command.Command as commands
 use Rattle.fg_groups.specs.declared.grouping.Grouping.{Grouping}
 use Rattle.fg_groups.specs.declared.unit_use.Use.{Use}
 use Rattle.fg_recorder.proofs.Contained.{contains_entry, entry_contained, contains_head, contains_map, contains_part, kept}
-use Rattle.fg_recorder.proofs.Due.{home}
 use Rattle.fg_recorder.proofs.Entries.{entry_left, entry_map, entry_right, entry_there, joint, joined_entry, one_entry}
 use Rattle.fg_recorder.proofs.Membership.{IsUsed, IsMember, member_of, first_member, last_member, member_queue, each_used, is_used, after_first, command_below}
 use Rattle.fg_recorder.proofs.Scripted.{first_step}
-use Rattle.fg_recorder.proofs.Sides.{IsTurnItem, IsTurnOf, IsReleaseItem, IsReleaseOf, used, marks_needed, needed, turned, released, host, own_place, IsPart, part_of, needed_entry, turned_entry, command_entry, released_entry, host_entry, turn_in, release_in, HasMark, mark_in, beside_is, one_place, side_less, own_entry, own_is, own_turn, alias_turn, release_need, own_release, in_needed, in_turned, at_command, in_released, in_host}
-use Rattle.fg_recorder.proofs.Standing.{Stands, stands}
+use Rattle.fg_recorder.proofs.Sides.{IsTurnItem, IsTurnOf, IsReleaseItem, IsReleaseOf, marks_needed, needed, released, own_place, IsPart, part_of, needed_entry, turned_entry, command_entry, released_entry, host_entry, turn_in, release_in, HasMark, mark_in, beside_is, one_place, side_less, own_entry, own_is, own_turn, alias_turn, release_need, own_release, in_needed, in_turned, at_command, in_released, in_host}
 use Rattle.fg_recorder.proofs.Starts.{start, at_start, IsLocated, located, start_less}
-use Rattle.fg_recorder.specs.Items.{does_turn, items_of, turn_items, release_item}
-use Rattle.fg_recorder.specs.Marks.{step_of}
+use Rattle.fg_recorder.specs.Items.{items_of, turn_items, release_item}
 use Rattle.fg_recorder.specs.Script.{is_command, use_needs, use_turns, is_released, use_releases, host_barrier, groups_used, does_command, block, script}
-use Rattle.fg_recorder.specs.Standing.{beside, side, Precedes, host_item, host_step, item_by, turn_item, step, IsKnown, IsNeeded, IsRecorded, IsStanding, NeedsOthers, by_mark, by_alias, by_copy}
+use Rattle.fg_recorder.specs.Standing.{beside, Precedes, host_item, host_step, turn_item, step, IsKnown, IsNeeded, IsRecorded, IsStanding, NeedsOthers, by_mark, by_alias, by_copy}
 use Rattle.fg_recorder.specs.Wanted.{is_there, last_command, last_on, last_elsewhere, wanted_by, wanted_first, wanted_further, wanted_release}
 use Rattle.fg_recorder.specs.declared.mark.Mark.{Mark}
 use Rattle.fg_recorder.specs.declared.mark.Mark.TheVariants.{Command, Turn as OfTurn, Release}

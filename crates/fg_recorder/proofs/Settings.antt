@@ -1,5 +1,5 @@
 -- What is known of the units and queues of a good frame.
-use Rattle.std.proofs.Common.{◌≡◌, ℕ, ◌+◌, ◌^◌, ◌<◌, ◌≤◌, nat_le, Bool, true, List, [], ◌∷◌, ◌++◌, length, map, get_or, slice_get, Option, Some, None, refl, sym, ap, ◌∙◌, subst, arith}
+use Rattle.std.proofs.Common.{◌≡◌, ℕ, ◌+◌, ◌^◌, ◌<◌, ◌≤◌, nat_le, Bool, List, length, map, get_or, Option, None, sym, ap, ◌∙◌, subst, arith}
 use Rattle.std.specs.List.{All}
 use Rattle.std.specs.Prelude.{option_and_then, is_some}
 use Rattle.std.proofs.lemmas.Bool.{and_parts, leb-true}
@@ -12,8 +12,8 @@ use Rattle.fg_base.specs.declared.shape.Shape.TheVariants.{Buffer}
 use Rattle.fg_frame.specs.Good.{IsGood, shapes_in}
 use Rattle.fg_frame.specs.Numbered.{NumberedFrame}
 use Rattle.fg_frame.specs.Units.{Unit}
-use Rattle.fg_groups.specs.Commands.{all_shapes, readback_shape}
-use Rattle.fg_groups.specs.Groups.{grouping, sharings_in, imports_in}
+use Rattle.fg_groups.specs.Commands.{readback_shape}
+use Rattle.fg_groups.specs.Groups.{grouping}
 use Rattle.fg_groups.specs.declared.grouping.Grouping.{Grouping}
 use Rattle.fg_recorder.specs.Code.Resources.{IsOf}
 use Rattle.fg_recorder.specs.Pieces.{imported}

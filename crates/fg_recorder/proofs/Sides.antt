@@ -1,5 +1,5 @@
 -- What stands in the block of a command, and at which entry.
-use Rattle.std.proofs.Common.{◌≡◌, ⊎_elim, ℕ, zero, suc, ◌+◌, ◌-◌, ◌<◌, ◌≤◌, ◌&&◌, Bool, true, false, List, [], ◌∷◌, ◌++◌, length, map, Option, Some, None, if◌then◌else◌, refl, sym, ap, ◌∙◌, subst, eqb-true, arith}
+use Rattle.std.proofs.Common.{◌≡◌, ⊎_elim, ℕ, zero, suc, ◌+◌, ◌-◌, ◌<◌, ◌≤◌, ◌&&◌, Bool, true, false, List, [], ◌∷◌, ◌++◌, length, map, Option, Some, None, if◌then◌else◌, refl, sym, ap, ◌∙◌, eqb-true, arith}
 use Rattle.std.specs.List.{flat_map}
 use Rattle.std.specs.Prelude.{slice_get}
 use Rattle.std.proofs.lemmas.Bool.{and_parts, false≢true}
@@ -11,10 +11,10 @@ use Rattle.fg_groups.specs.declared.command.Command as commands
 use Rattle.fg_groups.specs.declared.grouping.Grouping.{Grouping}
 use Rattle.fg_groups.specs.declared.unit_use.Use.{Use}
 use Rattle.fg_recorder.proofs.Distinct.{used_once}
-use Rattle.fg_recorder.proofs.Entries.{entry_append, entry_left, entry_right, one_entry, entry_map, joint, IsOf, entry_of_joined}
+use Rattle.fg_recorder.proofs.Entries.{entry_append, entry_left, entry_right, one_entry, entry_map, joint, entry_of_joined}
 use Rattle.fg_recorder.specs.Items.{does_turn, items_of, release_item}
 use Rattle.fg_recorder.specs.Script.{is_command, use_needs, use_turns, is_released, use_releases, host_barrier, groups_used, does_command, block}
-use Rattle.fg_recorder.specs.Standing.{beside, side, host_item, item_by, turn_item}
+use Rattle.fg_recorder.specs.Standing.{beside, side, item_by, turn_item}
 use Rattle.fg_recorder.specs.Wanted.{is_there, wanted_release}
 use Rattle.fg_recorder.specs.declared.mark.Mark.{Mark}
 use Rattle.fg_recorder.specs.declared.mark.Mark.TheVariants.{Command, Turn as OfTurn, Release}

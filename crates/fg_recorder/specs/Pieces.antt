@@ -1,6 +1,6 @@
 -- The memories of a frame's submissions, and the pieces that its units have in them. A resource is a unit, or the buffer
 -- that an export is copied into; these are numbered after the units.
-use Rattle.std.specs.Prelude.{ℕ, List, ◌∷◌, ◌+◌, ◌&&◌, ◌||◌, nat_le, map, length, slice_index_or, slice_get, Bool, Option, Some, None, option_and_then, if◌then◌else◌}
+use Rattle.std.specs.Prelude.{ℕ, List, ◌∷◌, ◌+◌, ◌&&◌, ◌||◌, nat_le, map, length, slice_get, Bool, Option, Some, None, option_and_then, if◌then◌else◌}
 use Rattle.std.specs.List.{count_by, filter, range_with_len}
 use Rattle.fg_base.specs.Shapes.{shape_at, bytes_of}
 use Rattle.fg_frame.specs.Numbered.{NumberedFrame}
@@ -8,7 +8,7 @@ use Rattle.fg_groups.specs.Groups.{sharing_of}
 use Rattle.fg_groups.specs.Needs.{is_touched}
 use Rattle.fg_groups.specs.Placed.{is_import}
 use Rattle.fg_groups.specs.declared.grouping.Grouping.{Grouping}
-use Rattle.fg_place.specs.Placing.{Places, number_at}
+use Rattle.fg_place.specs.Placing.{number_at}
 use Rattle.fg_subs.specs.declared.program.Memory.{Memory}
 use Rattle.fg_subs.specs.declared.program.Memory.TheVariants.{Plain, Import}
 use Rattle.fg_subs.specs.declared.program.Piece.{Piece}

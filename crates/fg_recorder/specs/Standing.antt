@@ -1,5 +1,5 @@
 -- Where in the list what is recorded stands, by the steps of marks.
-use Rattle.std.specs.Prelude.{◌≡◌, ◌≢◌, ◌⊎◌, ℕ, suc, ◌+◌, ◌-◌, ◌<◌, List, length, slice_get, Bool, true, Option, Some, None}
+use Rattle.std.specs.Prelude.{◌≡◌, ◌≢◌, ◌⊎◌, ℕ, suc, ◌+◌, ◌-◌, ◌<◌, List, length, slice_get, true, Option, Some, None}
 use Rattle.std.specs.List.{flat_map}
 use Rattle.fg_base.specs.Operands.{destination_of}
 use Rattle.fg_groups.specs.Needs.{group_at}

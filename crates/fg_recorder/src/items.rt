@@ -1,12 +1,11 @@
 //! What stands round the groups of a unit, as items of its queue.
 
 ghost use Rattle.std.specs.Prelude.{◌≡◌, ◌+◌, ◌-◌, ◌<◌, ◌++◌, [], ◌∷◌, length, OnOk};
-ghost use Rattle.std.specs.List.{All};
 ghost use Rattle.fg_groups.specs.Groups.{family_of};
-ghost use Rattle.fg_groups.specs.Laws.{IsGrouped, IsKnown};
+ghost use Rattle.fg_groups.specs.Laws.{IsKnown};
 ghost use Rattle.fg_groups.specs.Needs.{group_at};
 ghost use Rattle.fg_recorder.specs.Code.Resources.{all_resources};
-ghost use Rattle.fg_recorder.specs.Code.Turned.{Stands, Enters, IsNext, entered};
+ghost use Rattle.fg_recorder.specs.Code.Turned.{Stands, Enters, entered};
 ghost use Rattle.fg_recorder.specs.Items.{both, layouts_between, barrier, transfer, init, does_turn, turn_items, items_of, release_item};
 ghost use Rattle.fg_recorder.specs.Pieces.{piece_of};
 ghost use Rattle.fg_turns.specs.Masks.{release_masks};

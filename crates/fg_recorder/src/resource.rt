@@ -2,7 +2,7 @@
 
 ghost use Rattle.std.specs.Prelude.{◌≡◌, ◌<◌, ◌≤◌, ◌||◌, ℕ, length, slice_index_or, false, IfOk};
 ghost use Rattle.std.specs.List.{All};
-ghost use Rattle.fg_groups.specs.Needs.{has_unit, is_touched};
+ghost use Rattle.fg_groups.specs.Needs.{has_unit};
 ghost use Rattle.fg_recorder.specs.Code.Resources.{AreTouched, AreFew, all_resources, next_resource, next_given};
 ghost use Rattle.fg_recorder.specs.Pieces.{has_piece, has_memory};
 

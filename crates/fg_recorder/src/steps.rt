@@ -1,6 +1,6 @@
 //! From marks to steps.
 
-ghost use Rattle.std.specs.Prelude.{◌≡◌, ◌+◌, ◌<◌, ◌^◌, length, IfOk, OnOk, slice_get, Some};
+ghost use Rattle.std.specs.Prelude.{◌≡◌, ◌+◌, ◌<◌, ◌^◌, length, IfOk, OnOk, Some};
 ghost use Rattle.fg_recorder.specs.Code.Tables.{Finds, with_step};
 ghost use Rattle.fg_recorder.specs.Marks.{steps_of};
 

@@ -1,10 +1,6 @@
 //! The groups that a command uses.
 
-ghost use Rattle.std.specs.Prelude.{◌≡◌, ◌<◌, ◌++◌, [], ◌∷◌, length, IfOk, OnOk, Some, slice_get, if◌then◌else◌};
-ghost use Rattle.std.specs.List.{All};
-ghost use Rattle.fg_groups.specs.Laws.{IsKnown};
-ghost use Rattle.fg_groups.specs.declared.command.Command.{Command};
-ghost use Rattle.fg_recorder.specs.Code.Turned.{IsUsed};
+ghost use Rattle.std.specs.Prelude.{◌≡◌, ◌<◌, ◌++◌, IfOk, OnOk};
 ghost use Rattle.fg_recorder.specs.Code.Wants.{group_by};
 ghost use Rattle.fg_recorder.specs.Script.{groups_used};
 

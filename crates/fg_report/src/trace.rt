@@ -1,7 +1,6 @@
 //! What a device did.
 
 ghost use Rattle.std.specs.Prelude.{◌≡◌, ◌++◌, OnOk, IfOk};
-ghost use Rattle.fg_report.specs.Hazards.{two_numbers};
 ghost use Rattle.fg_report.specs.Traces.{event_line, move_line, node_line, trace_text};
 
 use crate::hazard::{add_number, add_numbers};

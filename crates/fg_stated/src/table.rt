@@ -1,6 +1,6 @@
 //! An access for each piece.
 
-ghost use Rattle.std.specs.Prelude.{◌≡◌, ◌==◌, ◌&&◌, ◌<◌, ◌≤◌, length, get_or, replicate, IfOk, None};
+ghost use Rattle.std.specs.Prelude.{◌≡◌, ◌==◌, ◌&&◌, ◌<◌, length, get_or, replicate, IfOk, None};
 ghost use Rattle.fg_stated.specs.PieceStates.{changes_bytes, kind_of};
 ghost use Rattle.fg_stated.specs.Code.Tables.{PutWhere};
 

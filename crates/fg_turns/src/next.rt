@@ -2,7 +2,7 @@
 
 ghost use Rattle.std.specs.Prelude.{◌≡◌, ◌<◌, [], length};
 ghost use Rattle.fg_groups.specs.Groups.{shares};
-ghost use Rattle.fg_turns.specs.Turns.{first, last, has_uses, next_kind, turn_between};
+ghost use Rattle.fg_turns.specs.Turns.{first, next_kind, turn_between};
 
 use crate::masks::{barrier_masks, entry_masks, release_masks};
 use crate::{Turn, TurnKind};

@@ -8,7 +8,7 @@ use Rattle.clap.specs.Words.{Kinds, Row, Text, fault_of, first_of, matches_of}
 use Rattle.fg_frame.specs.Repeats.{first_repeat}
 use Rattle.fg_words.specs.CommandWords.{word_of}
 use Rattle.fg_words.specs.Commands.{HasDepth, HasNames, HasPasses, HasWorkers, IsBounded, command_in, command_of_word, command_with, flying, generating, unless_more, without_options}
-use Rattle.fg_words.specs.Given.{given_in, is_given, is_none, number_in}
+use Rattle.fg_words.specs.Given.{given_in, is_none, number_in}
 use Rattle.fg_words.specs.Lines.{framec, unless_refused, command_of}
 use Rattle.fg_words.specs.Numbers.{is_number}
 use Rattle.fg_words.specs.Persist.{all_named, are_different, if_different, persist_in}

@@ -1,5 +1,5 @@
 -- The commands, by their words and the options that they take.
-use Rattle.std.specs.Prelude.{◌≡◌, ℕ, ◌≤◌, List, length, Bool, false, Option, Some, None, unwrap_or, option_and_then, codes, if◌then◌else◌}
+use Rattle.std.specs.Prelude.{◌≡◌, ℕ, ◌≤◌, List, length, false, Option, Some, None, unwrap_or, option_and_then, codes, if◌then◌else◌}
 use Rattle.clap.specs.Words.{Row, first_of}
 use Rattle.fg_frame.specs.Repeats.{first_repeat}
 use Rattle.fg_words.specs.CommandWords.{word_of}

@@ -1,5 +1,5 @@
 -- The options of a line.
-use Rattle.std.specs.Prelude.{ℕ, ◌≤◌, List, Bool, ◌||◌, not, false, Option, Some, None, IfSome, is_some, option_map, option_and_then, codes}
+use Rattle.std.specs.Prelude.{ℕ, List, Bool, ◌||◌, not, false, Option, Some, None, is_some, option_map, option_and_then, codes}
 use Rattle.std.specs.Option.{option_map_or}
 use Rattle.std.specs.Str.{bytes_eq}
 use Rattle.clap.specs.Words.{Row, first_of}

@@ -1,6 +1,6 @@
 //! A command begins.
 
-ghost use Rattle.std.specs.Prelude.{◌≡◌, ◌<◌, ◌^◌, [], ◌∷◌, length, map, true, false, if◌then◌else◌, IfOk, OnErr, replicate};
+ghost use Rattle.std.specs.Prelude.{◌≡◌, ◌<◌, ◌^◌, [], ◌∷◌, length, map, true, if◌then◌else◌, IfOk, OnErr, replicate};
 ghost use Rattle.std.specs.Arc.{arc_value};
 ghost use Rattle.fg_base.specs.Shapes.{bytes_of};
 ghost use Rattle.fg_base.specs.declared.event.Event.TheVariants as events;
@@ -15,7 +15,7 @@ ghost use Rattle.fg_steps.specs.Outputs.{no_old};
 ghost use Rattle.fg_steps.specs.Ready.{is_command, kind_at};
 ghost use Rattle.fg_steps.specs.Steps.{taken};
 ghost use Rattle.fg_view.specs.ShapedView.{Has};
-ghost use Rattle.fg_view.specs.Views.{view_of, loads_of};
+ghost use Rattle.fg_view.specs.Views.{loads_of};
 
 use super::Device;
 use crate::agents::{agent_of, store_of};

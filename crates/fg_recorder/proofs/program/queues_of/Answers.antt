@@ -1,4 +1,4 @@
-use Rattle.std.proofs.Common.{◌≡◌, ◌∙◌, List, length, sym, ap, ap₂, subst, refl, arith}
+use Rattle.std.proofs.Common.{◌∙◌, List, length, sym, ap, ap₂, subst, refl, arith}
 use Rattle.fg_base.specs.declared.shape.Family.{Family}
 use Rattle.fg_recorder.proofs.program.queues_of.Goals as goal
 use Rattle.fg_timeline.specs.Batches.{queues}

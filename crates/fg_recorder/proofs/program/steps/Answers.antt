@@ -1,4 +1,4 @@
-use Rattle.std.proofs.Common.{◌≡◌, ◌∙◌, ◌<◌, ◌^◌, List, length, sym, ap, subst}
+use Rattle.std.proofs.Common.{◌∙◌, ◌<◌, ◌^◌, List, length, sym, ap, subst}
 use Rattle.fg_recorder.proofs.Compiling.{steps_are}
 use Rattle.fg_recorder.proofs.Lengths.{few_steps}
 use Rattle.fg_recorder.proofs.Scripted.{is_script}

@@ -1,4 +1,4 @@
-use Rattle.std.proofs.Common.{◌∙◌, length, ap, arith}
+use Rattle.std.proofs.Common.{◌∙◌, ap, arith}
 use Rattle.fg_frame.specs.Numbered.{numbered}
 use Rattle.fg_place.specs.Pairs.{has}
 use Rattle.fg_recorder.proofs.Compiling.{program_is}
