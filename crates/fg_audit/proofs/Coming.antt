@@ -5,9 +5,10 @@ use Rattle.std.proofs.Math.Seq.{take-length, drop-length}
 use Rattle.std.proofs.lemmas.List.{get_or_default}
 use Rattle.std.proofs.lemmas.Option.{slice_get-get_or}
 use Rattle.fg_audit.specs.Code.Following.{at_place, came, goes, Follows}
-use Rattle.fg_audit.specs.Runs.{is_enabled, left_by, is_enabled_at, AreEnabled, IsFirstStray}
+use Rattle.fg_audit.specs.Runs.{IsFirstStray}
 use Rattle.fg_audit.specs.Verdicts.{ran}
 use Rattle.fg_base.specs.declared.event.Event.{Event}
+use Rattle.fg_steps.specs.Coming.{is_enabled, left_by, is_enabled_at, AreEnabled}
 use Rattle.fg_steps.specs.Devices.{Device, state_of, fresh}
 use Rattle.fg_steps.specs.Histories.{is_move, moves_in}
 use Rattle.fg_subs.specs.declared.program.Program.{Program}
@@ -19,8 +20,8 @@ module _ (program : Program) (events : List Event) where
   pub at_end : at_place program events (length events) ≡ ran program events
   at_end = ap₂ (λ h m. record { program = program; fill = 0; history = h; moves = m }) (take-length events) (ap (λ l. length (moves_in l)) (drop-length events))
 
-  pub state_at : (k : ℕ) → state_of (at_place program events k) ≡ left_by program (take k events)
-  unfolding state_of left_by
+  pub state_at : (k : ℕ) → state_of (at_place program events k) ≡ left_by program 0 (take k events)
+  unfolding state_of
   state_at k = refl
 
   module _ (k : ℕ) (event : Event) (lt : k < length events) (is : get_or events k event ≡ event) where
@@ -33,8 +34,8 @@ module _ (program : Program) (events : List Event) where
     longer : take (k + 1) events ≡ take k events ++ event ∷ []
     longer = ap (λ j. take j events) (let e : k + 1 ≡ suc k = omega arith in e) ∙ take-suc events k event lt ∙ ap (λ e. take k events ++ e ∷ []) is
 
-    pub goes_here : goes (at_place program events k) event ≡ is_enabled_at program events k
-    goes_here = ap (λ s. is_enabled program s event) (state_at k) ∙ sym (ap (λ e. option_map_or (is_enabled program (left_by program (take k events))) e false) got)
+    pub goes_here : goes (at_place program events k) event ≡ is_enabled_at program 0 events k
+    goes_here = ap (λ s. is_enabled program s event) (state_at k) ∙ sym (ap (λ e. option_map_or (is_enabled program (left_by program 0 (take k events))) e false) got)
 
     -- room for a cache move
     pub some_left : is_move event ≡ true → 0 < (at_place program events k).moves
@@ -55,18 +56,18 @@ module _ (program : Program) (events : List Event) where
       pub next_place : made ≡ true → new ≡ at_place program events (k + 1)
       next_place went = follows.effect ∙ ap (λ (b : Bool). if b then came (at_place program events k) event else at_place program events k) went ∙ came_next
 
-      pub enabled_next : made ≡ true → AreEnabled program events k → AreEnabled program events (k + 1)
+      pub enabled_next : made ≡ true → AreEnabled program 0 events k → AreEnabled program 0 events (k + 1)
       enabled_next went so_far j small = ⊎_elim
-          (λ same. subst (λ i. is_enabled_at program events i ≡ true) (sym same) (sym goes_here ∙ sym follows.enabled ∙ went))
+          (λ same. subst (λ i. is_enabled_at program 0 events i ≡ true) (sym same) (sym goes_here ∙ sym follows.enabled ∙ went))
           (λ earlier. so_far j earlier)
           (eq-or-lt_of_le (omega (arith, small)))
 
       -- it cannot come
-      pub first_stray : made ≡ false → AreEnabled program events k → IsFirstStray program events k
+      pub first_stray : made ≡ false → AreEnabled program 0 events k → IsFirstStray program events k
       first_stray not so_far = record { there = lt; before = so_far; stray = sym goes_here ∙ sym follows.enabled ∙ not }
 
 -- the event in its place is made, or not
-module _ (program : Program) (events : List Event) (k : ℕ) (lt : k < length events) (d : Event) (old new : Device) (made : Bool) (place : old ≡ at_place program events k) (follows : Follows old new (get_or events k d) made) (so_far : AreEnabled program events k) where
+module _ (program : Program) (events : List Event) (k : ℕ) (lt : k < length events) (d : Event) (old new : Device) (made : Bool) (place : old ≡ at_place program events k) (follows : Follows old new (get_or events k d) made) (so_far : AreEnabled program 0 events k) where
   abbrev event : Event
   event = get_or events k d
 
@@ -79,7 +80,7 @@ module _ (program : Program) (events : List Event) (k : ℕ) (lt : k < length ev
   pub placed : made ≡ true → new ≡ at_place program events (k + 1)
   placed went = next_place program events k event lt own new made here went
 
-  pub enabled_on : made ≡ true → AreEnabled program events (k + 1)
+  pub enabled_on : made ≡ true → AreEnabled program 0 events (k + 1)
   enabled_on went = enabled_next program events k event lt own new made here went so_far
 
   pub strays : made ≡ false → IsFirstStray program events k

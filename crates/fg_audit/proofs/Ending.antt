@@ -5,11 +5,11 @@ use Rattle.std.proofs.lemmas.Bool.{and_parts}
 use Rattle.std.proofs.lemmas.List.Folds.{list_any-append}
 use Rattle.std.proofs.lemmas.Option.{slice_get-get_or}
 use Rattle.fg_audit.specs.Code.Following.{ends, is_ended}
-use Rattle.fg_audit.specs.Runs.{is_enabled, left_by, is_enabled_at, AreEnabled}
 use Rattle.fg_audit.specs.Verdicts.{ran}
 use Rattle.fg_base.specs.declared.event.Event.{Event}
 use Rattle.fg_base.specs.declared.event.Event.TheVariants.{Begin, End, Sync, WriteBack, Fill, DropLine, Host}
 use Rattle.fg_caches.specs.Lines.{range}
+use Rattle.fg_steps.specs.Coming.{is_enabled, left_by, is_enabled_at, AreEnabled}
 use Rattle.fg_steps.specs.Devices.{state_of}
 use Rattle.fg_steps.specs.Ready.{is_command, kind_at, ready}
 use Rattle.fg_steps.specs.States.{is_done, State}
@@ -59,37 +59,26 @@ module _ (program : Program) (s : State) (junk : List ℕ) (n : ℕ) where
 
 -- ALL EVENTS
 
-module _ (program : Program) (events : List Event) where
-  abbrev event_at : ℕ → Event
-  event_at k = get_or events k (Begin 0)
-
-  pub left_is : state_of (ran program events) ≡ left_by program events
-  unfolding state_of left_by
-  left_is = refl
-
-pub left_more : (program : Program) (events : List Event) (event : Event) → left_by program (events ++ event ∷ []) ≡ step program (left_by program events) event (0 ∷ [])
-left_more program events event =
-    sym (left_is program (events ++ event ∷ []))
-    ∙ steps_on (ran program events) event
-    ∙ ap (λ s. step program s event (0 ∷ [])) (left_is program events)
+pub left_more : (program : Program) (events : List Event) (event : Event) → left_by program 0 (events ++ event ∷ []) ≡ step program (left_by program 0 events) event (0 ∷ [])
+left_more program events event = steps_on (ran program events) event
 
 module _ (program : Program) (events : List Event) where
   abbrev before : ℕ → List Event
   before k = take k events
 
-  came_at : (k : ℕ) → k < length events → is_enabled_at program events k ≡ true → is_enabled program (left_by program (before k)) (get_or events k (Begin 0)) ≡ true
-  came_at k lt may = sym (ap (λ e. option_map_or (is_enabled program (left_by program (before k))) e false) (slice_get-get_or events k (Begin 0) lt)) ∙ may
+  came_at : (k : ℕ) → k < length events → is_enabled_at program 0 events k ≡ true → is_enabled program (left_by program 0 (before k)) (get_or events k (Begin 0)) ≡ true
+  came_at k lt may = sym (ap (λ e. option_map_or (is_enabled program (left_by program 0 (before k))) e false) (slice_get-get_or events k (Begin 0) lt)) ∙ may
 
-  pub ended_at : (k : ℕ) → k ≤ length events → AreEnabled program events k → (n : ℕ) → is_done ((left_by program (before k)).phase n) ≡ is_ended (before k) n
-  unfolding left_by
+  pub ended_at : (k : ℕ) → k ≤ length events → AreEnabled program 0 events k → (n : ℕ) → is_done ((left_by program 0 (before k)).phase n) ≡ is_ended (before k) n
+  unfolding state_of
   ended_at zero le may n = refl
   ended_at (suc k) le may n =
       let lt : k < length events = omega (arith, le) in
       let event = get_or events k (Begin 0) in
       let longer = take-suc events k (Begin 0) lt in
-      ap (λ l. is_done ((left_by program l).phase n)) longer
+      ap (λ l. is_done ((left_by program 0 l).phase n)) longer
       ∙ ap (λ s. is_done (s.phase n)) (left_more program (before k) event)
-      ∙ step_ends program (left_by program (before k)) (0 ∷ []) n event (came_at k lt (may k (omega arith)))
+      ∙ step_ends program (left_by program 0 (before k)) (0 ∷ []) n event (came_at k lt (may k (omega arith)))
       ∙ ap (λ b. b || ends n event) (ended_at k (omega (arith, le)) (λ j small. may j (omega (arith, small))) n)
       ∙ ap (λ b. is_ended (before k) n || b) (or_false (ends n event))
       ∙ sym (list_any-append (ends n) (before k) (event ∷ []))

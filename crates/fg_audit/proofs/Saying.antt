@@ -3,12 +3,13 @@ use Rattle.std.proofs.Common.{◌≡◌, ◌⊎◌, inl, inr, ◌↔◌, ℕ, �
 use Rattle.std.proofs.Math.Seq.{take-length}
 use Rattle.std.proofs.lemmas.Bool.{cases_order, false≢true}
 use Rattle.fg_audit.specs.Code.Following.{is_ended, AreEnded, IsLeastUnended}
-use Rattle.fg_audit.specs.Runs.{left_by, AreEnabled, IsRun, IsFirstStray, IsLeastUndone}
+use Rattle.fg_audit.specs.Runs.{IsRun, IsFirstStray, IsLeastUndone}
 use Rattle.fg_audit.specs.Verdicts.{is_run, ran, AllReadApart, IfRun, IsRunOn, Says}
 use Rattle.fg_audit.specs.declared.verdict.Verdict.{Verdict}
 use Rattle.fg_audit.specs.declared.verdict.Verdict.TheVariants.{Run, NotEnabled, Unfinished}
-use Rattle.fg_audit.proofs.Ending.{ended_at, left_is}
+use Rattle.fg_audit.proofs.Ending.{ended_at}
 use Rattle.fg_base.specs.declared.event.Event.{Event}
+use Rattle.fg_steps.specs.Coming.{left_by, AreEnabled}
 use Rattle.fg_steps.specs.Devices.{Device, IsComplete}
 use Rattle.fg_steps.specs.Laws.{AllDone}
 use Rattle.fg_steps.specs.Runs.{Runs}
@@ -35,10 +36,10 @@ module _ (program : Program) (events : List Event) where
       by (inl e) = e
       by (inr (inr gt)) = absurd (false≢true (sym y.undone ∙ x.least b gt))
 
-  no_stray : AreEnabled program events (length events) → (at : ℕ) → IsFirstStray program events at → ⊥
+  no_stray : AreEnabled program 0 events (length events) → (at : ℕ) → IsFirstStray program events at → ⊥
   no_stray all at x = false≢true (sym x.stray ∙ all at x.there)
 
-  no_undone : AllDone (view_of program) (left_by program events) → (node : ℕ) → IsLeastUndone program events node → ⊥
+  no_undone : AllDone (view_of program) (left_by program 0 events) → (node : ℕ) → IsLeastUndone program events node → ⊥
   no_undone all node x = false≢true (sym x.undone ∙ all node x.there)
 
   pub only : (a b : Verdict) → Says program events a → Says program events b → b ≡ a
@@ -58,7 +59,7 @@ module _ (program : Program) (events : List Event) where
   run_says (Unfinished node) x = ((λ is. absurd (false≢true is)), (λ run. absurd (no_undone run.complete node x)))
 
   run_complete : IsRun program events → IsComplete (ran program events)
-  run_complete run = subst (λ s. AllDone (view_of program) s) (sym (left_is program events)) run.complete
+  run_complete run = run.complete
 
   pub complete : (verdict : Verdict) → Says program events verdict → IfRun IsComplete verdict
   complete (Run d) x = subst IsComplete (sym x.same) (run_complete x.run)
@@ -72,10 +73,10 @@ module _ (program : Program) (events : List Event) where
 
 -- WHERE ALL EVENTS HAVE COME
 
-module _ (program : Program) (events : List Event) (may : AreEnabled program events (length events)) where
-  done_is : (n : ℕ) → is_done ((left_by program events).phase n) ≡ is_ended events n
+module _ (program : Program) (events : List Event) (may : AreEnabled program 0 events (length events)) where
+  done_is : (n : ℕ) → is_done ((left_by program 0 events).phase n) ≡ is_ended events n
   done_is n =
-      ap (λ l. is_done ((left_by program l).phase n)) (sym (take-length events))
+      ap (λ l. is_done ((left_by program 0 l).phase n)) (sym (take-length events))
       ∙ ended_at program events (length events) (omega arith) may n
       ∙ ap (λ l. is_ended l n) (take-length events)
 

@@ -2,7 +2,8 @@
 
 ghost use Rattle.std.specs.Prelude.{◌≡◌, ◌≤◌, ◌<◌, ◌^◌, length, IfOk, IfSome, IfNone};
 ghost use Rattle.fg_audit.specs.Code.Following.{at_place};
-ghost use Rattle.fg_audit.specs.Runs.{AreEnabled, IsFirstStray};
+ghost use Rattle.fg_audit.specs.Runs.{IsFirstStray};
+ghost use Rattle.fg_steps.specs.Coming.{AreEnabled};
 ghost use Rattle.fg_steps.specs.Histories.{is_move, moves_in};
 
 use crate::follower::Follower;
@@ -38,7 +39,7 @@ pub(crate) fn follow_all<R: Threads + Sync>(
     requires few { length events.now ≤ 65536 }
     requires start { follower.old ≡ at_place follower.old.program events.now 0 }
     ensures stray { IfOk result (λ end. IfSome end (IsFirstStray follower.old.program events.now)) }
-    ensures enabled { IfOk result (λ end. IfNone end (AreEnabled follower.old.program events.now (length events.now))) }
+    ensures enabled { IfOk result (λ end. IfNone end (AreEnabled follower.old.program 0 events.now (length events.now))) }
     ensures all { IfOk result (λ end. IfNone end (follower.new ≡ at_place follower.old.program events.now (length events.now))) }
 {
     for (at, event) in events.iter().enumerate() {

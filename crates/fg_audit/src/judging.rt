@@ -1,7 +1,8 @@
 //! A trace is judged.
 
 ghost use Rattle.std.specs.Prelude.{◌≡◌, ◌≤◌, ◌↔◌, length, IfOk, IsTrue};
-ghost use Rattle.fg_audit.specs.Runs.{AreEnabled, IsRun};
+ghost use Rattle.fg_audit.specs.Runs.{IsRun};
+ghost use Rattle.fg_steps.specs.Coming.{AreEnabled};
 ghost use Rattle.fg_audit.specs.Verdicts.{is_run, ran, AllReadApart, IfRun, Says};
 ghost use Rattle.fg_audit.specs.declared.verdict.Verdict.{Verdict};
 ghost use Rattle.fg_steps.specs.Devices.{IsComplete};
@@ -25,7 +26,7 @@ fn ended(
     device: Device,
     events: &[Event],
 ) -> Result<Verdict, NoMemory>
-    requires enabled { AreEnabled program.now.program events.now (length events.now) }
+    requires enabled { AreEnabled program.now.program 0 events.now (length events.now) }
     requires program { device.program ≡ program.now.program }
     requires device { IsComplete (ran program.now.program events.now) → device ≡ ran program.now.program events.now }
     ensures { IfOk result (Says program.now.program events.now) }

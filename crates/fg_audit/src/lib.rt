@@ -16,7 +16,7 @@ mod undone;
 mod verdict;
 
 pub use judging::audit;
-pub use law::trace_law;
+pub use law::{run_law, trace_law};
 pub use recording::{Recording, recording_in};
 pub use trace::{TraceEnd, read_trace};
 pub use verdict::Verdict;

@@ -10,12 +10,13 @@ use Rattle.fg_device.specs.Code.Parts.{HasState, HasRoom}
 use Rattle.fg_device.specs.Code.Tables.{FitsProgram}
 use Rattle.fg_device.specs.declared.device.Device.TheInside.{Inside}
 use Rattle.fg_device.specs.declared.held.Held.{Held}
+use Rattle.fg_steps.specs.Coming.{AreEnabled}
 use Rattle.fg_steps.specs.Devices.{state_of}
 use Rattle.fg_steps.specs.States.{State}
 
 module _ (i : Inside) (K : IsKept i) (control : Control) (table : Table) (held : Vec (Option Held) Global) (reads : Vec (List ℕ) Global) (history : Vec Event Global) (moves : ℕ) where
-  pub kept_with : control.view ≡ i.control.view → length held.items ≡ length i.held.items → FitsProgram table (arc_value i.program) i.fill → (r : State) → state_of (device_in (record i { control = control; table = table; held = held; reads = reads; history = history; moves = moves })) ≡ r → HasState (arc_value i.program) control table held.items reads.items r → HasRoom (arc_value i.program) r moves table.cuts_left table.stores_left (vec_len history) (vec_capacity history) → IsKept (record i { control = control; table = table; held = held; reads = reads; history = history; moves = moves })
-  kept_with view places fits r is has room = record {
+  pub kept_with : control.view ≡ i.control.view → length held.items ≡ length i.held.items → FitsProgram table (arc_value i.program) i.fill → (r : State) → state_of (device_in (record i { control = control; table = table; held = held; reads = reads; history = history; moves = moves })) ≡ r → HasState (arc_value i.program) control table held.items reads.items r → HasRoom (arc_value i.program) r moves table.cuts_left table.stores_left (vec_len history) (vec_capacity history) → AreEnabled (arc_value i.program) i.fill history.items (length history.items) → IsKept (record i { control = control; table = table; held = held; reads = reads; history = history; moves = moves })
+  kept_with view places fits r is has room came = record {
     faultless = K.faultless;
     sound = K.sound;
     small = K.small;
@@ -25,5 +26,6 @@ module _ (i : Inside) (K : IsKept i) (control : Control) (table : Table) (held :
     places = places ∙ K.places;
     table = fits;
     state = subst (HasState (arc_value i.program) control table held.items reads.items) (sym is) has;
+    came = came;
     room = subst (λ (z : State). HasRoom (arc_value i.program) z moves table.cuts_left table.stores_left (vec_len history) (vec_capacity history)) (sym is) room;
   }

@@ -2,6 +2,7 @@
 use Rattle.std.proofs.Common.{◌≡◌, ◌∙◌, ℕ, ◌+◌, ◌-◌, ◌<◌, ◌≤◌, List, [], ◌∷◌, ◌++◌, length, map, get_or, slice_get, slice_set, true, false, Option, Some, None, Vec, Global, vec_len, refl, sym, ap, subst, arith}
 use Rattle.std.specs.Arc.{arc_value}
 use Rattle.std.specs.Prelude.{vec_capacity}
+use Rattle.std.proofs.lemmas.Bool.{and_from}
 use Rattle.std.proofs.lemmas.List.{length-set}
 use Rattle.std.proofs.lemmas.Option.{slice_get-get_or, slice_get_within}
 use Rattle.fg_base.specs.declared.event.Event.{Event}
@@ -95,7 +96,7 @@ module _ (i : Inside) (K : IsKept i) (n : ℕ) (next : Control) (view : next.vie
       let queue : queue_at V n < length V.families = slice_get_within V.families (queue_at V n) family.0 family.1 in
       let long : (k : ℕ) (a : Access) → k < length list → (piece_range V (get_or list k a).piece).len ≤ length junk = λ k a lt. K.table.cuts.junk (get_or list k a).piece (shape.known n k (get_or list k a) (slice_get-get_or list k a lt)) in
       let bytes : HasBytes program (caches_of table) r = subst (λ (z : Caches). HasBytes program z r) (sym caches) (synced_bytes program n i.fill junk K.table.junk queue long s (caches_of i.table) K.state.bytes) in
-      kept_event i (Sync n) r K ((goes (device_in i) n).syncs M.kind M.ready) next table i.held i.reads history items view refl (still_fits i.table table program i.fill stays.keeps K.table)
+      kept_event i (Sync n) r K ((goes (device_in i) n).syncs M.kind M.ready) next table i.held i.reads history items (and_from _ _ M.kind M.ready) view refl (still_fits i.table table program i.fill stays.keeps K.table)
       (events.syncs program i.control next i.table table i.held.items i.reads.items s K.state n (i.fill ∷ []) K.view agrees R.fresh not_host bytes)
       (events.room_done program s i.moves i.table.cuts_left i.table.stores_left _ _ K.room n R.inside r table.cuts_left table.stores_left _ _ R.idle (λ k. refl) stays.cuts stays.stores longer capacity)
 
@@ -103,7 +104,7 @@ module _ (i : Inside) (K : IsKept i) (n : ℕ) (next : Control) (view : next.vie
   pub kept_host : IsReady i n → is_host (kind_at (view_of (arc_value i.program)) n) ≡ true → (reads : Vec (List ℕ) Global) → HasState (arc_value i.program) next i.table i.held.items reads.items (hosted (view_of (arc_value i.program)) (state_of (device_in i)) n (i.fill ∷ [])) → history.items ≡ i.history.items ++ Host n ∷ [] → IsKept (record i { control = next; reads = reads; history = history })
   kept_host R host reads has items =
       let r = hosted (view_of (arc_value i.program)) (state_of (device_in i)) n (i.fill ∷ []) in
-      kept_event i (Host n) r K ((goes (device_in i) n).reads host R.ready) next i.table i.held reads history items view refl K.table has
+      kept_event i (Host n) r K ((goes (device_in i) n).reads host R.ready) next i.table i.held reads history items (and_from _ _ host R.ready) view refl K.table has
       (events.room_done (arc_value i.program) (state_of (device_in i)) i.moves i.table.cuts_left i.table.stores_left _ _ K.room n R.inside r i.table.cuts_left i.table.stores_left _ _ R.idle (λ k. refl) (omega arith) refl longer capacity)
 
   -- a begun command stores
@@ -119,7 +120,7 @@ module _ (i : Inside) (K : IsKept i) (n : ℕ) (next : Control) (view : next.vie
       put
       ∙ ap (λ (v : View). effects.put (agent_of (store_of v n).kind) (piece_range v (store_of v n).piece) bytes old) (same ∙ K.view)
       ∙ ap (λ (bytes : List ℕ). effects.put (agent_of (store_of V n).kind) (piece_range V (store_of V n).piece) bytes old) stored in
-      kept_event i (End n) r K ((goes (device_in i) n).ends (begun_in i K n begun)) next table held i.reads history items view (ap length rest ∙ length-set i.held.items n None) (still_fits i.table table program i.fill keeps K.table)
+      kept_event i (End n) r K ((goes (device_in i) n).ends (begun_in i K n begun)) next table held i.reads history items (begun_in i K n begun) view (ap length rest ∙ length-set i.held.items n None) (still_fits i.table table program i.fill keeps K.table)
       (subst (λ held. HasState program next table held i.reads.items r) (sym rest) (events.ends program i.control next i.table table i.held.items i.reads.items s K.state n all K.view agrees (held_there i K n begun) (is_no_read i K n begun h is) put_all))
       (events.room_ended program s i.moves i.table.cuts_left i.table.stores_left _ _ K.room n (node_there i K n begun) r table.cuts_left table.stores_left _ _ (phase_is i K n begun) (λ k. refl) cuts stores longer capacity)
 
@@ -162,6 +163,6 @@ module _ (i : Inside) (K : IsKept i) {d : Device} (same : device_in i ≡ d) (n 
           room = takes_here.room;
           runs = λ op at. subst (IsRunnable (shapes_of program) op) (sym takes_here.loaded) (loads_run program K.obeys n R.inside here.kind op at s junk);
         } in
-        kept_event i (Begin n) r K begins next i.table held i.reads history items view (ap length put ∙ length-set i.held.items n (Some h)) K.table
+        kept_event i (Begin n) r K begins next i.table held i.reads history items (and_from _ _ here.kind here.ready) view (ap length put ∙ length-set i.held.items n (Some h)) K.table
         (subst (λ held. HasState program next i.table held i.reads.items r) (sym put) (events.begins program i.control next i.table i.held.items i.reads.items s K.state n junk K.view agrees h (omega (arith, R.inside, K.places)) (command_no_read (device_in i) n here.ready here.kind) is_held))
         (events.room_begun program s i.moves i.table.cuts_left i.table.stores_left _ _ K.room n R.inside r i.table.cuts_left _ _ R.idle (λ k. refl) (omega arith) longer capacity)

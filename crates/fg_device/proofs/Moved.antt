@@ -18,6 +18,8 @@ use Rattle.fg_device.proofs.SeenBytes as seen
 use Rattle.fg_device.specs.Code.Kept.{device_in, IsKept}
 use Rattle.fg_device.specs.Code.Tables.{memory_size, HasBytes}
 use Rattle.fg_device.specs.declared.device.Device.TheInside.{Inside}
+use Rattle.fg_steps.proofs.Coming.{came_more}
+use Rattle.fg_steps.specs.Coming.{is_enabled, AreEnabled}
 use Rattle.fg_steps.specs.Devices.{Device, state_of}
 use Rattle.fg_steps.specs.Histories.{moved}
 use Rattle.fg_steps.specs.Moves.{MovesBy}
@@ -73,8 +75,8 @@ module _ (i : Inside) (K : IsKept i) {d : Device} (same : device_in i ≡ d) (ag
 
   module _ (u : Table) (keeps : Keeps i.table u) (cuts : i.table.cuts_left ≤ u.cuts_left + missing i.table memory start len) (stores : u.stores_left ≡ i.table.stores_left) (h : Vec Event Global) (longer : vec_len h ≡ vec_len i.history + 1) (capacity : vec_capacity h ≡ vec_capacity i.history) where
     -- main and lines alone are others
-    kept_by : (event : Event) (main : ℕ → ℕ → ℕ) (lines : ℕ → ℕ → ℕ → Line) (c : Caches) → (let r : State = record (state_of (device_in i)) { main = main; line = lines } in state_of (moved (device_in i) event) ≡ r → HasBytes (arc_value i.program) c r → caches_of u ≡ c → h.items ≡ i.history.items ++ event ∷ [] → IsKept (record i { table = u; history = h; moves = i.moves - 1 }))
-    kept_by event main lines c is bytes made items =
+    kept_by : (event : Event) → is_enabled (arc_value i.program) (state_of (device_in i)) event ≡ true → (main : ℕ → ℕ → ℕ) (lines : ℕ → ℕ → ℕ → Line) (c : Caches) → (let r : State = record (state_of (device_in i)) { main = main; line = lines } in state_of (moved (device_in i) event) ≡ r → HasBytes (arc_value i.program) c r → caches_of u ≡ c → h.items ≡ i.history.items ++ event ∷ [] → IsKept (record i { table = u; history = h; moves = i.moves - 1 }))
+    kept_by event goes main lines c is bytes made items =
         let program = arc_value i.program in
         let s = state_of (device_in i) in
         let r : State = record s { main = main; line = lines } in
@@ -82,6 +84,7 @@ module _ (i : Inside) (K : IsKept i) {d : Device} (same : device_in i ≡ d) (ag
         (ap (λ (history : List Event). state_of (record { program = program; fill = i.fill; history = history; moves = i.moves - 1 })) items ∙ is)
         (moves program i.control i.table u i.held.items i.reads.items s r K.state (agrees_still i.control s main lines K.state.agrees) (subst (λ (c : Caches). HasBytes program c r) (sym made) bytes) (λ n. refl) (λ n. refl) (λ n. refl))
         (room_moved program s r i.moves i.table.cuts_left i.table.stores_left (vec_len i.history) (vec_capacity i.history) u.cuts_left u.stores_left (vec_len h) (vec_capacity h) K.room asked.some (λ n. refl) (omega (arith, cuts, missing_le i.table memory start len)) stores longer capacity)
+        (subst (λ (events : List Event). AreEnabled program i.fill events (length events)) (sym items) (came_more (device_in i) event K.came goes))
 
     -- each kind of move
     module _ (laws : (d : Device) (agent memory start len : ℕ) → MovesBy d agent memory start len) where
@@ -89,16 +92,16 @@ module _ (i : Inside) (K : IsKept i) {d : Device} (same : device_in i ≡ d) (ag
       kept_write_back made items =
           let r = range memory start len in
           let after = written_back (state_of (device_in i)) agent r in
-          kept_by (WriteBack agent memory start len) after.main after.line (write_back agent r (caches_of i.table)) ((laws (device_in i) agent memory start len).writes_back asked.may) (seen.writes_back (arc_value i.program) (caches_of i.table) (state_of (device_in i)) K.state.bytes agent r) made items
+          kept_by (WriteBack agent memory start len) asked.may after.main after.line (write_back agent r (caches_of i.table)) ((laws (device_in i) agent memory start len).writes_back asked.may) (seen.writes_back (arc_value i.program) (caches_of i.table) (state_of (device_in i)) K.state.bytes agent r) made items
 
       pub kept_fill : caches_of u ≡ fill agent (range memory start len) (caches_of i.table) → h.items ≡ i.history.items ++ Fill agent memory start len ∷ [] → IsKept (record i { table = u; history = h; moves = i.moves - 1 })
       kept_fill made items =
           let r = range memory start len in
           let after = lines_filled (state_of (device_in i)) agent r in
-          kept_by (Fill agent memory start len) after.main after.line (fill agent r (caches_of i.table)) ((laws (device_in i) agent memory start len).fills asked.may) (seen.fills (arc_value i.program) (caches_of i.table) (state_of (device_in i)) K.state.bytes agent r asked.move.within) made items
+          kept_by (Fill agent memory start len) asked.may after.main after.line (fill agent r (caches_of i.table)) ((laws (device_in i) agent memory start len).fills asked.may) (seen.fills (arc_value i.program) (caches_of i.table) (state_of (device_in i)) K.state.bytes agent r asked.move.within) made items
 
       pub kept_drop : caches_of u ≡ drop_clean agent (range memory start len) (caches_of i.table) → h.items ≡ i.history.items ++ DropLine agent memory start len ∷ [] → IsKept (record i { table = u; history = h; moves = i.moves - 1 })
       kept_drop made items =
           let r = range memory start len in
           let after = lines_dropped (state_of (device_in i)) agent r in
-          kept_by (DropLine agent memory start len) after.main after.line (drop_clean agent r (caches_of i.table)) ((laws (device_in i) agent memory start len).drops asked.may) (seen.drops (arc_value i.program) (caches_of i.table) (state_of (device_in i)) K.state.bytes agent r) made items
+          kept_by (DropLine agent memory start len) asked.may after.main after.line (drop_clean agent r (caches_of i.table)) ((laws (device_in i) agent memory start len).drops asked.may) (seen.drops (arc_value i.program) (caches_of i.table) (state_of (device_in i)) K.state.bytes agent r) made items

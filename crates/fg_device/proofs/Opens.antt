@@ -17,6 +17,7 @@ use Rattle.fg_device.specs.Code.Opened.{opened_memory, room_of}
 use Rattle.fg_device.specs.Code.Parts.{HasState, HasRoom, node_count}
 use Rattle.fg_device.specs.Code.Tables.{FitsProgram}
 use Rattle.fg_device.specs.declared.device.Device.TheInside.{Inside}
+use Rattle.fg_steps.specs.Coming.{AreEnabled}
 use Rattle.fg_steps.specs.Devices.{opening, state_of, fresh}
 use Rattle.fg_steps.specs.States.{State, opened}
 use Rattle.fg_subs.specs.Entries.{entries_of}
@@ -43,5 +44,6 @@ module _ (i : Inside) (count : ℕ) (history : i.history.items ≡ []) (opens : 
         places = ap length held ∙ length-replicate count None ∙ many;
         table = fits;
         state = subst (HasState program i.control i.table i.held.items i.reads.items) (sym state_is) (opens_state program i.fill i.control i.table i.held.items i.reads.items (agrees (opening program i.fill)) bytes (λ n. ap (λ list. held_at list n) held ∙ none_at count n) reads);
+        came = subst (λ (h : List Event). AreEnabled program i.fill h (length h)) (sym history) (λ k lt. absurd (omega (arith, lt)));
         room = subst (λ (s : State). HasRoom program s i.moves i.table.cuts_left i.table.stores_left (vec_len i.history) (vec_capacity i.history)) (sym state_is) (opens_room program i.fill i.moves i.table.cuts_left i.table.stores_left (vec_len i.history) (vec_capacity i.history) cuts (stores ∙ many) (omega (arith, room, many)));
       }

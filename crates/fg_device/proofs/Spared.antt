@@ -29,3 +29,4 @@ kept_table i K table bytes keeps cuts stores =
       for_stores = subst (λ (n : ℕ). left_of stores_left s.phase (node_count program) ≤ n) (sym stores) K.room.for_stores;
       for_events = K.room.for_events;
     })
+    K.came

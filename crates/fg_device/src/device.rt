@@ -6,9 +6,10 @@ mod moving;
 mod reading;
 mod syncs;
 
-ghost use Rattle.std.specs.Prelude.{◌≡◌, ◌↔◌, ◌<◌, length, true, false, IsTrue, IfSome, IfNone, IfOk, get_or};
+ghost use Rattle.std.specs.Prelude.{◌≡◌, ◌↔◌, ◌<◌, length, true, false, IsTrue, IfSome, IfNone, IfOk};
 ghost use Rattle.std.specs.Arc.{arc_value};
 ghost use Rattle.fg_checker.specs.Sound.{IsSound};
+ghost use Rattle.fg_steps.specs.Coming.{AllCame};
 ghost use Rattle.fg_steps.specs.Devices.{fresh, view_in, state_of, is_ready, IsNext, NoneReady, NeverStands, IsComplete, ReadsApart};
 ghost use Rattle.fg_steps.specs.Ready.{kind_at, read_node};
 ghost use Rattle.fg_steps.specs.States.{is_done};
@@ -213,9 +214,10 @@ impl Device {
         self.control.counter(queue)
     }
 
-    /// What has happened.
+    /// What has happened. Each event could come in its turn.
     pub fn history(&self) -> &[Event]
-        ensures { result.now ≡ self.now.history }
+        ensures history { result.now ≡ self.now.history }
+        ensures came { AllCame self.now }
     {
         &self.history
     }

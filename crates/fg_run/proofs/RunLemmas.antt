@@ -9,6 +9,7 @@ use Rattle.fg_frame.specs.Numbered.{NumberedFrame}
 use Rattle.fg_hb.specs.Orders.{Order}
 use Rattle.fg_place.specs.Placing.{Places}
 use Rattle.fg_drive.specs.Tended.{Tended, tended_moves}
+use Rattle.fg_steps.specs.Coming.{AllCame}
 use Rattle.fg_steps.specs.Devices.{Device, state_of, fresh, opening, IsComplete}
 use Rattle.fg_steps.specs.Histories.{moves_in}
 use Rattle.fg_steps.specs.Runs.{Runs}
@@ -21,10 +22,11 @@ use Rattle.fg_stages.specs.Compiles.{Compiles}
 use Rattle.fg_run.specs.FrameRuns.{RunsOn}
 use Rattle.fg_stages.specs.Exports.{AreMeant}
 
-pub has_run : (program : Program) (tend : Option ℕ) (d : Device) → ((e : Device) → e.program ≡ program → Runs e) → d.program ≡ program → d.fill ≡ 0 → IsComplete d → moves_in d.history ≡ tended_moves program tend 256 → HasRun program tend d
-has_run program tend d laws is fill complete moves = record {
+pub has_run : (program : Program) (tend : Option ℕ) (d : Device) → ((e : Device) → e.program ≡ program → Runs e) → d.program ≡ program → d.fill ≡ 0 → AllCame d → IsComplete d → moves_in d.history ≡ tended_moves program tend 256 → HasRun program tend d
+has_run program tend d laws is fill came complete moves = record {
   runs = is;
   fill = fill;
+  came = came;
   complete = complete;
   moves = moves;
   apart = (laws d is).all_read complete;
@@ -44,13 +46,13 @@ all_moves program None moves is = refl
 all_moves program (Some seed) moves is = ap (tended_moves program (Some seed)) (is seed refl)
 
 -- what `drive` makes of a fresh device
-pub driven : (program : Program) (tend : Option ℕ) (moves : ℕ) (old new : Device) → ((e : Device) → e.program ≡ program → Runs e) → old ≡ fresh program 0 moves → ((seed : ℕ) → tend ≡ Some seed → moves ≡ 256) → IsComplete new → Tended old new tend → HasRun program tend new
-driven program tend moves old new laws is all complete t =
+pub driven : (program : Program) (tend : Option ℕ) (moves : ℕ) (old new : Device) → ((e : Device) → e.program ≡ program → Runs e) → old ≡ fresh program 0 moves → ((seed : ℕ) → tend ≡ Some seed → moves ≡ 256) → AllCame new → IsComplete new → Tended old new tend → HasRun program tend new
+driven program tend moves old new laws is all came complete t =
     let program_is : new.program ≡ program = t.went.program ∙ ap (λ (d : Device). d.program) is in
     let fill_is : new.fill ≡ 0 = t.went.fill ∙ ap (λ (d : Device). d.fill) is in
     let history_is : new.history ≡ t.events = t.went.history ∙ ap (λ (d : Device). d.history ++ t.events) is in
     let made : moves_in t.events ≡ tended_moves program tend moves = t.moves ∙ ap (λ (d : Device). tended_moves d.program tend d.moves) is in
-    has_run program tend new laws program_is fill_is complete (ap moves_in history_is ∙ (made ∙ all_moves program tend moves all))
+    has_run program tend new laws program_is fill_is came complete (ap moves_in history_is ∙ (made ∙ all_moves program tend moves all))
 
 -- what the host has read is what the frame means
 pub meant : (frame : NumberedFrame) (program : Program) (tend : Option ℕ) (d : Device) → IsRightFor frame program → HasRun program tend d → AreMeant frame (read_by d)

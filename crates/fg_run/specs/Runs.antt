@@ -1,6 +1,7 @@
 -- A program that has run on a device to its end.
 use Rattle.std.specs.Prelude.{◌≡◌, ◌<◌, ℕ, List, length, Option}
 use Rattle.fg_drive.specs.Tended.{tended_moves}
+use Rattle.fg_steps.specs.Coming.{AllCame}
 use Rattle.fg_steps.specs.Devices.{Device, state_of, IsComplete, ReadsApart}
 use Rattle.fg_steps.specs.Histories.{moves_in}
 use Rattle.fg_steps.specs.Ready.{read_node}
@@ -10,11 +11,12 @@ use Rattle.fg_subs.specs.declared.program.Program.{Program}
 abbrev pub read_by : Device → ℕ → List ℕ
 read_by d k = (state_of d).host (read_node d.program k)
 
--- the device was opened with zeros, each node is done, and the cache moves in its history are the first 256 of the seed's
--- tender, or none without a seed
+-- the device was opened with zeros, each event of its history could come in its turn, each node is done, and the cache moves are
+-- the first 256 of the seed's tender, or none without a seed
 pub record HasRun (program : Program) (tend : Option ℕ) (d : Device) : Type 0 where
   pub runs : d.program ≡ program
   pub fill : d.fill ≡ 0
+  pub came : AllCame d
   pub complete : IsComplete d
   pub moves : moves_in d.history ≡ tended_moves program tend 256
   -- each read-back has the bytes that it has where all commands run one after another, in every order of the nodes

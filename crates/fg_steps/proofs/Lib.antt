@@ -1,6 +1,7 @@
 pub mod Agreement
 pub mod Before
 pub mod Cases
+pub mod Coming
 pub mod Commands
 pub mod Control
 pub mod Flushes

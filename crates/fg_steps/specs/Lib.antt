@@ -1,4 +1,5 @@
 pub mod Agents
+pub mod Coming
 pub mod Devices
 pub mod Flushes
 pub mod Histories

@@ -2,7 +2,7 @@
 use Rattle.std.specs.Prelude.{◌≡◌, ℕ, ◌<◌, ◌==◌, ◌||◌, List, length, take, drop, get_or, Bool, true, false, Option, Some, None, if◌then◌else◌}
 use Rattle.std.specs.List.{list_any, sum_by}
 use Rattle.std.specs.Option.{option_map_or}
-use Rattle.fg_audit.specs.Runs.{is_enabled}
+use Rattle.fg_steps.specs.Coming.{is_enabled}
 use Rattle.fg_base.specs.declared.event.Event.{Event}
 use Rattle.fg_base.specs.declared.event.Event.TheVariants.{Begin, End, Sync, WriteBack, Fill, DropLine, Host}
 use Rattle.fg_device.specs.declared.job.Command.{Command}

@@ -6,6 +6,7 @@ use Rattle.fg_checker.specs.Sound.{IsSound}
 use Rattle.fg_device.specs.Code.Parts.{HasState, HasRoom, node_count}
 use Rattle.fg_device.specs.Code.Tables.{FitsProgram}
 use Rattle.fg_device.specs.declared.device.Device.TheInside.{Inside}
+use Rattle.fg_steps.specs.Coming.{AllCame}
 use Rattle.fg_steps.specs.Devices.{Device, state_of}
 use Rattle.fg_subs.specs.Entries.{entries_of}
 use Rattle.fg_subs.specs.FirstFault.{first_fault}
@@ -27,4 +28,5 @@ pub record IsKept (i : Inside) : Type 0 where
   pub places : length i.held.items ≡ node_count (arc_value i.program)
   pub table : FitsProgram i.table (arc_value i.program) i.fill
   pub state : HasState (arc_value i.program) i.control i.table i.held.items i.reads.items (state_of (device_in i))
+  pub came : AllCame (device_in i)
   pub room : HasRoom (arc_value i.program) (state_of (device_in i)) i.moves i.table.cuts_left i.table.stores_left (vec_len i.history) (vec_capacity i.history)

@@ -1,10 +1,10 @@
 use Rattle.std.proofs.Common.{◌≡◌}
 use Rattle.fg_audit.proofs.following.follow_all.Given as goal
 use Rattle.fg_audit.specs.Code.Following.{at_place}
-use Rattle.fg_audit.specs.Runs.{AreEnabled}
+use Rattle.fg_steps.specs.Coming.{AreEnabled}
 
 abbrev pub invariant-loop-at : goal.invariant-loop-at
 invariant-loop-at g l = record {
   place : l.follower ≡ at_place l.fn.follower.program l.events l.at;
-  enabled : AreEnabled l.fn.follower.program l.events l.at;
+  enabled : AreEnabled l.fn.follower.program 0 l.events l.at;
 }

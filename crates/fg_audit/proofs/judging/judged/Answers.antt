@@ -2,7 +2,7 @@ use Rattle.std.proofs.Common.{◌≡◌, ◌∙◌, ℕ, length, IfNone, Option,
 use Rattle.fg_audit.proofs.Coming.{at_end}
 use Rattle.fg_audit.proofs.judging.judged.Goals as goal
 use Rattle.fg_audit.specs.Code.Following.{at_place}
-use Rattle.fg_audit.specs.Runs.{AreEnabled}
+use Rattle.fg_steps.specs.Coming.{AreEnabled}
 use Rattle.fg_audit.specs.Verdicts.{ran}
 use Rattle.fg_steps.specs.Devices.{Device, IsComplete}
 use Rattle.fg_subs.specs.declared.program.Program.{Program}
@@ -10,8 +10,8 @@ use Rattle.fg_subs.specs.declared.program.Program.{Program}
 pub ended-requires-clause-enabled : goal.ended-requires-clause-enabled
 ended-requires-clause-enabled g c =
     let events = c.args.events.now in
-    subst (λ (p : Program). AreEnabled p events (length events)) (ap (λ (d : Device). d.program) c.in_ok-follower.ensures)
-    (subst (λ (o : Option ℕ). IfNone o (AreEnabled c.in_ok-follower.follower.program events (length events))) c.in-None.is c.in_ok-at.ensures.enabled)
+    subst (λ (p : Program). AreEnabled p 0 events (length events)) (ap (λ (d : Device). d.program) c.in_ok-follower.ensures)
+    (subst (λ (o : Option ℕ). IfNone o (AreEnabled c.in_ok-follower.follower.program 0 events (length events))) c.in-None.is c.in_ok-at.ensures.enabled)
 
 pub ended-requires-clause-device : goal.ended-requires-clause-device
 ended-requires-clause-device g c all =

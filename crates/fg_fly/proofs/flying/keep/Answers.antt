@@ -31,6 +31,6 @@ pub returns : goal.returns
 returns c =
     on_ok c.hold.result _ _ c.hold.ensures (λ held. record {
       text = c.in_ok-add_window.ensures;
-      history = c.in_ok-extend_from_slice.ensures.ok ∙ ap (λ (es : List Event). c.args.flying.now.history ++ es) c.history.ensures;
+      history = c.in_ok-extend_from_slice.ensures.ok ∙ ap (λ (es : List Event). c.args.flying.now.history ++ es) c.history.ensures.history;
       held = held;
     })
