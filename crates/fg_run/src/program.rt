@@ -1,9 +1,10 @@
 //! A sound program runs on a device.
 
-ghost use Rattle.std.specs.Prelude.{◌≡◌, ◌≤◌, ℕ, Some, IfOk, IsTrue};
+ghost use Rattle.std.specs.Prelude.{◌≡◌, ℕ, Some, IfOk, IsTrue};
 ghost use Rattle.fg_steps.specs.Devices.{Device};
 ghost use Rattle.fg_steps.specs.Runs.{Runs};
 ghost use Rattle.fg_run.specs.Runs.{HasRun};
+ghost use Rattle.fg_words.specs.Commands.{HasWorkers};
 
 use fg_base::{Gate, NoMemory};
 use fg_caches::MOVES;
@@ -41,6 +42,7 @@ fn has_run(
         return Ok(false);
     }
     run_laws(program);
+    let _came = device.history();
     tended(alloc, program, device, tend)
 }
 
@@ -67,6 +69,7 @@ fn driven<R: Threads + Sync>(
     event_laws();
     let mut device = Device::new(alloc, program, 0, moves_of(tend))?;
     drive(rt, alloc, &mut device, tend)?;
+    let _came = device.history();
     Ok(device)
 }
 
@@ -78,8 +81,7 @@ pub fn run_program<R: Threads + Wait + Sync, G: Gate + Sync>(
     options: Options,
     gate: &G,
 ) -> Result<Device, NoMemory>
-    requires least { 1 ≤ options.workers }
-    requires most { options.workers ≤ 16 }
+    requires workers { HasWorkers options }
     ensures { IfOk result (HasRun program.now.program options.tend) }
 {
     let device = run_workers(rt, alloc, program, options.workers, options.tend, gate)?;

@@ -1,8 +1,9 @@
 //! A good frame runs.
 
-ghost use Rattle.std.specs.Prelude.{◌≤◌, Bool, IfOk};
+ghost use Rattle.std.specs.Prelude.{IfOk};
 ghost use Rattle.fg_frame.specs.Numbered.{numbered};
 ghost use Rattle.fg_run.specs.FrameRuns.{RunsOn};
+ghost use Rattle.fg_words.specs.Commands.{HasWorkers};
 
 use crate::program::run_program;
 use fg_base::{Gate, NoMemory};
@@ -23,8 +24,7 @@ pub fn run_good<R: Threads + Wait + Sync, G: Gate + Sync>(
     good: &GoodFrame,
     gate: &G,
 ) -> Result<Device, NoMemory>
-    requires least { 1 ≤ options.workers }
-    requires most { options.workers ≤ 16 }
+    requires workers { HasWorkers options }
     ensures { IfOk result (RunsOn options.tend tight (numbered good.now)) }
 {
     let made = compiled(alloc, good, tight)?;
