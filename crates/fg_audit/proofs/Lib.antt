@@ -3,6 +3,7 @@ pub mod Coming
 pub mod Counted
 pub mod Digits
 pub mod Ending
+pub mod Histories
 pub mod Holding
 pub mod Made
 pub mod Reading

@@ -1,9 +1,13 @@
 -- That a trace which is printed is read again.
-use Rattle.std.specs.Prelude.{◌≡◌, ◌<◌, ◌≤◌, ◌^◌, List, [], ◌∷◌, length, Ok}
+use Rattle.std.specs.Prelude.{◌≡◌, ◌<◌, ◌≤◌, ◌^◌, List, [], ◌∷◌, length, None, Ok}
 use Rattle.fg_audit.specs.Trace.{trace_of}
 use Rattle.fg_base.specs.declared.event.Event.{Event}
 use Rattle.fg_base.specs.declared.event.Event.TheVariants.{Begin, End, Sync, WriteBack, Fill, DropLine, Host}
 use Rattle.fg_report.specs.Traces.{trace_text}
+use Rattle.fg_steps.specs.Coming.{AllCame}
+use Rattle.fg_steps.specs.Devices.{Device}
+use Rattle.fg_steps.specs.Histories.{moves_in}
+use Rattle.fg_subs.specs.FirstFault.{first_fault}
 
 -- its numbers are those of an event that there is
 abbrev pub HasNumbers : Event → Type 0
@@ -22,3 +26,7 @@ HaveNumbers (event ∷ events) = HasNumbers event × HaveNumbers events
 -- what is printed of a history is read again as that history
 abbrev pub ReadsAgain : Type 0
 ReadsAgain = (events : List Event) → length events ≤ 65536 → HaveNumbers events → trace_of (trace_text events) ≡ Ok events
+
+-- and so is that of each device with no more cache moves than a seed gives
+abbrev pub HistoriesAreRead : Type 0
+HistoriesAreRead = (d : Device) → first_fault d.program ≡ None → AllCame d → length (moves_in d.history) ≤ 256 → trace_of (trace_text d.history) ≡ Ok d.history

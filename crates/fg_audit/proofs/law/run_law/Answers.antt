@@ -1,12 +1,16 @@
 use Rattle.std.proofs.Common.{ℕ, length, sym, subst}
+use Rattle.fg_audit.proofs.Histories.{histories_are_read}
 use Rattle.fg_audit.proofs.law.run_law.Goals as goal
 use Rattle.fg_steps.proofs.Coming.{left_is}
 use Rattle.fg_steps.specs.Coming.{left_by, AreEnabled}
 use Rattle.fg_steps.specs.Laws.{AllDone}
 use Rattle.fg_view.specs.Views.{view_of}
 
-pub returns : goal.returns
-returns c d zeros came complete = record {
+pub returns-clause-run : goal.returns-clause-run
+returns-clause-run c d zeros came complete = record {
   enabled = subst (λ (fill : ℕ). AreEnabled d.program fill d.history (length d.history)) zeros came;
   complete = subst (λ (fill : ℕ). AllDone (view_of d.program) (left_by d.program fill d.history)) zeros (subst (AllDone (view_of d.program)) (sym (left_is d)) complete);
 }
+
+pub returns-clause-read : goal.returns-clause-read
+returns-clause-read c = histories_are_read
