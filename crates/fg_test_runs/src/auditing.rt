@@ -3,8 +3,7 @@
 use crate::executing::{FILL, FILL_TEXT};
 use crate::given::gives;
 use fg_base::{IdleGate, List, NoMemory};
-use fg_calls::answer_of;
-use fg_top::Status;
+use fg_calls::{Status, answer_of};
 use std::alloc::Global;
 use std::sync::Wait;
 use std::test::Fail;

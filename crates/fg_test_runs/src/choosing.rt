@@ -1,8 +1,7 @@
 //! A frame as given and with its passes on chosen queues, run on a device.
 
 use fg_base::{IdleGate, NoMemory};
-use fg_calls::answer_of;
-use fg_top::Status;
+use fg_calls::{Status, answer_of};
 use std::alloc::Global;
 use std::sync::Wait;
 use std::test::Fail;

@@ -3,8 +3,7 @@
 use crate::auditing::is_audited;
 use crate::given::gives;
 use fg_base::{IdleGate, NoMemory};
-use fg_calls::answer_of;
-use fg_top::Status;
+use fg_calls::{Status, answer_of};
 use std::alloc::{AllocError, Global};
 use std::process::Abort;
 use std::sync::Wait;

@@ -2,8 +2,7 @@
 
 use crate::given::gives;
 use fg_base::{IdleGate, NoMemory};
-use fg_calls::answer_of;
-use fg_top::Status;
+use fg_calls::{Status, answer_of};
 use std::alloc::Global;
 use std::sync::Wait;
 use std::test::Fail;

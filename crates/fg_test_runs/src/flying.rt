@@ -1,7 +1,7 @@
 //! Frames that fly, and files of frames that do not.
 
 use crate::given::gives;
-use fg_top::Status;
+use fg_calls::Status;
 use std::alloc::{AllocError, Global};
 use std::test::Fail;
 

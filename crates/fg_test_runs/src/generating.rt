@@ -1,7 +1,7 @@
 //! Frames from numbers.
 
 use crate::given::gives;
-use fg_top::Status;
+use fg_calls::Status;
 use std::test::Fail;
 
 const ONE_PASS: &str =

@@ -1,7 +1,6 @@
 //! What command lines give.
 
-use fg_calls::gives as is_given;
-use fg_top::Status;
+use fg_calls::{Status, gives as is_given};
 use std::alloc::Global;
 use std::process::Abort;
 use std::sync::Wait;

@@ -1,9 +1,8 @@
 //! Two commands that the workers have in hand at the same time.
 
 use fg_base::{IdleGate, NoMemory};
-use fg_calls::answer_of;
+use fg_calls::{Status, answer_of};
 use fg_meeting::Meeting;
-use fg_top::Status;
 use std::alloc::Global;
 use std::str;
 use std::sync::Wait;

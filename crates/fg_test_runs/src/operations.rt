@@ -2,8 +2,7 @@
 
 use crate::given::gives;
 use fg_base::NoMemory;
-use fg_calls::gives as is_given;
-use fg_top::Status;
+use fg_calls::{Status, gives as is_given};
 use std::alloc::{AllocError, Global};
 use std::sync::Wait;
 use std::test::Fail;

@@ -2,9 +2,8 @@
 
 use crate::executing::{FILL, ONE_FILL};
 use fg_base::{Event, IdleGate, List, NoMemory, SteadySink, SteadySource, Tap, Tell};
-use fg_calls::words_of;
+use fg_calls::{Ended, framec, words_of};
 use fg_taps::ListTap;
-use fg_top::{Ended, framec};
 use std::alloc::Global;
 use std::cell::Cell;
 use std::rc::Rc;

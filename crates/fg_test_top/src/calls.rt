@@ -2,8 +2,7 @@
 
 use crate::given::gives;
 use fg_base::{IdleGate, List, MemorySink, NoMemory, Source, SteadySource, Taken};
-use fg_calls::{answer_from, words_of};
-use fg_top::{Status, at_rest};
+use fg_calls::{Status, answer_from, at_rest, words_of};
 use std::alloc::Global;
 use std::sync::Wait;
 use std::test::Fail;

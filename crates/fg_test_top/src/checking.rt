@@ -1,7 +1,7 @@
 //! Submissions, checked.
 
 use crate::given::gives;
-use fg_top::Status;
+use fg_calls::Status;
 use std::test::Fail;
 
 // Two pieces over the same memory, one of its own, an import and an image.

@@ -2,7 +2,7 @@
 
 use crate::calls::FILL;
 use crate::given::gives;
-use fg_top::Status;
+use fg_calls::Status;
 use std::test::Fail;
 
 // Frames, the lines of `auto --cost`, and the texts of `auto`.

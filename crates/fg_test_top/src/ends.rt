@@ -7,8 +7,7 @@ use fg_base::{
     IdleGate, List, MemorySink, MemorySource, NoMemory, Put, Sink, Source, SteadySink,
     SteadySource, Taken,
 };
-use fg_calls::status_of;
-use fg_top::Status;
+use fg_calls::{Status, status_of};
 use std::alloc::Global;
 use std::sync::Wait;
 use std::test::Fail;

@@ -1,7 +1,7 @@
 //! Submissions without the waits that they do not need.
 
 use crate::given::gives;
-use fg_top::Status;
+use fg_calls::Status;
 use std::test::Fail;
 
 // An image goes from a compute queue to a graphics queue.
