@@ -17,7 +17,7 @@ pub returns-in_err-good : goal.returns-in_err-good
 returns-in_err-good g c = gave_up c.from_residual.result _ _ c.from_residual.ensures.1
 
 pub run_good-requires : goal.run_good-requires
-run_good-requires g c κs within = c.requires.workers
+run_good-requires g c = record { workers = c.requires.workers }
 
 pub returns : goal.returns
 returns g c =
