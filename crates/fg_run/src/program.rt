@@ -1,10 +1,9 @@
 //! A sound program runs on a device.
 
-ghost use Rattle.std.specs.Prelude.{◌≡◌, ℕ, Some, IfOk, IsTrue};
+ghost use Rattle.std.specs.Prelude.{◌≡◌, ◌≤◌, ℕ, Some, IfOk, IsTrue};
 ghost use Rattle.fg_steps.specs.Devices.{Device};
 ghost use Rattle.fg_steps.specs.Runs.{Runs};
 ghost use Rattle.fg_run.specs.Runs.{HasRun};
-ghost use Rattle.fg_words.specs.Commands.{HasWorkers};
 
 use fg_base::{Gate, NoMemory};
 use fg_caches::MOVES;
@@ -81,7 +80,8 @@ pub fn run_program<R: Threads + Wait + Sync, G: Gate + Sync>(
     options: Options,
     gate: &G,
 ) -> Result<Device, NoMemory>
-    requires workers { HasWorkers options }
+    requires least { 1 ≤ options.workers }
+    requires most { options.workers ≤ 16 }
     ensures { IfOk result (HasRun program.now.program options.tend) }
 {
     let device = run_workers(rt, alloc, program, options.workers, options.tend, gate)?;

@@ -1,6 +1,6 @@
 //! The command `exec`.
 
-ghost use Rattle.std.specs.Prelude.{◌⊎◌, IfOk};
+ghost use Rattle.std.specs.Prelude.{◌≤◌, ◌⊎◌, IfOk};
 ghost use Rattle.fg_checker.specs.Sound.{IsSound};
 ghost use Rattle.fg_top.specs.Answers.{ExecutesFile};
 ghost use Rattle.fg_answer.specs.Statuses.{HasText};
@@ -8,7 +8,6 @@ ghost use Rattle.fg_stages.specs.Files.{program_file};
 ghost use Rattle.fg_top.specs.Headline.{Executes};
 ghost use Rattle.fg_top.specs.Replies.{IsStill};
 ghost use Rattle.fg_answer.specs.Plain.{Rejects};
-ghost use Rattle.fg_words.specs.Commands.{HasWorkers};
 
 use crate::readbacks::exec_text;
 use crate::reply::{Reply, ran, still};
@@ -32,7 +31,8 @@ fn execute_checked<R: Threads + Wait + Sync, G: Gate + Sync>(
     program: &Checked,
     gate: &G,
 ) -> Result<Reply, NoMemory>
-    requires workers { HasWorkers options }
+    requires least { 1 ≤ options.workers }
+    requires most { options.workers ≤ 16 }
     requires sound { IsSound program.now.program }
     ensures program { IfOk result (Executes options trace program.now.program) }
     ensures has_text { IfOk result (λ reply. HasText reply.answer.status) }
@@ -50,7 +50,8 @@ fn execute_program<R: Threads + Wait + Sync, G: Gate + Sync>(
     program: Shaped,
     gate: &G,
 ) -> Result<Reply, NoMemory>
-    requires workers { HasWorkers options }
+    requires least { 1 ≤ options.workers }
+    requires most { options.workers ≤ 16 }
     ensures program { IfOk result (λ reply. Executes options trace program reply ⊎ IsStill (Rejects program) reply) }
     ensures has_text { IfOk result (λ reply. HasText reply.answer.status) }
 {
@@ -69,7 +70,8 @@ pub fn execute_file<R: Threads + Wait + Sync, G: Gate + Sync>(
     bytes: &[u8],
     gate: &G,
 ) -> Result<Reply, NoMemory>
-    requires workers { HasWorkers options }
+    requires least { 1 ≤ options.workers }
+    requires most { options.workers ≤ 16 }
     ensures file { IfOk result (ExecutesFile options trace (program_file bytes.now)) }
     ensures has_text { IfOk result (λ reply. HasText reply.answer.status) }
 {

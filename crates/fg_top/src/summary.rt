@@ -13,7 +13,6 @@ ghost use Rattle.fg_run.specs.Runs.{HasRun, read_by};
 ghost use Rattle.fg_answer.specs.Statuses.{HasText};
 ghost use Rattle.fg_top.specs.Summaries.{summary_with};
 ghost use Rattle.fg_versions.specs.Culled.{AreKept};
-ghost use Rattle.fg_words.specs.Commands.{HasWorkers};
 
 use crate::reply::{Reply, ran};
 use crate::totals::{Total, sum_of_sizes, total_of};
@@ -91,7 +90,8 @@ fn summarize_compiled<R: Threads + Wait + Sync, G: Gate + Sync>(
     made: &Compiled,
     gate: &G,
 ) -> Result<Reply, NoMemory>
-    requires workers { HasWorkers options }
+    requires least { 1 ≤ options.workers }
+    requires most { options.workers ≤ 16 }
     requires compiles { Compiles false (numbered good.now) made.now.kept made.now.placement made.now.program.program }
     ensures frame { IfOk result (SummarizesFrame options good.now) }
     ensures has_text { IfOk result (λ reply. HasText reply.answer.status) }
@@ -109,7 +109,8 @@ fn summarize_frame<R: Threads + Wait + Sync, G: Gate + Sync>(
     good: &GoodFrame,
     gate: &G,
 ) -> Result<Reply, NoMemory>
-    requires workers { HasWorkers options }
+    requires least { 1 ≤ options.workers }
+    requires most { options.workers ≤ 16 }
     ensures frame { IfOk result (SummarizesFrame options good.now) }
     ensures has_text { IfOk result (λ reply. HasText reply.answer.status) }
 {
@@ -128,7 +129,8 @@ pub fn summarize<R: Threads + Wait + Sync, G: Gate + Sync>(
 ) -> Result<Reply, NoMemory>
     requires some { 1 ≤ passes }
     requires few { passes ≤ 256 }
-    requires workers { HasWorkers options }
+    requires least { 1 ≤ options.workers }
+    requires most { options.workers ≤ 16 }
     ensures frame { IfOk result (SummarizesFrame options (generated number passes)) }
     ensures has_text { IfOk result (λ reply. HasText reply.answer.status) }
 {
