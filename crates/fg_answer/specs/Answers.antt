@@ -97,7 +97,7 @@ pub record CompilesFrame (tight : Bool) (frame : Frame) (answer : Answer) : Type
   pub again : program_file answer.text ≡ Ok program
 
 -- the canonical text of the chosen frame and a line feed, from which that frame is read again: it breaks no rule, differs in the
--- queues of its passes alone, means the same and has the same passes culled
+-- queues of its passes alone, means the same, has the same passes culled and costs no more
 pub record ChoosesQueues (frame : Frame) (answer : Answer) : Type 0 where
   pub chosen : Frame
   pub choice : IsChoice frame chosen
@@ -105,6 +105,11 @@ pub record ChoosesQueues (frame : Frame) (answer : Answer) : Type 0 where
   pub differs : DiffersInQueues (numbered frame) (numbered chosen)
   pub means : (unit : ℕ) → meaning (numbered chosen) unit ≡ meaning (numbered frame) unit
   pub culled : (p : ℕ) → Culled (numbered chosen) p ↔ Culled (numbered frame) p
+  pub given : ℕ
+  pub is_given : IsFrameCost (numbered frame) given
+  pub found : ℕ
+  pub is_found : IsFrameCost (numbered chosen) found
+  pub less : found ≤ given
   pub whole : answer ≡ done (frame_text chosen ++ codes "\n")
   pub again : frame_file answer.text ≡ Ok chosen
 

@@ -11,7 +11,6 @@ use crate::room::Room;
 use crate::running::stored_fast;
 use bytes::{Bytes, BytesMut};
 use fg_base::{List, Op, Shape};
-use fg_lanes::helpers_for;
 use fg_subs::Shaped;
 use std::alloc::Global;
 use std::marker::Model;
@@ -101,7 +100,7 @@ impl Job {
             program,
             helpers: _,
         } = self;
-        let helpers = helpers.take(helpers_for(room.len()));
+        let helpers = helpers.take(room.helpers(&command.op));
         Job {
             command,
             room,

@@ -13,7 +13,7 @@ use crate::room::Room;
 use bytes::{Bytes, BytesMut};
 use fg_base::{Op, Shape};
 use fg_draw::draw;
-use fg_lanes::apply_fast;
+use fg_lanes::{Target, apply_fast};
 use fg_pixels::{apply, whole_leaves_nothing_old};
 use std::thread::Threads;
 
@@ -58,33 +58,30 @@ fn run(op: &Op<u32>, shapes: &[Shape], loaded: &[Bytes], out: &mut [u8])
     }
 }
 
-// The same, by lanes and by bands, in so many threads more.
+// What the operation leaves in the place of these bytes, by lanes and by bands, in so many threads more.
 fn run_fast<R: Threads + Sync>(
     rt: &R,
     helpers: usize,
     op: &Op<u32>,
     shapes: &[Shape],
     loaded: &[Bytes],
-    out: &mut [u8],
-)
+    out: Target,
+) -> BytesMut
     requires runnable { IsRunnable shapes.now op.now loaded.now }
-    requires out { length out.old ≡ bytes_of (shape_at shapes.now (destination_of op.now)) }
-    ensures { out.new ≡ applied shapes.now op.now (take (length (sources_of op.now)) loaded.now) out.old }
+    requires out { length out ≡ bytes_of (shape_at shapes.now (destination_of op.now)) }
+    ensures bytes { result.items ≡ applied shapes.now op.now (take (length (sources_of op.now)) loaded.now) out }
+    ensures long { length result.items ≡ length out }
 {
-    if let Op::Draw { dst, clear, rects } = op {
-        draw(shapes[*dst as usize], *clear, rects, out)
-    } else {
-        apply_fast(
-            rt,
-            helpers,
-            op,
-            shapes,
-            source(op, loaded, 0),
-            source(op, loaded, 1),
-            source(op, loaded, 2),
-            out,
-        )
-    }
+    apply_fast(
+        rt,
+        helpers,
+        op,
+        shapes,
+        source(op, loaded, 0),
+        source(op, loaded, 1),
+        source(op, loaded, 2),
+        out,
+    )
 }
 
 // Whether the operation leaves no old byte of its destination.
@@ -97,23 +94,23 @@ fn is_whole(op: &Op<u32>, shapes: &[Shape]) -> bool
 }
 
 // The old bytes of the destination, if they were loaded after the sources, and else zeros.
-fn old_bytes(op: &Op<u32>, loaded: &[Bytes], room: Room) -> BytesMut
+fn old_bytes(op: &Op<u32>, loaded: &[Bytes], room: Room) -> Target
     requires { (bytes : List ℕ) → slice_get loaded.now (length (sources_of op.now)) ≡ Some bytes → length bytes ≡ length room }
-    ensures bytes { result.items ≡ slice_index_or loaded.now (length (sources_of op.now)) room }
-    ensures long { length result.items ≡ length room }
+    ensures bytes { result ≡ slice_index_or loaded.now (length (sources_of op.now)) room }
+    ensures long { length result ≡ length room }
 {
     match loaded.get(source_count(op)) {
         Some(old) => room.into_copy(old),
-        None => room.into_filled(0),
+        None => room.into_zeros(),
     }
 }
 
 // The same, or any bytes where the operation leaves none of them.
-fn first_bytes(op: &Op<u32>, shapes: &[Shape], loaded: &[Bytes], room: Room) -> BytesMut
+fn first_bytes(op: &Op<u32>, shapes: &[Shape], loaded: &[Bytes], room: Room) -> Target
     requires runnable { IsRunnable shapes.now op.now loaded.now }
     requires room { room ≡ no_old shapes.now op.now }
-    ensures long { length result.items ≡ bytes_of (shape_at shapes.now (destination_of op.now)) }
-    ensures same { LeadsOn shapes.now op.now result.items (slice_index_or loaded.now (length (sources_of op.now)) (no_old shapes.now op.now)) }
+    ensures long { length result ≡ bytes_of (shape_at shapes.now (destination_of op.now)) }
+    ensures same { LeadsOn shapes.now op.now result (slice_index_or loaded.now (length (sources_of op.now)) (no_old shapes.now op.now)) }
 {
     whole_leaves_nothing_old();
     if is_whole(op, shapes) {
@@ -132,23 +129,6 @@ fn store_in(op: &Op<u32>, shapes: &[Shape], loaded: &[Bytes], out: &mut [u8])
     run(op, shapes, loaded, out);
 }
 
-// The same, by lanes and by bands.
-fn store_fast_in<R: Threads + Sync>(
-    rt: &R,
-    helpers: usize,
-    op: &Op<u32>,
-    shapes: &[Shape],
-    loaded: &[Bytes],
-    out: &mut [u8],
-)
-    requires runnable { IsRunnable shapes.now op.now loaded.now }
-    requires long { length out.old ≡ bytes_of (shape_at shapes.now (destination_of op.now)) }
-    requires same { LeadsOn shapes.now op.now out.old (slice_index_or loaded.now (length (sources_of op.now)) (no_old shapes.now op.now)) }
-    ensures { out.new ≡ stored_by shapes.now op.now loaded.now }
-{
-    run_fast(rt, helpers, op, shapes, loaded, out);
-}
-
 /// What a command stores. The room takes the old bytes where these were loaded.
 pub(crate) fn stored_by(op: &Op<u32>, shapes: &[Shape], loaded: &[Bytes], room: Room) -> BytesMut
     requires runnable { IsRunnable shapes.now op.now loaded.now }
@@ -156,7 +136,7 @@ pub(crate) fn stored_by(op: &Op<u32>, shapes: &[Shape], loaded: &[Bytes], room: 
     ensures stored { result.items ≡ stored_by shapes.now op.now loaded.now }
     ensures long { length result.items ≡ bytes_of (shape_at shapes.now (destination_of op.now)) }
 {
-    let mut out = first_bytes(op, shapes, loaded, room);
+    let mut out = first_bytes(op, shapes, loaded, room).into_bytes();
     store_in(op, shapes, loaded, out.as_mut_slice());
     out
 }
@@ -175,7 +155,6 @@ pub(crate) fn stored_fast<R: Threads + Sync>(
     ensures stored { result.items ≡ stored_by shapes.now op.now loaded.now }
     ensures long { length result.items ≡ bytes_of (shape_at shapes.now (destination_of op.now)) }
 {
-    let mut out = first_bytes(op, shapes, loaded, room);
-    store_fast_in(rt, helpers, op, shapes, loaded, out.as_mut_slice());
-    out
+    let out = first_bytes(op, shapes, loaded, room);
+    run_fast(rt, helpers, op, shapes, loaded, out)
 }

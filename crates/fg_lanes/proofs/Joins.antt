@@ -1,9 +1,9 @@
 -- Bands of rows, put together of rows and of other bands.
-use Rattle.std.proofs.Common.{◌≡◌, ℕ, ◌+◌, ◌-◌, ◌*◌, ◌/◌, ◌%◌, ◌^◌, ◌<◌, ◌≤◌, List, ◌++◌, length, get_or, take, drop, arith, sym, ap, ◌∙◌}
+use Rattle.std.proofs.Common.{◌≡◌, ℕ, suc, ◌+◌, ◌-◌, ◌*◌, ◌/◌, ◌%◌, ◌^◌, ◌<◌, ◌≤◌, List, [], ◌++◌, length, get_or, take, drop, arith, refl, sym, ap, ◌∙◌}
 use Rattle.std.specs.List.{flat_map, range_with_len}
 use Rattle.std.proofs.lemmas.Grind.{flat_map-append}
 use Rattle.std.proofs.lemmas.List.{get_or-take, get_or-drop}
-use Rattle.std.proofs.Math.Nat.{mul-le-mul_left}
+use Rattle.std.proofs.Math.Nat.{mul-le-mul_left, mul-le-mul_right, div-mul-le_self}
 use Rattle.rayon.specs.Shown.{run-append}
 use Rattle.fg_base.specs.Shapes.{texel_bytes}
 use Rattle.fg_base.specs.Texels.{texel_at, low_bytes, modulus, band}
@@ -21,6 +21,39 @@ unfolding band
 band_join t w first m n f =
     let line = λ (y : ℕ). flat_map (λ x. low_bytes t (f x y)) (range_with_len 0 w) in
     ap (λ l. flat_map line l) (sym (run-append first m n)) ∙ flat_map-append line (range_with_len first m) (range_with_len (first + m) n)
+
+-- no rows
+pub no_rows : (t : Texel) (w first n : ℕ) (f : ℕ → ℕ → ℕ) → n ≡ 0 → [] ≡ band t w first n f
+unfolding band
+no_rows t w first n f none = rw none refl
+
+-- bands from the first row on
+pub bands_on : (t : Texel) (w m n all : ℕ) (f : ℕ → ℕ → ℕ) → m + n ≡ all → band t w 0 m f ++ band t w m n f ≡ band t w 0 all f
+bands_on t w m n all f sum =
+    let start : m ≡ 0 + m = omega arith in
+    ap (λ (k : ℕ). band t w 0 m f ++ band t w k n f) start
+    ∙ sym (band_join t w 0 m n f)
+    ∙ ap (λ (k : ℕ). band t w 0 k f) sum
+
+-- so many rows after others fit where all rows do
+pub rows_within : (b w first count height len cap : ℕ) → first + count ≤ height → len ≡ b * (w * first) → b * (w * height) ≤ cap → len + b * (w * count) ≤ cap
+rows_within b w first count height len cap within long room =
+    let both : b * (w * (first + count)) ≡ b * (w * first) + b * (w * count) = omega arith in
+    let most : b * (w * (first + count)) ≤ b * (w * height) = mul-le-mul_left b (mul-le-mul_left w within) in
+    omega (arith, both, most, long, room)
+
+-- and have so many bytes with them
+pub rows_long : (b w first count all len more : ℕ) → first + count ≡ all → len ≡ b * (w * first) → more ≡ len + b * (w * count) → more ≡ b * (w * all)
+rows_long b w first count all len more sum long is =
+    let both : b * (w * (first + count)) ≡ b * (w * first) + b * (w * count) = omega arith in
+    omega (arith, both, long, is) ∙ ap (λ (n : ℕ). b * (w * n)) sum
+
+-- a strip of r rows, among those that h rows are cut into
+pub strip_within : (k h r : ℕ) → k < h / r → k * r + r ≤ h
+strip_within k h r within =
+    let most : suc k * r ≤ h / r * r = mul-le-mul_right r within in
+    let one : suc k * r ≡ k * r + r = omega arith in
+    omega (arith, most, one, div-mul-le_self h r)
 
 -- how many bytes the lower part has
 pub rest_len : (b w count top n : ℕ) → top ≤ count → n + b * (w * top) ≡ b * (w * count) → n ≡ b * (w * (count - top))

@@ -7,15 +7,42 @@ ghost use Rattle.fg_base.specs.Operands.{operands_of, destination_of, mapped};
 ghost use Rattle.fg_base.specs.Shapes.{bytes_of, shape_at};
 ghost use Rattle.fg_pixels.specs.Sources.{source_bytes, is_draw};
 
+use crate::draw::{clear, draw_over};
+use crate::target::Target;
 use crate::whole;
+use bytes::BytesMut;
 use fg_base::{Op, Shape, shape_at};
 use fg_pixels::apply;
 use std::thread::Threads;
 
-/// What an operation other than a draw leaves in `out`, as `apply` of `fg_pixels` does under the same conditions. Fills
-/// of buffers, ramps, maps, combinations and selections go by vector lanes; these but the fills, and convert, box3 and
-/// halve, go by bands of rows where the destination is large: in so many threads beside the one that calls, or fewer. It takes no
-/// memory.
+// The plain way.
+fn by_apply(
+    op: &Op<u32>,
+    shapes: &[Shape],
+    first: &[u8],
+    second: &[u8],
+    third: &[u8],
+    out: Target,
+) -> BytesMut
+    requires operands { All (λ r. r < length shapes.now) (operands_of op.now) }
+    requires fits { fits (mapped (shape_at shapes.now) op.now) ≡ true }
+    requires kind { is_draw op.now ≡ false }
+    requires first { length first.now ≡ source_bytes (mapped (shape_at shapes.now) op.now) 0 }
+    requires second { length second.now ≡ source_bytes (mapped (shape_at shapes.now) op.now) 1 }
+    requires third { length third.now ≡ source_bytes (mapped (shape_at shapes.now) op.now) 2 }
+    requires out { length out ≡ bytes_of (destination_of (mapped (shape_at shapes.now) op.now)) }
+    ensures bytes { result.items ≡ applied shapes.now op.now (first.now ∷ second.now ∷ third.now ∷ []) out }
+    ensures long { length result.items ≡ length out }
+{
+    let mut bytes = out.into_bytes();
+    apply(op, shapes, first, second, third, bytes.as_mut_slice());
+    bytes
+}
+
+/// What an operation leaves in the place of the bytes of `out`, as `apply` of `fg_pixels` and `draw` of `fg_draw` do under the
+/// same conditions. Fills of buffers, ramps, maps, combinations and selections go by vector lanes; these but the fills, and clears,
+/// convert, box3 and halve, go by bands of rows where the destination is large: in so many threads beside the one that calls, or
+/// fewer. It takes no memory.
 pub fn apply_fast<R: Threads + Sync>(
     rt: &R,
     helpers: usize,
@@ -24,16 +51,16 @@ pub fn apply_fast<R: Threads + Sync>(
     first: &[u8],
     second: &[u8],
     third: &[u8],
-    out: &mut [u8],
-)
+    out: Target,
+) -> BytesMut
     requires operands { All (λ r. r < length shapes.now) (operands_of op.now) }
     requires fits { fits (mapped (shape_at shapes.now) op.now) ≡ true }
-    requires kind { is_draw op.now ≡ false }
     requires first { length first.now ≡ source_bytes (mapped (shape_at shapes.now) op.now) 0 }
     requires second { length second.now ≡ source_bytes (mapped (shape_at shapes.now) op.now) 1 }
     requires third { length third.now ≡ source_bytes (mapped (shape_at shapes.now) op.now) 2 }
-    requires out { length out.old ≡ bytes_of (destination_of (mapped (shape_at shapes.now) op.now)) }
-    ensures { out.new ≡ applied shapes.now op.now (first.now ∷ second.now ∷ third.now ∷ []) out.old }
+    requires out { length out ≡ bytes_of (destination_of (mapped (shape_at shapes.now) op.now)) }
+    ensures bytes { result.items ≡ applied shapes.now op.now (first.now ∷ second.now ∷ third.now ∷ []) out }
+    ensures long { length result.items ≡ length out }
 {
     match op {
         Op::FillBuffer {
@@ -42,6 +69,7 @@ pub fn apply_fast<R: Threads + Sync>(
             size,
             word,
         } => whole::fill_buffer(shape_at(shapes, *dst), *offset, *size, *word, out),
+        Op::ClearImage { dst, value } => clear(rt, helpers, shape_at(shapes, *dst), *value, out),
         Op::Ramp { dst, base, dx, dy } => whole::ramp(
             rt,
             helpers,
@@ -120,6 +148,14 @@ pub fn apply_fast<R: Threads + Sync>(
             first,
             out,
         ),
-        _ => apply(op, shapes, first, second, third, out),
+        Op::Draw { dst, clear, rects } => draw_over(
+            rt,
+            helpers,
+            shape_at(shapes, *dst),
+            *clear,
+            rects,
+            out,
+        ),
+        _ => by_apply(op, shapes, first, second, third, out),
     }
 }

@@ -7,7 +7,10 @@ ghost use Rattle.fg_base.specs.Texels.{band};
 ghost use Rattle.fg_lanes.specs.Code.Painters.{AcceptsBands, Paints};
 
 use crate::rows::size_of;
-use fg_base::Texel;
+use crate::strips::paint_strips;
+use crate::target::{Memory, Target};
+use bytes::BytesMut;
+use fg_base::{Op, Texel};
 use rayon::{current_num_threads, join_mut};
 use std::marker::Sync;
 use std::thread::Threads;
@@ -15,14 +18,29 @@ use std::thread::Threads;
 /// The least bytes for which a thread is started.
 const LEAST: usize = 1 << 19;
 
-/// How many threads an operation that stores so many bytes has use for, beside the one that calls.
-pub fn helpers_for(bytes: usize) -> usize {
+// How many threads so many bytes are shared out among, beside the one that calls.
+fn helpers_in(bytes: usize) -> usize {
     (bytes / LEAST).saturating_sub(1)
+}
+
+/// How many threads an operation has use for, beside the one that calls.
+pub fn helpers_for(op: &Op<u32>, out: &Target) -> usize {
+    let shares = match op {
+        Op::Convert { .. } | Op::Box3 { .. } | Op::Halve { .. } => true,
+        Op::ClearImage { .. }
+        | Op::Ramp { .. }
+        | Op::Map { .. }
+        | Op::Combine { .. }
+        | Op::Select { .. }
+        | Op::Draw { .. } => !out.is_new(),
+        _ => false,
+    };
+    if shares { helpers_in(out.len()) } else { 0 }
 }
 
 // How many bands are painted side by side: no more than there are processors.
 fn band_count(rt: &impl Threads, helpers: usize, bytes: usize) -> usize {
-    let wanted = helpers_for(bytes).min(helpers);
+    let wanted = helpers_in(bytes).min(helpers);
     if wanted == 0 {
         1
     } else {
@@ -99,20 +117,74 @@ fn both<R: Threads + Sync, F: Fn(u32, u32, &mut [u8]) + Sync>(
     join_mut(rt, &mut upper, &mut lower);
 }
 
+// The bytes of a destination, which threads may share out among them.
+fn shared<R: Threads + Sync, F: Fn(u32, u32, &mut [u8]) + Sync>(
+    rt: &R,
+    helpers: usize,
+    f: &F,
+    texel: Texel,
+    width: u32,
+    height: u32,
+    mut bytes: BytesMut,
+) -> BytesMut
+    requires size { length bytes.items ≡ texel_bytes texel * (width * height) }
+    requires rows { height < 2 ^ 32 }
+    requires calls { AcceptsBands (F.pre f.now) texel width 0 height }
+    ensures bytes { (p : ℕ → ℕ → ℕ) → Paints (F.post f.now) texel width 0 height p → result.items ≡ band texel width 0 height p }
+    ensures long { length result.items ≡ length bytes.items }
+{
+    let bands = band_count(rt, helpers, bytes.len());
+    halve(rt, f, texel, width, bands, 0, height, bytes.as_mut_slice());
+    bytes
+}
+
 /// Calls `f(first, count, rows)` with bands of the rows of `out`, in no more than so many threads beside the one that calls.
+/// New memory is written by the caller alone, strip by strip, since meeting it takes longer than the kernels that this serves.
+pub(crate) fn paint_rows<R: Threads + Sync, F: Fn(u32, u32, &mut [u8]) + Sync>(
+    rt: &R,
+    helpers: usize,
+    texel: Texel,
+    width: u32,
+    height: u32,
+    out: Target,
+    f: F,
+) -> BytesMut
+    requires size { length out ≡ texel_bytes texel * (width * height) }
+    requires calls { AcceptsBands (F.pre f) texel width 0 height }
+    ensures bytes { (p : ℕ → ℕ → ℕ) → Paints (F.post f) texel width 0 height p → result.items ≡ band texel width 0 height p }
+    ensures long { length result.items ≡ length out }
+{
+    match out.into_memory() {
+        Memory::New(memory) => paint_strips(&f, texel, width, height, memory),
+        Memory::Used(bytes) => shared(rt, helpers, &f, texel, width, height, bytes),
+    }
+}
+
+// The same bytes, written down where threads are to share them out.
+fn ready(rt: &impl Threads, helpers: usize, out: Target) -> Target
+    ensures { result ≡ out }
+{
+    if band_count(rt, helpers, out.len()) < 2 {
+        return out;
+    }
+    Target::holding(out.into_bytes())
+}
+
+/// The same for kernels that take longer: threads share new memory too.
 pub(crate) fn paint_bands<R: Threads + Sync, F: Fn(u32, u32, &mut [u8]) + Sync>(
     rt: &R,
     helpers: usize,
     texel: Texel,
     width: u32,
     height: u32,
-    out: &mut [u8],
+    out: Target,
     f: F,
-)
-    requires size { length out.old ≡ texel_bytes texel * (width * height) }
+) -> BytesMut
+    requires size { length out ≡ texel_bytes texel * (width * height) }
     requires calls { AcceptsBands (F.pre f) texel width 0 height }
-    ensures { (p : ℕ → ℕ → ℕ) → Paints (F.post f) texel width 0 height p → out.new ≡ band texel width 0 height p }
+    ensures bytes { (p : ℕ → ℕ → ℕ) → Paints (F.post f) texel width 0 height p → result.items ≡ band texel width 0 height p }
+    ensures long { length result.items ≡ length out }
 {
-    let bands = band_count(rt, helpers, out.len());
-    halve(rt, &f, texel, width, bands, 0, height, out);
+    let out = ready(rt, helpers, out);
+    paint_rows(rt, helpers, texel, width, height, out, f)
 }

@@ -7,14 +7,18 @@ mod block;
 mod bytes;
 mod combine;
 mod constants;
+mod draw;
 mod fill;
 mod laying;
 mod map;
 mod ramp;
 mod rows;
 mod select;
+mod strips;
+mod target;
 mod whole;
 mod words;
 
 pub use apply_op::apply_fast;
 pub use bands::helpers_for;
+pub use target::Target;

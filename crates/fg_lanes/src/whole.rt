@@ -8,23 +8,28 @@ ghost use Rattle.fg_base.specs.Shapes.{bytes_of};
 ghost use Rattle.fg_base.specs.Texels.{modulus, picture, band};
 ghost use Rattle.fg_pixels.specs.Bands.{HasRows};
 
-use crate::bands::paint_bands;
+use crate::bands::{paint_bands, paint_rows};
 use crate::combine::combine_rows;
 use crate::fill::fill_words;
 use crate::map::map_rows;
 use crate::ramp::ramp_rows;
 use crate::select::select_rows;
+use crate::target::Target;
+use bytes::BytesMut;
 use fg_base::{Fun, Op, Shape};
 use fg_pixels::{box3_rows, canvas, convert_rows, halve_rows};
 use std::thread::Threads;
 
 #[tactic(auto, using(fg_pixels::proofs::Fitting::fill_fits))]
-pub(crate) fn fill_buffer(to: Shape, offset: u32, size: u32, word: u32, out: &mut [u8])
+pub(crate) fn fill_buffer(to: Shape, offset: u32, size: u32, word: u32, out: Target) -> BytesMut
     requires fits { fits (Op.FillBuffer to offset size word) ≡ true }
-    requires out { length out.old ≡ bytes_of to }
-    ensures { out.new ≡ effect (Op.FillBuffer to offset size word) [] [] [] out.old }
+    requires out { length out ≡ bytes_of to }
+    ensures bytes { result.items ≡ effect (Op.FillBuffer to offset size word) [] [] [] out }
+    ensures long { length result.items ≡ length out }
 {
-    fill_words(offset, size, word, out);
+    let mut bytes = out.into_bytes();
+    fill_words(offset, size, word, bytes.as_mut_slice());
+    bytes
 }
 
 #[tactic(auto, using(fg_pixels::proofs::Fitting::grid_bytes))]
@@ -35,14 +40,15 @@ pub(crate) fn ramp<R: Threads + Sync>(
     base: u32,
     dx: u32,
     dy: u32,
-    out: &mut [u8],
-)
+    out: Target,
+) -> BytesMut
     requires fits { fits (Op.Ramp to base dx dy) ≡ true }
-    requires out { length out.old ≡ bytes_of to }
-    ensures { out.new ≡ effect (Op.Ramp to base dx dy) [] [] [] out.old }
+    requires out { length out ≡ bytes_of to }
+    ensures bytes { result.items ≡ effect (Op.Ramp to base dx dy) [] [] [] out }
+    ensures long { length result.items ≡ length out }
 {
     let grid = canvas(to);
-    paint_bands(
+    paint_rows(
         rt,
         helpers,
         grid.texel,
@@ -53,7 +59,7 @@ pub(crate) fn ramp<R: Threads + Sync>(
             requires { HasRows grid count rows.old × (first + count ≤ grid.height) }
             ensures { rows.new ≡ band grid.texel grid.width first count (λ x y. base + x * dx + y * dy) }
         { ramp_rows(grid, base, dx, dy, first, count, rows) },
-    );
+    )
 }
 
 #[tactic(auto, using(fg_pixels::proofs::Fitting::same_bytes, fg_pixels::proofs::Fitting::same_bytes_to))]
@@ -65,15 +71,16 @@ pub(crate) fn map<R: Threads + Sync>(
     fun: Fun,
     value: u32,
     src: &[u8],
-    out: &mut [u8],
-)
+    out: Target,
+) -> BytesMut
     requires fits { fits (Op.Map from to fun value) ≡ true }
     requires src { length src.now ≡ bytes_of from }
-    requires out { length out.old ≡ bytes_of to }
-    ensures { out.new ≡ effect (Op.Map from to fun value) src.now [] [] out.old }
+    requires out { length out ≡ bytes_of to }
+    ensures bytes { result.items ≡ effect (Op.Map from to fun value) src.now [] [] out }
+    ensures long { length result.items ≡ length out }
 {
     let grid = canvas(to);
-    paint_bands(
+    paint_rows(
         rt,
         helpers,
         grid.texel,
@@ -84,7 +91,7 @@ pub(crate) fn map<R: Threads + Sync>(
             requires { HasRows grid grid.height src.now × HasRows grid count rows.old × (first + count ≤ grid.height) }
             ensures { rows.new ≡ band grid.texel grid.width first count (λ x y. fun_of grid.texel fun (picture grid src.entry.now x y) (value % modulus grid.texel)) }
         { map_rows(grid, fun, value, src, first, count, rows) },
-    );
+    )
 }
 
 #[tactic(auto, using(fg_pixels::proofs::Fitting::two_first, fg_pixels::proofs::Fitting::two_second, fg_pixels::proofs::Fitting::two_to))]
@@ -96,16 +103,17 @@ pub(crate) fn combine<R: Threads + Sync>(
     fun: Fun,
     a: &[u8],
     b: &[u8],
-    out: &mut [u8],
-)
+    out: Target,
+) -> BytesMut
     requires fits { fits (Op.Combine from.0 from.1 to fun) ≡ true }
     requires a { length a.now ≡ bytes_of from.0 }
     requires b { length b.now ≡ bytes_of from.1 }
-    requires out { length out.old ≡ bytes_of to }
-    ensures { out.new ≡ effect (Op.Combine from.0 from.1 to fun) a.now b.now [] out.old }
+    requires out { length out ≡ bytes_of to }
+    ensures bytes { result.items ≡ effect (Op.Combine from.0 from.1 to fun) a.now b.now [] out }
+    ensures long { length result.items ≡ length out }
 {
     let grid = canvas(to);
-    paint_bands(
+    paint_rows(
         rt,
         helpers,
         grid.texel,
@@ -116,7 +124,7 @@ pub(crate) fn combine<R: Threads + Sync>(
             requires { HasRows grid grid.height a.now × HasRows grid grid.height b.now × HasRows grid count rows.old × (first + count ≤ grid.height) }
             ensures { rows.new ≡ band grid.texel grid.width first count (λ x y. fun_of grid.texel fun (picture grid a.entry.now x y) (picture grid b.entry.now x y)) }
         { combine_rows(grid, fun, a, b, first, count, rows) },
-    );
+    )
 }
 
 #[tactic(auto, using(fg_pixels::proofs::Fitting::three_pair, fg_pixels::proofs::Fitting::two_first, fg_pixels::proofs::Fitting::two_second, fg_pixels::proofs::Fitting::three_third, fg_pixels::proofs::Fitting::three_to))]
@@ -128,17 +136,18 @@ pub(crate) fn select<R: Threads + Sync>(
     mask: &[u8],
     a: &[u8],
     b: &[u8],
-    out: &mut [u8],
-)
+    out: Target,
+) -> BytesMut
     requires fits { fits (Op.Select from.0 from.1 from.2 to) ≡ true }
     requires mask { length mask.now ≡ bytes_of from.0 }
     requires a { length a.now ≡ bytes_of from.1 }
     requires b { length b.now ≡ bytes_of from.2 }
-    requires out { length out.old ≡ bytes_of to }
-    ensures { out.new ≡ effect (Op.Select from.0 from.1 from.2 to) mask.now a.now b.now out.old }
+    requires out { length out ≡ bytes_of to }
+    ensures bytes { result.items ≡ effect (Op.Select from.0 from.1 from.2 to) mask.now a.now b.now out }
+    ensures long { length result.items ≡ length out }
 {
     let grid = canvas(to);
-    paint_bands(
+    paint_rows(
         rt,
         helpers,
         grid.texel,
@@ -149,7 +158,7 @@ pub(crate) fn select<R: Threads + Sync>(
             requires { HasRows grid grid.height mask.now × HasRows grid grid.height a.now × HasRows grid grid.height b.now × HasRows grid count rows.old × (first + count ≤ grid.height) }
             ensures { rows.new ≡ band grid.texel grid.width first count (λ x y. if picture grid mask.entry.now x y == 0 then picture grid b.entry.now x y else picture grid a.entry.now x y) }
         { select_rows(grid, mask, a, b, first, count, rows) },
-    );
+    )
 }
 
 #[tactic(auto, using(fg_pixels::proofs::Fitting::one_size))]
@@ -159,12 +168,13 @@ pub(crate) fn convert<R: Threads + Sync>(
     from: Shape,
     to: Shape,
     src: &[u8],
-    out: &mut [u8],
-)
+    out: Target,
+) -> BytesMut
     requires fits { fits (Op.Convert from to) ≡ true }
     requires src { length src.now ≡ bytes_of from }
-    requires out { length out.old ≡ bytes_of to }
-    ensures { out.new ≡ effect (Op.Convert from to) src.now [] [] out.old }
+    requires out { length out ≡ bytes_of to }
+    ensures bytes { result.items ≡ effect (Op.Convert from to) src.now [] [] out }
+    ensures long { length result.items ≡ length out }
 {
     let grid = canvas(from);
     let texel = canvas(to).texel;
@@ -179,7 +189,7 @@ pub(crate) fn convert<R: Threads + Sync>(
             requires { HasRows grid grid.height src.now × HasRows (record grid { texel = texel }) count rows.old × (first + count ≤ grid.height) }
             ensures { rows.new ≡ band texel grid.width first count (picture grid src.entry.now) }
         { convert_rows(grid, texel, src, first, count, rows) },
-    );
+    )
 }
 
 #[tactic(auto, using(fg_pixels::proofs::Fitting::images_from, fg_pixels::proofs::Fitting::images_to))]
@@ -189,12 +199,13 @@ pub(crate) fn box3<R: Threads + Sync>(
     from: Shape,
     to: Shape,
     src: &[u8],
-    out: &mut [u8],
-)
+    out: Target,
+) -> BytesMut
     requires fits { fits (Op.Box3 from to) ≡ true }
     requires src { length src.now ≡ bytes_of from }
-    requires out { length out.old ≡ bytes_of to }
-    ensures { out.new ≡ effect (Op.Box3 from to) src.now [] [] out.old }
+    requires out { length out ≡ bytes_of to }
+    ensures bytes { result.items ≡ effect (Op.Box3 from to) src.now [] [] out }
+    ensures long { length result.items ≡ length out }
 {
     let grid = canvas(to);
     paint_bands(
@@ -208,7 +219,7 @@ pub(crate) fn box3<R: Threads + Sync>(
             requires { HasRows grid grid.height src.now × HasRows grid count rows.old × (first + count ≤ grid.height) }
             ensures { rows.new ≡ band grid.texel grid.width first count (box3 grid.width grid.height (picture grid src.entry.now)) }
         { box3_rows(grid, src, first, count, rows) },
-    );
+    )
 }
 
 #[tactic(auto, using(fg_pixels::proofs::Fitting::twice))]
@@ -218,12 +229,13 @@ pub(crate) fn halve<R: Threads + Sync>(
     from: Shape,
     to: Shape,
     src: &[u8],
-    out: &mut [u8],
-)
+    out: Target,
+) -> BytesMut
     requires fits { fits (Op.Halve from to) ≡ true }
     requires src { length src.now ≡ bytes_of from }
-    requires out { length out.old ≡ bytes_of to }
-    ensures { out.new ≡ effect (Op.Halve from to) src.now [] [] out.old }
+    requires out { length out ≡ bytes_of to }
+    ensures bytes { result.items ≡ effect (Op.Halve from to) src.now [] [] out }
+    ensures long { length result.items ≡ length out }
 {
     let (grid, half) = (canvas(from), canvas(to));
     paint_bands(
@@ -237,5 +249,5 @@ pub(crate) fn halve<R: Threads + Sync>(
             requires { (grid.width ≡ 2 * half.width) × (grid.height ≡ 2 * half.height) × HasRows grid grid.height src.now × HasRows half count rows.old × (first + count ≤ half.height) }
             ensures { rows.new ≡ band half.texel half.width first count (halved (picture grid src.entry.now)) }
         { halve_rows(grid, half, src, first, count, rows) },
-    );
+    )
 }

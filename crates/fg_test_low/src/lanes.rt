@@ -1,8 +1,10 @@
-ghost use Rattle.std.specs.Prelude.{◌≤◌};
+ghost use Rattle.std.specs.Prelude.{◌≡◌, ◌≤◌, length, IfOk};
 
+use bytes::BytesMut;
 use fg_base::{Fun, Op, Shape, Texel};
-use fg_lanes::apply_fast;
+use fg_lanes::{Target, apply_fast};
 use fg_pixels::apply;
+use std::alloc::{AllocError, Global};
 use std::thread::Threads;
 
 // Bytes that do not repeat in a block, and zeros among them.
@@ -22,8 +24,25 @@ const BYTES: [u8; 268] = [
     7, 28, 63, 112, 175, 1, 92, 197, 65, 198, 94, 4, 179, 117, 69, 35,
 ];
 
+// New memory for so many bytes, or memory with other bytes.
+fn target(alloc: Global, n: usize, is_new: bool) -> Result<Target, AllocError>
+    ensures { IfOk result (λ target. length target ≡ n) }
+{
+    if is_new {
+        return Ok(Target::zeros(Vec::with_capacity(alloc, n)?, n));
+    }
+    let used = vec![in alloc; 9; n]?;
+    Ok(Target::holding(BytesMut::from_vec(used)))
+}
+
 // Whether both forms of an operation on bytes leave the same in a row of so many texels.
-fn bytes_alike<R: Threads + Sync>(rt: &R, width: u32, fun: Fun) -> bool
+fn bytes_alike<R: Threads + Sync>(
+    rt: &R,
+    alloc: Global,
+    width: u32,
+    fun: Fun,
+    is_new: bool,
+) -> Result<bool, AllocError>
     requires { width ≤ 67 }
 {
     let shape = Shape::Image {
@@ -38,9 +57,9 @@ fn bytes_alike<R: Threads + Sync>(rt: &R, width: u32, fun: Fun) -> bool
         value: 259,
     };
     let n = width as usize;
-    let (mut plain, mut fast) = ([0u8; 67], [0u8; 67]);
+    let mut plain = [0u8; 67];
     apply(&op, &[shape, shape], &BYTES[..n], &[], &[], &mut plain[..n]);
-    apply_fast(
+    let fast = apply_fast(
         rt,
         usize::MAX,
         &op,
@@ -48,13 +67,19 @@ fn bytes_alike<R: Threads + Sync>(rt: &R, width: u32, fun: Fun) -> bool
         &BYTES[..n],
         &[],
         &[],
-        &mut fast[..n],
+        target(alloc, n, is_new)?,
     );
-    plain == fast
+    Ok(fast.as_slice() == &plain[..n])
 }
 
 // The same of words, of two sources.
-fn words_alike<R: Threads + Sync>(rt: &R, width: u32, fun: Fun) -> bool
+fn words_alike<R: Threads + Sync>(
+    rt: &R,
+    alloc: Global,
+    width: u32,
+    fun: Fun,
+    is_new: bool,
+) -> Result<bool, AllocError>
     requires { width ≤ 67 }
 {
     let shape = Shape::Image {
@@ -70,9 +95,9 @@ fn words_alike<R: Threads + Sync>(rt: &R, width: u32, fun: Fun) -> bool
     };
     let n = 4 * width as usize;
     let (a, b) = (&BYTES[..n], &BYTES[268 - n..]);
-    let (mut plain, mut fast) = ([0u8; 268], [0u8; 268]);
+    let mut plain = [0u8; 268];
     apply(&op, &[shape, shape, shape], a, b, &[], &mut plain[..n]);
-    apply_fast(
+    let fast = apply_fast(
         rt,
         usize::MAX,
         &op,
@@ -80,16 +105,22 @@ fn words_alike<R: Threads + Sync>(rt: &R, width: u32, fun: Fun) -> bool
         a,
         b,
         &[],
-        &mut fast[..n],
+        target(alloc, n, is_new)?,
     );
-    plain == fast
+    Ok(fast.as_slice() == &plain[..n])
 }
 
-// At each width, some of them with whole blocks and some with none.
+// At each width, some of them with whole blocks and some with none, in memory of both kinds.
 #[test]
-fn lanes_are_the_plain_form(rt: HostRuntime) {
+fn lanes_are_the_plain_form(rt: HostRuntime) -> Result<(), AllocError> {
+    let alloc = rt.alloc();
     for width in 1..68 {
-        assert!(&rt; bytes_alike(&rt, width, Fun::Sub), "bytes, {width}");
-        assert!(&rt; words_alike(&rt, width, Fun::Shl), "words, {width}");
+        for is_new in [true, false] {
+            let bytes = bytes_alike(&rt, alloc, width, Fun::Sub, is_new)?;
+            assert!(&rt; bytes, "bytes, {width}, {is_new}");
+            let words = words_alike(&rt, alloc, width, Fun::Shl, is_new)?;
+            assert!(&rt; words, "words, {width}, {is_new}");
+        }
     }
+    Ok(())
 }

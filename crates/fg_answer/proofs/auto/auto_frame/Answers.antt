@@ -15,6 +15,11 @@ returns-clause-frame c =
       differs = is.numbers;
       means = is.meaning;
       culled = is.culled;
+      given = c.in_ok-choice.choice.given;
+      is_given = is.given;
+      found = c.in_ok-choice.choice.found;
+      is_found = is.found;
+      less = is.less;
       whole = written.whole;
       again = written.again;
     })

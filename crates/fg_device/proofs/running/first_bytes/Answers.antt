@@ -20,7 +20,7 @@ pub returns-then-is_whole-clause-long : goal.returns-then-is_whole-clause-long
 returns-then-is_whole-clause-long c = c.into_any.ensures ∙ ap length c.requires.room ∙ length-replicate {A = ℕ} (bytes_of (shape_at c.args.shapes.now (destination_of c.args.op.now))) 0
 
 pub returns-then-is_whole-clause-same : goal.returns-then-is_whole-clause-same
-returns-then-is_whole-clause-same c = any_lead c.args.shapes.now c.args.op.now c.args.loaded.now c.whole_leaves_nothing_old.ensures c.requires.runnable (sym c.is_whole.ensures ∙ c.if-is_whole.true) c.into_any.result.items (returns-then-is_whole-clause-long c)
+returns-then-is_whole-clause-same c = any_lead c.args.shapes.now c.args.op.now c.args.loaded.now c.whole_leaves_nothing_old.ensures c.requires.runnable (sym c.is_whole.ensures ∙ c.if-is_whole.true) c.into_any.result (returns-then-is_whole-clause-long c)
 
 pub returns-clause-long : goal.returns-clause-long
 returns-clause-long c = c.old_bytes.ensures.long ∙ ap length c.requires.room ∙ length-replicate {A = ℕ} (bytes_of (shape_at c.args.shapes.now (destination_of c.args.op.now))) 0
@@ -28,4 +28,4 @@ returns-clause-long c = c.old_bytes.ensures.long ∙ ap length c.requires.room �
 pub returns-clause-same : goal.returns-clause-same
 returns-clause-same c =
     let n = length (sources_of c.args.op.now) in
-    same_leads c.args.shapes.now c.args.op.now c.old_bytes.result.items _ (c.old_bytes.ensures.bytes ∙ ap (λ (old : List ℕ). slice_index_or c.args.loaded.now n old) c.requires.room)
+    same_leads c.args.shapes.now c.args.op.now c.old_bytes.result _ (c.old_bytes.ensures.bytes ∙ ap (λ (old : List ℕ). slice_index_or c.args.loaded.now n old) c.requires.room)

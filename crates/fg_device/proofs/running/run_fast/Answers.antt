@@ -1,6 +1,5 @@
 use Rattle.fg_device.proofs.Sources.{source_long, destination_long}
 use Rattle.fg_device.proofs.running.run_fast.Goals as goal
-use Rattle.fg_pixels.proofs.Draws.{not_draw}
 
 pub apply_fast-requires-clause-operands : goal.apply_fast-requires-clause-operands
 apply_fast-requires-clause-operands g c κs within = c.requires.runnable.operands
@@ -8,17 +7,14 @@ apply_fast-requires-clause-operands g c κs within = c.requires.runnable.operand
 pub apply_fast-requires-clause-fits : goal.apply_fast-requires-clause-fits
 apply_fast-requires-clause-fits g c κs within = c.requires.runnable.fitting
 
-pub apply_fast-requires-clause-kind : goal.apply_fast-requires-clause-kind
-apply_fast-requires-clause-kind g c κs within = not_draw c.args.op.now c.in_default.not-Draw
-
 pub apply_fast-requires-clause-first : goal.apply_fast-requires-clause-first
 apply_fast-requires-clause-first g c κs within = source_long c.args.shapes.now c.args.op.now c.args.loaded.now c.requires.runnable 0 c.source.result.now c.source.ensures
 
 pub apply_fast-requires-clause-second : goal.apply_fast-requires-clause-second
-apply_fast-requires-clause-second g c κs within = source_long c.args.shapes.now c.args.op.now c.args.loaded.now c.requires.runnable 1 c.source-in_default.result.now c.source-in_default.ensures
+apply_fast-requires-clause-second g c κs within = source_long c.args.shapes.now c.args.op.now c.args.loaded.now c.requires.runnable 1 c.source-2.result.now c.source-2.ensures
 
 pub apply_fast-requires-clause-third : goal.apply_fast-requires-clause-third
-apply_fast-requires-clause-third g c κs within = source_long c.args.shapes.now c.args.op.now c.args.loaded.now c.requires.runnable 2 c.source-in_default-2.result.now c.source-in_default-2.ensures
+apply_fast-requires-clause-third g c κs within = source_long c.args.shapes.now c.args.op.now c.args.loaded.now c.requires.runnable 2 c.source-3.result.now c.source-3.ensures
 
 pub apply_fast-requires-clause-out : goal.apply_fast-requires-clause-out
 apply_fast-requires-clause-out g c κs within = destination_long c.args.shapes.now c.args.op.now _ c.requires.out
