@@ -7,8 +7,8 @@ ghost use Rattle.fg_base.specs.declared.shape.Texel.{Texel};
 ghost use Rattle.fg_base.specs.declared.shape.Texel.TheVariants.{R32};
 ghost use Rattle.fg_lanes.specs.Code.Blocks.{block_texels, AreTexels};
 
-use crate::bytes::{choose_bytes, fun_bytes, rising_bytes};
-use crate::words::{choose_words, fun_words, rising_words};
+use crate::byte_lanes::{choose_bytes, fun_bytes, rising_bytes};
+use crate::word_lanes::{choose_words, fun_words, rising_words};
 use fg_base::{Fun, Texel};
 use std::simd::prelude::*;
 

@@ -4,7 +4,7 @@
 mod apply_op;
 mod bands;
 mod block;
-mod bytes;
+mod byte_lanes;
 mod combine;
 mod constants;
 mod draw;
@@ -17,7 +17,7 @@ mod select;
 mod strips;
 mod target;
 mod whole;
-mod words;
+mod word_lanes;
 
 pub use apply_op::apply_fast;
 pub use bands::helpers_for;
