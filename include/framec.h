@@ -16,7 +16,7 @@
  * a line feed, and no zero byte follows.
  *
  * What is proved of each call, for any bytes: it returns, touches no memory but what its parameters lend it and what it takes by malloc,
- * and answers as above. Nothing is kept between calls: the library has no state, so calls on several threads share malloc alone. That they
+ * and answers as above. The library has no state, so calls on several threads share malloc alone. That they
  * may run at one time is tested, not proved.
  *
  * What nothing checks, and a caller has to keep:

@@ -75,7 +75,7 @@ pub extern "C" fn framec_compile(
     call(alloc, Export::Compile, input, output, wanted)
 }
 
-/// A frame with its passes on the queues that make its longest chain of work least.
+/// A frame with its passes on other queues, pass by pass each on one with which the whole frame costs least.
 #[unsafe(no_mangle)]
 pub extern "C" fn framec_auto(
     alloc: Global,
