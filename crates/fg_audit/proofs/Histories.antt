@@ -1,5 +1,5 @@
 -- How many events a history has, and that its numbers are those of nodes, agents and memories: so it is read again as it is printed.
-use Rattle.std.proofs.Common.{◌≡◌, ◌∙◌, ℕ, zero, suc, ◌+◌, ◌*◌, ◌^◌, ◌<◌, ◌≤◌, ◌==◌, ◌&&◌, List, [], ◌∷◌, ◌++◌, length, map, take, take-suc, get_or, slice_get, Bool, true, false, Some, Ok, refl, sym, ap, subst, ⊎_elim, arith}
+use Rattle.std.proofs.Common.{◌≡◌, ◌∙◌, ℕ, zero, suc, ◌+◌, ◌*◌, ◌^◌, ◌<◌, ◌≤◌, List, [], ◌∷◌, ◌++◌, length, take, take-suc, get_or, true, false, refl, sym, ap, subst, ⊎_elim, arith}
 use Rattle.std.specs.Option.{option_map_or}
 use Rattle.std.proofs.Math.Seq.{take-length}
 use Rattle.std.proofs.lemmas.Bool.{and_parts, cases_eq, false≢true}
@@ -19,11 +19,10 @@ use Rattle.fg_device.proofs.Moved.{IsMove, is_move}
 use Rattle.fg_device.specs.Code.Rooms.{events_left, left_of}
 use Rattle.fg_hb.specs.Edges.{is_sync, is_host}
 use Rattle.fg_hb.specs.Nodes.{entry_node}
-use Rattle.fg_report.specs.Traces.{trace_text}
 use Rattle.fg_steps.proofs.Control.{put_other, still_begun}
 use Rattle.fg_steps.proofs.Running.{goes_on_by, moved_as, moves_by, opens}
-use Rattle.fg_steps.specs.Coming.{is_enabled, left_by, is_enabled_at, AreEnabled, AllCame}
-use Rattle.fg_steps.specs.Devices.{Device, state_of, did, fresh, is_ready}
+use Rattle.fg_steps.specs.Coming.{is_enabled, left_by, AreEnabled}
+use Rattle.fg_steps.specs.Devices.{Device, state_of, did, is_ready}
 use Rattle.fg_steps.specs.Histories as histories
 use Rattle.fg_steps.specs.Histories.{moves_in}
 use Rattle.fg_steps.specs.Ready.{is_command, kind_at}
@@ -33,7 +32,7 @@ use Rattle.fg_steps.specs.declared.phase.Phase.{Phase}
 use Rattle.fg_steps.specs.declared.phase.Phase.TheVariants.{Idle, Begun, Done}
 use Rattle.fg_subs.proofs.Few.{is_small}
 use Rattle.fg_subs.specs.Entries.{entries_of}
-use Rattle.fg_subs.specs.FirstFault.{first_broken, first_fault}
+use Rattle.fg_subs.specs.FirstFault.{first_broken}
 use Rattle.fg_subs.specs.Limits.{memory_bytes}
 use Rattle.fg_subs.specs.Obeys.{IsSmall}
 use Rattle.fg_subs.specs.Paths.{told}

@@ -9,3 +9,4 @@ pub mod Made
 pub mod Reading
 pub mod Saying
 mod WorkedTraces
+pub mod Tended

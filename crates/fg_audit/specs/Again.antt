@@ -1,8 +1,9 @@
 -- That a trace which is printed is read again.
-use Rattle.std.specs.Prelude.{◌≡◌, ◌<◌, ◌≤◌, ◌^◌, List, [], ◌∷◌, length, None, Ok}
+use Rattle.std.specs.Prelude.{◌≡◌, ℕ, ◌<◌, ◌≤◌, ◌^◌, List, [], ◌∷◌, length, Option, None, Ok}
 use Rattle.fg_audit.specs.Trace.{trace_of}
 use Rattle.fg_base.specs.declared.event.Event.{Event}
 use Rattle.fg_base.specs.declared.event.Event.TheVariants.{Begin, End, Sync, WriteBack, Fill, DropLine, Host}
+use Rattle.fg_drive.specs.Tended.{tended_moves}
 use Rattle.fg_report.specs.Traces.{trace_text}
 use Rattle.fg_steps.specs.Coming.{AllCame}
 use Rattle.fg_steps.specs.Devices.{Device}
@@ -30,3 +31,7 @@ ReadsAgain = (events : List Event) → length events ≤ 65536 → HaveNumbers e
 -- and so is that of each device with no more cache moves than a seed gives
 abbrev pub HistoriesAreRead : Type 0
 HistoriesAreRead = (d : Device) → first_fault d.program ≡ None → AllCame d → length (moves_in d.history) ≤ 256 → trace_of (trace_text d.history) ≡ Ok d.history
+
+-- so that of one whose cache moves are those of a seed, or that has none
+abbrev pub TendedAreRead : Type 0
+TendedAreRead = (d : Device) (tend : Option ℕ) → first_fault d.program ≡ None → AllCame d → moves_in d.history ≡ tended_moves d.program tend 256 → trace_of (trace_text d.history) ≡ Ok d.history

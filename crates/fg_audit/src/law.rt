@@ -1,6 +1,6 @@
 //! Laws of traces.
 
-ghost use Rattle.fg_audit.specs.Again.{HistoriesAreRead, ReadsAgain};
+ghost use Rattle.fg_audit.specs.Again.{HistoriesAreRead, ReadsAgain, TendedAreRead};
 ghost use Rattle.fg_audit.specs.Runs.{HistoriesAreRuns};
 
 /// A trace of at most 65,536 events that is printed is read again, to the same events. It does nothing.
@@ -13,4 +13,5 @@ pub fn trace_law()
 pub fn run_law()
     ensures run { HistoriesAreRuns }
     ensures read { HistoriesAreRead }
+    ensures tended { TendedAreRead }
 {}

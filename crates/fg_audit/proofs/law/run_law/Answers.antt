@@ -1,5 +1,6 @@
 use Rattle.std.proofs.Common.{ℕ, length, sym, subst}
 use Rattle.fg_audit.proofs.Histories.{histories_are_read}
+use Rattle.fg_audit.proofs.Tended.{tended_are_read}
 use Rattle.fg_audit.proofs.law.run_law.Goals as goal
 use Rattle.fg_steps.proofs.Coming.{left_is}
 use Rattle.fg_steps.specs.Coming.{left_by, AreEnabled}
@@ -14,3 +15,6 @@ returns-clause-run c d zeros came complete = record {
 
 pub returns-clause-read : goal.returns-clause-read
 returns-clause-read c = histories_are_read
+
+pub returns-clause-tended : goal.returns-clause-tended
+returns-clause-tended c = tended_are_read
