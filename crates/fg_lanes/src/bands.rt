@@ -23,19 +23,13 @@ fn helpers_in(bytes: usize) -> usize {
     (bytes / LEAST).saturating_sub(1)
 }
 
-/// How many threads an operation has use for, beside the one that calls.
+/// How many threads an operation has use for, beside the one that calls. Most take hardly longer than the memory that they go
+/// over, which threads make no quicker.
 pub fn helpers_for(op: &Op<u32>, out: &Target) -> usize {
-    let shares = match op {
-        Op::Convert { .. } | Op::Box3 { .. } | Op::Halve { .. } => true,
-        Op::ClearImage { .. }
-        | Op::Ramp { .. }
-        | Op::Map { .. }
-        | Op::Combine { .. }
-        | Op::Select { .. }
-        | Op::Draw { .. } => !out.is_new(),
-        _ => false,
-    };
-    if shares { helpers_in(out.len()) } else { 0 }
+    match op {
+        Op::Convert { .. } | Op::Box3 { .. } | Op::Halve { .. } => helpers_in(out.len()),
+        _ => 0,
+    }
 }
 
 // How many bands are painted side by side: no more than there are processors.
@@ -160,17 +154,7 @@ pub(crate) fn paint_rows<R: Threads + Sync, F: Fn(u32, u32, &mut [u8]) + Sync>(
     }
 }
 
-// The same bytes, written down where threads are to share them out.
-fn ready(rt: &impl Threads, helpers: usize, out: Target) -> Target
-    ensures { result ≡ out }
-{
-    if band_count(rt, helpers, out.len()) < 2 {
-        return out;
-    }
-    Target::holding(out.into_bytes())
-}
-
-/// The same for kernels that take longer: threads share new memory too.
+/// The same for kernels that take longer: new memory is filled first, so that threads share it too.
 pub(crate) fn paint_bands<R: Threads + Sync, F: Fn(u32, u32, &mut [u8]) + Sync>(
     rt: &R,
     helpers: usize,
@@ -185,6 +169,6 @@ pub(crate) fn paint_bands<R: Threads + Sync, F: Fn(u32, u32, &mut [u8]) + Sync>(
     ensures bytes { (p : ℕ → ℕ → ℕ) → Paints (F.post f) texel width 0 height p → result.items ≡ band texel width 0 height p }
     ensures long { length result.items ≡ length out }
 {
-    let out = ready(rt, helpers, out);
-    paint_rows(rt, helpers, texel, width, height, out, f)
+    let bytes = out.into_bytes();
+    shared(rt, helpers, &f, texel, width, height, bytes)
 }

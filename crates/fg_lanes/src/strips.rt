@@ -9,9 +9,11 @@ use crate::rows::size_of;
 use bytes::BytesMut;
 use fg_base::Texel;
 
-/// About how many bytes a strip has, so that they are still in the processor's cache when they are painted over the zeros that
-/// they begin with.
-const STRIP: usize = 1 << 16;
+/// About how many bytes a strip has, so that they stay in the processor's nearest cache until they are copied.
+const STRIP: usize = 1 << 13;
+
+/// The bytes of the longest row of an image.
+const PAPER: usize = 1 << 14;
 
 // How many rows of so many bytes make a strip.
 fn rows_in_strip(row: usize) -> u32
@@ -30,9 +32,32 @@ fn grow(memory: &mut Vec<u8>, size: usize)
     let _grown = memory.resize(memory.len() + size, 0);
 }
 
-// The next rows.
+// The next rows, painted elsewhere and copied.
 #[inline(always)]
-fn paint_strip<F: Fn(u32, u32, &mut [u8])>(
+fn paint_copy<F: Fn(u32, u32, &mut [u8])>(
+    f: &F,
+    texel: Texel,
+    width: u32,
+    first: u32,
+    count: u32,
+    paper: &mut [u8],
+    memory: &mut Vec<u8>,
+)
+    requires room { length memory.old.items + texel_bytes texel * (width * count) ≤ vec_capacity memory.old }
+    requires rows { first + count < 2 ^ 32 }
+    requires paper { length paper.old ≡ texel_bytes texel * (width * count) }
+    requires calls { AcceptsBands (F.pre f.now) texel width first count }
+    ensures bytes { (p : ℕ → ℕ → ℕ) → Paints (F.post f.now) texel width first count p → memory.new.items ≡ memory.old.items ++ band texel width first count p }
+    ensures size { length memory.new.items ≡ length memory.old.items + texel_bytes texel * (width * count) }
+    ensures capacity { vec_capacity memory.old ≤ vec_capacity memory.new }
+{
+    f(first, count, paper);
+    let _copied = memory.extend_from_slice(paper);
+}
+
+// The next rows, painted where they stay.
+#[inline(always)]
+fn paint_there<F: Fn(u32, u32, &mut [u8])>(
     f: &F,
     texel: Texel,
     width: u32,
@@ -52,6 +77,32 @@ fn paint_strip<F: Fn(u32, u32, &mut [u8])>(
     f(first, count, &mut memory[start..]);
 }
 
+// The next rows, by way of some paper where they have room on it.
+#[inline(always)]
+fn paint_strip<F: Fn(u32, u32, &mut [u8])>(
+    f: &F,
+    texel: Texel,
+    width: u32,
+    first: u32,
+    count: u32,
+    paper: &mut [u8],
+    memory: &mut Vec<u8>,
+)
+    requires room { length memory.old.items + texel_bytes texel * (width * count) ≤ vec_capacity memory.old }
+    requires rows { first + count < 2 ^ 32 }
+    requires calls { AcceptsBands (F.pre f.now) texel width first count }
+    ensures bytes { (p : ℕ → ℕ → ℕ) → Paints (F.post f.now) texel width first count p → memory.new.items ≡ memory.old.items ++ band texel width first count p }
+    ensures size { length memory.new.items ≡ length memory.old.items + texel_bytes texel * (width * count) }
+    ensures capacity { vec_capacity memory.old ≤ vec_capacity memory.new }
+{
+    let size = size_of(texel) * (width as usize * count as usize);
+    if size <= paper.len() {
+        paint_copy(f, texel, width, first, count, &mut paper[..size], memory);
+    } else {
+        paint_there(f, texel, width, first, count, memory);
+    }
+}
+
 /// Calls `f(first, count, rows)` with strips of the rows, from the first on.
 pub(crate) fn paint_strips<F: Fn(u32, u32, &mut [u8])>(
     f: &F,
@@ -66,11 +117,20 @@ pub(crate) fn paint_strips<F: Fn(u32, u32, &mut [u8])>(
     ensures long { length result.items ≡ texel_bytes texel * (width * height) }
 {
     memory.clear();
+    let mut paper = [0; PAPER];
     let rows = rows_in_strip(size_of(texel) * width as usize);
     for strip in 0..height / rows {
-        paint_strip(f, texel, width, strip * rows, rows, &mut memory);
+        paint_strip(f, texel, width, strip * rows, rows, &mut paper, &mut memory);
     }
     let done = height / rows * rows;
-    paint_strip(f, texel, width, done, height - done, &mut memory);
+    paint_strip(
+        f,
+        texel,
+        width,
+        done,
+        height - done,
+        &mut paper,
+        &mut memory,
+    );
     BytesMut::from_vec(memory)
 }

@@ -1,7 +1,7 @@
 use Rattle.std.proofs.Common.{rules, ◌≡◌, ℕ, ◌-◌, ◌*◌, List, ◌++◌, length, replicate, arith, ap, ◌∙◌}
 use Rattle.std.proofs.lemmas.List.{length-replicate}
 use Rattle.fg_lanes.proofs.Ends.{end_long, new_end}
-use Rattle.fg_lanes.proofs.strips.paint_strip.Goals as goal
+use Rattle.fg_lanes.proofs.strips.paint_there.Goals as goal
 
 pub returns-clause-bytes : goal.returns-clause-bytes
 returns-clause-bytes g c p paints =
