@@ -1,7 +1,7 @@
 #!/usr/bin/env python3
 """Builds the program, and times it and another one that knows the same words, in turn, on the same frames.
 
-    bench/compare.py OTHER [--ours PROGRAM] [--runs 5] [--case NAME ..]
+    bench/compare.py OTHER [--ours PROGRAM] [--runs 15] [--case NAME ..]
 
 First whole commands: `run`, with one worker and with four, `meaning`, `cull`, `place` and `compile` of the deferred frame of
 examples/frames/, `cull` of nearly 16 MiB of imports and of 256 passes that read and change each of 256 buffers, `place`, `bound`, `auto`, `compile`
@@ -11,14 +11,14 @@ barriers alone; fills of one buffer with a full barrier between each two; one fi
 buffers that share memory. Then each operation: a frame applies it again and again to images of 1920 by 1080 texels and
 exports one texel, so that little is printed; a frame without it is timed too, and its time is taken off. Each is timed by `meaning`,
 which takes the plain way, and by `run` with one worker, whose device computes by lanes and bands. For each case one
-line: the medians of the processor time in both programs in milliseconds, of the command or of one operation, their ratio,
-the ratio of the times by the clock, and that of the most memory that the programs took. The texts of both have to be the same.
+line: the least processor time in both programs in milliseconds, of the command or of one operation, their ratio, the ratio
+of the least times by the clock, and that of the most memory that the programs took. (The least of many runs is what the
+programs take by themselves; a median moves with whatever else the machine does.) The texts of both have to be the same.
 """
 
 import argparse
 import json
 import os
-import statistics
 import subprocess
 import sys
 import tempfile
@@ -174,7 +174,7 @@ def once(program, words, path):
 
 
 def measured(programs, words, runs, path):
-    """Of each program the medians of processor time and of the time by the clock, and its most memory."""
+    """Of each program the least processor time and the least time by the clock, and its most memory."""
     took = [[], []]
     most = [0, 0]
     texts = [None, None]
@@ -185,7 +185,7 @@ def measured(programs, words, runs, path):
             most[k] = max(most[k], kib)
     if texts[0] != texts[1]:
         sys.exit(f"{path}: the programs differ: {texts[0]!r} and {texts[1]!r}"[:400])
-    return [[statistics.median(ms) for ms in zip(*times)] for times in took], most
+    return [[min(ms) for ms in zip(*times)] for times in took], most
 
 
 def row(name, own, other, most):
@@ -245,7 +245,7 @@ def main():
     parser = argparse.ArgumentParser(description=__doc__, formatter_class=argparse.RawDescriptionHelpFormatter)
     parser.add_argument("other", metavar="OTHER")
     parser.add_argument("--ours", metavar="PROGRAM", help="a built program, in place of the repository's")
-    parser.add_argument("--runs", type=int, default=5)
+    parser.add_argument("--runs", type=int, default=15)
     parser.add_argument("--case", nargs="*", default=[])
     options = parser.parse_args()
     programs = [options.ours or built(), options.other]
