@@ -1,10 +1,9 @@
 //! Bands of rows, painted side by side.
 
-ghost use Rattle.std.specs.Prelude.{◌≡◌, ℕ, ◌+◌, ◌*◌, ◌^◌, ◌<◌, ◌≤◌, length};
+ghost use Rattle.std.specs.Prelude.{◌≡◌, ◌+◌, ◌*◌, ◌^◌, ◌<◌, ◌≤◌, length};
 ghost use Rattle.std.specs.Thread.{IsSync};
 ghost use Rattle.fg_base.specs.Shapes.{texel_bytes};
-ghost use Rattle.fg_base.specs.Texels.{band};
-ghost use Rattle.fg_lanes.specs.Code.Painters.{AcceptsBands, Paints};
+ghost use Rattle.fg_lanes.specs.Code.Painters.{AcceptsBands, ArePainted};
 
 use crate::rows::size_of;
 use crate::strips::paint_strips;
@@ -15,26 +14,38 @@ use rayon::{current_num_threads, join_mut};
 use std::marker::Sync;
 use std::thread::Threads;
 
-/// The least bytes for which a thread is started.
+/// The least bytes of a destination for each thread that paints it.
 const LEAST: usize = 1 << 19;
 
+/// The same for kernels that take little longer than the memory that they go over.
+const LEAST_OF_LANES: usize = 1 << 20;
+
 // How many threads so many bytes are shared out among, beside the one that calls.
-fn helpers_in(bytes: usize) -> usize {
-    (bytes / LEAST).saturating_sub(1)
+fn helpers_in(bytes: usize, least: usize) -> usize {
+    (bytes / least.max(1)).saturating_sub(1)
 }
 
-/// How many threads an operation has use for, beside the one that calls. Most take hardly longer than the memory that they go
-/// over, which threads make no quicker.
+/// How many threads an operation has use for, beside the one that calls.
 pub fn helpers_for(op: &Op<u32>, out: &Target) -> usize {
     match op {
-        Op::Convert { .. } | Op::Box3 { .. } | Op::Halve { .. } => helpers_in(out.len()),
+        Op::Convert { .. } | Op::Box3 { .. } | Op::Halve { .. } => helpers_in(out.len(), LEAST),
+        Op::ClearImage { .. }
+        | Op::Ramp { .. }
+        | Op::Map { .. }
+        | Op::Combine { .. }
+        | Op::Select { .. }
+        | Op::Draw { .. }
+            if !out.is_new() =>
+        {
+            helpers_in(out.len(), LEAST_OF_LANES)
+        }
         _ => 0,
     }
 }
 
 // How many bands are painted side by side: no more than there are processors.
 fn band_count(rt: &impl Threads, helpers: usize, bytes: usize) -> usize {
-    let wanted = helpers_in(bytes).min(helpers);
+    let wanted = helpers_in(bytes, LEAST).min(helpers);
     if wanted == 0 {
         1
     } else {
@@ -42,9 +53,26 @@ fn band_count(rt: &impl Threads, helpers: usize, bytes: usize) -> usize {
     }
 }
 
-// The rows are halved until there are as many bands, and one half goes to a new thread where one can be made.
-#[cycle(halving)]
-fn halve<R: Threads + Sync, F: Fn(u32, u32, &mut [u8]) + Sync>(
+// One band.
+fn paint_band<F: Fn(u32, u32, &mut [u8])>(
+    f: &F,
+    texel: Texel,
+    width: u32,
+    first: u32,
+    count: u32,
+    out: &mut [u8],
+)
+    requires size { length out.old ≡ texel_bytes texel * (width * count) }
+    requires rows { first + count < 2 ^ 32 }
+    requires calls { AcceptsBands (F.pre f.now) texel width first count }
+    ensures { ArePainted (F.post f.now) texel width first count out.new }
+{
+    f(first, count, out);
+}
+
+// One band of the rows goes to a new thread, where one can be made, and the others are shared out in the same way.
+#[cycle(sharing)]
+fn share_out<R: Threads + Sync, F: Fn(u32, u32, &mut [u8]) + Sync>(
     rt: &R,
     f: &F,
     texel: Texel,
@@ -57,20 +85,20 @@ fn halve<R: Threads + Sync, F: Fn(u32, u32, &mut [u8]) + Sync>(
     requires size { length out.old ≡ texel_bytes texel * (width * count) }
     requires rows { first + count < 2 ^ 32 }
     requires calls { AcceptsBands (F.pre f.now) texel width first count }
-    ensures { (p : ℕ → ℕ → ℕ) → Paints (F.post f.now) texel width first count p → out.new ≡ band texel width first count p }
+    ensures { ArePainted (F.post f.now) texel width first count out.new }
 {
-    if bands < 2 || count < 2 {
-        f(first, count, out);
+    if bands < 2 || (count as usize) < bands {
+        paint_band(f, texel, width, first, count, out);
         return;
     }
-    let top = count / 2;
+    let top = (count as usize / bands) as u32;
     let (front, back) = out.split_at_mut(size_of(texel) * (width as usize * top as usize));
     both(
         rt,
         f,
         texel,
         width,
-        bands / 2,
+        bands - 1,
         first,
         top,
         front,
@@ -79,7 +107,8 @@ fn halve<R: Threads + Sync, F: Fn(u32, u32, &mut [u8]) + Sync>(
     );
 }
 
-#[cycle(halving)]
+// One band, beside so many that come after it.
+#[cycle(sharing)]
 fn both<R: Threads + Sync, F: Fn(u32, u32, &mut [u8]) + Sync>(
     rt: &R,
     f: &F,
@@ -97,17 +126,17 @@ fn both<R: Threads + Sync, F: Fn(u32, u32, &mut [u8]) + Sync>(
     requires rows { first + top + bottom < 2 ^ 32 }
     requires calls_front { AcceptsBands (F.pre f.now) texel width first top }
     requires calls_back { AcceptsBands (F.pre f.now) texel width (first + top) bottom }
-    ensures front { (p : ℕ → ℕ → ℕ) → Paints (F.post f.now) texel width first top p → front.new ≡ band texel width first top p }
-    ensures back { (p : ℕ → ℕ → ℕ) → Paints (F.post f.now) texel width (first + top) bottom p → back.new ≡ band texel width (first + top) bottom p }
+    ensures front { ArePainted (F.post f.now) texel width first top front.new }
+    ensures back { ArePainted (F.post f.now) texel width (first + top) bottom back.new }
 {
     let mut upper = ||
-        requires { IsSync R.row × IsSync F.row × (length front.now ≡ texel_bytes texel * (width * top)) × (first + top < 2 ^ 32) × AcceptsBands (F.pre f.now) texel width first top }
-        ensures { (p : ℕ → ℕ → ℕ) → Paints (F.post f.entry.now) texel width first top p → front.exit.now ≡ band texel width first top p }
-    { halve(rt, f, texel, width, bands, first, top, front) };
+        requires { IsSync F.row × (length front.now ≡ texel_bytes texel * (width * top)) × (first + top < 2 ^ 32) × AcceptsBands (F.pre f.now) texel width first top }
+        ensures { ArePainted (F.post f.entry.now) texel width first top front.exit.now }
+    { paint_band(f, texel, width, first, top, front) };
     let mut lower = ||
         requires { IsSync R.row × IsSync F.row × (length back.now ≡ texel_bytes texel * (width * bottom)) × (first + top + bottom < 2 ^ 32) × AcceptsBands (F.pre f.now) texel width (first + top) bottom }
-        ensures { (p : ℕ → ℕ → ℕ) → Paints (F.post f.entry.now) texel width (first + top) bottom p → back.exit.now ≡ band texel width (first + top) bottom p }
-    { halve(rt, f, texel, width, bands, first + top, bottom, back) };
+        ensures { ArePainted (F.post f.entry.now) texel width (first + top) bottom back.exit.now }
+    { share_out(rt, f, texel, width, bands, first + top, bottom, back) };
     join_mut(rt, &mut upper, &mut lower);
 }
 
@@ -124,11 +153,11 @@ fn shared<R: Threads + Sync, F: Fn(u32, u32, &mut [u8]) + Sync>(
     requires size { length bytes.items ≡ texel_bytes texel * (width * height) }
     requires rows { height < 2 ^ 32 }
     requires calls { AcceptsBands (F.pre f.now) texel width 0 height }
-    ensures bytes { (p : ℕ → ℕ → ℕ) → Paints (F.post f.now) texel width 0 height p → result.items ≡ band texel width 0 height p }
+    ensures bytes { ArePainted (F.post f.now) texel width 0 height result.items }
     ensures long { length result.items ≡ length bytes.items }
 {
     let bands = band_count(rt, helpers, bytes.len());
-    halve(rt, f, texel, width, bands, 0, height, bytes.as_mut_slice());
+    share_out(rt, f, texel, width, bands, 0, height, bytes.as_mut_slice());
     bytes
 }
 
@@ -145,7 +174,7 @@ pub(crate) fn paint_rows<R: Threads + Sync, F: Fn(u32, u32, &mut [u8]) + Sync>(
 ) -> BytesMut
     requires size { length out ≡ texel_bytes texel * (width * height) }
     requires calls { AcceptsBands (F.pre f) texel width 0 height }
-    ensures bytes { (p : ℕ → ℕ → ℕ) → Paints (F.post f) texel width 0 height p → result.items ≡ band texel width 0 height p }
+    ensures bytes { ArePainted (F.post f) texel width 0 height result.items }
     ensures long { length result.items ≡ length out }
 {
     match out.into_memory() {
@@ -166,7 +195,7 @@ pub(crate) fn paint_bands<R: Threads + Sync, F: Fn(u32, u32, &mut [u8]) + Sync>(
 ) -> BytesMut
     requires size { length out ≡ texel_bytes texel * (width * height) }
     requires calls { AcceptsBands (F.pre f) texel width 0 height }
-    ensures bytes { (p : ℕ → ℕ → ℕ) → Paints (F.post f) texel width 0 height p → result.items ≡ band texel width 0 height p }
+    ensures bytes { ArePainted (F.post f) texel width 0 height result.items }
     ensures long { length result.items ≡ length out }
 {
     let bytes = out.into_bytes();

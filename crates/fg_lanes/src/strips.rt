@@ -1,9 +1,8 @@
 //! Rows painted strip by strip into memory that is met for the first time.
 
-ghost use Rattle.std.specs.Prelude.{◌≡◌, ℕ, ◌+◌, ◌*◌, ◌^◌, ◌<◌, ◌≤◌, ◌++◌, length, replicate, vec_capacity};
+ghost use Rattle.std.specs.Prelude.{◌≡◌, ◌+◌, ◌*◌, ◌^◌, ◌<◌, ◌≤◌, ◌++◌, length, replicate, vec_capacity};
 ghost use Rattle.fg_base.specs.Shapes.{texel_bytes};
-ghost use Rattle.fg_base.specs.Texels.{band};
-ghost use Rattle.fg_lanes.specs.Code.Painters.{AcceptsBands, Paints};
+ghost use Rattle.fg_lanes.specs.Code.Painters.{AcceptsBands, ArePainted, FollowPainted};
 
 use crate::rows::size_of;
 use bytes::BytesMut;
@@ -47,7 +46,7 @@ fn paint_copy<F: Fn(u32, u32, &mut [u8])>(
     requires rows { first + count < 2 ^ 32 }
     requires paper { length paper.old ≡ texel_bytes texel * (width * count) }
     requires calls { AcceptsBands (F.pre f.now) texel width first count }
-    ensures bytes { (p : ℕ → ℕ → ℕ) → Paints (F.post f.now) texel width first count p → memory.new.items ≡ memory.old.items ++ band texel width first count p }
+    ensures bytes { FollowPainted (F.post f.now) texel width first count memory.old.items memory.new.items }
     ensures size { length memory.new.items ≡ length memory.old.items + texel_bytes texel * (width * count) }
     ensures capacity { vec_capacity memory.old ≤ vec_capacity memory.new }
 {
@@ -68,7 +67,7 @@ fn paint_there<F: Fn(u32, u32, &mut [u8])>(
     requires room { length memory.old.items + texel_bytes texel * (width * count) ≤ vec_capacity memory.old }
     requires rows { first + count < 2 ^ 32 }
     requires calls { AcceptsBands (F.pre f.now) texel width first count }
-    ensures bytes { (p : ℕ → ℕ → ℕ) → Paints (F.post f.now) texel width first count p → memory.new.items ≡ memory.old.items ++ band texel width first count p }
+    ensures bytes { FollowPainted (F.post f.now) texel width first count memory.old.items memory.new.items }
     ensures size { length memory.new.items ≡ length memory.old.items + texel_bytes texel * (width * count) }
     ensures capacity { vec_capacity memory.old ≤ vec_capacity memory.new }
 {
@@ -91,7 +90,7 @@ fn paint_strip<F: Fn(u32, u32, &mut [u8])>(
     requires room { length memory.old.items + texel_bytes texel * (width * count) ≤ vec_capacity memory.old }
     requires rows { first + count < 2 ^ 32 }
     requires calls { AcceptsBands (F.pre f.now) texel width first count }
-    ensures bytes { (p : ℕ → ℕ → ℕ) → Paints (F.post f.now) texel width first count p → memory.new.items ≡ memory.old.items ++ band texel width first count p }
+    ensures bytes { FollowPainted (F.post f.now) texel width first count memory.old.items memory.new.items }
     ensures size { length memory.new.items ≡ length memory.old.items + texel_bytes texel * (width * count) }
     ensures capacity { vec_capacity memory.old ≤ vec_capacity memory.new }
 {
@@ -113,7 +112,7 @@ pub(crate) fn paint_strips<F: Fn(u32, u32, &mut [u8])>(
 ) -> BytesMut
     requires room { texel_bytes texel * (width * height) ≤ vec_capacity memory }
     requires calls { AcceptsBands (F.pre f.now) texel width 0 height }
-    ensures bytes { (p : ℕ → ℕ → ℕ) → Paints (F.post f.now) texel width 0 height p → result.items ≡ band texel width 0 height p }
+    ensures bytes { ArePainted (F.post f.now) texel width 0 height result.items }
     ensures long { length result.items ≡ texel_bytes texel * (width * height) }
 {
     memory.clear();

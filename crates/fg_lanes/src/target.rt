@@ -83,6 +83,11 @@ impl Target {
         self.len
     }
 
+    /// Whether its memory is new.
+    pub(crate) fn is_new(&self) -> bool {
+        matches!(self.memory, Memory::New(_))
+    }
+
     /// The bytes themselves.
     pub fn into_bytes(self) -> BytesMut
         ensures { result.items ≡ self }
