@@ -4,7 +4,6 @@ pub mod Cases
 pub mod Coming
 pub mod Commands
 pub mod Control
-pub mod Flushes
 pub mod Formed
 pub mod Found
 pub mod Histories
