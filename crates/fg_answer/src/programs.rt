@@ -53,10 +53,9 @@ fn check_program(alloc: Global, program: Shaped) -> Result<Answer, NoMemory>
     ensures has_text { IfOk result (λ answer. HasText answer.status) }
 {
     let nodes = program.node_count();
-    match check(alloc, program) {
+    match checked(alloc, program) {
         Ok(_) => Ok(done(check_text(alloc, nodes)?)),
-        Err(CheckEnd::Refused(hazard, _)) => rejection(alloc, &hazard),
-        Err(CheckEnd::NoMemory) => Err(NoMemory),
+        Err(answer) => answer,
     }
 }
 
@@ -73,8 +72,8 @@ pub fn checked(alloc: Global, program: Shaped) -> Result<Checked, Result<Answer,
     }
 }
 
-/// The answer to a program that is not sound.
-pub fn rejection(alloc: Global, hazard: &Hazard) -> Result<Answer, NoMemory>
+// The answer to a program that is not sound.
+fn rejection(alloc: Global, hazard: &Hazard) -> Result<Answer, NoMemory>
     ensures { IfOk result (λ answer. answer ≡ rejection hazard.now) }
 {
     Ok(Answer {

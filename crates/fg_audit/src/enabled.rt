@@ -10,8 +10,9 @@ ghost use Rattle.fg_steps.specs.Steps.{may_move};
 ghost use Rattle.fg_subs.specs.Limits.{memory_bytes};
 
 use fg_device::Device;
+use fg_drive::size_of;
 use fg_hb::Kind;
-use fg_subs::{Memory, Program};
+use fg_subs::Program;
 
 /// Whether the node is a command that may begin.
 pub(crate) fn may_begin(device: &Device, node: u32) -> bool
@@ -41,16 +42,6 @@ pub(crate) fn may_read(device: &Device, node: u32) -> bool
         return false;
     }
     device.kind(node).is_host() && device.ready(node)
-}
-
-// The size of a memory, in bytes.
-fn size_of(memory: &Memory) -> usize
-    ensures { result ≡ memory_bytes memory.now }
-{
-    match memory {
-        Memory::Plain { size } => *size as usize,
-        Memory::Import { bytes } => bytes.len(),
-    }
 }
 
 // Whether the program has the memory and the range in it.

@@ -4,22 +4,13 @@ ghost use Rattle.std.specs.Prelude.{◌≡◌, ◌≤◌, ◌<◌, ◌^◌, leng
 ghost use Rattle.fg_audit.specs.Code.Following.{at_place};
 ghost use Rattle.fg_audit.specs.Runs.{IsFirstStray};
 ghost use Rattle.fg_steps.specs.Coming.{AreEnabled};
-ghost use Rattle.fg_steps.specs.Histories.{is_move, moves_in};
+ghost use Rattle.fg_steps.specs.Histories.{moves_in};
 
 use crate::follower::Follower;
 use fg_base::{Event, NoMemory};
+use fg_steps::is_move;
 use std::alloc::Global;
 use std::thread::Threads;
-
-// Whether the event moves lines of a cache.
-fn is_move(event: &Event) -> bool
-    ensures { result ≡ is_move event.now }
-{
-    matches!(
-        event,
-        Event::WriteBack { .. } | Event::Fill { .. } | Event::DropLine { .. }
-    )
-}
 
 /// How many of the events are cache moves.
 pub(crate) fn count_moves(events: &[Event]) -> u32

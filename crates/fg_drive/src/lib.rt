@@ -11,5 +11,5 @@ mod tending;
 pub use moves::{is_move_of, make_move, move_laws};
 pub use round::{next_node, readback_of};
 pub use run::drive;
-pub use sizes::sizes_of;
+pub use sizes::{size_of, sizes_of};
 pub use tending::tended;

@@ -10,7 +10,7 @@ use fg_subs::{Memory, Program};
 use std::alloc::Global;
 
 /// The size of a memory, in bytes.
-pub(crate) fn size_of(memory: &Memory) -> usize
+pub fn size_of(memory: &Memory) -> usize
     ensures { result ≡ memory_bytes memory.now }
 {
     match memory {

@@ -3,24 +3,15 @@
 ghost use Rattle.std.specs.Prelude.{◌≡◌, ◌<◌, ◌^◌, ◌↔◌, [], length, IsTrue, IfOk, MatchBool};
 ghost use Rattle.fg_drive.specs.Code.Following.{Follows, Makes, Strays};
 ghost use Rattle.fg_drive.specs.Tended.{tended_moves};
-ghost use Rattle.fg_steps.specs.Histories.{is_move, moves_in};
+ghost use Rattle.fg_steps.specs.Histories.{moves_in};
 
 use crate::keeper::Keeper;
 use fg_base::{Event, NoMemory};
 use fg_caches::MOVES;
 use fg_checker::Checked;
 use fg_device::Device;
+use fg_steps::is_move;
 use std::alloc::Global;
-
-// Whether the event is one of a cache.
-fn is_move(event: &Event) -> bool
-    ensures { result ≡ is_move event.now }
-{
-    matches!(
-        event,
-        Event::WriteBack { .. } | Event::Fill { .. } | Event::DropLine { .. }
-    )
-}
 
 // Whether the event is the keeper's next move, or none at all.
 fn takes(keeper: &mut Keeper, left: &mut u32, event: &Event) -> bool

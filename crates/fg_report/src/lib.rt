@@ -25,7 +25,7 @@ pub use fault::{frame_fault_text, sub_fault_text};
 pub use flight::{FlightLine, flight_text};
 pub use hazard::{check_text, hazard_text};
 pub use kept::{cull_text, run_text};
-pub use place::place_text;
+pub use place::{place_text, sum_of_sizes};
 pub use readback::readback_text;
 pub use summary::summary_text;
 pub use trace::trace_text;

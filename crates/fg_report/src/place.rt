@@ -15,8 +15,9 @@ use fg_lines::Lines;
 use fg_place::Placement;
 use std::alloc::Global;
 
+/// The sum of sizes that are at most 256 MiB together.
 #[tactic(auto, using(crate::proofs::Sums::sum_more, crate::proofs::Sums::sum_under))]
-fn sum_of(sizes: &[u32]) -> u32
+pub fn sum_of_sizes(sizes: &[u32]) -> u32
     requires { sum sizes.now ≤ max_resource_bytes }
     ensures { result ≡ sum sizes.now }
 {
@@ -34,7 +35,7 @@ fn add_heap(text: &mut Text, sizes: &[u32], heap: u32) -> Result<(), NoMemory>
     text.word(b"heap ")?;
     text.number(u64::from(heap))?;
     text.word(b" separate ")?;
-    text.number(u64::from(sum_of(sizes)))?;
+    text.number(u64::from(sum_of_sizes(sizes)))?;
     text.end_line()
 }
 

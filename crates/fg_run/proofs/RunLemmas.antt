@@ -65,7 +65,7 @@ meant frame program tend d right has k unit at =
     sym (right.means order order_is k unit at) ∙ apart program has.runs lt right.sound order_is
 
 -- a frame that was compiled, and a device that has run its program
-pub runs_on : (tend : Option ℕ) (tight : Bool) (frame : NumberedFrame) (kept : List Bool) (places : Places) (program : Program) (d : Device) → Compiles tight frame kept places program → HasRun program tend d → RunsOn tend tight frame d
+abbrev pub runs_on : (tend : Option ℕ) (tight : Bool) (frame : NumberedFrame) (kept : List Bool) (places : Places) (program : Program) (d : Device) → Compiles tight frame kept places program → HasRun program tend d → RunsOn tend tight frame d
 runs_on tend tight frame kept places program d compiles has = record {
   kept = kept;
   places = places;

@@ -1,13 +1,12 @@
 -- Frames that were compiled, and devices that have run them.
-use Rattle.std.proofs.Common.{◌≡◌, ◌++◌, ℕ, List, Bool, Option, false, ap}
+use Rattle.std.proofs.Common.{◌≡◌, ◌++◌, ℕ, List, Bool, false, ap}
 use Rattle.fg_stages.specs.Compiles.{Compiles}
 use Rattle.fg_stages.specs.Exports.{exports_text}
-use Rattle.fg_frame.specs.Numbered.{NumberedFrame, numbered}
+use Rattle.fg_frame.specs.Numbered.{numbered}
 use Rattle.fg_frame.specs.declared.frame.Frame.{Frame}
 use Rattle.fg_place.specs.Placing.{Places}
 use Rattle.fg_report.specs.KeptLines.{run_text}
-use Rattle.fg_run.proofs.RunLemmas.{meant}
-use Rattle.fg_run.specs.FrameRuns.{RunsOn}
+use Rattle.fg_run.proofs.RunLemmas.{runs_on}
 use Rattle.fg_run.specs.Runs.{HasRun, read_by}
 use Rattle.fg_steps.specs.Devices.{Device}
 use Rattle.fg_subs.specs.declared.program.Program.{Program}
@@ -17,27 +16,16 @@ use Rattle.fg_top.specs.Summaries.{summary_of}
 use Rattle.fg_top.specs.Texts.{traced}
 use Rattle.fg_words.specs.declared.options.Options.{Options}
 
--- the run of a frame, whose parts are these
-abbrev run_on : (tend : Option ℕ) (tight : Bool) (frame : NumberedFrame) (kept : List Bool) (places : Places) (program : Program) (d : Device) → Compiles tight frame kept places program → HasRun program tend d → RunsOn tend tight frame d
-run_on tend tight frame kept places program d compiles has = record {
-  kept = kept;
-  places = places;
-  program = program;
-  compiles = compiles;
-  has_run = has;
-  meant = meant frame program tend d compiles.right has;
-}
-
 pub runs_frame : (options : Options) (trace tight : Bool) (frame : Frame) (kept : List Bool) (places : Places) (program : Program) (d : Device) (text : List ℕ) → Compiles tight (numbered frame) kept places program → HasRun program options.tend d → text ≡ run_text frame kept ++ (exports_text frame (read_by d) ++ traced trace d.history) → RunsFrame options trace tight frame (ran d text)
 runs_frame options trace tight frame kept places program d text compiles has is = record {
   device = d;
-  run = run_on options.tend tight (numbered frame) kept places program d compiles has;
+  run = runs_on options.tend tight (numbered frame) kept places program d compiles has;
   whole = ap (ran d) is;
 }
 
 pub summarizes_frame : (options : Options) (frame : Frame) (kept : List Bool) (places : Places) (program : Program) (d : Device) (text : List ℕ) → Compiles false (numbered frame) kept places program → HasRun program options.tend d → text ≡ summary_of (numbered frame) kept places program (read_by d) → SummarizesFrame options frame (ran d text)
 summarizes_frame options frame kept places program d text compiles has is = record {
   device = d;
-  run = run_on options.tend false (numbered frame) kept places program d compiles has;
+  run = runs_on options.tend false (numbered frame) kept places program d compiles has;
   whole = ap (ran d) is;
 }

@@ -2,7 +2,7 @@
 use Rattle.std.proofs.Common.{◌≡◌, ◌+◌, ◌++◌, ℕ, suc, List, length, length-append, subst, sym, arith}
 use Rattle.std.specs.List.{sum}
 use Rattle.std.proofs.lemmas.List.Sums.{sum_by-append}
-pub use Rattle.fg_report.proofs.Sums.{sum_more, sum_under}
+pub use Rattle.fg_report.proofs.Sums.{sum_more}
 use Rattle.fg_top.specs.Code.Totals.{IsTotal}
 use Rattle.fg_stages.specs.Exports.{in_turn}
 use Rattle.fg_top.specs.declared.totals.Total.{Total}

@@ -15,7 +15,7 @@ ghost use Rattle.fg_top.specs.Summaries.{summary_with};
 ghost use Rattle.fg_versions.specs.Culled.{AreKept};
 
 use crate::reply::{Reply, ran};
-use crate::totals::{Total, sum_of_sizes, total_of};
+use crate::totals::{Total, total_of};
 use fg_base::{Gate, NoMemory, Text};
 use fg_compile::Compiled;
 use fg_device::Device;
@@ -23,7 +23,7 @@ use fg_faithful::meaning_laws;
 use fg_frame::GoodFrame;
 use fg_gen::generate;
 use fg_groups::groups_of;
-use fg_report::summary_text;
+use fg_report::{sum_of_sizes, summary_text};
 use fg_run::run_program;
 use fg_stages::compiled;
 use fg_versions::{Kept, versions_of};

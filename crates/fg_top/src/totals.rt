@@ -2,7 +2,6 @@
 
 ghost use Rattle.std.specs.Prelude.{◌≡◌, ◌<◌, ◌≤◌, ◌*◌, ℕ, length};
 ghost use Rattle.std.specs.List.{sum};
-ghost use Rattle.fg_base.specs.Maxima.{max_resource_bytes};
 ghost use Rattle.fg_steps.specs.Devices.{IsComplete};
 ghost use Rattle.fg_top.specs.Code.Totals.{IsTotal};
 ghost use Rattle.fg_run.specs.Runs.{read_by};
@@ -26,19 +25,6 @@ fn sum_of_bytes(bytes: &[u8]) -> u64
     let mut sum = 0;
     for byte in bytes {
         sum += u64::from(*byte);
-    }
-    sum
-}
-
-/// The sum of sizes that are at most 256 MiB together.
-#[tactic(auto, using(crate::proofs::Sums::sum_more, crate::proofs::Sums::sum_under))]
-pub fn sum_of_sizes(sizes: &[u32]) -> u32
-    requires { sum sizes.now ≤ max_resource_bytes }
-    ensures { result ≡ sum sizes.now }
-{
-    let mut sum = 0;
-    for size in sizes {
-        sum += *size;
     }
     sum
 }

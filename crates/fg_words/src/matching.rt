@@ -32,7 +32,7 @@ fn bare<'a>(alloc: Global) -> Command<'a>
         .disable_version_flag(true)
 }
 
-// An option with a number behind it.
+// An option with a word behind it.
 fn with_option<'a>(
     command: Command<'a>,
     alloc: Global,

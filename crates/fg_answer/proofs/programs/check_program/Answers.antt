@@ -1,8 +1,6 @@
-use Rattle.std.proofs.Common.{subst, inr}
-use Rattle.fg_checker.specs.Verdicts.{Ends}
+use Rattle.std.proofs.Common.{inr}
 use Rattle.fg_answer.proofs.AnswerLemmas.{if_ok}
 use Rattle.fg_answer.proofs.programs.check_program.Goals as goal
 
-pub returns-in-Err-Refused-clause-checked : goal.returns-in-Err-Refused-clause-checked
-returns-in-Err-Refused-clause-checked c =
-    if_ok c.rejection.result (λ answer is. inr (record { hazard = c.in-Err-Refused.hazard; unsound = (subst (Ends c.args.program) c.in-Err-Refused.field-0-is c.in-Err-Refused.ensures.refused).0; whole = is })) c.rejection.ensures
+pub returns-in-Err-clause-checked : goal.returns-in-Err-clause-checked
+returns-in-Err-clause-checked c = if_ok c.in-Err.answer (λ answer rejects. inr rejects) c.in-Err.ensures.err
