@@ -12,12 +12,13 @@
  * Room. `*wanted` is set to the length of the whole text in bytes (0 at status 6). Where it is at most `output_len`, the text stands in
  * the first `*wanted` bytes of `output`, and the bytes behind it are as they were. Where it is more, all of `output` is as it was: a text is
  * never cut. The status is the answer's in both cases. So whoever wants the status alone passes a room of one byte, and whoever wants a
- * text of unknown length calls again with `*wanted` bytes; the same file gives the same text. A text is ASCII, each of its lines ends with
- * a line feed, and no zero byte follows.
+ * text of unknown length calls again with `*wanted` bytes. The same file gives the same text; but memory may run out in one of two calls
+ * and not in the other (status 6). A text is ASCII, and each of its lines ends with a line feed. No zero byte is put behind it.
  *
  * What is proved of each call, for any bytes: it returns, touches no memory but what its parameters lend it and what it takes by malloc,
- * and answers as above. The library has no state, so calls on several threads share malloc alone. That they
- * may run at one time is tested, not proved.
+ * and answers as above. That the same file gives the same text, and that a text is lines of ASCII, follows from the definitions of the
+ * answers; no clause says it. The library has no state, so calls on several threads share malloc alone. That they may run at one time is
+ * tested, not proved.
  *
  * What nothing checks, and a caller has to keep:
  *   - no pointer is null, even where a length is 0, and no length is over PTRDIFF_MAX;
@@ -27,8 +28,8 @@
  *     answers null where memory runs out (the call then ends with status 6);
  *   - no call from a signal handler, nor from the forked child of a process with threads.
  *
- * To link: libframec_c.a (of crates/framec_c/out) and liblibc_c.a, the toolchain's object over malloc, realloc and free. No other library,
- * no thread, nothing to be called first. FindFramec.cmake in examples/c is a target for both.
+ * To link: libframec_c.a (of crates/framec_c/out) and liblibc_c.a (folder `c` of the toolchain, beside `bin`), its object over malloc,
+ * realloc and free. No other library, no thread, nothing to be called first. FindFramec.cmake in examples/c is a target for both.
  */
 #ifndef FRAMEC_H
 #define FRAMEC_H
