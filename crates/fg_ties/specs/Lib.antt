@@ -1,4 +1,3 @@
-pub mod Clashes
 pub mod Code
 pub mod First
 pub mod Passing

@@ -3,11 +3,9 @@
 
 mod chain;
 mod first;
-mod laws;
 mod listing;
 mod pair;
 mod tie;
 
 pub use first::first_flaw;
-pub use laws::clash_laws;
 pub use tie::{Flaw, Untied};
