@@ -2,7 +2,7 @@
 
 ghost use Rattle.std.specs.Prelude.{◌≡◌, ◌<◌, ◌&&◌, ◌||◌, ◌==◌, not, length};
 ghost use Rattle.fg_control.specs.Code.Running.{any_of, IsOfNodes};
-ghost use Rattle.fg_stated.specs.Stated.{acquires, needs_owner};
+ghost use Rattle.fg_stated.specs.Stated.{needs_owner};
 ghost use Rattle.fg_steps.specs.Ready.{is_wrong, is_foreign, stores_over};
 ghost use Rattle.fg_view.specs.AccessKinds.{wanted};
 ghost use Rattle.fg_view.specs.ShapedView.{ShapedView};
@@ -11,30 +11,9 @@ ghost use Rattle.fg_view.specs.Views.{family_at, node_access};
 use crate::marks::is_torn;
 use crate::running::Running;
 use fg_bits::Layout;
+use fg_stated::needs_owner;
 use fg_steps::{Owner, is_wrong};
-use fg_view::{Access, View};
-
-// Whether the node is an acquire.
-fn acquires(view: &View, n: u32) -> bool
-    requires { n < length view.now.effects }
-    ensures { result ≡ acquires view.now n }
-{
-    let accesses = view.effect_at(n).accesses.as_slice();
-    accesses.iter().any(|a| a.kind.is_acquire())
-}
-
-// Whether the node's own family has to own the piece of its access.
-fn needs_owner(view: &View, n: u32, access: Access) -> bool
-    requires shaped { ShapedView view.now }
-    requires n { n < length view.now.nodes }
-    requires piece { access.piece < length view.now.pieces }
-    ensures { result ≡ needs_owner view.now (node_access n access) }
-{
-    !(access.kind.is_discard()
-        || acquires(view, n)
-        || view.node(n).kind.is_host()
-        || view.is_shared(access.piece))
-}
+use fg_view::{Access, NodeAccess, View};
 
 /// Whether node n does not find the bytes that it loads by the access: a begun command stores to them, or the piece is in
 /// another layout or another family's.
@@ -54,5 +33,5 @@ pub(crate) fn is_spoilt(
 {
     is_torn(view, running, n, access.piece)
         || is_wrong(access.kind.wanted(), layout)
-        || needs_owner(view, n, access) && owner.is_foreign(view.family(n))
+        || needs_owner(view, NodeAccess { node: n, access }) && owner.is_foreign(view.family(n))
 }

@@ -14,6 +14,7 @@ mod table;
 mod unfed;
 
 pub use fed::first_unfed;
+pub use misstated::needs_owner;
 pub use misstatement::Misstatement;
 pub use stated::first_misstated;
 pub use unfed::Unfed;

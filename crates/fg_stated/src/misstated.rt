@@ -34,8 +34,9 @@ fn acquires(view: &View, n: u32) -> bool
     accesses.iter().any(|a| a.kind.is_acquire())
 }
 
-// Whether its own family has to own the piece.
-fn needs_owner(view: &View, node_access: NodeAccess) -> bool
+/// Whether the node's own family has to own the piece of its access. It need not for a discard, for what an acquire does, for
+/// what the host reads, and for a concurrent piece.
+pub fn needs_owner(view: &View, node_access: NodeAccess) -> bool
     requires node { node_access.node < length view.now.nodes }
     requires effects { node_access.node < length view.now.effects }
     requires piece { node_access.access.piece < length view.now.pieces }
