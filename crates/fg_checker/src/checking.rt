@@ -1,15 +1,16 @@
 //! Only sound programs are taken.
 
-ghost use Rattle.std.specs.Prelude.{◌≡◌, ◌↔◌, true, IfOk, IfErr};
+ghost use Rattle.std.specs.Prelude.{◌≡◌, ◌↔◌, None, true, IfOk, IfErr};
 ghost use Rattle.fg_checker.specs.Sound.{IsSound, Sound};
 ghost use Rattle.fg_checker.specs.Verdicts.{Ends};
+ghost use Rattle.fg_subs.specs.FirstFault.{first_fault};
 ghost use Rattle.fg_view.specs.Views.{view_of};
 
 use crate::judge::{Verdict, judge};
 use crate::{Checked, Hazard};
 use fg_base::{List, NoMemory};
 use fg_hb::{Drain, direct, drain_of};
-use fg_subs::Shaped;
+use fg_subs::{Program, Shaped};
 use std::alloc::Global;
 use std::sync::Arc;
 
@@ -37,13 +38,16 @@ pub fn check(alloc: Global, program: Shaped) -> Result<Checked, CheckEnd>
     }
 }
 
-/// Takes a program that is known to be sound. Nothing is checked: its least order is all that is made.
-pub fn taken(alloc: Global, program: Shaped) -> Result<Checked, NoMemory>
-    requires { IsSound program }
+/// Takes a program that is known to break no rule and to be sound. Nothing is checked: its nodes are numbered, and their least
+/// order is made.
+pub fn taken(alloc: Global, program: Program) -> Result<Checked, NoMemory>
+    requires faultless { first_fault program ≡ None }
+    requires sound { IsSound program }
     ensures { IfOk result (λ checked. checked.program ≡ program) }
 {
-    let order = order_of(alloc, &program)?;
-    match Arc::new(alloc, program) {
+    let shaped = Shaped::faultless(alloc, program)?;
+    let order = order_of(alloc, &shaped)?;
+    match Arc::new(alloc, shaped) {
         Ok(shaped) => Ok(Checked::new(shaped, order)),
         Err(_) => Err(NoMemory),
     }

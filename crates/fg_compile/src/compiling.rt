@@ -17,7 +17,6 @@ use fg_checker::{Checked, taken};
 use fg_frame::GoodFrame;
 use fg_place::Placement;
 use fg_recorder::{Recorded, record};
-use fg_subs::{Program, Shaped};
 use fg_versions::Kept;
 use std::alloc::Global;
 
@@ -40,16 +39,6 @@ fn right_for(frame: &GoodFrame)
     compile_law();
 }
 
-// The program, with its nodes numbered and their least order.
-fn taken_unchecked(alloc: Global, program: Program) -> Result<Checked, NoMemory>
-    requires faultless { first_fault program ≡ None }
-    requires sound { IsSound program }
-    ensures { IfOk result (λ checked. checked.program ≡ program) }
-{
-    let shaped = Shaped::faultless(alloc, program)?;
-    taken(alloc, shaped)
-}
-
 /// The submissions of a frame: what its kept passes do, and the barriers, transfers, waits and signals that this needs. They
 /// are sound and leave what the frame means, as the law of the compiler says, so that nothing is checked. Want of memory is
 /// the one refusal.
@@ -67,7 +56,7 @@ pub fn compile(alloc: Global, frame: &GoodFrame) -> Result<Compiled, NoMemory>
         kept,
         placement,
     } = record(alloc, frame)?;
-    let program = taken_unchecked(alloc, program)?;
+    let program = taken(alloc, program)?;
     Ok(Compiled {
         program,
         kept,

@@ -7,7 +7,7 @@ ghost use Rattle.fg_tight.specs.Tight.{Passes, Tight};
 use crate::rounds::settled;
 use fg_base::NoMemory;
 use fg_checker::{Checked, taken};
-use fg_subs::{Program, Shaped};
+use fg_subs::Program;
 use std::alloc::Global;
 
 // A copy of the program, which the rounds may change.
@@ -16,15 +16,6 @@ fn copied(alloc: Global, program: &Checked) -> Result<Program, NoMemory>
     ensures passes { IfOk result (λ copy. Passes copy) }
 {
     program.shaped().program().copy(alloc)
-}
-
-// A program that passes, with its nodes numbered and their least order.
-fn taken_unchecked(alloc: Global, program: Program) -> Result<Checked, NoMemory>
-    requires { Passes program }
-    ensures { IfOk result (λ checked. checked.program ≡ program) }
-{
-    let shaped = Shaped::faultless(alloc, program)?;
-    taken(alloc, shaped)
 }
 
 /// The program without the waits, and without the stages of waits, that soundness does not need. Waits are tried in the order
@@ -36,5 +27,5 @@ pub fn tighten(alloc: Global, program: Checked) -> Result<Checked, NoMemory>
 {
     let copy = copied(alloc, &program)?;
     let tight = settled(alloc, copy)?;
-    taken_unchecked(alloc, tight)
+    taken(alloc, tight)
 }

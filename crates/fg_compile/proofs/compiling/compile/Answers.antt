@@ -4,11 +4,11 @@ use Rattle.fg_compile.proofs.compiling.compile.Goals as goal
 use Rattle.fg_frame.specs.Numbered.{numbered}
 use Rattle.fg_recorder.specs.Recorded.{IsCompiled}
 
-pub taken_unchecked-requires-clause-faultless : goal.taken_unchecked-requires-clause-faultless
-taken_unchecked-requires-clause-faultless c = (c.right_for.ensures c.in_ok-program.field-0.kept c.in_ok-program.field-0.placement c.in_ok-program.field-0.program c.in_ok-program.ensures.kept c.in_ok-program.ensures.compiled).faultless
+pub taken-requires-clause-faultless : goal.taken-requires-clause-faultless
+taken-requires-clause-faultless c = (c.right_for.ensures c.in_ok-program.field-0.kept c.in_ok-program.field-0.placement c.in_ok-program.field-0.program c.in_ok-program.ensures.kept c.in_ok-program.ensures.compiled).faultless
 
-pub taken_unchecked-requires-clause-sound : goal.taken_unchecked-requires-clause-sound
-taken_unchecked-requires-clause-sound c = (c.right_for.ensures c.in_ok-program.field-0.kept c.in_ok-program.field-0.placement c.in_ok-program.field-0.program c.in_ok-program.ensures.kept c.in_ok-program.ensures.compiled).sound
+pub taken-requires-clause-sound : goal.taken-requires-clause-sound
+taken-requires-clause-sound c = (c.right_for.ensures c.in_ok-program.field-0.kept c.in_ok-program.field-0.placement c.in_ok-program.field-0.program c.in_ok-program.ensures.kept c.in_ok-program.ensures.compiled).sound
 
 pub returns-clause-compiled : goal.returns-clause-compiled
 returns-clause-compiled c = subst (IsCompiled (numbered c.args.frame.now) c.in_ok-program.field-0.kept c.in_ok-program.field-0.placement) (sym c.in_ok-program-2.ensures) c.in_ok-program.ensures.compiled
