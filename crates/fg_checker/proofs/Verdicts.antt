@@ -1,6 +1,5 @@
 -- What is found in accesses in the least order is found of the program.
-use Rattle.std.specs.Prelude.{◌↔◌}
-use Rattle.std.proofs.Common.{◌≡◌, ℕ, ◌<◌, true, List, length, Some, None, sym, subst}
+use Rattle.std.proofs.Common.{◌≡◌, ℕ, List, Some, None, sym, subst}
 use Rattle.fg_checker.specs.Code.Decided.{Clean, Decides, IsFound}
 use Rattle.fg_checker.specs.Code.Hazards.{of_flaw, of_untied, of_misstatement, of_unfed}
 use Rattle.fg_checker.specs.Hazards.{AllTied, HazardIn, IsHazard, FirstOfStated, FirstOfFed}
@@ -9,12 +8,7 @@ use Rattle.fg_checker.specs.Verdicts.{Unsound}
 use Rattle.fg_checker.specs.declared.hazard.Hazard.{Hazard}
 use Rattle.fg_checker.specs.declared.hazard.Hazard.TheVariants.{Stuck}
 use Rattle.fg_checker.proofs.Least.{one_least}
-use Rattle.fg_hb.specs.Before.{Reached, happens}
-use Rattle.fg_hb.specs.Edges.{edge}
-use Rattle.fg_hb.specs.Laws.{IsWithin}
-use Rattle.fg_hb.specs.Nodes.{program_nodes}
 use Rattle.fg_hb.specs.Orders.{IsLeast}
-use Rattle.fg_reach.specs.Paths.{Path}
 use Rattle.fg_stated.specs.Fed.{Fed, FirstUnfed}
 use Rattle.fg_stated.specs.Stated.{Stated, FirstMisstated}
 use Rattle.fg_stated.specs.declared.misstatement.Misstatement.{Misstatement}
@@ -23,7 +17,6 @@ use Rattle.fg_stated.specs.declared.unfed.Unfed.{Unfed}
 use Rattle.fg_stated.specs.declared.unfed.Unfed.TheVariants as unfeds
 use Rattle.fg_subs.specs.declared.program.Program.{Program}
 use Rattle.fg_ties.specs.First.{DecidesTied, IsFirst}
-use Rattle.fg_ties.specs.Rows.{Rows}
 use Rattle.fg_ties.specs.declared.tie.Flaw.{Flaw}
 use Rattle.fg_ties.specs.declared.tie.Flaw.TheVariants as flaws
 use Rattle.fg_ties.specs.declared.tie.Untied.{Untied}
@@ -60,9 +53,6 @@ module _ (V : View) (accesses : List NodeAccess) where
   none_found decides stated fed = λ order O is. record { tied = decides order O is; stated = stated; fed = fed }
 
 -- OF THE LEAST ORDER
-
-pub rows_of : (P : Program) (V : View) (reached : Reached) → V ≡ view_of P → length reached.places ≡ length (program_nodes P) → ((x y : ℕ) → x < length (program_nodes P) → y < length (program_nodes P) → (happens reached x y ≡ true) ↔ Path (edge (program_nodes P)) x y) → IsWithin (program_nodes P) → Rows V reached
-rows_of P V reached same size paths within = subst (λ W. Rows W reached) (sym same) (record { size = size; paths = paths; within = within })
 
 in_least : (V : View) (hazard : Hazard) (order : List ℕ) → IsLeast V.nodes order → HazardIn V (node_accesses_of V order) hazard → IsHazard V hazard
 in_least V (Stuck q n) order least h = absurd h

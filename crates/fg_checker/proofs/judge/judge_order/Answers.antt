@@ -1,7 +1,8 @@
 use Rattle.std.proofs.Common.{◌≡◌, ◌<◌, MatchOption, ◌∙◌, ap, sym, subst}
 use Rattle.fg_checker.specs.Code.Decided.{Clean, IsFound}
-use Rattle.fg_checker.proofs.Verdicts.{rows_of, hazard_found, sound_found}
+use Rattle.fg_checker.proofs.Verdicts.{hazard_found, sound_found}
 use Rattle.fg_hb.specs.Orders.{Among, Order}
+use Rattle.fg_ties.proofs.Whole.{rows_of}
 use Rattle.fg_view.specs.ShapedView.{Listed}
 use Rattle.fg_view.specs.Views.{node_accesses_of}
 use Rattle.fg_checker.proofs.judge.judge_order.Goals as goal
