@@ -1,8 +1,9 @@
 -- Groups that lead to one another by turns tie all accesses that clash.
 use Rattle.std.proofs.Common.{◌≡◌, ◌⊎◌, inl, inr, ℕ, Bool, true, refl, sym, subst}
-use Rattle.fg_crossing.proofs.Passing.{Enters, Ties, enters_then, ties_through, up_to_on}
+use Rattle.fg_crossing.proofs.Passing.{Enters, Ties, enters_then, ties_through}
 use Rattle.fg_crossing.specs.Masks.{Leaves}
 use Rattle.fg_reach.specs.Paths.{Path, one, then_on}
+use Rattle.fg_ties.proofs.Passes.{up_to_on}
 use Rattle.fg_ties.specs.Passing.{Before, UpTo, Passed}
 use Rattle.fg_ties.specs.Tied.{Clashing, Tied}
 use Rattle.fg_view.specs.ShapedView.{Has}

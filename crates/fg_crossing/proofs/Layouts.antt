@@ -9,7 +9,6 @@ use Rattle.fg_crossing.proofs.KindTables.{layout_changes, plain_sets_none, relea
 use Rattle.fg_crossing.proofs.Knit.{Acyclic}
 use Rattle.fg_crossing.proofs.Lasts.{LastOf, LastAt, NoneAt, SortAt, last_or_none, last_of, sort_at, sorted_on}
 use Rattle.fg_crossing.proofs.Listed.{Finds, finds_change, last_listed}
-use Rattle.fg_crossing.proofs.Listings.{listed_of}
 use Rattle.fg_crossing.proofs.Ranks.{rank, phase, At, at_of}
 use Rattle.fg_crossing.proofs.Runs.{first_group, steady}
 use Rattle.fg_crossing.proofs.Sorts.{layouts_sorted}
@@ -23,6 +22,7 @@ use Rattle.fg_hb.specs.Laws.{IsAsymmetric, IsIrreflexive}
 use Rattle.fg_hb.specs.Orders.{Order}
 use Rattle.fg_stated.specs.PieceStates.{last_on, layout_after, on_piece}
 use Rattle.fg_stated.specs.Stated.{LayoutAt}
+use Rattle.fg_ties.proofs.Ordered.{listed_of}
 use Rattle.fg_ties.specs.Tied.{Tied}
 use Rattle.fg_view.specs.AccessKinds.{changes, sets_layout, sets_owner, transfers, wanted}
 use Rattle.fg_view.specs.ShapedView.{Has, NodeAccessAt, ShapedView}

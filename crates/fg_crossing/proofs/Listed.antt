@@ -5,10 +5,11 @@ use Rattle.std.specs.Prelude.{slice_get, unwrap_or}
 use Rattle.std.proofs.lemmas.Bool.{cases_Bool, cases_eq, cases_lt, false≢true}
 use Rattle.fg_crossing.proofs.KindTables.{change_keeps}
 use Rattle.fg_crossing.proofs.Lasts.{LastOf, NoneOf}
-use Rattle.fg_crossing.proofs.Listings.{has_within, listed_in, listed_of, in_turn}
+use Rattle.fg_crossing.proofs.Listings.{has_within, listed_in, in_turn}
 use Rattle.fg_hb.specs.Laws.{IsAsymmetric, IsIrreflexive}
 use Rattle.fg_hb.specs.Orders.{Earlier, Order}
 use Rattle.fg_stated.specs.PieceStates.{last_that}
+use Rattle.fg_ties.proofs.Ordered.{listed_of}
 use Rattle.fg_ties.specs.Passing.{Before}
 use Rattle.fg_ties.specs.Tied.{Tied}
 use Rattle.fg_view.specs.AccessKinds.{changes, sets_owner, transfers}

@@ -5,6 +5,7 @@ use Rattle.std.proofs.lemmas.Bool.{cases_lt}
 use Rattle.std.proofs.lemmas.List.{get_or_past}
 use Rattle.std.proofs.lemmas.Option.{slice_get-map, slice_get_within}
 use Rattle.fg_hb.specs.Orders.{Among, before_in, Distinct, Earlier}
+use Rattle.fg_ties.proofs.Ordered.{listed_of}
 use Rattle.fg_view.specs.Effects.{no_effect}
 use Rattle.fg_view.specs.ShapedView.{Has, NodeAccessAt, Precedes, ShapedView}
 use Rattle.fg_view.specs.Views.{View, accesses_of, node_access, node_accesses_of}
@@ -60,14 +61,6 @@ listed_in V (u ∷ order) n a (inl e) (i, h) = (i, in_first (map (node_access u)
 listed_in V (u ∷ order) n a (inr m) h =
     let t = listed_in V order n a m h in
     in_second (map (node_access u) (accesses_of V u)) (node_accesses_of V order) t.0 (node_access n a) t.1
-
--- each listed access is one of a node of the order
-pub listed_of : (V : View) (order : List ℕ) (i : ℕ) (a : NodeAccess) → NodeAccessAt (node_accesses_of V order) i a → Among a.node order × Has V a.node a.access
-listed_of V [] i a h = absurd cc
-listed_of V (u ∷ order) i a h = ⊎_elim
-    (λ e. let t = of_node V u i a e in (inl t.0, (i, subst (λ m. slice_get (accesses_of V m) i ≡ Some a.access) (sym t.0) t.1)))
-    (λ t. let s = listed_of V order t.0 a t.2 in (inr s.0, s.1))
-    (in_one_part (map (node_access u) (accesses_of V u)) (node_accesses_of V order) i a h)
 
 earlier_at : (u n : ℕ) (order : List ℕ) → (u ≡ n → ⊥) → (x : ℕ) → (x ≡ u) ⊎ Earlier order x n → Earlier (u ∷ order) x n
 earlier_at u n order ne x h = subst (λ l. Among x l) (sym (ap (λ t. if t then [] else u ∷ before_in order n) (ne_eqb u n ne))) h

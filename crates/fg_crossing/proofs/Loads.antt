@@ -6,7 +6,6 @@ use Rattle.fg_crossing.proofs.KindTables.{change_stores, discard_entry, load_kee
 use Rattle.fg_crossing.proofs.Knit.{Acyclic, ties_chain}
 use Rattle.fg_crossing.proofs.Lasts.{LastOf, NoneOf, LastAt, NoneAt, SortAt, last_or_none, sort_at}
 use Rattle.fg_crossing.proofs.Listed.{Finds, finds_change, last_listed, none_listed}
-use Rattle.fg_crossing.proofs.Listings.{listed_of}
 use Rattle.fg_crossing.proofs.Ranks.{rank, phase, At, at_has, at_low, at_of, at_piece, rank_before, rank_same, before_rank}
 use Rattle.fg_crossing.proofs.Runs.{beside_path}
 use Rattle.fg_crossing.proofs.Sorts.{changes_sorted}
@@ -23,6 +22,7 @@ use Rattle.fg_hb.specs.Orders.{Order}
 use Rattle.fg_reach.specs.Paths.{then_on}
 use Rattle.fg_stated.specs.Fed.{Feeds, FedAt}
 use Rattle.fg_stated.specs.PieceStates.{changes_bytes, last_change}
+use Rattle.fg_ties.proofs.Ordered.{listed_of}
 use Rattle.fg_ties.specs.Passing.{Before}
 use Rattle.fg_ties.specs.Tied.{Tied}
 use Rattle.fg_view.specs.AccessKinds.{changes, is_discard, loads, stores}

@@ -8,7 +8,7 @@ use Rattle.fg_crossing.proofs.Clashes.{itself, piece_clash}
 use Rattle.fg_crossing.proofs.KindTables.{owner_moves}
 use Rattle.fg_crossing.proofs.Lasts.{NoneAt, sorted_on}
 use Rattle.fg_crossing.proofs.Listed.{Finds, finds_owner, last_listed, none_listed, stands_before}
-use Rattle.fg_crossing.proofs.Listings.{has_within, listed_in, listed_of}
+use Rattle.fg_crossing.proofs.Listings.{has_within, listed_in}
 use Rattle.fg_crossing.proofs.Owners.{OwnedBy, set, never, owned_by, owner_queued, runs_first}
 use Rattle.fg_crossing.proofs.Ranks.{At, at_has, at_of, at_piece, rank_before}
 use Rattle.fg_crossing.specs.Crossings.{IsFull}
@@ -21,6 +21,7 @@ use Rattle.fg_hb.specs.Laws.{IsAsymmetric, IsIrreflexive}
 use Rattle.fg_hb.specs.Orders.{Order}
 use Rattle.fg_stated.specs.PieceStates.{first_owner, found_owner, on_piece, on_queue, owner_after}
 use Rattle.fg_stated.specs.Stated.{acquires, OwnerAt}
+use Rattle.fg_ties.proofs.Ordered.{listed_of}
 use Rattle.fg_ties.specs.Tied.{Tied}
 use Rattle.fg_view.specs.AccessKinds.{is_discard, sets_owner}
 use Rattle.fg_view.specs.ShapedView.{Has, NodeAccessAt, ShapedView}

@@ -6,6 +6,7 @@ use Rattle.fg_crossing.specs.Masks.{Takes, Gives, Leaves}
 use Rattle.fg_crossing.specs.Nodes.{IsCommand, IsBarrier}
 use Rattle.fg_hb.specs.Edges.{edge}
 use Rattle.fg_reach.specs.Paths.{one, then_on}
+use Rattle.fg_ties.proofs.Passes.{up_to_on}
 use Rattle.fg_ties.specs.Passing.{Before, UpTo, AvailableBy, VisibleBy, Available, Passed}
 use Rattle.fg_view.specs.ShapedView.{Has}
 use Rattle.fg_view.specs.Views.{View}
@@ -32,10 +33,6 @@ before_up V x y z p (inr q) = then_on p q
 pub up_before : (V : View) (x y z : ℕ) → UpTo V x y → Before V y z → Before V x z
 up_before V x y z (inl e) q = subst (λ u. Before V u z) (sym e) q
 up_before V x y z (inr p) q = then_on p q
-
-pub up_to_on : (V : View) (x y z : ℕ) → UpTo V x y → UpTo V y z → UpTo V x z
-up_to_on V x y z (inl e) q = subst (λ u. UpTo V u z) (sym e) q
-up_to_on V x y z (inr p) q = inr (before_up V x y z p q)
 
 pub enters_then : (V : View) (x : ℕ) (a : Access) (t u : ℕ) → Enters V x a t → UpTo V t u → Enters V x a u
 enters_then V x a t u E f = let s = E.available in record { before = before_up V x t u E.before f; available = (s.0, s.1, up_to_on V s.0 t u s.2 f) }

@@ -7,7 +7,7 @@ use Rattle.fg_crossing.proofs.Clashes.{itself, piece_clash}
 use Rattle.fg_crossing.proofs.KindTables.{transfer_sets_owner}
 use Rattle.fg_crossing.proofs.Lasts.{LastOf, last_of, sorted_on}
 use Rattle.fg_crossing.proofs.Listed.{Finds, finds_owner, last_listed, listed_before, stands_before}
-use Rattle.fg_crossing.proofs.Listings.{has_within, listed_in, listed_of}
+use Rattle.fg_crossing.proofs.Listings.{has_within, listed_in}
 use Rattle.fg_crossing.proofs.Ranks.{rank, phase, At, at_has, at_of, rank_before, before_rank}
 use Rattle.fg_crossing.specs.Crossings.{IsFull}
 use Rattle.fg_crossing.specs.Kinds.{is_plain, is_entry, is_release}
@@ -20,6 +20,7 @@ use Rattle.fg_hb.specs.Laws.{IsAsymmetric, IsIrreflexive}
 use Rattle.fg_hb.specs.Orders.{Order}
 use Rattle.fg_stated.specs.PieceStates.{kind_of, last_transfer, next_transfer, on_piece}
 use Rattle.fg_stated.specs.Stated.{MatchAt, Matches}
+use Rattle.fg_ties.proofs.Ordered.{listed_of}
 use Rattle.fg_ties.specs.Passing.{Before}
 use Rattle.fg_ties.specs.Tied.{Tied}
 use Rattle.fg_view.specs.AccessKinds.{changes, transfers}
