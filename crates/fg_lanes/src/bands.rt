@@ -35,10 +35,7 @@ pub fn helpers_for(op: &Op<u32>, out: &Target) -> usize {
         | Op::Combine { .. }
         | Op::Select { .. }
         | Op::Draw { .. }
-            if !out.is_new() =>
-        {
-            helpers_in(out.len(), LEAST_OF_LANES)
-        }
+            if !out.is_new() => { helpers_in(out.len(), LEAST_OF_LANES) }
         _ => 0,
     }
 }
