@@ -6,7 +6,7 @@ ghost use Rattle.fg_frame.specs.Numbered.{numbered};
 ghost use Rattle.fg_groups.specs.Code.Grown.{kept_pass};
 ghost use Rattle.fg_groups.specs.Code.Known.{AreKnown};
 ghost use Rattle.fg_groups.specs.Commands.{on_queue, kept_commands, copy_out, export_queue, export_command, export_commands, commands};
-ghost use Rattle.fg_versions.specs.Versions.{row_of, latest_maker, numbers_of};
+ghost use Rattle.fg_versions.specs.Versions.{numbers_of};
 
 use crate::Command;
 use fg_base::{List, NoMemory, Op, Shape, shape_at};
@@ -85,23 +85,12 @@ fn copy_out(shape: Shape, src: u32, dst: u32) -> Op<u32>
     }
 }
 
-// The pass that makes the last version of a unit.
-fn last_writer(versions: &Versions, unit: u32) -> Option<u32>
-    requires { unit < length versions.now.makers }
-    ensures { result ≡ latest_maker (row_of versions.now.makers unit) }
-{
-    match versions.last(unit) {
-        Some(version) => versions.writer(unit, version),
-        None => None,
-    }
-}
-
 fn export_queue(frame: &GoodFrame, versions: &Versions, unit: u32) -> u32
     requires versions { versions.now ≡ numbers_of (numbered frame.now) }
     requires unit { unit < length (numbered frame.now).units }
     ensures { result ≡ export_queue (numbered frame.now) unit }
 {
-    match last_writer(versions, unit) {
+    match versions.last_writer(unit) {
         Some(pass) => frame.queue_of(pass),
         None => 0,
     }

@@ -25,17 +25,6 @@ fn effects(alloc: Global, frame: &GoodFrame) -> Result<List<bool>, NoMemory>
     Ok(roots)
 }
 
-// The pass that makes the last version of a unit.
-fn last_writer(versions: &Versions, unit: u32) -> Option<u32>
-    requires { unit < length versions.now.makers }
-    ensures { result ≡ latest_maker (row_of versions.now.makers unit) }
-{
-    match versions.last(unit) {
-        Some(version) => versions.writer(unit, version),
-        None => None,
-    }
-}
-
 // Makes the writers of the last versions of these units roots too.
 fn root(roots: &mut List<bool>, versions: &Versions, units: &[u32])
     requires within { All (λ unit. unit < length versions.now.makers) units.now }
@@ -43,7 +32,7 @@ fn root(roots: &mut List<bool>, versions: &Versions, units: &[u32])
     ensures { roots.new ≡ rooted versions.now.makers units.now roots.old }
 {
     for unit in units {
-        if let Some(pass) = last_writer(versions, *unit) {
+        if let Some(pass) = versions.last_writer(*unit) {
             roots.set(pass as usize, true);
         }
     }

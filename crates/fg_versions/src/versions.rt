@@ -2,7 +2,7 @@
 
 ghost use Rattle.std.specs.Prelude.{◌≡◌, ◌<◌, ◌+◌, ◌-◌, length, IfOk, OnOk, Some, None, slice_get};
 ghost use Rattle.fg_frame.specs.Numbered.{numbered};
-ghost use Rattle.fg_versions.specs.Versions.{row_of, last_number, Numbers, numbers_until, numbers_of, row_at};
+ghost use Rattle.fg_versions.specs.Versions.{row_of, last_number, latest_maker, Numbers, numbers_until, numbers_of, row_at};
 
 use crate::makers::Makers;
 use fg_base::{List, NoMemory};
@@ -105,6 +105,17 @@ impl Versions {
             None
         } else {
             Some(self.makers.latest(unit))
+        }
+    }
+
+    /// The pass that makes the last version of a unit, if there is one.
+    pub fn last_writer(&self, unit: u32) -> Option<u32>
+        requires { unit < length self.now.makers }
+        ensures { result ≡ latest_maker (row_of self.now.makers unit) }
+    {
+        match self.last(unit) {
+            Some(version) => self.writer(unit, version),
+            None => None,
         }
     }
 
