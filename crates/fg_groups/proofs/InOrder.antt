@@ -171,7 +171,7 @@ groups_one joins uses (k ∷ ks) =
     (All-weaker (λ A. All (λ u. u.unit ≡ k) A) OfOne (λ A h. (k, h)) (unit_groups joins uses k) (of_one_unit joins uses k))
     (groups_one joins uses ks)
 
-units_from : (uses : List Use) (a n : ℕ) → All (λ u. a ≤ u.unit) (flat_map (unit_uses uses) (range_with_len a n))
+pub units_from : (uses : List Use) (a n : ℕ) → All (λ u. a ≤ u.unit) (flat_map (unit_uses uses) (range_with_len a n))
 units_from uses a zero = All-nil (λ u. a ≤ u.unit)
 units_from uses a (suc n) =
     All-append (λ u. a ≤ u.unit) (unit_uses uses a) (flat_map (unit_uses uses) (range_with_len (a + 1) n))

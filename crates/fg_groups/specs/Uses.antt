@@ -16,6 +16,10 @@ use Rattle.fg_groups.specs.declared.unit_use.Use.{Use}
 abbrev pub is_write : Use → Bool
 is_write u = not (u.writes.0 == 0)
 
+-- no use of a frame: what is looked up where there is nothing
+abbrev pub no_use : Use
+no_use = record { command = 0; operand = 0; queue = 0; unit = 0; stage = record { 0 = 0 }; accesses = record { 0 = 0 }; writes = record { 0 = 0 }; layout = None }
+
 -- ONE OPERAND
 
 -- the accesses that write, and all

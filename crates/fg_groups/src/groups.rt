@@ -135,6 +135,13 @@ impl Groups {
         &self.grouping.families
     }
 
+    /// How each unit is shared.
+    pub fn sharings(&self) -> &[Sharing]
+        ensures { result.now ≡ self.now.sharings }
+    {
+        &self.grouping.sharings
+    }
+
     /// Whether a unit is an import.
     pub fn is_import(&self, unit: u32) -> bool
         requires { unit < length self.now.imports }
