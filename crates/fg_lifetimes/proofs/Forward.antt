@@ -12,7 +12,7 @@ use Rattle.fg_groups.specs.declared.unit_use.Use.{Use}
 use Rattle.fg_lifetimes.specs.Code.Leading.{AreForward}
 
 -- groups of one unit are of the same one
-same_unit : (uses next : List Use) (one : OfOne uses) (two : OfOne next) → one_unit uses next ≡ true → one.0 ≡ two.0
+pub same_unit : (uses next : List Use) (one : OfOne uses) (two : OfOne next) → one_unit uses next ≡ true → one.0 ≡ two.0
 same_unit uses next one two e =
     let found = Any-from_list_any (λ u. has_unit u.unit next) uses e in
     go found

@@ -1,11 +1,12 @@
 -- A unit's groups are joined by needs, from the first to the last.
-use Rattle.std.proofs.Common.{◌≡◌, ◌⊎◌, inl, inr, ℕ, zero, suc, ◌<◌, ◌≤◌, ◌+◌, ◌==◌, ◌&&◌, nat_lt, length, get_or, true, refl, sym, subst, ◌∙◌, arith, Bool, List, None, eq-eqb, eqb-true, zero-add}
+use Rattle.std.proofs.Common.{◌≡◌, ◌⊎◌, inl, inr, ℕ, zero, suc, ◌<◌, ◌≤◌, ◌+◌, ◌==◌, ◌&&◌, nat_lt, length, get_or, true, refl, sym, subst, ◌∙◌, arith, Bool, List, eq-eqb, eqb-true, zero-add}
 use Rattle.std.specs.List.{Any, list_any, range_with_len}
 use Rattle.std.proofs.lemmas.Bool.{and_from, or_right}
 use Rattle.std.proofs.lemmas.List.Folds.{Any-from_list_any, list_any_at}
 use Rattle.std.proofs.lemmas.List.FromFn.{length-range_with_len, get_or-range_with_len}
 use Rattle.fg_groups.specs.Laws.{IsGrouped}
 use Rattle.fg_groups.specs.Needs.{group_at, has_unit, has_command, goes_on, is_member, needs, leads, queue_of}
+use Rattle.fg_groups.specs.Uses.{no_use}
 use Rattle.fg_groups.specs.declared.grouping.Grouping.{Grouping}
 use Rattle.fg_groups.specs.declared.unit_use.Use.{Use}
 use Rattle.fg_lifetimes.specs.Code.Leading.{needs_by}
@@ -32,10 +33,6 @@ use_by uses c e = go (Any-from_list_any (λ u. u.command == c) uses e)
 
 pub has_by : (uses : List Use) (k : ℕ) (d : Use) → k < length uses → has_command (get_or uses k d).command uses ≡ true
 has_by uses k d lt = list_any_at (λ (u : Use). u.command == (get_or uses k d).command) uses k d lt (eq-eqb (get_or uses k d).command (get_or uses k d).command refl)
-
--- no use of a frame: what is looked up where there is nothing
-blank : Use
-blank = record { command = 0; operand = 0; queue = 0; unit = 0; stage = record { 0 = 0 }; accesses = record { 0 = 0 }; writes = record { 0 = 0 }; layout = None }
 
 module _ (G : Grouping) (L : IsGrouped G) (unit : ℕ) (life : Lifetime) (I : IsLifetime G unit life) where
   -- each use of a group leads to each of the next one
@@ -67,8 +64,8 @@ module _ (G : Grouping) (L : IsGrouped G) (unit : ℕ) (life : Lifetime) (I : Is
       let within = I.within in
       let next : suc g < length G.groups = omega (arith, end, within) in
       let some = some_member G L (suc g) next in
-      let d : ℕ = (get_or (group_at G (suc g)) 0 blank).command in
-      let in-next : is_member G d (suc g) ≡ true = has_by (group_at G (suc g)) 0 blank some in
+      let d : ℕ = (get_or (group_at G (suc g)) 0 no_use).command in
+      let in-next : is_member G d (suc g) ≡ true = has_by (group_at G (suc g)) 0 no_use some in
       let rest = to_last n (suc g) d (omega (arith, from)) (omega (arith, end)) in-next in
       (rest.0, rest.1, inr (joined (leads_on g from (omega (arith, end)) c d in-this in-next) rest.2))
 
@@ -81,7 +78,7 @@ module _ (G : Grouping) (L : IsGrouped G) (unit : ℕ) (life : Lifetime) (I : Is
       let within = I.within in
       let after : life.first + suc n ≡ suc (life.first + n) = omega arith in
       let at : life.first + n < length G.groups = omega (arith, most, within) in
-      let c : ℕ = (get_or (group_at G (life.first + n)) 0 blank).command in
-      let in-before : is_member G c (life.first + n) ≡ true = has_by (group_at G (life.first + n)) 0 blank (some_member G L (life.first + n) at) in
+      let c : ℕ = (get_or (group_at G (life.first + n)) 0 no_use).command in
+      let in-before : is_member G c (life.first + n) ≡ true = has_by (group_at G (life.first + n)) 0 no_use (some_member G L (life.first + n) at) in
       let rest = from_first n c (omega (arith, most)) in-before in
       (rest.0, rest.1, inr (joined_to rest.2 (leads_on (life.first + n) (omega arith) (omega (arith, most)) c d in-before (subst (λ h. is_member G d h ≡ true) after in-this))))
