@@ -1,5 +1,5 @@
 -- The commands of a frame: operations of passes on units, and for each export one copy of it.
-use Rattle.std.proofs.Common.{◌≡◌, ⊎_elim, ℕ, zero, suc, ◌+◌, ◌<◌, ◌≤◌, ◌==◌, ◌||◌, Bool, true, false, List, [], ◌∷◌, length, map, get_or, slice_get, Option, Some, None, refl, sym, ap, ◌∙◌, subst, ne_eqb, ap₂, eq-eqb, arith}
+use Rattle.std.proofs.Common.{◌≡◌, ⊎_elim, ℕ, ◌+◌, ◌<◌, ◌≤◌, ◌==◌, ◌||◌, Bool, true, false, List, [], ◌∷◌, length, map, get_or, slice_get, Option, Some, None, refl, sym, ap, ◌∙◌, subst, ne_eqb, ap₂, eq-eqb, arith}
 use Rattle.std.specs.List.{All}
 use Rattle.std.specs.Prelude.{is_some}
 use Rattle.std.proofs.lemmas.Bool.{cases_lt, false≢true}
@@ -24,18 +24,13 @@ use Rattle.fg_groups.specs.Groups.{grouping}
 use Rattle.fg_groups.specs.Placed.{is_import}
 use Rattle.fg_groups.specs.declared.command.Command.{Command}
 use Rattle.fg_groups.specs.declared.grouping.Grouping.{Grouping}
+use Rattle.fg_recorder.proofs.Entries.{entry_there}
 use Rattle.fg_valid.proofs.Commands.{kept_each, exports_each}
 
 -- an operation of a pass, on units alone, or the copy of an export into the buffer after the units
 pub data Sort (G : Grouping) (command : Command) : Type 0 where
   a_pass : command.export ≡ None → All (λ r. r < length G.imports) (operands_of command.op) → in_place command.op ≡ false → Sort G command
   a_copy : (k unit : ℕ) (shape : Shape) → k < export_count G → unit < length G.imports → command.export ≡ Some k → command.op ≡ copy_out shape unit (length G.imports + k) → shape_at G.shapes unit ≡ shape → shape_at G.shapes (length G.imports + k) ≡ Buffer (bytes_of shape) → Sort G command
-
--- an entry that is there
-pub entry_there : {X : Type 0} (xs : List X) (i : ℕ) → i < length xs → (x : X) × (slice_get xs i ≡ Some x)
-entry_there [] i lt = absurd (omega (arith, lt))
-entry_there (x ∷ xs) zero lt = (x, refl)
-entry_there (x ∷ xs) (suc i) lt = entry_there xs i (omega (arith, lt))
 
 -- EACH COMMAND
 

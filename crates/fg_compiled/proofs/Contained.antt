@@ -6,8 +6,9 @@ use Rattle.std.proofs.lemmas.List.{length-append}
 use Rattle.std.proofs.lemmas.List.Elements.{All-filter, Contains-append_left, Contains-append_right, filter_passes}
 use Rattle.std.proofs.lemmas.List.FromFn.{get_or-range_with_len, length-range_with_len}
 use Rattle.std.proofs.lemmas.List.Kept.{AllPairs-filter}
+use Rattle.fg_groups.specs.Uses.{no_use}
 use Rattle.fg_groups.specs.declared.unit_use.Use.{Use}
-use Rattle.fg_turns.specs.Turns.{no_use, first, last}
+use Rattle.fg_turns.specs.Turns.{first, last}
 use Rattle.fg_turns.specs.Unions.{on}
 
 module _ {X : Type 0} where

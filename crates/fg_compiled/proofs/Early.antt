@@ -14,7 +14,7 @@ use Rattle.fg_compiled.proofs.Entries.{contains_entry, entry_left, entry_right}
 use Rattle.fg_compiled.proofs.Groups.{some_use}
 use Rattle.fg_groups.specs.Laws.{IsGrouped, IsSourced}
 use Rattle.fg_groups.specs.Needs.{group_at, uses_at, uses_in, use_at}
-use Rattle.fg_groups.specs.Uses.{command_uses, uses_of}
+use Rattle.fg_groups.specs.Uses.{no_use, command_uses, uses_of}
 use Rattle.fg_groups.specs.declared.command.Command as commands
 use Rattle.fg_groups.specs.declared.grouping.Grouping.{Grouping}
 use Rattle.fg_groups.specs.declared.unit_use.Use.{Use}
@@ -30,7 +30,7 @@ use Rattle.fg_recorder.specs.declared.mark.Marked.TheVariants.{Does, Needs}
 use Rattle.fg_recorder.specs.Pieces.{piece_of}
 use Rattle.fg_subs.specs.declared.program.Item.{Item}
 use Rattle.fg_subs.specs.declared.program.Item.TheVariants as item
-use Rattle.fg_turns.specs.Turns.{earlier, first, no_use, turn_of}
+use Rattle.fg_turns.specs.Turns.{earlier, first, turn_of}
 use Rattle.fg_turns.specs.Under.{Heap}
 use Rattle.fg_turns.specs.declared.turn.Turn.{Turn}
 use Rattle.fg_turns.specs.declared.turn.TurnKind.{TurnKind}

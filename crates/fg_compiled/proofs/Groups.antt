@@ -9,11 +9,12 @@ use Rattle.std.proofs.lemmas.List.Folds.{list_any_at, Any-from_list_any}
 use Rattle.fg_compiled.specs.Plan.{unit_of}
 use Rattle.fg_groups.specs.Laws.{Before, IsGrouped, IsKnown, IsSourced}
 use Rattle.fg_groups.specs.Needs.{group_at, goes_on, has_unit, is_member, is_of, is_touched, one_unit, queue_of}
+use Rattle.fg_groups.specs.Uses.{no_use}
 use Rattle.fg_groups.specs.declared.command.Command.{Command}
 use Rattle.fg_groups.specs.declared.grouping.Grouping.{Grouping}
 use Rattle.fg_groups.specs.declared.unit_use.Use.{Use}
 use Rattle.fg_recorder.specs.Pieces.{has_piece, is_readback}
-use Rattle.fg_turns.specs.Turns.{no_use, first, last}
+use Rattle.fg_turns.specs.Turns.{first, last}
 
 -- a use of command c in group g
 pub record Member (G : Grouping) (c g : ℕ) : Type 0 where

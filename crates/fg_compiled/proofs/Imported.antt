@@ -9,7 +9,7 @@ use Rattle.std.proofs.lemmas.Option.{slice_get-map, get_or_from_slice_get}
 use Rattle.fg_base.specs.Shapes.{is_buffer, is_image, shape_at}
 use Rattle.fg_base.specs.declared.shape.Shape.{Shape}
 use Rattle.fg_base.specs.declared.shape.Shape.TheVariants.{Buffer, Image}
-use Rattle.fg_compiled.proofs.Commands.{entry_there, imports_count, imports_plain}
+use Rattle.fg_compiled.proofs.Commands.{imports_count, imports_plain}
 use Rattle.fg_compiled.proofs.Pieces.{piece_there}
 use Rattle.fg_frame.specs.Good.{IsGood}
 use Rattle.fg_frame.specs.Numbered.{NumberedFrame}
@@ -20,6 +20,7 @@ use Rattle.fg_groups.specs.Needs.{is_touched}
 use Rattle.fg_groups.specs.Placed.{is_import}
 use Rattle.fg_groups.specs.declared.grouping.Grouping.{Grouping}
 use Rattle.fg_place.specs.Placing.{Places}
+use Rattle.fg_recorder.proofs.Entries.{entry_there}
 use Rattle.fg_recorder.specs.Pieces.{has_memory, has_piece, imported, is_readback, memories, memory_of, own_memory, piece, piece_of, pieces, resources}
 use Rattle.fg_recorder.specs.Recorded.{recorded}
 use Rattle.fg_valid.proofs.Numbers.{counted}

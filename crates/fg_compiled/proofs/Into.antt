@@ -23,6 +23,7 @@ use Rattle.fg_cut.specs.Later.{AreSooner, AreCrossed}
 use Rattle.fg_groups.specs.Laws.{IsGrouped, IsKnown}
 use Rattle.fg_groups.specs.Needs.{group_at, goes_on, is_member, is_of, leads, needs, queue_of, touches}
 use Rattle.fg_groups.specs.Placed.{sizes, unit_at}
+use Rattle.fg_groups.specs.Uses.{no_use}
 use Rattle.fg_groups.specs.declared.grouping.Grouping.{Grouping}
 use Rattle.fg_groups.specs.declared.unit_use.Use.{Use}
 use Rattle.fg_hb.specs.Nodes.{program_nodes}
@@ -41,7 +42,7 @@ use Rattle.fg_subs.specs.declared.program.Item.{Item}
 use Rattle.fg_subs.specs.declared.program.Item.TheVariants as item
 use Rattle.fg_subs.specs.declared.program.Program.{Program}
 use Rattle.fg_turns.specs.Masks.{release_masks}
-use Rattle.fg_turns.specs.Turns.{first, last, no_use, turn_of}
+use Rattle.fg_turns.specs.Turns.{first, last, turn_of}
 use Rattle.fg_turns.specs.Under.{Heap, place_of}
 use Rattle.fg_turns.specs.Unions.{on}
 use Rattle.fg_turns.specs.declared.turn.TurnKind.TheVariants as kinds

@@ -33,6 +33,7 @@ use Rattle.fg_crossing.specs.Spots.{OfTurn, OfMember, OfReader, Spot, at_turn, a
 use Rattle.fg_crossing.specs.States.{Laid}
 use Rattle.fg_groups.specs.Needs.{group_at, goes_on, is_touched}
 use Rattle.fg_groups.specs.Placed.{is_import}
+use Rattle.fg_groups.specs.Uses.{no_use}
 use Rattle.fg_groups.specs.declared.grouping.Grouping.{Grouping}
 use Rattle.fg_recorder.specs.Pieces.{has_piece, is_readback, piece_of}
 use Rattle.fg_recorder.specs.Standing.{turn_item}
@@ -40,7 +41,7 @@ use Rattle.fg_recorder.specs.Wanted.{is_there}
 use Rattle.fg_stated.specs.PieceStates.{layout_after}
 use Rattle.fg_subs.specs.Rules.{shapes_of}
 use Rattle.fg_subs.specs.declared.program.Program.{Program}
-use Rattle.fg_turns.specs.Turns.{earlier, first, first_kind, has_uses, last, next_kind, no_use, turn_of}
+use Rattle.fg_turns.specs.Turns.{earlier, first, first_kind, has_uses, last, next_kind, turn_of}
 use Rattle.fg_turns.specs.Under.{Heap, place_of, uses_under}
 use Rattle.fg_turns.specs.declared.turn.TurnKind.{TurnKind}
 use Rattle.fg_turns.specs.declared.turn.TurnKind.TheVariants as kinds

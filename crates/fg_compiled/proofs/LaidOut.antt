@@ -23,7 +23,7 @@ use Rattle.fg_compiled.proofs.Uses.{sourced_use}
 use Rattle.fg_compiled.specs.Plan.{unit_of}
 use Rattle.fg_groups.specs.Laws.{IsGrouped}
 use Rattle.fg_groups.specs.Needs.{group_at}
-use Rattle.fg_groups.specs.Uses.{layout_for}
+use Rattle.fg_groups.specs.Uses.{no_use, layout_for}
 use Rattle.fg_groups.specs.declared.grouping.Grouping.{Grouping}
 use Rattle.fg_groups.specs.declared.unit_use.Use.{Use}
 use Rattle.fg_recorder.specs.Items.{barrier, both, transfer}
@@ -31,7 +31,7 @@ use Rattle.fg_recorder.specs.Pieces.{piece_of}
 use Rattle.fg_recorder.specs.Standing.{item_by}
 use Rattle.fg_stated.specs.PieceStates.{layout_after}
 use Rattle.fg_turns.specs.Masks.{entry_masks}
-use Rattle.fg_turns.specs.Turns.{first, last, no_use}
+use Rattle.fg_turns.specs.Turns.{first, last}
 use Rattle.fg_turns.specs.declared.turn.Turn.{Turn}
 use Rattle.fg_turns.specs.declared.turn.TurnKind.{TurnKind}
 use Rattle.fg_turns.specs.declared.turn.TurnKind.TheVariants as kinds

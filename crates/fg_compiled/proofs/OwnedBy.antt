@@ -31,6 +31,7 @@ use Rattle.fg_crossing.specs.States.{Owned}
 use Rattle.fg_cut.specs.Standing.{StandsFor}
 use Rattle.fg_groups.specs.Groups.{family_of, same_family, sharing_of, shares}
 use Rattle.fg_groups.specs.Needs.{group_at, queue_of}
+use Rattle.fg_groups.specs.Uses.{no_use}
 use Rattle.fg_groups.specs.declared.grouping.Grouping.{Grouping}
 use Rattle.fg_groups.specs.declared.unit_use.Use.{Use}
 use Rattle.fg_hb.specs.Edges.{is_host, node_at}
@@ -42,7 +43,7 @@ use Rattle.fg_subs.specs.declared.program.Item.{Item}
 use Rattle.fg_subs.specs.declared.program.Item.TheVariants as item
 use Rattle.fg_subs.specs.declared.program.Piece.{Piece}
 use Rattle.fg_subs.specs.declared.program.Program.{Program}
-use Rattle.fg_turns.specs.Turns.{earlier, first, last, no_use}
+use Rattle.fg_turns.specs.Turns.{earlier, first, last}
 use Rattle.fg_turns.specs.Under.{Heap}
 use Rattle.fg_turns.specs.declared.turn.TurnKind.TheVariants as kinds
 use Rattle.fg_view.specs.AccessKinds.{sets_owner}

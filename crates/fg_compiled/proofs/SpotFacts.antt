@@ -25,13 +25,13 @@ use Rattle.fg_crossing.specs.Nodes.{Nodes}
 use Rattle.fg_crossing.specs.Plans.{Plan, leads}
 use Rattle.fg_crossing.specs.Spots.{OfMember, Spot, at_turn, at_member, at_release, at_reader, Spots}
 use Rattle.fg_groups.specs.Needs.{group_at, is_member, queue_of}
-use Rattle.fg_groups.specs.Uses.{is_write}
+use Rattle.fg_groups.specs.Uses.{no_use, is_write}
 use Rattle.fg_groups.specs.declared.grouping.Grouping.{Grouping}
 use Rattle.fg_groups.specs.declared.unit_use.Use.{Use}
 use Rattle.fg_recorder.specs.Pieces.{piece_of}
 use Rattle.fg_subs.specs.Rules.{shapes_of}
 use Rattle.fg_subs.specs.declared.program.Program.{Program}
-use Rattle.fg_turns.specs.Turns.{first, no_use}
+use Rattle.fg_turns.specs.Turns.{first}
 use Rattle.fg_turns.specs.Under.{Heap}
 use Rattle.fg_view.specs.AccessKinds.{changes}
 use Rattle.fg_view.specs.Effects.{command_accesses}

@@ -12,7 +12,7 @@ use Rattle.fg_base.specs.Touches.{touches_of}
 use Rattle.fg_base.specs.declared.shape.Shape.{Shape}
 use Rattle.fg_base.specs.declared.shape.Shape.TheVariants.{Buffer, Image}
 use Rattle.fg_base.specs.declared.touch.Touch.{Touch}
-use Rattle.fg_compiled.proofs.Commands.{Sort, a_pass, a_copy, entry_there}
+use Rattle.fg_compiled.proofs.Commands.{Sort, a_pass, a_copy}
 use Rattle.fg_compiled.proofs.ExportGroups.{IsExport, copy_export, copy_group, copy_is, read_export, read_group, read_is}
 use Rattle.fg_compiled.proofs.Grouped.{resource_export, resource_unit}
 use Rattle.fg_compiled.proofs.Groups.{next_unit}
@@ -36,6 +36,7 @@ use Rattle.fg_groups.specs.declared.command.Command as commands
 use Rattle.fg_groups.specs.declared.grouping.Grouping.{Grouping}
 use Rattle.fg_groups.specs.declared.unit_use.Use.{Use}
 use Rattle.fg_hb.specs.Nodes.{entry_node, program_nodes}
+use Rattle.fg_recorder.proofs.Entries.{entry_there}
 use Rattle.fg_recorder.specs.Items.{transfer}
 use Rattle.fg_recorder.specs.Pieces.{piece_of}
 use Rattle.fg_recorder.specs.Script.{script}

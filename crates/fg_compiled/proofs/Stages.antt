@@ -25,7 +25,7 @@ use Rattle.fg_groups.specs.Groups.{shares}
 use Rattle.fg_groups.specs.Laws.{IsGrouped, IsSourced}
 use Rattle.fg_groups.specs.Needs.{group_at, goes_on, is_of}
 use Rattle.fg_groups.specs.Placed.{is_import, unit_at}
-use Rattle.fg_groups.specs.Uses.{command_uses, is_first_named, use_of, uses_from}
+use Rattle.fg_groups.specs.Uses.{no_use, command_uses, is_first_named, use_of, uses_from}
 use Rattle.fg_groups.specs.declared.grouping.Grouping.{Grouping}
 use Rattle.fg_groups.specs.declared.unit_use.Use.{Use}
 use Rattle.fg_recorder.specs.Items.{barrier, both, init, layouts_between}
@@ -36,7 +36,7 @@ use Rattle.fg_subs.specs.Barriers.{masks_of}
 use Rattle.fg_subs.specs.declared.program.Item.{Item}
 use Rattle.fg_subs.specs.declared.program.Item.TheVariants as item
 use Rattle.fg_turns.specs.Masks.{barrier_masks, entry_masks}
-use Rattle.fg_turns.specs.Turns.{earlier, first, first_kind, has_uses, last, no_use, turn_between, turn_of}
+use Rattle.fg_turns.specs.Turns.{earlier, first, first_kind, has_uses, last, turn_between, turn_of}
 use Rattle.fg_turns.specs.Under.{Heap, last_below, last_uses, place_of, under, uses_under}
 use Rattle.fg_turns.specs.Unions.{is_elsewhere, on, stages_on}
 use Rattle.fg_turns.specs.declared.turn.TurnKind.{TurnKind}

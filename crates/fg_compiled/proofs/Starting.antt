@@ -37,14 +37,14 @@ use Rattle.fg_crossing.specs.Plans.{Plan}
 use Rattle.fg_crossing.specs.Spots.{OfTurn, OfMember, Spot, at_turn, at_member, at_release, at_reader}
 use Rattle.fg_groups.specs.Needs.{group_at, group_of, is_touched}
 use Rattle.fg_groups.specs.Placed.{is_import}
-use Rattle.fg_groups.specs.Uses.{is_write, role_writes}
+use Rattle.fg_groups.specs.Uses.{no_use, is_write, role_writes}
 use Rattle.fg_groups.specs.declared.command.Command as commands
 use Rattle.fg_groups.specs.declared.grouping.Grouping.{Grouping}
 use Rattle.fg_groups.specs.declared.unit_use.Use.{Use}
 use Rattle.fg_recorder.specs.Pieces.{has_piece, is_readback, piece_of}
 use Rattle.fg_subs.specs.Rules.{shapes_of}
 use Rattle.fg_subs.specs.declared.program.Program.{Program}
-use Rattle.fg_turns.specs.Turns.{first, no_use}
+use Rattle.fg_turns.specs.Turns.{first}
 use Rattle.fg_turns.specs.Under.{Heap}
 use Rattle.fg_view.specs.AccessKinds.{loads, wanted}
 use Rattle.fg_view.specs.Views.{View, imported_at, view_of}

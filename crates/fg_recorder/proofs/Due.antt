@@ -13,6 +13,7 @@ use Rattle.fg_groups.specs.Groups.{shares}
 use Rattle.fg_groups.specs.Laws.{IsGrouped}
 use Rattle.fg_groups.specs.Needs.{group_at, goes_on, queue_of}
 use Rattle.fg_groups.specs.Placed.{is_import}
+use Rattle.fg_groups.specs.Uses.{no_use}
 use Rattle.fg_groups.specs.declared.command.Command as commands
 use Rattle.fg_groups.specs.declared.grouping.Grouping.{Grouping}
 use Rattle.fg_groups.specs.declared.unit_use.Use.{Use}
@@ -30,7 +31,7 @@ use Rattle.fg_recorder.specs.declared.mark.Marked.TheVariants.{Does, Needs}
 use Rattle.fg_subs.specs.declared.program.Item.{Item}
 use Rattle.fg_subs.specs.declared.program.Item.TheVariants as item
 use Rattle.fg_turns.specs.Masks.{host_masks}
-use Rattle.fg_turns.specs.Turns.{no_use, first, last, has_uses, earlier, first_kind, kind_of, turn_of, is_transfer}
+use Rattle.fg_turns.specs.Turns.{first, last, has_uses, earlier, first_kind, kind_of, turn_of, is_transfer}
 use Rattle.fg_turns.specs.Under.{Heap, place_of, uses_under}
 use Rattle.fg_turns.specs.Unions.{on}
 use Rattle.fg_turns.specs.declared.turn.TurnKind.{TurnKind}

@@ -10,6 +10,7 @@ use Rattle.std.proofs.lemmas.Option.{slice_get-get_or, slice_get_within}
 use Rattle.fg_base.proofs.Lists.{entry_of}
 use Rattle.fg_groups.specs.Laws.{IsGrouped}
 use Rattle.fg_groups.specs.Needs.{group_at}
+use Rattle.fg_groups.specs.Uses.{no_use}
 use Rattle.fg_groups.specs.declared.command.Command as commands
 use Rattle.fg_groups.specs.declared.grouping.Grouping.{Grouping}
 use Rattle.fg_groups.specs.declared.unit_use.Use.{Use}
@@ -29,7 +30,7 @@ use Rattle.fg_recorder.specs.declared.mark.Marked.{Marked}
 use Rattle.fg_recorder.specs.declared.mark.Marked.TheVariants.{Does, Needs}
 use Rattle.fg_subs.specs.declared.program.Item.{Item}
 use Rattle.fg_subs.specs.declared.program.Item.TheVariants as item
-use Rattle.fg_turns.specs.Turns.{no_use, first, last, earlier, turn_of}
+use Rattle.fg_turns.specs.Turns.{first, last, earlier, turn_of}
 use Rattle.fg_turns.specs.Under.{Heap}
 use Rattle.fg_turns.specs.Unions.{on}
 use Rattle.fg_turns.specs.declared.turn.TurnKind.{TurnKind}

@@ -7,11 +7,12 @@ use Rattle.fg_base.proofs.Lists.{entry_of}
 use Rattle.fg_base.specs.declared.shape.Shape.{Shape}
 use Rattle.fg_groups.specs.Laws.{IsGrouped, IsKnown, IsSourced}
 use Rattle.fg_groups.specs.Needs.{group_at}
-use Rattle.fg_groups.specs.Uses.{command_uses, uses_of}
+use Rattle.fg_groups.specs.Uses.{no_use, command_uses, uses_of}
 use Rattle.fg_groups.specs.declared.command.Command.{Command}
 use Rattle.fg_groups.specs.declared.grouping.Grouping.{Grouping}
 use Rattle.fg_groups.specs.declared.unit_use.Use.{Use}
-use Rattle.fg_turns.specs.Turns.{no_use, first, last}
+use Rattle.fg_turns.proofs.Members.{some_use}
+use Rattle.fg_turns.specs.Turns.{first, last}
 
 -- a use of a shape and a queue that there are
 pub record IsThere (G : Grouping) (u : Use) : Type 0 where
@@ -49,19 +50,16 @@ use_there G u K S = record {
 pub members_there : (G : Grouping) (g : ℕ) → IsGrouped G → IsKnown G → g < length G.groups → All (IsThere G) (group_at G g)
 members_there G g D K lt = λ k d le. use_there G (get_or (group_at G g) k d) K (D.sourced g [] lt k d le)
 
-pub some_member : (G : Grouping) (g : ℕ) → IsGrouped G → g < length G.groups → 0 < length (group_at G g)
-some_member G g D lt = D.in_order.some g [] lt
-
 first_there : (G : Grouping) (g : ℕ) → IsGrouped G → IsKnown G → g < length G.groups → IsThere G (first (group_at G g))
-first_there G g D K lt = members_there G g D K lt 0 no_use (some_member G g D lt)
+first_there G g D K lt = members_there G g D K lt 0 no_use (some_use G g D lt)
 
 last_there : (G : Grouping) (g : ℕ) → IsGrouped G → IsKnown G → g < length G.groups → IsThere G (last (group_at G g))
-last_there G g D K lt = let some = some_member G g D lt in members_there G g D K lt (length (group_at G g) - 1) no_use (omega (arith, some))
+last_there G g D K lt = let some = some_use G g D lt in members_there G g D K lt (length (group_at G g) - 1) no_use (omega (arith, some))
 
 -- OF MEMBERS THAT ARE READ
 
 pub first_unit : (G : Grouping) (g : ℕ) (members : List Use) (u : Use) → members ≡ group_at G g → IsGrouped G → IsKnown G → g < length G.groups → (get_or members 0 u).unit < length G.shapes
-first_unit G g members u is D K lt = subst (λ A. (get_or A 0 u).unit < length G.shapes) (sym is) (members_there G g D K lt 0 u (some_member G g D lt)).unit
+first_unit G g members u is D K lt = subst (λ A. (get_or A 0 u).unit < length G.shapes) (sym is) (members_there G g D K lt 0 u (some_use G g D lt)).unit
 
 pub first_queue : (G : Grouping) (g : ℕ) (members : List Use) → members ≡ group_at G g → IsGrouped G → IsKnown G → g < length G.groups → (first members).queue < length G.families
 first_queue G g members is D K lt = subst (λ A. (first A).queue < length G.families) (sym is) (first_there G g D K lt).queue

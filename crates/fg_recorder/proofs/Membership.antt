@@ -6,23 +6,23 @@ use Rattle.std.specs.Prelude.{slice_get, slice_index_or, Some}
 use Rattle.std.proofs.lemmas.Bool.{cases_lt}
 use Rattle.std.proofs.lemmas.List.{get_or_default}
 use Rattle.std.proofs.lemmas.List.Elements.{All-filter, All-map, All-weaker, Contains-append_left, Contains-append_right, filter_passes}
-use Rattle.std.proofs.lemmas.List.Folds.{Any-from_list_any}
 use Rattle.std.proofs.lemmas.Option.{slice_get_within}
 use Rattle.fg_base.proofs.Lists.{entry_of}
 use Rattle.fg_base.specs.declared.shape.Shape.{Shape}
 use Rattle.fg_bits.specs.Families.{family_number}
 use Rattle.fg_bits.specs.Sharings.{is_shared}
 use Rattle.fg_groups.specs.Groups.{family_of, same_family, sharing_of, shares}
-use Rattle.fg_groups.specs.Laws.{Before, OfOne, IsFound, IsSourced, IsGrouped}
-use Rattle.fg_groups.specs.Needs.{group_at, group_of, has_unit, one_unit, goes_on, queue_of, uses_in, uses_at, use_at}
-use Rattle.fg_groups.specs.Uses.{command_uses, uses_of}
+use Rattle.fg_groups.specs.Laws.{Before, IsFound, IsSourced, IsGrouped}
+use Rattle.fg_groups.specs.Needs.{group_at, group_of, goes_on, queue_of, uses_in, uses_at, use_at}
+use Rattle.fg_groups.specs.Uses.{no_use, command_uses, uses_of}
 use Rattle.fg_groups.specs.declared.command.Command.{Command}
 use Rattle.fg_groups.specs.declared.grouping.Grouping.{Grouping}
 use Rattle.fg_groups.specs.declared.unit_use.Use.{Use}
 use Rattle.fg_groups.specs.declared.unit_use.UseAt.{UseAt}
+use Rattle.fg_lifetimes.proofs.Forward.{same_unit}
 use Rattle.fg_recorder.proofs.Contained.{contains_entry, at_entry, contains_filter, contains_map}
 use Rattle.fg_recorder.specs.Script.{groups_used}
-use Rattle.fg_turns.specs.Turns.{no_use, first, last}
+use Rattle.fg_turns.specs.Turns.{first, last}
 
 -- the use is number `entry` of group g
 pub record IsMember (G : Grouping) (g : ℕ) (u : Use) : Type 0 where
@@ -36,19 +36,6 @@ pub record IsUsed (G : Grouping) (c g : ℕ) : Type 0 where
   pub one : Use
   pub member : IsMember G g one
   pub command : one.command ≡ c
-
--- groups of one unit are of the same one
-same_unit : (A B : List Use) (one : OfOne A) (two : OfOne B) → one_unit A B ≡ true → one.0 ≡ two.0
-same_unit A B one two e = go (Any-from_list_any (λ u. has_unit u.unit B) A e)
-  where
-    go : (k : ℕ) × (u : Use) × (k < length A) × (get_or A k u ≡ u) × (has_unit u.unit B ≡ true) → one.0 ≡ two.0
-    go (k, u, lt, at, has) = met (Any-from_list_any (λ v. v.unit == u.unit) B has)
-      where
-        unit : u.unit ≡ one.0
-        unit = subst (λ (w : Use). w.unit ≡ one.0) at (one.1 k u lt)
-
-        met : (m : ℕ) × (v : Use) × (m < length B) × (get_or B m v ≡ v) × ((v.unit == u.unit) ≡ true) → one.0 ≡ two.0
-        met (m, v, below, there, is) = sym unit ∙ sym (eqb-true v.unit u.unit is) ∙ subst (λ (w : Use). w.unit ≡ two.0) there (two.1 m v below)
 
 -- a use of a command is one of all uses
 among_uses : (shapes : List Shape) (units c : ℕ) (commands : List Command) (place : ℕ) (command : Command) (u : Use) → slice_get commands place ≡ Some command → Contains (command_uses shapes units (c + place) command) u → Contains (uses_of shapes units c commands) u

@@ -5,10 +5,11 @@ use Rattle.std.proofs.lemmas.Bool.{eqb-true}
 use Rattle.fg_groups.specs.Laws.{IsGrouped, IsKnown}
 use Rattle.fg_groups.specs.Needs.{group_at}
 use Rattle.fg_groups.specs.Placed.{placed}
+use Rattle.fg_groups.specs.Uses.{no_use}
 use Rattle.fg_groups.specs.declared.grouping.Grouping.{Grouping}
 use Rattle.fg_groups.specs.declared.unit_use.Use.{Use}
 use Rattle.fg_turns.proofs.Members.{some_use, is_used, imported, no_import}
-use Rattle.fg_turns.specs.Turns.{no_use, first, has_uses, earlier, first_kind, kind_of, turn_between, turn_of}
+use Rattle.fg_turns.specs.Turns.{first, has_uses, earlier, first_kind, kind_of, turn_between, turn_of}
 use Rattle.fg_turns.specs.Under.{Heap, place_of, uses_under}
 use Rattle.fg_turns.specs.declared.turn.TurnKind.TheVariants.{Nothing}
 

@@ -1,3 +1,3 @@
 mod Firsts
-mod Members
+pub mod Members
 mod Worked

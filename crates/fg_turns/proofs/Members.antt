@@ -15,10 +15,11 @@ use Rattle.fg_base.proofs.Lists.{range_more}
 use Rattle.fg_groups.specs.Laws.{OfOne, IsGrouped}
 use Rattle.fg_groups.specs.Needs.{group_at, has_unit, one_unit, is_touched}
 use Rattle.fg_groups.specs.Placed.{placed, is_import}
+use Rattle.fg_groups.specs.Uses.{no_use}
 use Rattle.fg_groups.specs.declared.grouping.Grouping.{Grouping}
 use Rattle.fg_groups.specs.declared.unit_use.Use.{Use}
 use Rattle.fg_turns.specs.Code.Lasts.{AreLasts, group_from}
-use Rattle.fg_turns.specs.Turns.{no_use, first, earlier}
+use Rattle.fg_turns.specs.Turns.{first, earlier}
 use Rattle.fg_turns.specs.Under.{place_of, last_below}
 
 -- EACH GROUP

@@ -5,6 +5,7 @@ use Rattle.fg_bits.specs.declared.masks.Masks.{Masks}
 use Rattle.fg_groups.specs.Groups.{shares}
 use Rattle.fg_groups.specs.Needs.{group_at, goes_on}
 use Rattle.fg_groups.specs.Placed.{is_import}
+use Rattle.fg_groups.specs.Uses.{no_use}
 use Rattle.fg_groups.specs.declared.grouping.Grouping.{Grouping}
 use Rattle.fg_groups.specs.declared.unit_use.Use.{Use}
 use Rattle.fg_turns.specs.Masks.{barrier_masks, release_masks, entry_masks, no_masks}
@@ -14,9 +15,6 @@ use Rattle.fg_turns.specs.declared.turn.TurnKind.{TurnKind}
 use Rattle.fg_turns.specs.declared.turn.TurnKind.TheVariants.{Nothing, Barrier, Transfer, Alias, Init, AliasInit}
 
 -- MEMBERS
-
-abbrev pub no_use : Use
-no_use = record { command = 0; operand = 0; queue = 0; unit = 0; stage = record { 0 = 0 }; accesses = record { 0 = 0 }; writes = record { 0 = 0 }; layout = None }
 
 abbrev pub first : List Use → Use
 first uses = slice_index_or uses 0 no_use

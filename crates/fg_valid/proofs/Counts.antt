@@ -8,17 +8,12 @@ use Rattle.std.proofs.lemmas.Bool.{le-ltb}
 use Rattle.std.proofs.lemmas.Bool.Decides.{eqb_tells}
 use Rattle.std.proofs.lemmas.List.{length-append, length-map}
 use Rattle.std.proofs.lemmas.List.Sums.{sum_by-cons, sum_by-append, length-filter}
-use Rattle.fg_base.proofs.Operands.{sources_few}
-use Rattle.fg_base.specs.Operands.{mapped, sources_of, destination_of}
-use Rattle.fg_base.specs.Touches.{source_touch, destination_touch, touches_of}
-use Rattle.fg_base.specs.declared.op.Op.{Op}
-use Rattle.fg_base.specs.declared.shape.Shape.{Shape}
-use Rattle.fg_base.specs.declared.touch.Touch.{Touch}
+use Rattle.fg_base.specs.Operands.{mapped, destination_of}
 use Rattle.fg_bits.specs.declared.layout.Layout.TheVariants.{Undefined}
 use Rattle.fg_bits.specs.declared.layout.Layouts.{Layouts}
 use Rattle.fg_bits.specs.declared.masks.Masks.{Masks}
+use Rattle.fg_groups.proofs.Sizes.{uses-few}
 use Rattle.fg_groups.specs.Needs.{group_at, uses_in, use_at, uses_at}
-use Rattle.fg_groups.specs.Uses.{is_first_named, use_of, uses_from, command_uses, uses_of}
 use Rattle.fg_groups.specs.declared.command.Command.{Command}
 use Rattle.fg_groups.specs.declared.grouping.Grouping.{Grouping}
 use Rattle.fg_groups.specs.declared.unit_use.Use.{Use}
@@ -48,34 +43,6 @@ use Rattle.fg_turns.specs.declared.turn.Turn.{Turn}
 use Rattle.fg_turns.specs.declared.turn.TurnKind.{TurnKind}
 use Rattle.fg_turns.specs.declared.turn.TurnKind.TheVariants as kinds
 use Rattle.fg_valid.proofs.Sums.{sum_below, below_le, but_one, others, spread, at_one, length_all, sum_mapped, sum_range, sum_got, counted_once}
-
--- USES OF COMMANDS
-
-touches_few : (shapes : List Shape) (op : Op ℕ) → length (touches_of shapes op) ≤ 4
-touches_few shapes op = omega (arith, sources_few op, length-map (sources_of op) (source_touch shapes op), length-append (map (source_touch shapes op) (sources_of op)) (destination_touch shapes op ∷ []))
-
-named_few : (shapes : List Shape) (units c q k : ℕ) (named : List ℕ) (touches : List Touch) → length (uses_from shapes units c q k named touches) ≤ length touches
-named_few shapes units c q k named [] = omega arith
-named_few shapes units c q k named (touch ∷ touches) = omega (
-  arith,
-  own (is_first_named units named touch.what),
-  named_few shapes units c q (suc k) (named ++ touch.what ∷ []) touches,
-  length-append (if is_first_named units named touch.what then use_of shapes c q k touch ∷ [] else []) (uses_from shapes units c q (suc k) (named ++ touch.what ∷ []) touches),
-)
-  where
-    own : (b : Bool) → length (if b then use_of shapes c q k touch ∷ [] else []) ≤ 1
-    own true = omega arith
-    own false = omega arith
-
-uses_few : (shapes : List Shape) (units c : ℕ) (commands : List Command) → length (uses_of shapes units c commands) ≤ 4 * length commands
-uses_few shapes units c [] = omega arith
-uses_few shapes units c (command ∷ commands) = omega (
-  arith,
-  uses_few shapes units (suc c) commands,
-  named_few shapes units c command.queue 0 [] (touches_of shapes command.op),
-  touches_few shapes command.op,
-  length-append (command_uses shapes units c command) (uses_of shapes units (suc c) commands),
-)
 
 -- WHAT IS RECORDED
 
@@ -198,7 +165,7 @@ module _ (w : subs.Item → ℕ) (most : ℕ) (light : AreLight w most) where
       zeroed (length G.commands),
       counted_once (λ (u : UseAt). u.command) (length G.commands) (uses_at G),
       length-map (uses_in G) (use_at G.groups),
-      uses_few G.shapes (length G.sharings) 0 G.commands,
+      uses-few G.shapes (length G.sharings) 0 G.commands,
     )
       where
         zeroed : (n : ℕ) → sum_below (λ k. used (0 + k)) n ≡ sum_below used n

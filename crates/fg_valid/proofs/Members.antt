@@ -15,10 +15,11 @@ use Rattle.fg_groups.specs.Groups.{family_of, same_family, sharing_of, shares}
 use Rattle.fg_groups.specs.Laws.{IsGrouped}
 use Rattle.fg_groups.specs.Needs.{group_at, is_of, goes_on, has_unit, one_unit}
 use Rattle.fg_groups.specs.Placed.{unit_at}
+use Rattle.fg_groups.specs.Uses.{no_use}
 use Rattle.fg_groups.specs.declared.grouping.Grouping.{Grouping}
 use Rattle.fg_groups.specs.declared.unit_use.Use.{Use}
 use Rattle.fg_subs.specs.Barriers.{has_stages}
-use Rattle.fg_turns.specs.Turns.{no_use, first, last}
+use Rattle.fg_turns.specs.Turns.{first, last}
 use Rattle.fg_turns.specs.Under.{Heap, under, last_below, last_uses, uses_under}
 use Rattle.fg_turns.specs.Unions.{on, stages_on, accesses_on, writes_on, is_elsewhere}
 use Rattle.fg_valid.proofs.Bits.{Inside, empty_inside, over_inside, over_each, supports_inside, supports_from, on_family_over}

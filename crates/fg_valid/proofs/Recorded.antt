@@ -24,6 +24,7 @@ use Rattle.fg_groups.specs.Groups.{family_of, sharing_of, shares, grouping}
 use Rattle.fg_groups.specs.Laws.{IsGrouped, IsKnown}
 use Rattle.fg_groups.specs.Needs.{group_at, goes_on, uses_in, use_at, uses_at}
 use Rattle.fg_groups.specs.Placed.{is_import}
+use Rattle.fg_groups.specs.Uses.{no_use}
 use Rattle.fg_groups.specs.declared.command.Command.{Command}
 use Rattle.fg_groups.specs.declared.grouping.Grouping.{Grouping}
 use Rattle.fg_groups.specs.declared.unit_use.Use.{Use}
@@ -38,7 +39,7 @@ use Rattle.fg_recorder.specs.declared.mark.Marked.TheVariants.{Does, Needs}
 use Rattle.fg_subs.specs.Ranges.{has_operands, op_in_range}
 use Rattle.fg_subs.specs.declared.program.Item.TheVariants as item
 use Rattle.fg_turns.specs.Masks.{host_masks}
-use Rattle.fg_turns.specs.Turns.{no_use, first, last, has_uses, earlier, first_kind, turn_of, is_transfer}
+use Rattle.fg_turns.specs.Turns.{first, last, has_uses, earlier, first_kind, turn_of, is_transfer}
 use Rattle.fg_turns.specs.Under.{Heap, place_of, uses_under}
 use Rattle.fg_turns.specs.declared.turn.TurnKind.{TurnKind}
 use Rattle.fg_turns.specs.declared.turn.TurnKind.TheVariants.{Nothing, Barrier, Transfer, Alias, Init, AliasInit}

@@ -14,6 +14,7 @@ use Rattle.fg_bits.specs.Sharings.{is_shared}
 use Rattle.fg_bits.specs.declared.layout.Layout.TheVariants.{Undefined}
 use Rattle.fg_groups.specs.Groups.{family_of, same_family, sharing_of, shares}
 use Rattle.fg_groups.specs.Placed.{is_import}
+use Rattle.fg_groups.specs.Uses.{no_use}
 use Rattle.fg_groups.specs.declared.grouping.Grouping.{Grouping}
 use Rattle.fg_groups.specs.declared.unit_use.Use.{Use}
 use Rattle.fg_recorder.specs.Items.{layouts_between, barrier, transfer, init, does_turn, items_of, turn_items}
@@ -22,7 +23,7 @@ use Rattle.fg_recorder.specs.declared.mark.Marked.{Marked}
 use Rattle.fg_recorder.specs.declared.mark.Marked.TheVariants.{Does, Needs}
 use Rattle.fg_subs.specs.declared.program.Item.TheVariants as item
 use Rattle.fg_turns.specs.Masks.{barrier_masks, release_masks, entry_masks}
-use Rattle.fg_turns.specs.Turns.{no_use, first, last, has_uses, first_kind, kind_of, turn_between}
+use Rattle.fg_turns.specs.Turns.{first, last, has_uses, first_kind, kind_of, turn_between}
 use Rattle.fg_turns.specs.declared.turn.TurnKind.{TurnKind}
 use Rattle.fg_turns.specs.declared.turn.TurnKind.TheVariants.{Nothing, Barrier, Transfer as Handover, Alias, Init, AliasInit}
 use Rattle.fg_valid.proofs.Items.{ObeysAll, HasShape, global_obeys, barrier_obeys, stand, defined, release_obeys, acquire_obeys}
