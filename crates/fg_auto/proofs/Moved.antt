@@ -4,7 +4,7 @@ use Rattle.std.specs.List.{All, flat_map, range_with_len}
 use Rattle.std.specs.Option.{option_map_or}
 use Rattle.std.proofs.lemmas.Bool.{ne_eqb}
 use Rattle.std.proofs.lemmas.List.{length-append, length-map, length-replicate, map-append}
-use Rattle.std.proofs.lemmas.List.Elements.{All-append, All-head, All-nil, All-tail, All-weaker}
+use Rattle.std.proofs.lemmas.List.Elements.{All-head, All-tail, All-weaker}
 use Rattle.fg_auto.specs.Code.Spans.{joined, moved}
 use Rattle.fg_auto.specs.Code.Work.{export_owner, kept_owners, owners, queue_by, with_queues}
 use Rattle.fg_auto.specs.Queues.{on_queues, requeued}
@@ -17,7 +17,7 @@ use Rattle.fg_frame.specs.Numbered.{NumberedFrame}
 use Rattle.fg_frame.specs.declared.numbered.NumberedPass.{NumberedPass}
 use Rattle.fg_base.specs.Shapes.{shape_at}
 use Rattle.fg_base.specs.Touches.{touches_of}
-use Rattle.fg_groups.proofs.InOrder.{groups_flat, of_unit, runs_flat}
+use Rattle.fg_groups.proofs.InOrder.{groups_flat, of_unit, runs_flat, units_from}
 use Rattle.fg_groups.proofs.Lists.{each_of_flat}
 use Rattle.fg_groups.specs.Commands.{all_shapes, commands, copy_out, export_commands, export_queue, kept_commands, on_queue, pass_commands}
 use Rattle.fg_groups.specs.Groups.{all_uses, before_runs, frame_joins, grouping, runs, sharings_in, unit_groups, unit_uses}
@@ -225,13 +225,6 @@ runs_apart J [] ys all = refl
 runs_apart J (x ∷ xs) ys all =
     ap (before_runs J x) (runs_apart J xs ys (All-tail (λ u. All (λ y. J u y ≡ false) ys) x xs all))
     ∙ before_apart J x (runs J xs) (runs J ys) (each_of_flat (λ y. J x y ≡ false) (runs J ys) (subst (All (λ y. J x y ≡ false)) (sym (runs_flat J ys)) (All-head (λ u. All (λ y. J u y ≡ false) ys) x xs all)))
-
-units_from : (uses : List Use) (a n : ℕ) → All (λ u. a ≤ u.unit) (flat_map (unit_uses uses) (range_with_len a n))
-units_from uses a zero = All-nil (λ u. a ≤ u.unit)
-units_from uses a (suc n) =
-    All-append (λ u. a ≤ u.unit) (unit_uses uses a) (flat_map (unit_uses uses) (range_with_len (a + 1) n))
-    (All-weaker (λ u. u.unit ≡ a) (λ u. a ≤ u.unit) (λ u e. omega (arith, e)) (unit_uses uses a) (of_unit uses a))
-    (All-weaker (λ u. a + 1 ≤ u.unit) (λ u. a ≤ u.unit) (λ u le. omega (arith, le)) (flat_map (unit_uses uses) (range_with_len (a + 1) n)) (units_from uses (a + 1) n))
 
 at_once : (J : Use → Use → Bool) (uses : List Use) (a n : ℕ) → flat_map (unit_groups J uses) (range_with_len a n) ≡ runs (of_one J) (flat_map (unit_uses uses) (range_with_len a n))
 at_once J uses a zero = refl

@@ -5,7 +5,7 @@ use Rattle.std.specs.Option.{option_map_or}
 use Rattle.std.proofs.lemmas.Bool.{and_parts, cases_Bool, ltb-true}
 use Rattle.std.proofs.lemmas.List.{get_or_default, length-map, length-take}
 use Rattle.std.proofs.lemmas.List.FromFn.{get_or-map-range_with_len, get_or-range_with_len, length-range_with_len}
-use Rattle.fg_auto.specs.Code.Spans.{AreWithin, is_by, joined, moved, needs_at, no_span, no_use, span_at, span_of, spans_of, steps, use_at}
+use Rattle.fg_auto.specs.Code.Spans.{AreWithin, is_by, joined, moved, needs_at, no_span, span_at, span_of, spans_of, steps, use_at}
 use Rattle.fg_auto.specs.Code.Sweep.{GoesForward}
 use Rattle.fg_auto.specs.Code.Work.{owners, queue_by}
 use Rattle.fg_auto.specs.Cost.{IsCost, IsFrameCost, IsPath, command_cost, costs}
@@ -21,6 +21,7 @@ use Rattle.fg_groups.specs.Commands.{commands}
 use Rattle.fg_groups.specs.Groups.{grouping, runs, sharings_in}
 use Rattle.fg_groups.specs.Laws.{Before, flat}
 use Rattle.fg_groups.specs.Needs.{leads, needs, queue_of}
+use Rattle.fg_groups.specs.Uses.{no_use}
 use Rattle.fg_groups.specs.declared.command.Command.{Command}
 use Rattle.fg_groups.specs.declared.grouping.Grouping.{Grouping}
 use Rattle.fg_groups.specs.declared.unit_use.Use.{Use}

@@ -13,7 +13,6 @@ use Rattle.fg_auto.specs.Queues.{on_queues}
 use Rattle.fg_auto.specs.declared.spans.Span.{Span}
 use Rattle.fg_auto.specs.declared.work.Work.{Work}
 use Rattle.fg_auto.proofs.Steps.{costs_length, frame_cost, goes_forward, sorted, spans_within}
-use Rattle.fg_bits.specs.declared.sharing.Sharing.{Sharing}
 use Rattle.fg_frame.specs.Numbered.{NumberedFrame}
 use Rattle.fg_groups.specs.Groups.{grouping, sharings_in}
 use Rattle.fg_groups.specs.Laws.{flat}
@@ -72,10 +71,10 @@ module _ (frame : NumberedFrame) (work : Work) (qs : List ℕ) (W : IsWork frame
         (subst (λ Q. IsCost (steps Q work.uses spans) (costs (grouping frame work.kept)) cost) queues_are
         (subst (λ list. IsCost (steps queues work.uses spans) list cost) W.gathered.costs_are C))))
 
-pub work_is : (frame : NumberedFrame) (kept : List Bool) (owned : List (Option ℕ)) (shared : List Sharing) (G : Grouping) (work : Work) → AreKept frame kept → owned ≡ owners frame kept → shared ≡ sharings_in frame → G ≡ grouping frame kept → IsOf kept owned shared G work → IsWork frame work
-work_is frame kept owned shared G work K o s g O = record {
+pub work_is : (frame : NumberedFrame) (kept : List Bool) (owned : List (Option ℕ)) (G : Grouping) (work : Work) → AreKept frame kept → owned ≡ owners frame kept → G ≡ grouping frame kept → IsOf kept owned G work → IsWork frame work
+work_is frame kept owned G work K o g O = record {
   are_kept = subst (AreKept frame) (sym O.kept_is) K;
-  gathered = subst (λ k. IsOf k (owners frame k) (sharings_in frame) (grouping frame k) work) (sym O.kept_is) (subst (λ H. IsOf kept (owners frame kept) (sharings_in frame) H work) g (subst (λ ss. IsOf kept (owners frame kept) ss G work) s (subst (λ os. IsOf kept os shared G work) o O)));
+  gathered = subst (λ k. IsOf k (owners frame k) (grouping frame k) work) (sym O.kept_is) (subst (λ H. IsOf kept (owners frame kept) H work) g (subst (λ os. IsOf kept os G work) o O));
 }
 
 pub all_within : (J : Use → Use → Bool) (uses : List Use) (j : ℕ) (spans : List Span) → j ≤ length uses → length uses ≤ j → spans ≡ map (span_of J uses) (range_with_len 0 j) → AreWithin uses spans

@@ -8,7 +8,7 @@ use Rattle.std.proofs.lemmas.Bool.{cases_lt}
 use Rattle.std.proofs.lemmas.Option.{slice_get-get_or}
 use Rattle.fg_auto.specs.Code.Work.{export_owner, kept_owner, kept_owners, places}
 use Rattle.fg_auto.specs.Cost.{command_cost, costs}
-use Rattle.fg_auto.specs.Code.Spans.{next_span, no_use, span_before, span_of, spans_of, use_at}
+use Rattle.fg_auto.specs.Code.Spans.{next_span, span_before, span_of, spans_of, use_at}
 use Rattle.fg_auto.specs.Queues.{serves}
 use Rattle.fg_auto.specs.Renamed.{passes_on, queue_name}
 use Rattle.fg_auto.specs.declared.spans.Span.{Span}
@@ -26,6 +26,7 @@ use Rattle.fg_frame.specs.declared.frame.QueueDecl.{QueueDecl}
 use Rattle.fg_frame.specs.declared.numbered.NumberedPass.{NumberedPass}
 use Rattle.fg_groups.proofs.Lists.{filter_range_more}
 use Rattle.fg_groups.specs.Laws.{IsKnown, IsSmall, flat}
+use Rattle.fg_groups.specs.Uses.{no_use}
 use Rattle.fg_groups.specs.declared.command.Command.{Command}
 use Rattle.fg_groups.specs.declared.grouping.Grouping.{Grouping}
 use Rattle.fg_groups.specs.declared.unit_use.Use.{Use}

@@ -4,7 +4,7 @@ ghost use Rattle.std.specs.Prelude.{◌≡◌, ◌<◌, ◌++◌, Some, length, 
 ghost use Rattle.std.specs.List.{All};
 ghost use Rattle.fg_auto.specs.Code.Work.{export_owner, kept_owner, kept_owners, owners, queue_by};
 ghost use Rattle.fg_frame.specs.Numbered.{numbered};
-ghost use Rattle.fg_versions.specs.Versions.{latest_maker, numbers_of, pass_at, row_of};
+ghost use Rattle.fg_versions.specs.Versions.{numbers_of, pass_at};
 
 use fg_base::{List, NoMemory};
 use fg_frame::GoodFrame;
@@ -52,17 +52,6 @@ fn kept_owners(alloc: Global, frame: &GoodFrame, kept: &Kept) -> Result<List<Opt
     Ok(list)
 }
 
-// The pass that makes the last of a unit's versions.
-fn last_writer(versions: &Versions, unit: u32) -> Option<u32>
-    requires { unit < length versions.now.makers }
-    ensures { result ≡ latest_maker (row_of versions.now.makers unit) }
-{
-    match versions.last(unit) {
-        Some(version) => versions.writer(unit, version),
-        None => None,
-    }
-}
-
 // The pass whose queue the copy of a unit is on.
 #[tactic(auto, using(crate::proofs::Walking::writer_is))]
 fn export_owner(frame: &GoodFrame, versions: &Versions, unit: u32) -> Option<u32>
@@ -70,7 +59,7 @@ fn export_owner(frame: &GoodFrame, versions: &Versions, unit: u32) -> Option<u32
     requires unit { unit < length (numbered frame.now).units }
     ensures { result ≡ export_owner (numbered frame.now) unit }
 {
-    last_writer(versions, unit)
+    versions.last_writer(unit)
 }
 
 fn push_exports(

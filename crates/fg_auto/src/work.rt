@@ -8,7 +8,6 @@ ghost use Rattle.fg_auto.specs.Cost.{command_cost, costs};
 ghost use Rattle.fg_base.specs.Operands.{destination_of, operands_of};
 ghost use Rattle.fg_base.specs.Shapes.{bytes_of, shape_at};
 ghost use Rattle.fg_frame.specs.Numbered.{numbered};
-ghost use Rattle.fg_groups.specs.Groups.{sharings_in};
 ghost use Rattle.fg_groups.specs.Laws.{flat};
 
 use crate::owners::owners;
@@ -117,10 +116,9 @@ fn of_groups(
     alloc: Global,
     kept: Kept,
     owners: List<Option<u32>>,
-    sharings: List<Sharing>,
     groups: &Groups,
 ) -> Result<Work, NoMemory>
-    ensures { IfOk result (IsOf kept owners sharings groups.now) }
+    ensures { IfOk result (IsOf kept owners groups.now) }
 {
     let costs = costs(alloc, groups)?;
     let uses = all_uses(alloc, groups)?;
@@ -132,19 +130,8 @@ fn of_groups(
         uses,
         places,
         families: List::from_slice(alloc, groups.families())?,
-        sharings,
+        sharings: List::from_slice(alloc, groups.sharings())?,
     })
-}
-
-// How each unit is shared.
-fn sharings(alloc: Global, frame: &GoodFrame) -> Result<List<Sharing>, NoMemory>
-    ensures { IfOk result (λ sharings. sharings ≡ sharings_in (numbered frame.now)) }
-{
-    let mut sharings = List::new(alloc);
-    for unit in 0..frame.unit_count() {
-        sharings.push(frame.sharing(unit))?;
-    }
-    Ok(sharings)
 }
 
 /// What the cost of a frame asks of its commands.
@@ -156,6 +143,5 @@ pub(crate) fn work_of(alloc: Global, frame: &GoodFrame) -> Result<Work, NoMemory
     let kept = cull(alloc, frame, &versions)?;
     let groups = groups_of(alloc, frame, &versions, &kept)?;
     let owners = owners(alloc, frame, &versions, &kept)?;
-    let sharings = sharings(alloc, frame)?;
-    of_groups(alloc, kept, owners, sharings, &groups)
+    of_groups(alloc, kept, owners, &groups)
 }

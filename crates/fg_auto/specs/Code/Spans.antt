@@ -1,15 +1,12 @@
 -- For each use of a unit the group before its own, as a span of uses that stand by unit and then by command.
-use Rattle.std.specs.Prelude.{ℕ, zero, suc, List, ◌≤◌, ◌==◌, ◌&&◌, ◌||◌, nat_lt, map, length, slice_index_or, Bool, None, if◌then◌else◌}
+use Rattle.std.specs.Prelude.{ℕ, zero, suc, List, ◌≤◌, ◌==◌, ◌&&◌, ◌||◌, nat_lt, map, length, slice_index_or, Bool, if◌then◌else◌}
 use Rattle.std.specs.List.{All, list_any, range_with_len, slice_range}
 use Rattle.fg_auto.specs.declared.spans.Span.{Span}
 use Rattle.fg_base.specs.declared.shape.Family.{Family}
 use Rattle.fg_bits.specs.declared.sharing.Sharing.{Sharing}
 use Rattle.fg_groups.specs.Groups.{joins}
+use Rattle.fg_groups.specs.Uses.{no_use}
 use Rattle.fg_groups.specs.declared.unit_use.Use.{Use}
-
--- no use of a frame: what is looked up where there is nothing
-abbrev pub no_use : Use
-no_use = record { command = 0; operand = 0; queue = 0; unit = 0; stage = record { 0 = 0 }; accesses = record { 0 = 0 }; writes = record { 0 = 0 }; layout = None }
 
 abbrev pub use_at : List Use → ℕ → Use
 use_at uses j = slice_index_or uses j no_use

@@ -6,10 +6,9 @@ use Rattle.fg_auto.specs.Cost.{costs}
 use Rattle.fg_auto.specs.Code.Spans.{use_at}
 use Rattle.fg_auto.specs.Code.Sweep.{most_cost}
 use Rattle.fg_auto.specs.declared.work.Work.{Work}
-use Rattle.fg_bits.specs.declared.sharing.Sharing.{Sharing}
 use Rattle.fg_frame.specs.Numbered.{NumberedFrame}
 use Rattle.fg_frame.specs.declared.numbered.NumberedPass.{NumberedPass}
-use Rattle.fg_groups.specs.Groups.{grouping, sharings_in}
+use Rattle.fg_groups.specs.Groups.{grouping}
 use Rattle.fg_groups.specs.Laws.{flat}
 use Rattle.fg_groups.specs.declared.command.Command.{Command}
 use Rattle.fg_groups.specs.declared.grouping.Grouping.{Grouping}
@@ -53,7 +52,7 @@ abbrev pub places : List Use → ℕ → List ℕ
 places uses d = filter (λ j. (use_at uses j).command == d) (range_with_len 0 (length uses))
 
 -- what is gathered from these
-pub record IsOf (kept : List Bool) (owned : List (Option ℕ)) (shared : List Sharing) (G : Grouping) (work : Work) : Type 0 where
+pub record IsOf (kept : List Bool) (owned : List (Option ℕ)) (G : Grouping) (work : Work) : Type 0 where
   pub kept_is : work.kept ≡ kept
   pub owners_are : work.owners ≡ owned
   pub costs_are : work.costs ≡ costs G
@@ -62,8 +61,8 @@ pub record IsOf (kept : List Bool) (owned : List (Option ℕ)) (shared : List Sh
   pub uses_are : work.uses ≡ flat G.groups
   pub places_are : work.places ≡ map (places work.uses) (range_with_len 0 (length work.costs))
   pub families_are : work.families ≡ G.families
-  pub sharings_are : work.sharings ≡ shared
+  pub sharings_are : work.sharings ≡ G.sharings
 
 pub record IsWork (frame : NumberedFrame) (work : Work) : Type 0 where
   pub are_kept : AreKept frame work.kept
-  pub gathered : IsOf work.kept (owners frame work.kept) (sharings_in frame) (grouping frame work.kept) work
+  pub gathered : IsOf work.kept (owners frame work.kept) (grouping frame work.kept) work
