@@ -1,13 +1,14 @@
 -- What stands at the steps of a list with marks, and which of it are commands.
-use Rattle.std.proofs.Common.{◌≡◌, ◌⊎◌, inl, inr, ℕ, ◌<◌, ◌≤◌, List, length, get_or, Option, Some, None, option_map, refl, sym, ap, ap₂, ◌∙◌, arith}
+use Rattle.std.proofs.Common.{◌≡◌, ℕ, List, Option, Some, None, option_map, refl, sym, ap, ap₂, ◌∙◌}
 use Rattle.std.specs.Prelude.{slice_get, option_and_then}
-use Rattle.std.proofs.lemmas.Option.{slice_get-map, slice_get_cases}
+use Rattle.std.proofs.lemmas.Option.{slice_get-map}
 use Rattle.fg_base.specs.declared.op.Op.{Op}
 use Rattle.fg_checker.specs.Apart.{op_of}
 use Rattle.fg_declared.proofs.Listed.{nothing}
 use Rattle.fg_declared.proofs.Quiet.{turn_quiet}
 use Rattle.fg_groups.specs.declared.command.Command as commands
 use Rattle.fg_groups.specs.declared.grouping.Grouping.{Grouping}
+use Rattle.fg_recorder.proofs.Entries.{entry_there}
 use Rattle.fg_recorder.specs.Marks.{unmarked, steps_of}
 use Rattle.fg_recorder.specs.Script.{script}
 use Rattle.fg_recorder.specs.Standing.{step, IsRecorded, IsKnown, by_mark, by_alias, by_copy, IsStanding, StandsAt}
@@ -18,13 +19,6 @@ use Rattle.fg_recorder.specs.declared.mark.Marked.TheVariants.{Does, Needs}
 use Rattle.fg_subs.specs.declared.program.Item as subs
 use Rattle.fg_timeline.specs.declared.step.Step.TheVariants as steps
 use Rattle.fg_turns.specs.Under.{Heap}
-
-there_at : {X : Type 0} (xs : List X) (i : ℕ) → i < length xs → (x : X) × (slice_get xs i ≡ Some x)
-there_at {X} xs i lt = go (slice_get_cases xs i).1
-  where
-    go : ((x : X) × (i < length xs) × (slice_get xs i ≡ Some x) × (get_or xs i x ≡ x)) ⊎ ((length xs ≤ i) × (slice_get xs i ≡ None)) → (x : X) × (slice_get xs i ≡ Some x)
-    go (inl h) = (h.0, h.2)
-    go (inr h) = let past = h.0 in absurd (omega (arith, lt, past))
 
 -- STEPS
 
@@ -75,7 +69,7 @@ module _ (G : Grouping) (heap : Heap) (S : IsStanding G heap) where
 
   marked : (i q : ℕ) (of : Option Mark) (item : subs.Item) (op : Op ℕ) → StandsAt G heap i (Does q of item) → op_of item ≡ Some op → (mark : Mark) → IsRecorded G heap mark → i ≡ step G heap mark → IsCommand G heap i q
   marked i q of item op at does (Command c) known is =
-      let C = there_at G.commands c known in
+      let C = entry_there G.commands c known in
       record {
         number = c;
         command = C.0;
