@@ -10,11 +10,10 @@ effect; one that has no such word is left out), the summary of that frame as it 
 barriers alone; fills of one buffer with a full barrier between each two; one fill and its many readers; fills of many
 buffers that share memory. Then each operation: a frame applies it again and again to images of 1920 by 1080 texels and
 exports one texel, so that little is printed; a frame without it is timed too, and its time is taken off. Each is timed by `meaning`,
-which takes the plain way, and by `run` with one worker, whose device computes by lanes and bands; and what it takes in `run` of
-ours is put beside what it takes in `meaning` of the other program, which has one thread. For each case one line: the least
-processor time in both programs in milliseconds, of the command or of one operation, their ratio, the ratio of the least times by
-the clock, and that of the most memory that the programs took. (The least of many runs is what the programs take by themselves; a
-median moves with whatever else the machine does.) The texts of both have to be the same.
+which takes the plain way, and by `run` with one worker, whose device computes by lanes and bands. For each case one
+line: the least processor time in both programs in milliseconds, of the command or of one operation, their ratio, the ratio
+of the least times by the clock, and that of the most memory that the programs took. (The least of many runs is what the
+programs take by themselves; a median moves with whatever else the machine does.) The texts of both have to be the same.
 """
 
 import argparse
@@ -227,18 +226,12 @@ def commands(folder, other):
 
 
 def operations(folder):
-    """Name, and the files of a frame without the operation and of one that has it many times."""
+    """Name, words, and the files of a frame without the operation and of one that has it many times."""
     for name, texel, op, out, final in cases():
         idle = written(folder, "idle.json", frame(texel, [], [out], final))
         busy = written(folder, "busy.json", frame(texel, [op] * TIMES, [out], final))
-        yield name, idle, busy
-
-
-def once_each(programs, words, runs, idle_path, busy_path):
-    """Of each program what one operation takes, and its most memory."""
-    idle, _ = measured(programs, words, runs, idle_path)
-    busy, most = measured(programs, words, runs, busy_path)
-    return [[max(b - i, 0.001) / TIMES for b, i in zip(*times)] for times in zip(busy, idle)], most
+        yield name, ["meaning"], idle, busy
+        yield f"{name}, run", ONE, idle, busy
 
 
 def built():
@@ -266,13 +259,12 @@ def main():
             if wanted(name):
                 (own, other), most = measured(programs, words, options.runs, path)
                 row(name, own, other, most)
-        for name, idle, busy in operations(folder):
+        for name, words, idle_path, busy_path in operations(folder):
             if wanted(name):
-                (own, other), most = once_each(programs, ["meaning"], options.runs, idle, busy)
+                idle, _ = measured(programs, words, options.runs, idle_path)
+                busy, most = measured(programs, words, options.runs, busy_path)
+                own, other = [[max(b - i, 0.001) / TIMES for b, i in zip(*times)] for times in zip(busy, idle)]
                 row(name, own, other, most)
-                (own, beside), most_run = once_each(programs, ONE, options.runs, idle, busy)
-                row(f"{name}, run", own, beside, most_run)
-                row(f"{name}, run by meaning", own, other, [most_run[0], most[1]])
 
 
 if __name__ == "__main__":
