@@ -1,8 +1,7 @@
 -- What a command answers to a file.
-use Rattle.std.proofs.Common.{◌≡◌, ◌<◌, ◌≤◌, ℕ, Bool, List, [], ◌∷◌, ◌++◌, length, Some, None, is_some, Ok, Err, refl, sym, ap, subst, ◌∙◌, arith}
+use Rattle.std.proofs.Common.{◌≡◌, ◌<◌, ◌≤◌, ℕ, Bool, List, [], ◌∷◌, ◌++◌, length, Some, None, is_some, Ok, refl, sym, ap, subst, ◌∙◌, arith}
 use Rattle.std.proofs.lemmas.Bool.{false≢true}
 use Rattle.std.proofs.lemmas.Option.{same_Some}
-use Rattle.std.specs.Prelude.{IfOk, Result}
 use Rattle.std.specs.declared.option.Option.{Option}
 use Rattle.fg_answer.proofs.LineEnd.{again_line}
 use Rattle.fg_answer.specs.Answers.{MigratesFrame, CompilesFrame}
@@ -42,10 +41,6 @@ compiled tight frame kept places program text whole is written again ended = rec
   whole = ap done (ended ∙ ap (λ (t : List ℕ). t ++ 10 ∷ []) written);
   again = ap program_file ended ∙ read_again program text (again is.right.faultless) is.right.faultless;
 }
-
-pub if_ok : {X E : Type 0} {P Q : X → Type 0} (r : Result X E) → ((x : X) → P x → Q x) → IfOk r P → IfOk r Q
-if_ok (Ok x) f p = f x p
-if_ok (Err e) f p = tt
 
 -- BY THE LIMIT
 

@@ -1,8 +1,6 @@
 -- Bounds of a frame.
-use Rattle.std.proofs.Common.{◌≡◌, ◌<◌, ℕ, List, Bool, length, ap, subst, ◌∙◌}
+use Rattle.std.proofs.Common.{◌<◌, ℕ, List, Bool, length, ap, subst, ◌∙◌}
 use Rattle.std.specs.List.{All}
-use Rattle.std.proofs.lemmas.List.{length-map}
-use Rattle.fg_base.specs.Shapes.{shape_at, bytes_of}
 use Rattle.fg_bound.specs.Bounds.{Holds, IsBound, IsShown}
 use Rattle.fg_bound.specs.declared.bound.Bound.{Bound as Certified}
 use Rattle.fg_frame.specs.Numbered.{numbered}
@@ -12,17 +10,15 @@ use Rattle.fg_groups.specs.Placed.{placed, sizes}
 use Rattle.fg_groups.specs.declared.grouping.Grouping.{Grouping}
 use Rattle.fg_lifetimes.specs.Ordered.{IsOrdered}
 use Rattle.fg_place.specs.Placing.{IsLeast}
+use Rattle.fg_report.proofs.Places.{as_many}
 use Rattle.fg_report.specs.BoundLines.{bound_text}
 use Rattle.fg_answer.specs.Answers.{BoundsFrame}
 use Rattle.fg_answer.specs.Code.Stages.{AreBoundLines, AreGrouped, IsHeap}
 use Rattle.fg_answer.specs.Plain.{done}
 
-pub sizes_count : (G : Grouping) → length (sizes G) ≡ length (placed G)
-sizes_count G = length-map (placed G) (λ unit. bytes_of (shape_at G.shapes unit))
-
 -- the certificate names placed units
 pub chosen_placed : (G : Grouping) (ordered : ℕ → ℕ → Bool) (bound : Certified) → IsShown (sizes G) ordered bound → All (λ k. k < length (placed G)) bound.chosen
-chosen_placed G ordered bound shown = subst (λ n. All (λ k. k < n) bound.chosen) (sizes_count G) shown.within
+chosen_placed G ordered bound shown = subst (λ n. All (λ k. k < n) bound.chosen) (as_many G) shown.within
 
 -- the lines of a bound are what the command answers
 pub bounded_frame : (frame : Frame) (G : Grouping) (ordered : ℕ → ℕ → Bool) (heap : ℕ) (text : List ℕ) → AreGrouped (numbered frame) G → IsOrdered G ordered → IsHeap G ordered heap → AreBoundLines frame G ordered heap text → BoundsFrame frame (done text)

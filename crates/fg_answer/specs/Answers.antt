@@ -1,7 +1,7 @@
 -- What a command that needs no device answers to the bytes of a file.
 use Rattle.std.specs.Prelude.{◌≡◌, ◌⊎◌, ◌↔◌, ℕ, ◌≤◌, Bool, true, false, List, [], ◌++◌, length, None, Result, Ok, Err, codes}
 use Rattle.fg_stages.specs.Compiles.{Compiles}
-use Rattle.fg_stages.specs.Exports.{AreMeant, exports_text}
+use Rattle.fg_stages.specs.Exports.{exports_text}
 use Rattle.fg_stages.specs.Files.{frame_file, program_file}
 use Rattle.fg_answer.specs.Inputs.{ByLimit}
 use Rattle.fg_answer.specs.Plain.{Rejects, done, refusal, program_refusal}
@@ -24,7 +24,7 @@ use Rattle.fg_gen.specs.Generated.{generated}
 use Rattle.fg_groups.specs.Groups.{grouping}
 use Rattle.fg_groups.specs.Placed.{sizes}
 use Rattle.fg_lifetimes.specs.Ordered.{IsOrdered}
-use Rattle.fg_meaning.specs.Meaning.{meaning}
+use Rattle.fg_meaning.specs.Meaning.{AreMeant, meaning}
 use Rattle.fg_place.specs.Placing.{Places, IsLeast}
 use Rattle.fg_report.specs.BoundLines.{bound_text}
 use Rattle.fg_report.specs.CostLines.{cost_text}

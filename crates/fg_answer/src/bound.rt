@@ -44,7 +44,7 @@ fn bound_lines(
     bound_text(alloc, good, groups, bound.least, heap, &bound.chosen)
 }
 
-#[tactic(auto, using(crate::proofs::BoundLemmas::sizes_count))]
+#[tactic(auto, using(fg_report::proofs::Places::as_many))]
 fn bound_answer(alloc: Global, good: &GoodFrame, groups: &Groups) -> Result<Answer, NoMemory>
     requires { AreGrouped (numbered good.now) groups.now }
     ensures frame { IfOk result (BoundsFrame good.now) }

@@ -15,7 +15,7 @@ use Rattle.fg_base.specs.declared.limit.Limit.TheVariants as limits
 use Rattle.fg_frame.proofs.Exports.{position_here, position_past}
 use Rattle.fg_frame.proofs.Lookups.{found_as}
 use Rattle.fg_frame.proofs.Small.{limits_none, names_known, repeated_none, unknown_none}
-use Rattle.fg_frame.proofs.Sufficient.{no_fault}
+use Rattle.fg_frame.proofs.Sufficient.{no_fault, both_none}
 use Rattle.fg_frame.specs.Clashes.{first_clash}
 use Rattle.fg_frame.specs.FirstFault.{first_fault, name_broken}
 use Rattle.fg_frame.specs.Good.{IsGood}
@@ -65,9 +65,6 @@ same_repeats all (name ∷ names) (pass ∷ passes) p = ap (option_or (repeats_i
 
 -- QUEUES ARE THERE
 
-both : {X : Type 0} (a b : Option X) → a ≡ None → b ≡ None → option_or a b ≡ None
-both a b e f = ap (λ o. option_or o b) e ∙ f
-
 module _ (frame : Frame) (all : List Pass) where
   abbrev n : Numbering
   n = numbering frame
@@ -80,13 +77,13 @@ module _ (frame : Frame) (all : List Pass) where
 
   same_known : (names : List (List ℕ)) (passes : List Pass) (p : ℕ) → AllByRecursion (λ name. has_queue frame name ≡ true) names → first_in (unknown_in frame n) p passes ≡ None → first_in (unknown_in other n) p (passes_on names passes) ≡ None
   same_known [] [] p there none = refl
-  same_known [] (pass ∷ passes) p there none = both (unknown_in other n p pass) (first_in (unknown_in other n) (suc p) passes) (or_first (unknown_in frame n p pass) (first_in (unknown_in frame n) (suc p) passes) none) (same_known [] passes (suc p) tt (or_second (unknown_in frame n p pass) (first_in (unknown_in frame n) (suc p) passes) none))
+  same_known [] (pass ∷ passes) p there none = both_none (unknown_in other n p pass) (first_in (unknown_in other n) (suc p) passes) (or_first (unknown_in frame n p pass) (first_in (unknown_in frame n) (suc p) passes) none) (same_known [] passes (suc p) tt (or_second (unknown_in frame n p pass) (first_in (unknown_in frame n) (suc p) passes) none))
   same_known (name ∷ names) [] p there none = refl
   same_known (name ∷ names) (pass ∷ passes) p there none =
       let here = or_first (unknown_in frame n p pass) (first_in (unknown_in frame n) (suc p) passes) none in
       let in_queue = if has_queue frame pass.queue then None else Some (at.PassQueue p) in
-      both (unknown_in other n p (record pass { queue = name })) (first_in (unknown_in other n) (suc p) (passes_on names passes))
-      (both (if has_queue frame name then None else Some (at.PassQueue p)) (rest_unknown p pass) (ap (λ b. if b then None else Some (at.PassQueue p)) there.0) (or_second in_queue (rest_unknown p pass) here))
+      both_none (unknown_in other n p (record pass { queue = name })) (first_in (unknown_in other n) (suc p) (passes_on names passes))
+      (both_none (if has_queue frame name then None else Some (at.PassQueue p)) (rest_unknown p pass) (ap (λ b. if b then None else Some (at.PassQueue p)) there.0) (or_second in_queue (rest_unknown p pass) here))
       (same_known names passes (suc p) there.1 (or_second (unknown_in frame n p pass) (first_in (unknown_in frame n) (suc p) passes) none))
 
 -- a queue is found by its name
@@ -142,13 +139,13 @@ module _ (frame : Frame) (named : name_broken frame ≡ None) where
     still_known =
         let exports = option_map (λ i. at.Export i) (position (λ spot. not (is_known (numbering frame) spot)) frame.exports) in
         let old = first_in (unknown_in frame (numbering frame)) 0 frame.passes in
-        both (first_in (unknown_in (frame_on qs frame) (numbering frame)) 0 others) exports (same_known frame others names frame.passes 0 (all_there qs below) (or_first old exports (unknown_none frame named))) (or_second old exports (unknown_none frame named))
+        both_none (first_in (unknown_in (frame_on qs frame) (numbering frame)) 0 others) exports (same_known frame others names frame.passes 0 (all_there qs below) (or_first old exports (unknown_none frame named))) (or_second old exports (unknown_none frame named))
 
     still_named : name_broken (frame_on qs frame) ≡ None
     still_named =
-        both (limit_broken (frame_on qs frame)) (option_or (option_map (of_rule rules.Repeated) (repeated (frame_on qs frame))) (option_map (of_rule rules.Unknown) (unknown (frame_on qs frame))))
+        both_none (limit_broken (frame_on qs frame)) (option_or (option_map (of_rule rules.Repeated) (repeated (frame_on qs frame))) (option_map (of_rule rules.Unknown) (unknown (frame_on qs frame))))
         (same_limits ∙ limits_none frame named)
-        (both (option_map (of_rule rules.Repeated) (repeated (frame_on qs frame))) (option_map (of_rule rules.Unknown) (unknown (frame_on qs frame))) (ap (option_map (of_rule rules.Repeated)) (same_repeated ∙ repeated_none frame named)) (ap (option_map (of_rule rules.Unknown)) still_known))
+        (both_none (option_map (of_rule rules.Repeated) (repeated (frame_on qs frame))) (option_map (of_rule rules.Unknown) (unknown (frame_on qs frame))) (ap (option_map (of_rule rules.Repeated)) (same_repeated ∙ repeated_none frame named)) (ap (option_map (of_rule rules.Unknown)) still_known))
 
   same_numbers : (qs : List ℕ) → AreQueues frame qs → (all passes : List Pass) → map (numbered_pass (record frame { passes = all }) (numbering frame)) (passes_on (map (queue_name frame) qs) passes) ≡ requeued qs (map (numbered_pass frame (numbering frame)) passes)
   same_numbers [] below all [] = refl

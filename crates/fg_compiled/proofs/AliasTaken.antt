@@ -4,7 +4,7 @@ use Rattle.std.specs.List.{Contains, range_with_len}
 use Rattle.std.proofs.lemmas.Bool.{cases_lt, cases_order, false≢true}
 use Rattle.fg_bits.specs.declared.masks.Masks.{Masks}
 use Rattle.fg_compiled.proofs.Barriers.{IsBarrierOf, IsTaken}
-use Rattle.fg_compiled.proofs.Contained.{contains_filter, contains_number}
+use Rattle.fg_compiled.proofs.Contained.{contains_filter, contains_number, contains_part}
 use Rattle.fg_compiled.proofs.Grouped.{Over, over_parts}
 use Rattle.fg_compiled.proofs.Groups.{goes, is_own, of_unit, units_rise}
 use Rattle.fg_compiled.proofs.Items.{barrier_stands, item_stands}
@@ -13,7 +13,6 @@ use Rattle.fg_compiled.proofs.Members.{done}
 use Rattle.fg_compiled.proofs.Served.{before_bytes, own_piece, takes_by}
 use Rattle.fg_compiled.proofs.Setting.{IsSet}
 use Rattle.fg_compiled.proofs.SpotFacts.{IsMemberOf, of_group, of_copy, member_cases}
-use Rattle.fg_compiled.proofs.Touches.{contains_flat}
 use Rattle.fg_compiled.proofs.Unions.{barrier_takes}
 use Rattle.fg_compiled.proofs.Spots.{turn_stands}
 use Rattle.fg_compiled.specs.Nodes.{alias_node, alias_step, item_at, nodes_of, steps_before, turn_node, turn_queue}
@@ -77,7 +76,7 @@ module _ (G : Grouping) (L : IsGrouped G) where
       let a : ℕ = place_of G (unit_of G g) in
       let among : Contains (under G heap b) a = contains_filter (is_under G heap b) (range_with_len 0 (length (placed G))) a (contains_number (length (placed G)) a O.lower_placed) O.under in
       let last : last_uses G (unit_at G a) ≡ group_at G g = ap (last_uses G) (placed_unit G (unit_of G g) O.lower_placed) ∙ last_is g (length G.groups) O.lower (omega arith) O.lower_last in
-      contains_flat (λ x. last_uses G (unit_at G x)) (under G heap b) a u among (subst (λ uses. Contains uses u) (sym last) there)
+      contains_part (λ x. last_uses G (unit_at G x)) (under G heap b) a u among (subst (λ uses. Contains uses u) (sym last) there)
 
 module _ (G : Grouping) (heap : Heap) (P : Program) (S : IsSet G heap P) where
   abbrev F : Plan

@@ -7,8 +7,8 @@ use Rattle.fg_base.proofs.Booleans.{clash}
 use Rattle.fg_bits.specs.Accesses.{accesses, access_part, expand_accesses}
 use Rattle.fg_bits.specs.Agents.{Agent, agent_table, agents_from, agents}
 use Rattle.fg_bits.specs.Sets.{has, meets}
-use Rattle.fg_bits.specs.Stages.{stages, stage_part, expand}
-use Rattle.fg_valid.proofs.Bits.{Inside, inside_self, none_inside, inside_both, empty_inside, over_more}
+use Rattle.fg_bits.specs.Stages.{expand}
+use Rattle.fg_valid.proofs.Bits.{Inside, inside_self, none_inside, inside_both, empty_inside, over_more, expand_more}
 
 inside_common : (a b c d : ℕ) → Inside a b → Inside c d → Inside (bit_and a c) (bit_and b d)
 inside_common a b c d h k i = omega (arith, h i, k i, bit_at_and a c i, bit_at_and b d i)
@@ -36,9 +36,6 @@ part_more a b bit adds h = go (has a bit) refl
     go : (t : Bool) → has a bit ≡ t → Inside (if t then adds else 0) (if has b bit then adds else 0)
     go false e = none_inside (if has b bit then adds else 0)
     go true e = subst (λ t. Inside adds (if t then adds else 0)) (sym (has_more a b bit h e)) (inside_self adds)
-
-pub expand_more : (a b : ℕ) → Inside a b → Inside (expand a) (expand b)
-expand_more a b h = over_more (stage_part a) (stage_part b) stages (λ stage. part_more a b stage.bit stage.stands_for h)
 
 expand_accesses_more : (a b : ℕ) → Inside a b → Inside (expand_accesses a) (expand_accesses b)
 expand_accesses_more a b h = over_more (access_part a) (access_part b) accesses (λ access. part_more a b access.bit access.stands_for h)

@@ -11,10 +11,6 @@ entry_cases (z ∷ xs) ys (suc i) x e = ⊎_elim
     (λ h. let le = h.0 in let same : suc i - suc (length xs) ≡ i - length xs = omega arith in inr (omega (arith, le), ap (slice_get ys) same ∙ h.1))
     (entry_cases xs ys i x e)
 
-pub entry_right : {X : Type 0} (xs ys : List X) (i : ℕ) → slice_get (xs ++ ys) (length xs + i) ≡ slice_get ys i
-entry_right [] ys i = let same : 0 + i ≡ i = omega arith in ap (slice_get ys) same
-entry_right (z ∷ xs) ys i = let same : suc (length xs) + i ≡ suc (length xs + i) = omega arith in ap (slice_get (z ∷ xs ++ ys)) same ∙ entry_right xs ys i
-
 pub entry_left : {X : Type 0} (xs ys : List X) (i : ℕ) → i < length xs → slice_get (xs ++ ys) i ≡ slice_get xs i
 entry_left [] ys i lt = absurd (omega (arith, lt))
 entry_left (x ∷ xs) ys zero lt = refl

@@ -10,7 +10,6 @@ use Rattle.std.proofs.lemmas.List.Folds.{list_any-append}
 use Rattle.fg_base.proofs.Lists.{one}
 use Rattle.fg_base.specs.Shapes.{is_image, shape_at}
 use Rattle.fg_base.specs.declared.role.Role.{Role}
-use Rattle.fg_base.specs.declared.role.Role.TheVariants.{CopyRead, CopyWrite, ClearWrite, Sampled, StorageRead, StorageWrite, Attachment}
 use Rattle.fg_base.specs.declared.shape.Shape.{Shape}
 use Rattle.fg_base.specs.declared.shape.Shape.TheVariants.{Buffer, Image}
 use Rattle.fg_bits.specs.Layouts.{is_undefined, layout_number}
@@ -35,6 +34,7 @@ use Rattle.fg_turns.specs.Turns.{first, last}
 use Rattle.fg_turns.specs.declared.turn.Turn.{Turn}
 use Rattle.fg_turns.specs.declared.turn.TurnKind.{TurnKind}
 use Rattle.fg_turns.specs.declared.turn.TurnKind.TheVariants as kinds
+use Rattle.fg_valid.proofs.Uses.{role-layout}
 use Rattle.fg_view.specs.AccessKinds.{sets_layout, wanted}
 use Rattle.fg_view.specs.Effects.{access, handover_of, item_effect, layout_change, same_layout, transition_through}
 use Rattle.fg_view.specs.declared.access.Access.{Access}
@@ -58,15 +58,6 @@ number_back TransferDst = refl
 one_layout : (a b : Layout) → (layout_number a == layout_number b) ≡ true → a ≡ b
 one_layout a b e = sym (number_back a) ∙ ap numbered (eqb-true (layout_number a) (layout_number b) e) ∙ number_back b
 
-role_known : (role : Role) → is_undefined (role_layout role) ≡ false
-role_known CopyRead = refl
-role_known CopyWrite = refl
-role_known ClearWrite = refl
-role_known Sampled = refl
-role_known StorageRead = refl
-role_known StorageWrite = refl
-role_known (Attachment load) = refl
-
 -- a layout for an image alone, and a known one
 pub record IsKnownFor (shape : Shape) (layout : Option Layout) : Type 0 where
   pub image : is_some layout ≡ is_image shape
@@ -77,7 +68,7 @@ for_role (Buffer size) role = record { image = refl; known = λ l e. absurd (non
   where
     none_some : (l : Layout) → None ≡ Some l → ⊥
     none_some l e = cc
-for_role (Image width height texel) role = record { image = refl; known = λ l e. ap is_undefined (sym (some_same (role_layout role) l e)) ∙ role_known role }
+for_role (Image width height texel) role = record { image = refl; known = λ l e. ap is_undefined (sym (some_same (role_layout role) l e)) ∙ role-layout role }
   where
     some_same : (a b : Layout) → Some a ≡ Some b → a ≡ b
     some_same a b e = cc

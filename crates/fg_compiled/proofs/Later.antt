@@ -1,11 +1,11 @@
 -- What comes later goes on, and what holds what back on a queue.
 use Rattle.std.proofs.Common.{◌≡◌, inl, inr, ℕ, ◌==◌, ◌&&◌, ◌||◌, nat_lt, true, List, refl, sym, ◌∙◌, subst, eq-eqb, arith}
-use Rattle.std.proofs.lemmas.Bool.{and_from, false≢true, lt-ltb, or_left}
+use Rattle.std.proofs.lemmas.Bool.{and_from, lt-ltb, or_left}
 use Rattle.fg_bits.specs.Sets.{meets}
 use Rattle.fg_crossing.specs.Crossings.{Sooner, Crossed, Later, IsFull, wait_stages}
+use Rattle.fg_hb.proofs.Bridge.{wait_sync}
 use Rattle.fg_hb.specs.Edges.{edge, holds_back, is_at, is_signal, is_sync, is_wait, meeting, node_at, signalled}
 use Rattle.fg_hb.specs.Nodes.{program_nodes}
-use Rattle.fg_hb.specs.declared.kind.Kind.{Kind}
 use Rattle.fg_hb.specs.declared.kind.Kind.TheVariants as node_kinds
 use Rattle.fg_hb.specs.declared.node.Node.{Node}
 use Rattle.fg_reach.specs.Paths.{one, then_on}
@@ -29,13 +29,6 @@ module _ (nodes : List Node) where
       (and_from (nat_lt x y) (holds_back (node_at nodes x) (node_at nodes y)) (lt-ltb x y before.less)
       (and_from ((node_at nodes x).queue == (node_at nodes y).queue) ((is_sync (node_at nodes x).kind || is_sync (node_at nodes y).kind) && meets (node_at nodes x).dst_stages.0 (node_at nodes y).src_stages.0) (eq-eqb (node_at nodes x).queue (node_at nodes y).queue before.same)
       (and_from (is_sync (node_at nodes x).kind || is_sync (node_at nodes y).kind) (meets (node_at nodes x).dst_stages.0 (node_at nodes y).src_stages.0) (or_left (is_sync (node_at nodes x).kind) (is_sync (node_at nodes y).kind) sync) held)))
-
-wait_sync : (kind : Kind) → is_wait kind ≡ true → is_sync kind ≡ true
-wait_sync (node_kinds.Wait queue value) e = refl
-wait_sync node_kinds.Command e = absurd (false≢true e)
-wait_sync node_kinds.Barrier e = refl
-wait_sync (node_kinds.Signal value) e = refl
-wait_sync node_kinds.Host e = absurd (false≢true e)
 
 module _ (P : Program) (full : IsFull (view_of P)) where
   -- signals wait for the waits before them

@@ -9,10 +9,10 @@ use Rattle.fg_bits.specs.Roles.{role_stage, load_access, store_access}
 use Rattle.fg_bits.specs.Sets.{meets}
 use Rattle.fg_bits.specs.Stages.{expand}
 use Rattle.fg_bits.specs.declared.layout.Layout.{Layout}
-use Rattle.fg_compiled.proofs.Bits.{meets_more, expand_more, agents_more}
+use Rattle.fg_compiled.proofs.Bits.{meets_more, agents_more}
 use Rattle.fg_groups.specs.Uses.{is_write, role_accesses, role_writes}
 use Rattle.fg_groups.specs.declared.unit_use.Use.{Use}
-use Rattle.fg_valid.proofs.Bits.{Inside, empty_inside, inside_self, inside_then, inside_left, inside_right}
+use Rattle.fg_valid.proofs.Bits.{Inside, empty_inside, inside_self, inside_then, inside_left, inside_right, expand_more}
 use Rattle.fg_view.specs.AccessKinds.{changes}
 use Rattle.fg_view.specs.Effects.{role_agent}
 use Rattle.fg_view.specs.declared.access.AccessKind.{AccessKind}

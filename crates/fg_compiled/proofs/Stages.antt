@@ -41,6 +41,7 @@ use Rattle.fg_turns.specs.Under.{Heap, last_below, last_uses, place_of, under, u
 use Rattle.fg_turns.specs.Unions.{is_elsewhere, on, stages_on}
 use Rattle.fg_turns.specs.declared.turn.TurnKind.{TurnKind}
 use Rattle.fg_turns.specs.declared.turn.TurnKind.TheVariants.{Nothing, Barrier, Transfer}
+use Rattle.fg_valid.proofs.Turns.{some_from}
 
 -- SETS
 
@@ -135,10 +136,6 @@ pub record OpensBy (it : Item) : Type 0 where
 barrier_opens : (piece : ℕ) (layouts : Option Layouts) (masks : Masks) → HasRole masks.src_stages.0 → HasRole masks.dst_stages.0 → OpensBy (barrier piece layouts masks)
 barrier_opens piece (Some layouts) masks from to = record { masks = masks; is = refl; from = from; to = inl to }
 barrier_opens piece None masks from to = record { masks = masks; is = refl; from = from; to = inl to }
-
-some_from : (A : List Use) → has_uses A ≡ true → 0 < length A
-some_from [] e = absurd (false≢true e)
-some_from (u ∷ A) e = omega arith
 
 module _ (G : Grouping) (g : ℕ) (A L B : List Use) (stages-A : All HasStage A) (stages-L : All HasStage L) (stages-B : All HasStage B) (some-B : 0 < length B) where
   abbrev made : TurnKind → Item

@@ -1,8 +1,8 @@
 -- What is recorded, as items of queues at steps, and what comes later.
-use Rattle.std.proofs.Common.{◌≡◌, ⊎_elim, inl, ℕ, ◌<◌, ◌≤◌, true, false, List, length, Option, Some, None, refl, sym, ap, ◌∙◌, subst, eq-eqb, eqb-true, arith}
+use Rattle.std.proofs.Common.{◌≡◌, ⊎_elim, inl, ℕ, ◌<◌, ◌≤◌, true, false, List, length, Option, Some, None, refl, sym, ap, ◌∙◌, subst, eq-eqb, arith}
 use Rattle.std.specs.Option.{option_map, option_map_or}
 use Rattle.std.specs.Prelude.{slice_get}
-use Rattle.std.proofs.lemmas.Bool.{cases_order, false≢true}
+use Rattle.std.proofs.lemmas.Bool.{cases_order}
 use Rattle.std.proofs.lemmas.Option.{slice_get-map}
 use Rattle.fg_base.specs.Operands.{mapped}
 use Rattle.fg_compiled.specs.Nodes.{copied_step, item_at, steps}
@@ -22,7 +22,8 @@ use Rattle.fg_recorder.specs.declared.mark.Marked.TheVariants.{Does, Needs}
 use Rattle.fg_subs.specs.declared.program.Item.{Item}
 use Rattle.fg_subs.specs.declared.program.Item.TheVariants as item
 use Rattle.fg_subs.specs.declared.program.Program.{Program}
-use Rattle.fg_timeline.specs.Steps.{has_item, is_item, queue_at, queue_of as step_queue}
+use Rattle.fg_timeline.proofs.Latest.{item_queue}
+use Rattle.fg_timeline.specs.Steps.{has_item, is_item, queue_at}
 use Rattle.fg_timeline.specs.declared.step.Step.{Step}
 use Rattle.fg_timeline.specs.declared.step.Step.TheVariants as cases
 use Rattle.fg_turns.specs.Turns.{first}
@@ -36,14 +37,6 @@ ItemAt G heap q i it = slice_get (steps G heap) i ≡ Some (cases.Item q it)
 
 pub item_there : (list : List Step) (q i : ℕ) (it : Item) → slice_get list i ≡ Some (cases.Item q it) → has_item list q i ≡ true
 item_there list q i it e = ap (λ o. option_map_or (is_item q) o false) e ∙ eq-eqb q q refl
-
-pub item_queue : (list : List Step) (q i : ℕ) → has_item list q i ≡ true → queue_at list i ≡ q
-item_queue list q i h = go (slice_get list i) refl h
-  where
-    go : (o : Option Step) → slice_get list i ≡ o → option_map_or (is_item q) o false ≡ true → queue_at list i ≡ q
-    go None e t = absurd (false≢true t)
-    go (Some (cases.Need r j)) e t = absurd (false≢true t)
-    go (Some (cases.Item r it)) e t = ap (λ o. option_map_or step_queue o 0) e ∙ eqb-true r q t
 
 module _ (G : Grouping) (heap : Heap) where
   pub does_at : (i q : ℕ) (of : Option Mark) (it : Item) → StandsAt G heap i (Does q of it) → ItemAt G heap q i it

@@ -1,9 +1,9 @@
 -- What a command touches: each access is by a touch of an operand, all in one stage, and one unit is touched in one way.
-use Rattle.std.proofs.Common.{◌≡◌, ◌⊎◌, inl, inr, ⊎_elim, ℕ, ◌==◌, ◌++◌, zero, suc, Bool, false, List, [], ◌∷◌, map, get_or, Option, Some, None, refl, sym, ap, ap₂, ◌∙◌, subst, eq-eqb, arith}
+use Rattle.std.proofs.Common.{◌≡◌, ◌⊎◌, inl, inr, ⊎_elim, ℕ, ◌==◌, ◌++◌, zero, suc, Bool, false, List, [], ◌∷◌, map, get_or, Some, refl, sym, ap, ap₂, ◌∙◌, subst, eq-eqb, arith}
 use Rattle.std.specs.List.{All, Contains, flat_map}
 use Rattle.std.specs.Option.{option_map_or}
 use Rattle.std.proofs.lemmas.List.{map-append}
-use Rattle.std.proofs.lemmas.List.Elements.{All-nil, All-append, All-map, All-contains, All-contains_itself, Contains-get_or, Contains-append_left, Contains-append_right, Contains-append_cases}
+use Rattle.std.proofs.lemmas.List.Elements.{All-append, All-map, All-contains, All-contains_itself, Contains-get_or, Contains-append_left, Contains-append_right, Contains-append_cases}
 use Rattle.std.proofs.lemmas.List.Folds.{flat_map-map, list_any_at}
 use Rattle.fg_base.proofs.Booleans.{clash}
 use Rattle.fg_base.proofs.Lists.{each_of, map_same, one}
@@ -22,6 +22,8 @@ use Rattle.fg_base.specs.declared.shape.Shape.TheVariants.{Buffer, Image}
 use Rattle.fg_base.specs.declared.touch.Touch.{Touch}
 use Rattle.fg_bits.specs.Accesses.{transfer_read, transfer_write, shader_sampled_read, shader_storage_read, shader_storage_write, color_attachment_write}
 use Rattle.fg_bits.specs.Roles.{role_stage, op_stage, load_access, store_access}
+use Rattle.fg_compiled.proofs.Contained.{contains_map, contains_part}
+use Rattle.fg_cut.proofs.Full.{if_some}
 use Rattle.fg_view.specs.Effects.{access, role_agent, layout_wanted, touch_load, touch_store, touch_accesses, command_accesses}
 use Rattle.fg_view.specs.declared.access.Access.{Access}
 use Rattle.fg_view.specs.declared.access.AccessKind.TheVariants.{Load, Store}
@@ -82,11 +84,6 @@ pub record IsTouch (touches : List Touch) (r : ℕ) : Type 0 where
   pub touch : Touch
   pub there : Contains touches touch
   pub what : touch.what ≡ r
-
-contains_map : {X Y : Type 0} (f : X → Y) (xs : List X) (x : X) → Contains xs x → Contains (map f xs) (f x)
-contains_map f [] x (k, lt, at) = absurd (omega (arith, lt))
-contains_map f (y ∷ xs) x (zero, lt, at) = (0, omega arith, ap f at)
-contains_map f (y ∷ xs) x (suc k, lt, at) = let rest = contains_map f xs x (k, omega (arith, lt), at) in let low = rest.1 in (suc rest.0, omega (arith, low), rest.2)
 
 pub operand_touch : (shapes : List Shape) (op : Op ℕ) (r : ℕ) → Contains (operands_of op) r → IsTouch (touches_of shapes op) r
 operand_touch shapes op r h = ⊎_elim
@@ -169,10 +166,6 @@ pub data IsOf (shapes : List Shape) (q : ℕ) (t : Touch) (a : Access) : Type 0 
   a_load : (bits : ℕ) → load_access t.role t.whole ≡ Some bits → a ≡ access t.what (Load (role_agent q t.role bits) (layout_wanted (shape_at shapes t.what) t.role)) → IsOf shapes q t a
   a_store : (bits : ℕ) → store_access t.role ≡ Some bits → a ≡ access t.what (Store (role_agent q t.role bits) (layout_wanted (shape_at shapes t.what) t.role)) → IsOf shapes q t a
 
-if_some : {X Y : Type 0} (P : Y → Type 0) (f : X → List Y) (o : Option X) → ((x : X) → o ≡ Some x → All P (f x)) → All P (option_map_or f o [])
-if_some P f None h = All-nil P
-if_some P f (Some x) h = h x refl
-
 touch_each : (shapes : List Shape) (q : ℕ) (t : Touch) → All (IsOf shapes q t) (touch_accesses shapes q t)
 touch_each shapes q t = All-append (IsOf shapes q t) (option_map_or (touch_load shapes q t) (load_access t.role t.whole) []) (option_map_or (touch_store shapes q t) (store_access t.role) [])
     (if_some (IsOf shapes q t) (touch_load shapes q t) (load_access t.role t.whole) (λ bits e. one (IsOf shapes q t) (access t.what (Load (role_agent q t.role bits) (layout_wanted (shape_at shapes t.what) t.role))) (a_load bits e refl)))
@@ -191,11 +184,6 @@ touched_each shapes pieces f q op same =
     (λ k d lt. λ j e l. record { touch = get_or (touches_of shapes op) k d; there = Contains-get_or (touches_of shapes op) k d lt; is = touch_each pieces q (moved f (get_or (touches_of shapes op) k d)) j e l }))
 
 -- OF EACH TOUCH AN ACCESS
-
-pub contains_flat : {X Y : Type 0} (f : X → List Y) (xs : List X) (x : X) (y : Y) → Contains xs x → Contains (f x) y → Contains (flat_map f xs) y
-contains_flat f [] x y (k, lt, at) h = absurd (omega (arith, lt))
-contains_flat f (z ∷ xs) x y (zero, lt, at) h = Contains-append_left (f z) (flat_map f xs) y (subst (λ w. Contains (f w) y) (sym at) h)
-contains_flat f (z ∷ xs) x y (suc k, lt, at) h = Contains-append_right (f z) (flat_map f xs) y (contains_flat f xs x y (k, omega (arith, lt), at) h)
 
 -- a touch that stores
 pub storing : (shapes : List Shape) (q : ℕ) (t : Touch) (bits : ℕ) → store_access t.role ≡ Some bits → Contains (touch_accesses shapes q t) (access t.what (Store (role_agent q t.role bits) (layout_wanted (shape_at shapes t.what) t.role)))
@@ -239,4 +227,4 @@ acting shapes q t = go (acts t.role t.whole)
 pub touched_there : (shapes pieces : List Shape) (f : ℕ → ℕ) (q : ℕ) (op : Op ℕ) → All (λ r. shape_at pieces (f r) ≡ shape_at shapes r) (operands_of op) → (t : Touch) → Contains (touches_of shapes op) t → (a : Access) → Contains (touch_accesses pieces q (moved f t)) a → Contains (command_accesses pieces q (mapped f op)) a
 touched_there shapes pieces f q op same t h a k =
     subst (λ accesses. Contains accesses a) (sym (ap (flat_map (touch_accesses pieces q)) (touches_moved shapes pieces f op same) ∙ flat_map-map (touch_accesses pieces q) (moved f) (touches_of shapes op)))
-    (contains_flat (λ s. touch_accesses pieces q (moved f s)) (touches_of shapes op) t a h k)
+    (contains_part (λ s. touch_accesses pieces q (moved f s)) (touches_of shapes op) t a h k)

@@ -19,20 +19,12 @@ use Rattle.fg_recorder.specs.Script.{is_released}
 use Rattle.fg_recorder.specs.Wanted.{is_there}
 use Rattle.fg_turns.specs.Turns.{earlier, first, first_kind, has_uses, is_transfer, next_kind, turn_of}
 use Rattle.fg_turns.specs.Under.{Heap, is_under, last_below, last_uses, place_of, under, uses_under}
-use Rattle.fg_turns.specs.declared.turn.TurnKind.{TurnKind}
-use Rattle.fg_turns.specs.declared.turn.TurnKind.TheVariants.{Nothing, Barrier, Transfer, Alias, Init, AliasInit}
+use Rattle.fg_turns.specs.declared.turn.TurnKind.TheVariants.{Nothing, Barrier, Transfer, Alias, AliasInit}
+use Rattle.fg_valid.proofs.Recorded.{is_transfer_kind}
 
 has_some : (A : List Use) → 0 < length A → has_uses A ≡ true
 has_some [] lt = absurd (omega (arith, lt))
 has_some (u ∷ A) lt = refl
-
-transfer_is : (kind : TurnKind) → is_transfer kind ≡ true → kind ≡ Transfer
-transfer_is Transfer e = refl
-transfer_is Nothing e = absurd (false≢true e)
-transfer_is Barrier e = absurd (false≢true e)
-transfer_is Alias e = absurd (false≢true e)
-transfer_is Init e = absurd (false≢true e)
-transfer_is AliasInit e = absurd (false≢true e)
 
 module _ (G : Grouping) where
   -- the unit at the place of a placed one
@@ -79,7 +71,7 @@ module _ (G : Grouping) (L : IsGrouped G) (heap : Heap) where
   released_goes g e = (and_parts (goes_on G g) (is_transfer (turn_of G heap (suc g)).kind) e).0
 
   pub released_transfer : (g : ℕ) → is_released G heap g ≡ true → (turn_of G heap (suc g)).kind ≡ Transfer
-  released_transfer g e = transfer_is (turn_of G heap (suc g)).kind (and_parts (goes_on G g) (is_transfer (turn_of G heap (suc g)).kind) e).1
+  released_transfer g e = is_transfer_kind (turn_of G heap (suc g)).kind (and_parts (goes_on G g) (is_transfer (turn_of G heap (suc g)).kind) e).1
 
   -- IN BYTES THAT ANOTHER UNIT HAD
 

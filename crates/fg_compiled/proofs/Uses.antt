@@ -1,7 +1,7 @@
 -- The uses of a command: each is by a touch of its operation, and each unit that it names has one.
-use Rattle.std.proofs.Common.{◌≡◌, ℕ, zero, suc, ◌+◌, ◌<◌, ◌++◌, Bool, true, false, List, [], ◌∷◌, length, slice_get, if◌then◌else◌, Some, refl, sym, ap, ◌∙◌, subst, eq-eqb, arith}
+use Rattle.std.proofs.Common.{◌≡◌, ℕ, suc, ◌+◌, ◌<◌, ◌++◌, Bool, true, false, List, [], ◌∷◌, length, slice_get, if◌then◌else◌, Some, refl, ap, ◌∙◌, subst, eq-eqb, arith}
 use Rattle.std.specs.List.{All, Contains}
-use Rattle.std.proofs.lemmas.List.Elements.{All-nil, All-head, All-tail, All-append, All-contains, All-contains_itself, Contains-append_left, Contains-append_right}
+use Rattle.std.proofs.lemmas.List.Elements.{All-nil, All-head, All-tail, All-append, All-contains, All-contains_itself}
 use Rattle.std.proofs.lemmas.List.Folds.{list_any_at}
 use Rattle.fg_base.proofs.Lists.{entry_of, one}
 use Rattle.fg_base.specs.Touches.{touches_of}
@@ -9,10 +9,11 @@ use Rattle.fg_base.specs.declared.shape.Shape.{Shape}
 use Rattle.fg_base.specs.declared.touch.Touch.{Touch}
 use Rattle.fg_groups.specs.Laws.{IsSourced}
 use Rattle.fg_groups.specs.Needs.{uses_in}
-use Rattle.fg_groups.specs.Uses.{is_first_named, use_of, uses_from, command_uses, uses_of}
+use Rattle.fg_groups.specs.Uses.{is_first_named, use_of, uses_from, command_uses}
 use Rattle.fg_groups.specs.declared.command.Command.{Command}
 use Rattle.fg_groups.specs.declared.grouping.Grouping.{Grouping}
 use Rattle.fg_groups.specs.declared.unit_use.Use.{Use}
+use Rattle.fg_recorder.proofs.Membership.{among_uses}
 use Rattle.fg_valid.proofs.Touched.{IsUsed, names, named_used}
 
 -- a use by one of the touches
@@ -47,19 +48,6 @@ pub command_used : (shapes : List Shape) (units c : ℕ) (command : Command) (t 
 command_used shapes units c command t h lt = named_used shapes units c command.queue 0 [] (touches_of shapes command.op) t.what lt refl
     (list_any_at (names t.what) (touches_of shapes command.op) h.0 t h.1 (ap (names t.what) h.2 ∙ eq-eqb t.what t.what refl))
 
--- among those of all commands
-pub uses_there : (shapes : List Shape) (units b : ℕ) (commands : List Command) (place : ℕ) (command : Command) (u : Use) → slice_get commands place ≡ Some command → Contains (command_uses shapes units (b + place) command) u → Contains (uses_of shapes units b commands) u
-uses_there shapes units b [] place command u e h = absurd cc
-uses_there shapes units b (x ∷ commands) zero command u e h =
-    let same : x ≡ command = cc in
-    let z : b + 0 ≡ b = omega arith in
-    Contains-append_left (command_uses shapes units b x) (uses_of shapes units (suc b) commands) u
-    (subst (λ n. Contains (command_uses shapes units n x) u) z (subst (λ y. Contains (command_uses shapes units (b + 0) y) u) (sym same) h))
-uses_there shapes units b (x ∷ commands) (suc place) command u e h =
-    let next : b + suc place ≡ suc b + place = omega arith in
-    Contains-append_right (command_uses shapes units b x) (uses_of shapes units (suc b) commands) u
-    (uses_there shapes units (suc b) commands place command u e (subst (λ n. Contains (command_uses shapes units n command) u) next h))
-
 -- a unit that a command touches is used by it
 pub record UsedBy (G : Grouping) (c r : ℕ) : Type 0 where
   pub one : Use
@@ -76,5 +64,5 @@ used_by G c command t at h lt =
       one = U.one;
       unit = U.unit;
       command = ap (λ (u : Use). u.command) I.is;
-      there = uses_there G.shapes (length G.sharings) 0 G.commands c command U.one at (subst (λ n. Contains (command_uses G.shapes (length G.sharings) n command) U.one) z U.there);
+      there = among_uses G.shapes (length G.sharings) 0 G.commands c command U.one at (subst (λ n. Contains (command_uses G.shapes (length G.sharings) n command) U.one) z U.there);
     }

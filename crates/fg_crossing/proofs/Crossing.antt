@@ -2,10 +2,10 @@
 use Rattle.std.proofs.Common.{◌≡◌, ◌⊎◌, inl, inr, ℕ, ◌+◌, nat_lt, true, false, ◌&&◌, ◌||◌, ◌==◌, List, refl, sym, ◌∙◌, subst, eq-eqb, eqb-true, arith}
 use Rattle.std.proofs.lemmas.Bool.{cases_Bool, and_from, and_parts, or_left, or_right, or_cases, lt-ltb}
 use Rattle.fg_bits.specs.Sets.{meets}
-use Rattle.fg_crossing.proofs.KindTables.{signal_sync, wait_sync}
 use Rattle.fg_crossing.specs.Crossings.{Sooner, Later, Open, IsFull, wait_stages}
 use Rattle.fg_crossing.specs.Nodes.{Nodes, Places}
 use Rattle.fg_crossing.specs.Plans.{Plan, leads, Reach, by_queue, by_need, then_reach}
+use Rattle.fg_hb.proofs.Bridge.{signal_sync, wait_sync}
 use Rattle.fg_hb.specs.Edges.{edge, holds_back, is_at, is_signal, is_sync, is_wait, meeting, node_at, signalled}
 use Rattle.fg_hb.specs.declared.node.Node.{Node}
 use Rattle.fg_reach.specs.Paths.{one, then_on}

@@ -4,7 +4,7 @@ use Rattle.std.proofs.lemmas.Bool.{false≢true}
 use Rattle.fg_base.specs.declared.shape.Family.{Family}
 use Rattle.fg_bits.specs.declared.layout.Layout.{Layout}
 use Rattle.fg_crossing.specs.Kinds.{is_plain, is_entry, is_release}
-use Rattle.fg_hb.specs.Edges.{is_host, is_signal, is_sync, is_wait}
+use Rattle.fg_hb.specs.Edges.{is_host, is_sync}
 use Rattle.fg_hb.specs.declared.kind.Kind.{Kind}
 use Rattle.fg_hb.specs.declared.kind.Kind.TheVariants.{Command, Barrier, Wait, Signal, Host}
 use Rattle.fg_stated.specs.PieceStates.{owner_after}
@@ -13,20 +13,6 @@ use Rattle.fg_view.specs.declared.access.AccessKind.{AccessKind}
 use Rattle.fg_view.specs.declared.access.AccessKind.TheVariants.{Load, Store, Transition, Discard, Release, Acquire}
 
 -- NODES
-
-pub signal_sync : (k : Kind) → is_signal k ≡ true → is_sync k ≡ true
-signal_sync Command h = absurd (false≢true h)
-signal_sync Barrier h = refl
-signal_sync (Wait queue value) h = refl
-signal_sync (Signal value) h = refl
-signal_sync Host h = absurd (false≢true h)
-
-pub wait_sync : (k : Kind) → is_wait k ≡ true → is_sync k ≡ true
-wait_sync Command h = absurd (false≢true h)
-wait_sync Barrier h = refl
-wait_sync (Wait queue value) h = refl
-wait_sync (Signal value) h = refl
-wait_sync Host h = absurd (false≢true h)
 
 pub sync_queued : (k : Kind) → is_sync k ≡ true → is_host k ≡ false
 sync_queued Command h = refl
@@ -126,14 +112,6 @@ transfer_sets_owner (Transition layouts) h = absurd (false≢true h)
 transfer_sets_owner (Discard layout) h = absurd (false≢true h)
 transfer_sets_owner (Release handover) h = refl
 transfer_sets_owner (Acquire handover) h = refl
-
-pub change_keeps : (d : AccessKind) → changes d ≡ true → transfers d ≡ false
-change_keeps (Load agent layout) h = absurd (false≢true h)
-change_keeps (Store agent layout) h = refl
-change_keeps (Transition layouts) h = refl
-change_keeps (Discard layout) h = refl
-change_keeps (Release handover) h = absurd (false≢true h)
-change_keeps (Acquire handover) h = absurd (false≢true h)
 
 pub load_keeps : (d : AccessKind) → loads d ≡ true → transfers d ≡ false
 load_keeps (Load agent layout) h = refl

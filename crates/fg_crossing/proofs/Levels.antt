@@ -75,7 +75,7 @@ le_of a b e = grind arith
 less_of : (a b : ℕ) → nat_le a b ≡ false → b < a
 less_of a b e = grind arith
 
-lifted : (level : ℕ → ℕ) (x n : ℕ) → level x ≤ level n → x < n → Under level x n
+pub lifted : (level : ℕ → ℕ) (x n : ℕ) → level x ≤ level n → x < n → Under level x n
 lifted level x n le lt = go (cases_lt (level x) (level n))
   where
     go : (level x < level n) ⊎ (level n ≤ level x) → Under level x n

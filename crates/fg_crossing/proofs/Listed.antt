@@ -3,13 +3,13 @@ use Rattle.std.proofs.Common.{◌≡◌, ◌⊎◌, inl, inr, ℕ, zero, suc, �
 use Rattle.std.specs.Option.{option_or}
 use Rattle.std.specs.Prelude.{slice_get, unwrap_or}
 use Rattle.std.proofs.lemmas.Bool.{cases_Bool, cases_eq, cases_lt, false≢true}
-use Rattle.fg_crossing.proofs.KindTables.{change_keeps}
 use Rattle.fg_crossing.proofs.Lasts.{LastOf, NoneOf}
 use Rattle.fg_crossing.proofs.Listings.{has_within, listed_in, in_turn}
 use Rattle.fg_hb.specs.Laws.{IsAsymmetric, IsIrreflexive}
 use Rattle.fg_hb.specs.Orders.{Earlier, Order}
 use Rattle.fg_stated.specs.PieceStates.{last_that}
 use Rattle.fg_ties.proofs.Ordered.{listed_of}
+use Rattle.fg_ties.proofs.Through.{change_plain}
 use Rattle.fg_ties.specs.Passing.{Before}
 use Rattle.fg_ties.specs.Tied.{Tied}
 use Rattle.fg_view.specs.AccessKinds.{changes, sets_owner, transfers}
@@ -53,7 +53,7 @@ pub finds_change : (V : View) → ShapedView V → (test : NodeAccess → Bool) 
 finds_change V S test is n a keeps clashes = record {
   clashes = λ v c h t. clashes v c t;
   own = λ c p t. false≢true (sym keeps ∙ after n c a p (is n c t));
-  single = λ v c d p t u. false≢true (sym (change_keeps d.kind (is v d u)) ∙ after v c d p (is v c t));
+  single = λ v c d p t u. false≢true (sym (change_plain d.kind (is v d u)) ∙ after v c d p (is v c t));
 }
   where
     after : (v : ℕ) (c d : Access) → Precedes V v c d → changes c.kind ≡ true → transfers d.kind ≡ true

@@ -1,17 +1,15 @@
 -- What comes later: items of one queue, and items over a need.
-use Rattle.std.proofs.Common.{◌≡◌, ◌⊎◌, inl, inr, ℕ, ◌-◌, ◌<◌, ◌≤◌, ◌==◌, ◌&&◌, ◌||◌, nat_le, nat_lt, cond, Bool, true, false, List, length, get_or, Option, Some, None, refl, sym, ap, ◌∙◌, subst, eq-eqb, eqb-true, le-leb, leb-true, lt-ltb, arith}
+use Rattle.std.proofs.Common.{◌≡◌, ◌⊎◌, inl, inr, ℕ, ◌-◌, ◌<◌, ◌≤◌, ◌==◌, ◌||◌, nat_le, cond, Bool, true, false, List, length, get_or, Some, None, refl, sym, ap, ◌∙◌, subst, eq-eqb, eqb-true, le-leb, leb-true, lt-ltb, arith}
 use Rattle.std.specs.List.{position, position_or_len}
-use Rattle.std.specs.Option.{option_map_or}
-use Rattle.std.specs.Prelude.{slice_get}
 use Rattle.std.proofs.lemmas.Bool.{and_from, and_parts, cases_lt, false≢true}
 use Rattle.std.proofs.lemmas.List.Quantifiers.{position-Some}
 use Rattle.std.proofs.lemmas.List.Sums.{fails_before_first}
-use Rattle.std.proofs.lemmas.Option.{slice_get_within}
 use Rattle.fg_cut.proofs.Sorts.{WaitAt, SignalAt, signal_at}
 use Rattle.fg_cut.proofs.Standing.{item_is_of}
 use Rattle.fg_cut.specs.Later.{AreSooner, AreCrossed}
 use Rattle.fg_cut.specs.Standing.{StandsFor, AllStand, AreThese}
-use Rattle.fg_hb.specs.Edges.{edge, has_value, holds_back, is_at, is_signal, is_wait, meeting, node_at, reaches, signalled}
+use Rattle.fg_hb.proofs.Bridge.{meets_edge}
+use Rattle.fg_hb.specs.Edges.{has_value, is_signal, is_wait, meeting, node_at, reaches}
 use Rattle.fg_hb.specs.Nodes.{no_node, program_nodes}
 use Rattle.fg_hb.specs.declared.kind.Kind.{Kind}
 use Rattle.fg_hb.specs.declared.kind.Kind.TheVariants as kinds
@@ -20,27 +18,16 @@ use Rattle.fg_reach.specs.Paths.{one}
 use Rattle.fg_subs.specs.Entries.{OfSignal}
 use Rattle.fg_subs.specs.declared.program.Item as subs
 use Rattle.fg_subs.specs.declared.program.Program.{Program}
+use Rattle.fg_timeline.proofs.Latest.{item_there}
 use Rattle.fg_timeline.specs.Laws.{AllThere, InOrder, IsFor, AreFor, IsMet, AreMet, AreRising}
 use Rattle.fg_timeline.specs.Parts.{Does, Signals, signal_after}
 use Rattle.fg_timeline.specs.Places.{place, wait_number, item_number, signal_number}
 use Rattle.fg_timeline.specs.Signals.{is_awaited, is_last, has_signal, value_at}
-use Rattle.fg_timeline.specs.Steps.{is_item, has_item, queue_at, IsScript}
+use Rattle.fg_timeline.specs.Steps.{has_item, queue_at, IsScript}
 use Rattle.fg_timeline.specs.Waits.{latest}
 use Rattle.fg_timeline.specs.declared.step.Step.{Step}
-use Rattle.fg_timeline.specs.declared.step.Step.TheVariants.{Item, Need}
 
 -- STEPS
-
-pub item_there : (script : List Step) (q i : ℕ) → has_item script q i ≡ true → (item : subs.Item) × (slice_get script i ≡ Some (Item q item))
-item_there script q i h = go (slice_get script i) refl h
-  where
-    go : (o : Option Step) → slice_get script i ≡ o → option_map_or (is_item q) o false ≡ true → (item : subs.Item) × (slice_get script i ≡ Some (Item q item))
-    go None e h = absurd (false≢true h)
-    go (Some (Need r j)) e h = absurd (false≢true h)
-    go (Some (Item r item)) e h = (item, e ∙ ap (λ z. Some (Item z item)) (eqb-true r q h))
-
-pub item_within : (script : List Step) (q i : ℕ) → has_item script q i ≡ true → i < length script
-item_within script q i h = let t = item_there script q i h in slice_get_within script i (Item q t.0) t.1
 
 pub signal_item : (script : List Step) (count q i : ℕ) → has_signal script count q i ≡ true → has_item script q i ≡ true
 signal_item script count q i s = (and_parts (has_item script q i) (is_awaited script count i || is_last script i) s).0
@@ -66,19 +53,6 @@ value_signal least kinds.Command h = absurd (false≢true h)
 value_signal least kinds.Barrier h = absurd (false≢true h)
 value_signal least (kinds.Wait queue value) h = absurd (false≢true h)
 value_signal least kinds.Host h = absurd (false≢true h)
-
-or_right : (a b : Bool) → b ≡ true → (a || b) ≡ true
-or_right true b e = refl
-or_right false b e = e
-
-at_it : (o : Option ℕ) (x : ℕ) → o ≡ Some x → is_at o x ≡ true
-at_it o x e = ap (λ z. is_at z x) e ∙ eq-eqb x x refl
-
--- from a signal to the wait that it meets
-meets_edge : (nodes : List Node) (x y : ℕ) → meeting nodes (node_at nodes y).kind ≡ Some x → edge nodes x y ≡ true
-meets_edge nodes x y e =
-    or_right (nat_lt x y && holds_back (node_at nodes x) (node_at nodes y)) (signalled nodes x y || is_at (meeting nodes (node_at nodes y).kind) x)
-    (or_right (signalled nodes x y) (is_at (meeting nodes (node_at nodes y).kind) x) (at_it (meeting nodes (node_at nodes y).kind) x e))
 
 -- PARTS IN THEIR ORDER
 

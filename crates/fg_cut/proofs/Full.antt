@@ -1,5 +1,5 @@
 -- In a program that is cut from steps every signal and wait is of all commands.
-use Rattle.std.proofs.Common.{◌≡◌, ◌⊎◌, inl, inr, ℕ, suc, zero, ◌<◌, ◌≤◌, ◌==◌, ◌&&◌, Bool, true, false, List, [], ◌∷◌, length, get_or, Option, Some, None, refl, sym, ap, ◌∙◌, subst, eq-eqb, arith}
+use Rattle.std.proofs.Common.{◌≡◌, ◌⊎◌, inl, inr, ℕ, ◌<◌, ◌≤◌, ◌==◌, ◌&&◌, Bool, true, false, List, [], ◌∷◌, length, get_or, Option, Some, None, refl, sym, ap, ◌∙◌, subst, eq-eqb}
 use Rattle.std.specs.List.{All, flat_map}
 use Rattle.std.specs.Option.{option_map_or}
 use Rattle.std.specs.Prelude.{slice_get, unwrap_or}
@@ -7,6 +7,7 @@ use Rattle.std.proofs.lemmas.Bool.{and_from, cases_lt}
 use Rattle.std.proofs.lemmas.List.Elements.{All-nil, All-append}
 use Rattle.std.proofs.lemmas.List.{length-map, get_or_past}
 use Rattle.std.proofs.lemmas.Option.{slice_get-get_or, slice_get_within, get_or_from_slice_get}
+use Rattle.fg_base.proofs.Lists.{one}
 use Rattle.fg_base.specs.Shapes.{shape_at}
 use Rattle.fg_base.specs.Touches.{touches_of}
 use Rattle.fg_base.specs.declared.op.Op.{Op}
@@ -80,14 +81,7 @@ IsMet q (access_kinds.Acquire handover) = ⊥
 abbrev AreMet : ℕ → List Access → Type 0
 AreMet q accesses = All (λ a. IsMet q a.kind) accesses
 
-just : {X : Type 0} (P : X → Type 0) (x : X) → P x → All P (x ∷ [])
-just P x p zero d lt = p
-just P x p (suc k) d lt = absurd (no lt)
-  where
-    no : suc k < 1 → ⊥
-    no h = omega arith
-
-if_some : {X Y : Type 0} (P : Y → Type 0) (f : X → List Y) (o : Option X) → ((x : X) → o ≡ Some x → All P (f x)) → All P (option_map_or f o [])
+pub if_some : {X Y : Type 0} (P : Y → Type 0) (f : X → List Y) (o : Option X) → ((x : X) → o ≡ Some x → All P (f x)) → All P (option_map_or f o [])
 if_some P f None h = All-nil P
 if_some P f (Some x) h = h x refl
 
@@ -97,8 +91,8 @@ in_each P f (x ∷ xs) h = All-append P (f x) (flat_map f xs) (h x) (in_each P f
 
 touch_met : (shapes : List Shape) (q : ℕ) (t : Touch) → AreMet q (touch_accesses shapes q t)
 touch_met shapes q t = All-append (λ a. IsMet q a.kind) (option_map_or (touch_load shapes q t) (load_access t.role t.whole) []) (option_map_or (touch_store shapes q t) (store_access t.role) [])
-    (if_some (λ a. IsMet q a.kind) (touch_load shapes q t) (load_access t.role t.whole) (λ kind e. just (λ a. IsMet q a.kind) (access t.what (Load (role_agent q t.role kind) (layout_wanted (shape_at shapes t.what) t.role))) (refl, load_met t.role t.whole kind e)))
-    (if_some (λ a. IsMet q a.kind) (touch_store shapes q t) (store_access t.role) (λ kind e. just (λ a. IsMet q a.kind) (access t.what (Store (role_agent q t.role kind) (layout_wanted (shape_at shapes t.what) t.role))) (refl, store_met t.role kind e)))
+    (if_some (λ a. IsMet q a.kind) (touch_load shapes q t) (load_access t.role t.whole) (λ kind e. one (λ a. IsMet q a.kind) (access t.what (Load (role_agent q t.role kind) (layout_wanted (shape_at shapes t.what) t.role))) (refl, load_met t.role t.whole kind e)))
+    (if_some (λ a. IsMet q a.kind) (touch_store shapes q t) (store_access t.role) (λ kind e. one (λ a. IsMet q a.kind) (access t.what (Store (role_agent q t.role kind) (layout_wanted (shape_at shapes t.what) t.role))) (refl, store_met t.role kind e)))
 
 command_met : (shapes : List Shape) (q : ℕ) (op : Op ℕ) → AreMet q (command_accesses shapes q op)
 command_met shapes q op = in_each (λ a. IsMet q a.kind) (touch_accesses shapes q) (touches_of shapes op) (touch_met shapes q)

@@ -8,13 +8,14 @@ use Rattle.std.proofs.lemmas.List.Quantifiers.{position-Some}
 use Rattle.std.proofs.lemmas.List.{get_or-drop, length-map}
 use Rattle.std.proofs.lemmas.Option.{slice_get_past, slice_get_within}
 use Rattle.fg_bits.specs.Sets.{meets}
+use Rattle.fg_crossing.proofs.Levels.{lifted}
 use Rattle.fg_crossing.specs.Levels.{Leveled, Under}
-use Rattle.fg_cut.proofs.Crossing.{item_there, item_within}
 use Rattle.fg_cut.proofs.Crossing as crossing
 use Rattle.fg_cut.proofs.Sorts.{WaitAt, is_there, wait_at}
 use Rattle.fg_cut.proofs.Standing.{Standing, a_part, a_read, nothing, standing, total, part_is_of, all_stand, are_these}
 use Rattle.fg_cut.specs.Levels.{level_of, AreSteps}
 use Rattle.fg_cut.specs.Standing.{AllStand, AreThese, read_number}
+use Rattle.fg_hb.proofs.Bridge.{met_wait}
 use Rattle.fg_hb.specs.Edges.{edge, goes_to, holds_back, is_at, is_host, is_signal, is_sync, is_wait, meeting, next_signal, node_at, signalled, signals}
 use Rattle.fg_hb.specs.Nodes.{entry_node, host_node, no_node, program_nodes}
 use Rattle.fg_hb.specs.Orders.{is_queued}
@@ -23,6 +24,7 @@ use Rattle.fg_hb.specs.declared.kind.Kind.TheVariants as kinds
 use Rattle.fg_hb.specs.declared.node.Node.{Node}
 use Rattle.fg_subs.specs.Entries.{OfHost, entries_of}
 use Rattle.fg_subs.specs.declared.program.Program.{Program}
+use Rattle.fg_timeline.proofs.Latest.{item_there, item_within}
 use Rattle.fg_timeline.specs.Laws.{AreNumbered, AllThere, InOrder, IsFor, AreFor, AreRising}
 use Rattle.fg_timeline.specs.Parts.{Waits, Does, Signals, wait_for, signal_after}
 use Rattle.fg_timeline.specs.Places.{Place, place, places, entry_of, wait_number, item_number, signal_number}
@@ -47,13 +49,6 @@ are_steps script count there = record {
 
 -- EDGES
 
-met_waits : (nodes : List Node) (kind : Kind) (x : ℕ) → meeting nodes kind ≡ Some x → is_wait kind ≡ true
-met_waits nodes (kinds.Wait queue value) x e = refl
-met_waits nodes kinds.Command x e = absurd cc
-met_waits nodes kinds.Barrier x e = absurd cc
-met_waits nodes (kinds.Signal value) x e = absurd cc
-met_waits nodes kinds.Host x e = absurd cc
-
 is_same : (o : Option ℕ) (n : ℕ) → is_at o n ≡ true → o ≡ Some n
 is_same None n h = absurd (false≢true h)
 is_same (Some m) n h = ap (λ z. Some z) (eqb-true m n h)
@@ -70,13 +65,6 @@ next_place nodes x n (Some k) e f =
     let there : get_or (drop (x + 1) nodes) k no_node ≡ node_at nodes n = get_or-drop (x + 1) nodes k no_node ∙ ap (λ z. node_at nodes z) same in
     let q = and_parts ((node_at nodes n).queue == (node_at nodes x).queue) (is_signal (node_at nodes n).kind) (subst (λ z. signals (node_at nodes x).queue z ≡ true) there p.1) in
     (omega (arith, same), sym (eqb-true (node_at nodes n).queue (node_at nodes x).queue q.0))
-
-lifted : (level : ℕ → ℕ) (x n : ℕ) → level x ≤ level n → x < n → Under level x n
-lifted level x n le lt = go (cases_lt (level x) (level n))
-  where
-    go : (level x < level n) ⊎ (level n ≤ level x) → Under level x n
-    go (inl l) = inl l
-    go (inr g) = inr (omega (arith, le, g), lt)
 
 module _ (P : Program) (script : List Step) (count : ℕ) (E : entries_of P ≡ map entry_of (places script count) ++ map OfHost P.readbacks) (size : length P.queues ≡ count) (numbered : AreNumbered script count) (there : AllThere script count) (ordered : InOrder script count) (K : IsScript script count) (for : AreFor script count) (values : AreRising script count) where
   abbrev nodes : List Node
@@ -184,8 +172,8 @@ module _ (P : Program) (script : List Step) (count : ℕ) (E : entries_of P ≡ 
     known : signal < length nodes
     lower : level signal < level n
 
-  met_wait : (n : ℕ) → is_wait (node_at nodes n).kind ≡ true → Met n
-  met_wait n holds = record {
+  meets_one : (n : ℕ) → is_wait (node_at nodes n).kind ≡ true → Met n
+  meets_one n holds = record {
     signal = signal_number script count W.other F.step;
     is = crossing.meets P script count T A there ordered K values n W F;
     known = (T.signal W.other F.step W.other_known F.signal).within;
@@ -211,7 +199,7 @@ module _ (P : Program) (script : List Step) (count : ℕ) (E : entries_of P ≡ 
   by_meeting x n e = (subst (λ z. z < length nodes) same M.known, inl (subst (λ z. level z < level n) same M.lower))
     where
       M : Met n
-      M = met_wait n (met_waits nodes (node_at nodes n).kind x e)
+      M = meets_one n (met_wait nodes (node_at nodes n).kind x e)
 
       same : M.signal ≡ x
       same = let h = sym M.is ∙ e in of M.signal x h
@@ -259,6 +247,6 @@ module _ (P : Program) (script : List Step) (count : ℕ) (E : entries_of P ≡ 
   pub leveled : Leveled nodes (level_of script count)
   leveled = record {
     queue = λ x n q lt fits same. rises x n lt (not_read n q fits) same;
-    met = λ n fits w. let M = met_wait n w in (M.signal, M.is, M.known, M.lower);
+    met = λ n fits w. let M = meets_one n w in (M.signal, M.is, M.known, M.lower);
     forward = forward;
   }

@@ -1,5 +1,5 @@
 mod Crossing
-mod Full
+pub mod Full
 mod Leveled
 mod Opens
 mod Ordering

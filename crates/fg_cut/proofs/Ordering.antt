@@ -2,12 +2,12 @@
 use Rattle.std.proofs.Common.{◌≡◌, inl, ℕ, ◌<◌, List, length, true, arith}
 use Rattle.fg_crossing.specs.Laws.{HasOrder, LowerFirst}
 use Rattle.fg_crossing.specs.Levels.{Leveled, by_level}
-use Rattle.fg_cut.proofs.Crossing.{item_there}
 use Rattle.fg_cut.specs.Levels.{level_of, AreSteps, IsByStep}
 use Rattle.fg_cut.specs.Standing.{AllStand}
 use Rattle.fg_hb.specs.Nodes.{program_nodes}
 use Rattle.fg_hb.specs.Orders.{Earlier}
 use Rattle.fg_subs.specs.declared.program.Program.{Program}
+use Rattle.fg_timeline.proofs.Latest.{item_there}
 use Rattle.fg_timeline.specs.Places.{item_number}
 use Rattle.fg_timeline.specs.Steps.{has_item, IsScript}
 use Rattle.fg_timeline.specs.declared.step.Step.{Step}

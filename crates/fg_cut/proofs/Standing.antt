@@ -1,5 +1,5 @@
 -- What stands at which number.
-use Rattle.std.proofs.Common.{◌≡◌, ◌⊎◌, inl, inr, ℕ, zero, suc, ◌+◌, ◌-◌, ◌<◌, ◌≤◌, ◌&&◌, nat_lt, not, Bool, true, false, List, [], ◌∷◌, ◌++◌, length, map, get_or, Some, refl, sym, ap, ◌∙◌, subst, length-append, arith}
+use Rattle.std.proofs.Common.{◌≡◌, ◌⊎◌, inl, inr, ℕ, ◌+◌, ◌-◌, ◌<◌, ◌≤◌, ◌&&◌, nat_lt, not, Bool, true, false, List, ◌++◌, length, map, get_or, Some, refl, sym, ap, ◌∙◌, subst, length-append, arith}
 use Rattle.std.specs.Option.{option_map}
 use Rattle.std.specs.Prelude.{slice_get}
 use Rattle.std.proofs.lemmas.Bool.{cases_lt, lt-ltb, le-ltb}
@@ -15,6 +15,7 @@ use Rattle.fg_subs.specs.Rules.{shapes_of}
 use Rattle.fg_subs.specs.declared.program.Item.{Item}
 use Rattle.fg_subs.specs.declared.program.Item.TheVariants.{Command, Global, BufferBarrier, ImageBarrier, Release, Acquire}
 use Rattle.fg_subs.specs.declared.program.Program.{Program}
+use Rattle.fg_timeline.proofs.Below.{there_left, there_right}
 use Rattle.fg_timeline.specs.Laws.{Stands, a_wait, an_item, a_signal, IsNumbered, AreNumbered, AllThere}
 use Rattle.fg_timeline.specs.Parts.{Part, Waits, Does, Signals, wait_for, signal_after}
 use Rattle.fg_timeline.specs.Places.{Place, place, places, part_entry, entry_of, wait_number, item_number, signal_number}
@@ -23,15 +24,6 @@ use Rattle.fg_view.specs.Effects.{entry_effect, no_effect}
 use Rattle.fg_view.specs.Views.{view_of}
 
 -- TWO LISTS
-
-in_first : {X : Type 0} (xs ys : List X) (k : ℕ) (x : X) → slice_get xs k ≡ Some x → slice_get (xs ++ ys) k ≡ Some x
-in_first [] ys k x e = absurd cc
-in_first (z ∷ xs) ys zero x e = e
-in_first (z ∷ xs) ys (suc k) x e = in_first xs ys k x e
-
-in_second : {X : Type 0} (xs ys : List X) (k : ℕ) → slice_get (xs ++ ys) (length xs + k) ≡ slice_get ys k
-in_second [] ys k = let e : 0 + k ≡ k = omega arith in ap (slice_get ys) e
-in_second (z ∷ xs) ys k = let e : suc (length xs) + k ≡ suc (length xs + k) = omega arith in ap (slice_get (z ∷ (xs ++ ys))) e ∙ in_second xs ys k
 
 -- NODES OF ENTRIES
 
@@ -81,14 +73,14 @@ module _ (P : Program) (script : List Step) (count : ℕ) (E : entries_of P ≡ 
       omega (arith, a, b, c, size)
 
   pub place_stands : (n : ℕ) (at : Place) → slice_get (places script count) n ≡ Some at → StandsFor P n (entry_of at)
-  place_stands n at e = entry_stands P n (entry_of at) (ap (λ es. slice_get es n) E ∙ in_first (map entry_of (places script count)) (map OfHost P.readbacks) n (entry_of at) (slice_get-map entry_of (places script count) n ∙ ap (option_map entry_of) e))
+  place_stands n at e = entry_stands P n (entry_of at) (ap (λ es. slice_get es n) E ∙ there_left (map entry_of (places script count)) (map OfHost P.readbacks) n (entry_of at) (slice_get-map entry_of (places script count) n ∙ ap (option_map entry_of) e))
 
   pub read_stands : (k piece : ℕ) → slice_get P.readbacks k ≡ Some piece → StandsFor P (read_number script count k) (OfHost piece)
   read_stands k piece e =
       entry_stands P (read_number script count k) (OfHost piece)
       (ap (λ es. slice_get es (read_number script count k)) E
       ∙ ap (λ z. slice_get (map entry_of (places script count) ++ map OfHost P.readbacks) (z + k)) (sym size)
-      ∙ in_second (map entry_of (places script count)) (map OfHost P.readbacks) k
+      ∙ there_right (map entry_of (places script count)) (map OfHost P.readbacks) k
       ∙ slice_get-map OfHost P.readbacks k
       ∙ ap (option_map OfHost) e)
 

@@ -1,9 +1,8 @@
 -- The operation of a command runs on what the command loads.
-use Rattle.std.proofs.Common.{◌≡◌, inl, inr, ℕ, zero, suc, ◌+◌, ◌<◌, ◌≤◌, Bool, true, false, List, [], ◌∷◌, ◌++◌, length, map, get_or, replicate, Some, None, refl, sym, ap, ◌∙◌, subst, arith}
-use Rattle.std.specs.List.{All, filter, list_all, range_with_len}
-use Rattle.std.specs.Prelude.{nat_lt, if◌then◌else◌}
+use Rattle.std.proofs.Common.{◌≡◌, inl, inr, ℕ, ◌+◌, ◌<◌, ◌≤◌, Bool, true, false, List, [], ◌∷◌, ◌++◌, length, map, get_or, replicate, Some, None, refl, sym, ap, ◌∙◌, subst, arith}
+use Rattle.std.specs.List.{All, filter, range_with_len}
+use Rattle.std.specs.Prelude.{if◌then◌else◌}
 use Rattle.fg_caches.specs.Lines.{seen}
-use Rattle.std.proofs.lemmas.Bool.{and_parts, ltb-true}
 use Rattle.std.proofs.lemmas.List.{get_or-map, get_or_append_left, length-map, length-append}
 use Rattle.std.proofs.lemmas.List.FromFn.{length-map-range_with_len}
 use Rattle.std.proofs.Math.Seq.{get_or-append_seam}
@@ -25,6 +24,7 @@ use Rattle.fg_steps.specs.Outputs.{no_old}
 use Rattle.fg_steps.specs.Ready.{is_command, kind_at, is_spoilt}
 use Rattle.fg_steps.specs.States.{State, junk_at}
 use Rattle.fg_steps.specs.Steps.{store_of, sight, taken}
+use Rattle.fg_subs.proofs.Within.{all_below}
 use Rattle.fg_subs.specs.Entries.{entries_of}
 use Rattle.fg_subs.specs.Obeys.{EntryObeys}
 use Rattle.fg_subs.specs.Rules.{shapes_of}
@@ -40,11 +40,6 @@ use Rattle.fg_view.specs.declared.access.Agent.TheVariants.{Host}
 
 some_same : {X : Type 0} {a b : X} → Some a ≡ Some b → a ≡ b
 some_same e = cc
-
-all_below : (n : ℕ) (xs : List ℕ) → list_all (λ x. nat_lt x n) xs ≡ true → All (λ x. x < n) xs
-all_below n [] e k d lt = absurd (omega (arith, lt))
-all_below n (x ∷ xs) e zero d lt = ltb-true x n (and_parts _ _ e).0
-all_below n (x ∷ xs) e (suc k) d lt = all_below n xs (and_parts _ _ e).1 k d (omega (arith, lt))
 
 -- each load is as long as its piece
 pub taken_long : (V : View) (s : State) (n : ℕ) (junk : List ℕ) (a : Access) → length (taken V s n junk a) ≡ bytes_of (piece_at V a.piece).shape

@@ -1,5 +1,5 @@
 -- A sound program can be run to its end, and what the host has read by then is what it reads in every order.
-use Rattle.std.proofs.Common.{◌≡◌, ◌⊎◌, inl, inr, ⊎_elim, ℕ, zero, suc, ◌<◌, ◌≤◌, true, length, None, refl, sym, ap, ◌∙◌, subst, arith}
+use Rattle.std.proofs.Common.{◌≡◌, ◌⊎◌, ⊎_elim, ℕ, zero, suc, ◌<◌, ◌≤◌, true, length, None, refl, sym, ap, ◌∙◌, subst, arith}
 use Rattle.std.specs.Option.{option_map}
 use Rattle.std.proofs.lemmas.Bool.{cases_lt}
 use Rattle.std.proofs.lemmas.Option.{slice_get_past}
@@ -8,23 +8,15 @@ use Rattle.fg_base.specs.declared.event.Event.TheVariants.{Begin, End, Sync, Hos
 use Rattle.fg_checker.specs.Apart.{apart}
 use Rattle.fg_checker.specs.Sound.{IsSound}
 use Rattle.fg_faithful.specs.Laws.{OrdersAgree}
-use Rattle.fg_hb.specs.Edges.{is_sync, is_host}
-use Rattle.fg_hb.specs.declared.kind.Kind.{Kind}
 use Rattle.fg_hb.specs.declared.kind.Kind.TheVariants as kinds
+use Rattle.fg_steps.proofs.Cases.{one_of_three}
 use Rattle.fg_steps.specs.Devices.{Device, opening, state_of, view_in, fresh, did, is_ready, IsComplete, NoneBegun}
-use Rattle.fg_steps.specs.Ready.{is_command, kind_at}
+use Rattle.fg_steps.specs.Ready.{kind_at}
 use Rattle.fg_steps.specs.Rounds.{to_do, Round, IsRound, CountsDown}
 use Rattle.fg_steps.specs.Runs.{Runs}
 use Rattle.fg_steps.specs.States.{is_begun, State, opened}
 use Rattle.fg_subs.specs.FirstFault.{first_fault}
 use Rattle.fg_subs.specs.declared.program.Program.{Program}
-
-one_of_three : (k : Kind) → (is_command k ≡ true) ⊎ ((is_sync k ≡ true) ⊎ (is_host k ≡ true))
-one_of_three kinds.Command = inl refl
-one_of_three kinds.Barrier = inr (inl refl)
-one_of_three (kinds.Wait queue value) = inr (inl refl)
-one_of_three (kinds.Signal value) = inr (inl refl)
-one_of_three kinds.Host = inr (inr refl)
 
 -- a device of the same program, with all nodes done
 record Finishes (d : Device) : Type 0 where

@@ -11,7 +11,7 @@ use Rattle.fg_base.specs.Operands.{sources_of, destination_of, operands_of}
 use Rattle.fg_base.specs.Wholes.{is_whole}
 use Rattle.fg_base.specs.declared.op.Op.{Op}
 use Rattle.fg_base.specs.declared.shape.Shape.{Shape}
-use Rattle.fg_faithful.proofs.Lists.{filter_has, map_has}
+use Rattle.fg_faithful.proofs.Lists.{map_has}
 use Rattle.fg_faithful.proofs.Makers.{maker_next, maker_first}
 use Rattle.fg_faithful.proofs.Operations.{operands_all}
 use Rattle.fg_faithful.proofs.States.{AreSized, IsFit, ops_sized, ops_keep}
@@ -22,6 +22,7 @@ use Rattle.fg_frame.specs.Numbered.{NumberedFrame, IsWithin}
 use Rattle.fg_frame.specs.Uses.{writes_it, reads_it, starts_whole}
 use Rattle.fg_frame.specs.declared.frame.Write.{Write}
 use Rattle.fg_frame.specs.declared.numbered.NumberedPass.{NumberedPass}
+use Rattle.fg_groups.proofs.Found.{filter_at}
 use Rattle.fg_meaning.specs.Meaning.{after_ops, after_passes}
 use Rattle.fg_pixels.specs.Anew.{IgnoresOld}
 use Rattle.fg_versions.specs.Culled.{Leads, here, on, Matters, Culled, AreKept}
@@ -47,7 +48,7 @@ written_how shapes pass u new e =
     go : (w : Write ℕ) (k : ℕ) → k < length pass.writes → slice_index_or pass.writes k w ≡ w → w.what ≡ u → (w.fresh ≡ true → starts_whole shapes pass.ops w.what ≡ true) → (b : Bool) → w.fresh ≡ b → (starts_whole shapes pass.ops u ≡ true) ⊎ Contains (used pass) u
     go w k lt at same whole true f = inl (subst (λ x. starts_whole shapes pass.ops x ≡ true) same (whole f))
     go w k lt at same whole false f =
-        let kept : Contains (filter (λ x. not x.fresh) pass.writes) w = filter_has (λ x. not x.fresh) pass.writes w k lt at (ap not f) in
+        let kept : Contains (filter (λ x. not x.fresh) pass.writes) w = filter_at (λ x. not x.fresh) pass.writes w k lt at (ap not f) in
         let there : Contains (changes pass.writes) w.what = map_has (λ x. x.what) (filter (λ x. not x.fresh) pass.writes) w kept.0 kept.1 kept.2 in
         inr (Contains-append_right pass.reads (changes pass.writes) u (subst (Contains (changes pass.writes)) same there))
 

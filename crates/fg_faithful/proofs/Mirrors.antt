@@ -5,13 +5,14 @@ use Rattle.std.specs.Prelude.{slice_index_or}
 use Rattle.std.proofs.lemmas.Bool.{cases_eq}
 use Rattle.std.proofs.lemmas.List.{length-set, get_or-set_same, get_or-set_other}
 use Rattle.std.proofs.lemmas.List.Elements.{All-head, All-tail}
+use Rattle.fg_base.proofs.Lists.{map_same}
 use Rattle.fg_base.proofs.Operands.{sources_mapped, destination_mapped}
 use Rattle.fg_base.specs.Applied.{effect, applied, bytes_at, after_op}
 use Rattle.fg_base.specs.Operands.{sources_of, destination_of, operands_of, mapped}
 use Rattle.fg_base.specs.Shapes.{shape_at}
 use Rattle.fg_base.specs.declared.op.Op.{Op}
 use Rattle.fg_base.specs.declared.shape.Shape.{Shape}
-use Rattle.fg_faithful.proofs.Lists.{map_same, map_map}
+use Rattle.fg_faithful.proofs.Lists.{map_map}
 use Rattle.fg_faithful.proofs.Operations.{mapped_again, at_destination, at_sources}
 use Rattle.fg_meaning.specs.Meaning.{after_ops}
 

@@ -4,6 +4,7 @@ use Rattle.std.specs.List.{All}
 use Rattle.std.proofs.lemmas.Bool.{cases_eq}
 use Rattle.std.proofs.lemmas.List.{length-set, get_or-set_same, get_or-set_other}
 use Rattle.std.proofs.lemmas.List.Elements.{All-head, All-tail}
+use Rattle.fg_base.proofs.Lists.{map_same}
 use Rattle.fg_base.proofs.Operands.{destination_mapped}
 use Rattle.fg_base.specs.Applied.{applied, bytes_at, after_op}
 use Rattle.fg_base.specs.Fits.{fits}
@@ -13,7 +14,6 @@ use Rattle.fg_base.specs.Shapes.{bytes_of, shape_at}
 use Rattle.fg_base.specs.declared.op.Op.{Op}
 use Rattle.fg_base.specs.declared.shape.Shape.{Shape}
 use Rattle.fg_base.proofs.EffectLengths.{applied_long}
-use Rattle.fg_faithful.proofs.Lists.{map_same}
 use Rattle.fg_faithful.proofs.Operations.{at_destination}
 use Rattle.fg_meaning.specs.Meaning.{after_ops}
 use Rattle.fg_pixels.specs.Anew.{IgnoresOld}

@@ -18,7 +18,7 @@ use Rattle.fg_flight.proofs.Flies.{all_flying}
 use Rattle.fg_flight.proofs.Sources.{flown, lasts, source_from, sources_at, sources_from, window_units}
 use Rattle.fg_flight.proofs.Turning.{flight_in_turn, flight_numbers, same_frames}
 use Rattle.fg_flight.proofs.Units.{any_placed, own_many}
-use Rattle.fg_flight.specs.Alone.{AreAlone, AreRead, IsHeld, RunInTurn, alone, first_bytes, held_at, held_next, held_one}
+use Rattle.fg_flight.specs.Alone.{AreAlone, IsHeld, RunInTurn, alone, first_bytes, held_at, held_next, held_one}
 use Rattle.fg_flight.specs.Exported.{export_place, exported_units, exports_in, hold_place, last_unit, last_units, own_units, place_from, place_under, unit_count}
 use Rattle.fg_flight.specs.Flights.{AreHeld, all_declared, families_of, held_bytes, queues_of, size_at, size_in, sizes_of, window_at, window_count}
 use Rattle.fg_flight.specs.Fly.{Fly}
@@ -27,14 +27,12 @@ use Rattle.fg_frame.proofs.Small.{none_broken}
 use Rattle.fg_frame.specs.FirstFault.{first_fault}
 use Rattle.fg_frame.specs.Numbered.{NumberedFrame, numbered}
 use Rattle.fg_frame.specs.declared.frame.Frame.{Frame}
-use Rattle.fg_meaning.specs.Meaning.{meaning}
+use Rattle.fg_meaning.specs.Meaning.{AreMeant, meaning}
 use Rattle.fg_named.proofs.Faultless.{declared_together}
 use Rattle.fg_named.specs.Declared.{declared_in, flown_of, holder_in, unit_at}
 use Rattle.fg_named.specs.Joins.{size_of}
 use Rattle.fg_window.proofs.Each.{all_of, each}
-use Rattle.fg_window.proofs.Frames.{held_sized}
-use Rattle.fg_window.specs.Flown.{Flown}
-use Rattle.fg_window.specs.Held.{held_after, held_by}
+use Rattle.fg_window.proofs.InTurn.{got_dropped, still_sized}
 use Rattle.fg_window.specs.InTurn.{MeansInTurn, frames_in}
 use Rattle.fg_window.specs.Means.{AreHeld as AreLeft, IsExport, IsLeft, exports_before, units_before}
 use Rattle.fg_window.specs.Sources.{Source, given, last_sources}
@@ -42,11 +40,6 @@ use Rattle.fg_window.specs.Together.{Flies}
 use Rattle.fg_window.specs.Window.{others, window}
 
 -- PARTS OF LISTS
-
-got_dropped : {X : Type 0} (n m : ℕ) (xs : List X) → slice_get (drop n xs) m ≡ slice_get xs (n + m)
-got_dropped zero m xs = let z : m ≡ 0 + m = omega arith in ap (slice_get xs) z
-got_dropped (suc n) m [] = refl
-got_dropped (suc n) m (x ∷ xs) = let e : suc (n + m) ≡ suc n + m = omega arith in got_dropped n m xs ∙ ap (slice_get (x ∷ xs)) e
 
 nothing_past : {X : Type 0} (xs : List X) (i : ℕ) → slice_get xs i ≡ None → length xs ≤ i
 nothing_past [] i none = omega arith
@@ -178,10 +171,6 @@ hold_inside frames persist depth F w k lt (Some p) is held H = hold_within frame
 
 -- WHAT IS HELD HAS ITS SIZES
 
-still_sized : (queues : List Family) (sizes : List ℕ) (frames : List Flown) → AllByRecursion (Flies queues sizes) frames → (held : List (List ℕ)) → map length held ≡ sizes → map length (held_after frames held) ≡ sizes
-still_sized queues sizes [] fly held is = is
-still_sized queues sizes (f ∷ frames) fly held is = still_sized queues sizes frames fly.1 (held_by f held) (held_sized queues sizes f fly.0 held is)
-
 module _ (frames : List Frame) (persist : List (List ℕ)) (depth : ℕ) (F : Fly frames persist depth) where
   sized_after : (i : ℕ) → map length (held_at frames persist i) ≡ sizes_of frames persist
   sized_after i =
@@ -212,7 +201,7 @@ not_left frames depth w name none =
 
 -- ONE WINDOW
 
-module _ (frames : List Frame) (persist : List (List ℕ)) (depth : ℕ) (F : Fly frames persist depth) (w : ℕ) (lt : w < window_count depth frames) (held : List (Option (List ℕ))) (H : IsHeld frames persist (w * depth) held) (bytes : ℕ → List ℕ) (read : AreRead (numbered (window_at frames persist depth held w)) bytes) where
+module _ (frames : List Frame) (persist : List (List ℕ)) (depth : ℕ) (F : Fly frames persist depth) (w : ℕ) (lt : w < window_count depth frames) (held : List (Option (List ℕ))) (H : IsHeld frames persist (w * depth) held) (bytes : ℕ → List ℕ) (read : AreMeant (numbered (window_at frames persist depth held w)) bytes) where
   abbrev mine : List Frame
   mine = frames_in depth frames w
 
@@ -225,8 +214,8 @@ module _ (frames : List Frame) (persist : List (List ℕ)) (depth : ℕ) (F : Fl
   abbrev target : List (List ℕ)
   target = held_at frames persist (suc w * depth)
 
-  read_window : AreRead W bytes
-  read_window = subst (λ f. AreRead f bytes) (numbers frames persist depth F held H.sized w lt) read
+  read_window : AreMeant W bytes
+  read_window = subst (λ f. AreMeant f bytes) (numbers frames persist depth F held H.sized w lt) read
 
   turn : MeansInTurn queues depth (flown frames persist) (held_bytes (first_bytes frames persist)) w
   turn = flight_in_turn frames persist depth F (first_bytes frames persist) (first_sized frames persist depth F) w lt
@@ -330,7 +319,7 @@ module _ (frames : List Frame) (persist : List (List ℕ)) (depth : ℕ) (F : Fl
 
 -- ALL WINDOWS
 
-pub export_alone : (frames : List Frame) (persist : List (List ℕ)) (depth : ℕ) → Fly frames persist depth → (i : ℕ) (frame : Frame) → slice_get frames i ≡ Some frame → (held : List (Option (List ℕ))) → IsHeld frames persist ((i / depth) * depth) held → (bytes : ℕ → List ℕ) → AreRead (numbered (window_at frames persist depth held (i / depth))) bytes → AreRead (alone frames persist i frame) (λ k. bytes (export_place frames depth i k))
+pub export_alone : (frames : List Frame) (persist : List (List ℕ)) (depth : ℕ) → Fly frames persist depth → (i : ℕ) (frame : Frame) → slice_get frames i ≡ Some frame → (held : List (Option (List ℕ))) → IsHeld frames persist ((i / depth) * depth) held → (bytes : ℕ → List ℕ) → AreMeant (numbered (window_at frames persist depth held (i / depth))) bytes → AreMeant (alone frames persist i frame) (λ k. bytes (export_place frames depth i k))
 export_alone frames persist depth F i frame at held H bytes read = λ k unit is.
     let w = i / depth in
     let here : slice_get frames (w * depth + i % depth) ≡ Some frame = ap (slice_get frames) (split frames depth i frame at F.deep) ∙ at in

@@ -1,5 +1,5 @@
 -- What the code makes is the window of the laws.
-use Rattle.std.proofs.Common.{◌≡◌, ℕ, suc, ◌<◌, ◌++◌, List, [], ◌∷◌, length, map, get_or, not, Bool, true, false, Option, Some, None, refl, sym, ap, ap₂, ◌∙◌, arith}
+use Rattle.std.proofs.Common.{◌≡◌, ℕ, suc, ◌<◌, ◌++◌, List, [], ◌∷◌, length, map, get_or, Bool, true, false, Option, Some, None, refl, sym, ap, ap₂, ◌∙◌, arith}
 use Rattle.std.specs.List.{list_any}
 use Rattle.std.specs.Str.{bytes_eq}
 use Rattle.std.proofs.lemmas.List.{length-map}
@@ -95,9 +95,6 @@ last_many persist i left [] same = same
 last_many persist i left (f ∷ frames) same = last_many persist (suc i) (left_after i (holders_of persist f) left) frames (still persist i f left same)
 
 -- OTHER EXPORTS
-
-abbrev is_new : List Spot → List ℕ → Bool
-is_new own name = not (list_any (λ spot. bytes_eq name spot.name) own)
 
 others_same : (own : List Spot) (left : List (Option (List ℕ))) → named_others own (names_left left) ≡ others_by own left
 others_same own [] = refl

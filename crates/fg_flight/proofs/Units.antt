@@ -232,10 +232,6 @@ then_others persist frames name unit start result last own starts gives =
 
 -- A NAME HAS A PLACE EXACTLY WHERE A FRAME HAS THE NAME
 
-some_or : {X : Type 0} (a b : Option X) → is_some (option_or a b) ≡ (is_some a || is_some b)
-some_or None b = refl
-some_or (Some x) b = refl
-
 last_there : (name : List ℕ) (n : ℕ) (unit : Option ℕ) (frames : List Frame) → is_some (last_unit n name unit frames) ≡ (is_some unit || list_any (has_name name) frames)
 last_there name n None [] = refl
 last_there name n (Some unit) [] = refl

@@ -6,7 +6,7 @@ use Rattle.fg_flight.specs.Exported.{export_place, hold_place}
 use Rattle.fg_flight.specs.Flights.{AreHeld, all_declared, held_bytes, window_at, window_count}
 use Rattle.fg_frame.specs.Numbered.{NumberedFrame, numbered}
 use Rattle.fg_frame.specs.declared.frame.Frame.{Frame}
-use Rattle.fg_meaning.specs.Meaning.{meaning}
+use Rattle.fg_meaning.specs.Meaning.{AreMeant}
 use Rattle.fg_named.specs.Declared.{declared_in, flown_of, holder_in}
 use Rattle.fg_window.specs.Flown.{Flown, holding}
 use Rattle.fg_window.specs.Held.{held_after}
@@ -39,10 +39,6 @@ pub record IsHeld (frames : List Frame) (persist : List (List ℕ)) (i : ℕ) (h
 
 -- WINDOW AFTER WINDOW
 
--- export k of a frame has the bytes of k, and these are what it means
-abbrev pub AreRead : NumberedFrame → (ℕ → List ℕ) → Type 0
-AreRead frame bytes = (k unit : ℕ) → slice_get frame.exports k ≡ Some unit → meaning frame unit ≡ Some (bytes k)
-
 -- what is read at a place; what was held, where there is none
 abbrev pub held_one : (ℕ → List ℕ) → Option ℕ → Option (List ℕ) → Option (List ℕ)
 held_one bytes None old = old
@@ -57,9 +53,9 @@ held_next places bytes k (old ∷ held) = held_one bytes (places k) old ∷ held
 -- at their places is held before the next.
 pub record RunInTurn (frames : List Frame) (persist : List (List ℕ)) (depth : ℕ) (held : ℕ → List (Option (List ℕ))) (bytes : ℕ → ℕ → List ℕ) : Type 0 where
   pub first : held 0 ≡ first_bytes frames persist
-  pub read : (w : ℕ) → w < window_count depth frames → AreRead (numbered (window_at frames persist depth (held w) w)) (bytes w)
+  pub read : (w : ℕ) → w < window_count depth frames → AreMeant (numbered (window_at frames persist depth (held w) w)) (bytes w)
   pub next : (w : ℕ) → w < window_count depth frames → held (suc w) ≡ held_next (hold_place frames persist depth w) (bytes w) 0 (held w)
 
 -- Each export of each frame has, at its place in its window, what it means in the frame alone.
 abbrev pub AreAlone : List Frame → List (List ℕ) → ℕ → (ℕ → ℕ → List ℕ) → Type 0
-AreAlone frames persist depth bytes = (i : ℕ) (frame : Frame) → slice_get frames i ≡ Some frame → AreRead (alone frames persist i frame) (λ k. bytes (i / depth) (export_place frames depth i k))
+AreAlone frames persist depth bytes = (i : ℕ) (frame : Frame) → slice_get frames i ≡ Some frame → AreMeant (alone frames persist i frame) (λ k. bytes (i / depth) (export_place frames depth i k))

@@ -4,7 +4,7 @@ use Rattle.std.specs.Prelude.{◌/◌, ◌⊎◌, IfOk, IsErrAnd, Result, Ok, Er
 use Rattle.std.specs.List.{flat_map}
 use Rattle.std.proofs.lemmas.Option.{slice_get-get_or}
 use Rattle.fg_base.specs.declared.event.Event.{Event}
-use Rattle.fg_flight.specs.Alone.{AreRead, IsHeld, alone, held_next}
+use Rattle.fg_flight.specs.Alone.{IsHeld, alone, held_next}
 use Rattle.fg_flight.specs.Exported.{export_place, hold_place}
 use Rattle.fg_flight.specs.Flight.{Flight}
 use Rattle.fg_flight.specs.Flights.{AreHeld, window_at, window_count}
@@ -17,7 +17,7 @@ use Rattle.fg_fly.specs.declared.flying.Flying.{Flying}
 use Rattle.fg_fly.specs.declared.outcome.Outcome.TheVariants.{Flown}
 use Rattle.fg_frame.specs.Numbered.{NumberedFrame, numbered}
 use Rattle.fg_frame.specs.declared.frame.Frame.{Frame}
-use Rattle.fg_meaning.specs.Meaning.{meaning}
+use Rattle.fg_meaning.specs.Meaning.{AreMeant, meaning}
 use Rattle.fg_run.specs.FrameRuns.{RunsOn}
 use Rattle.fg_run.specs.Runs.{read_by}
 use Rattle.fg_steps.specs.Devices.{Device}
@@ -25,11 +25,11 @@ use Rattle.fg_subs.specs.declared.program.Program.{Program}
 
 -- what laws of flights say of exports
 abbrev pub ExportsAlone : Flight → Type 0
-ExportsAlone F = (i : ℕ) (frame : Frame) → slice_get F.frames i ≡ Some frame → (held : List (Option (List ℕ))) → IsHeld F.frames F.persist ((i / F.depth) * F.depth) held → (bytes : ℕ → List ℕ) → AreRead (numbered (window_at F.frames F.persist F.depth held (i / F.depth))) bytes → AreRead (alone F.frames F.persist i frame) (λ k. bytes (export_place F.frames F.depth i k))
+ExportsAlone F = (i : ℕ) (frame : Frame) → slice_get F.frames i ≡ Some frame → (held : List (Option (List ℕ))) → IsHeld F.frames F.persist ((i / F.depth) * F.depth) held → (bytes : ℕ → List ℕ) → AreMeant (numbered (window_at F.frames F.persist F.depth held (i / F.depth))) bytes → AreMeant (alone F.frames F.persist i frame) (λ k. bytes (export_place F.frames F.depth i k))
 
 -- and of what is held before the next window
 abbrev pub HoldsNext : Flight → Type 0
-HoldsNext F = (w : ℕ) → w < window_count F.depth F.frames → (held : List (Option (List ℕ))) → IsHeld F.frames F.persist (w * F.depth) held → (bytes : ℕ → List ℕ) → AreRead (numbered (window_at F.frames F.persist F.depth held w)) bytes → IsHeld F.frames F.persist (suc w * F.depth) (held_next (hold_place F.frames F.persist F.depth w) bytes 0 held)
+HoldsNext F = (w : ℕ) → w < window_count F.depth F.frames → (held : List (Option (List ℕ))) → IsHeld F.frames F.persist (w * F.depth) held → (bytes : ℕ → List ℕ) → AreMeant (numbered (window_at F.frames F.persist F.depth held w)) bytes → IsHeld F.frames F.persist (suc w * F.depth) (held_next (hold_place F.frames F.persist F.depth w) bytes 0 held)
 
 -- what an export means alone is printed
 printed_alone : (frames : List Frame) (persist : List (List ℕ)) (i : ℕ) (frame : Frame) (k : ℕ) (bytes : List ℕ) → meaning (alone frames persist i frame) (get_or (alone frames persist i frame).exports k 0) ≡ Some bytes → bytes_alone frames persist i frame k ≡ bytes
@@ -46,7 +46,7 @@ module _ (tend : Option ℕ) (F : Flight) (w : ℕ) (device : Device) where
           let lone : NumberedFrame = alone F.frames F.persist i frame in
           let unit : ℕ = get_or lone.exports k 0 in
           let begins : IsHeld F.frames F.persist ((i / F.depth) * F.depth) held = subst (λ v. IsHeld F.frames F.persist (v * F.depth) held) (sym e) before in
-          let read : AreRead (numbered (window_at F.frames F.persist F.depth held (i / F.depth))) (read_by device) = subst (λ v. AreRead (numbered (window_at F.frames F.persist F.depth held v)) (read_by device)) (sym e) run.meant in
+          let read : AreMeant (numbered (window_at F.frames F.persist F.depth held (i / F.depth))) (read_by device) = subst (λ v. AreMeant (numbered (window_at F.frames F.persist F.depth held v)) (read_by device)) (sym e) run.meant in
           let means : meaning lone unit ≡ Some (read_by device (export_place F.frames F.depth i k)) = laws i frame at held begins (read_by device) read k unit (slice_get-get_or lone.exports k 0 lt) in
           printed_alone F.frames F.persist i frame k (read_by device (export_place F.frames F.depth i k)) means
 

@@ -77,7 +77,7 @@ found_in groups O u I =
     let w = I.within in
     (omega (arith, at, w), subst (λ g. Contains (slice_index_or groups g []) u) (sym at) (I.entry, I.there, I.is))
 
-filter_at : {X : Type 0} (p : X → Bool) (xs : List X) (u : X) (k : ℕ) → k < length xs → slice_index_or xs k u ≡ u → p u ≡ true → Contains (filter p xs) u
+pub filter_at : {X : Type 0} (p : X → Bool) (xs : List X) (u : X) (k : ℕ) → k < length xs → slice_index_or xs k u ≡ u → p u ≡ true → Contains (filter p xs) u
 filter_at p [] u k lt e h = absurd (omega (arith, lt))
 filter_at p (x ∷ xs) u zero lt e h = subst (λ b. Contains (if b then x ∷ filter p xs else filter p xs) u) (sym (subst (λ y. p y ≡ true) (sym e) h)) (0, omega arith, e)
 filter_at p (x ∷ xs) u (suc k) lt e h = more (p x) (filter_at p xs u k (omega (arith, lt)) e h)

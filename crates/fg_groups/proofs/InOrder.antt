@@ -97,7 +97,7 @@ once unit shapes units c q k named (touch ∷ touches) =
 
 -- USES OF ALL COMMANDS
 
-late : (shapes : List Shape) (units c : ℕ) (commands : List Command) → All (λ u. c ≤ u.command) (uses_of shapes units c commands)
+pub late : (shapes : List Shape) (units c : ℕ) (commands : List Command) → All (λ u. c ≤ u.command) (uses_of shapes units c commands)
 late shapes units c [] = All-nil (λ u. c ≤ u.command)
 late shapes units c (command ∷ commands) =
     All-append (λ u. c ≤ u.command) (command_uses shapes units c command) (uses_of shapes units (suc c) commands)

@@ -24,11 +24,11 @@ and_right : (a b : Bool) → (a && b) ≡ true → b ≡ true
 and_right true b e = e
 and_right false b e = absurd cc
 
-or_right : (a b c : Bool) → (b ≡ true → c ≡ true) → (a || b) ≡ true → (a || c) ≡ true
+pub or_right : (a b c : Bool) → (b ≡ true → c ≡ true) → (a || b) ≡ true → (a || c) ≡ true
 or_right true b c so e = refl
 or_right false b c so e = so e
 
-further : (a b : Bool) → b ≡ true → (a || b) ≡ true
+pub further : (a b : Bool) → b ≡ true → (a || b) ≡ true
 further true b e = refl
 further false b e = e
 
@@ -52,7 +52,7 @@ renewed frame before pass unit good e =
     let whole = subst (λ w. w.fresh ≡ true → starts_whole (shapes_in frame) pass.ops w.what ≡ true) write.3 (good.new_whole write.0 write.1 write.2) in
     whole_stores (shapes_in frame) unit pass.ops (subst (λ u. starts_whole (shapes_in frame) pass.ops u ≡ true) same (whole fresh))
 
-all_renewed : (frame : NumberedFrame) → IsGood frame → (unit : ℕ) → list_any (renews unit) frame.passes ≡ true → list_any (stores_to unit) frame.passes ≡ true
+pub all_renewed : (frame : NumberedFrame) → IsGood frame → (unit : ℕ) → list_any (renews unit) frame.passes ≡ true → list_any (stores_to unit) frame.passes ≡ true
 all_renewed frame good unit e =
     let pass = Any-from_list_any (renews unit) frame.passes e in
     let here = subst (λ p. IsGoodPass frame (take pass.0 frame.passes) p) pass.3 (good.passes_good pass.0 pass.1 pass.2) in

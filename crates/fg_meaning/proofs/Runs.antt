@@ -6,6 +6,7 @@ use Rattle.std.proofs.lemmas.List.{length-set, length-append, get_or-set_same, g
 use Rattle.std.proofs.Math.Seq.{get_or-append_seam, take-append_seam}
 use Rattle.std.proofs.lemmas.List.Elements.{All-head, All-tail}
 use Rattle.std.proofs.lemmas.List.Folds.{list_any_at}
+use Rattle.fg_base.proofs.Lists.{map_same}
 use Rattle.fg_base.proofs.Operands.{sources_mapped, destination_mapped}
 use Rattle.fg_base.specs.Applied.{applied, bytes_at, after_op}
 use Rattle.fg_base.specs.InPlace.{in_place}
@@ -45,10 +46,6 @@ module _ (op : Op ℕ) where
 -- the bytes of a unit, when another has these
 elsewhere : (bytes : List (List ℕ)) (dst unit : ℕ) (put : List ℕ) → unit ≢ dst → bytes_at (slice_set bytes dst put) unit ≡ bytes_at bytes unit
 elsewhere bytes dst unit put other = get_or-set_other bytes dst unit put [] other
-
-pub map_same : {X Y : Type 0} (f g : X → Y) (xs : List X) → All (λ x. f x ≡ g x) xs → map f xs ≡ map g xs
-map_same f g [] same = refl
-map_same f g (x ∷ xs) same = ap₂ (λ y ys. y ∷ ys) (All-head (λ x. f x ≡ g x) x xs same) (map_same f g xs (All-tail (λ x. f x ≡ g x) x xs same))
 
 pub same_sources : (bytes : List (List ℕ)) (op : Op ℕ) (put : List ℕ) → in_place op ≡ false → map (bytes_at (slice_set bytes (destination_of op) put)) (sources_of op) ≡ map (bytes_at bytes) (sources_of op)
 same_sources bytes op put none = map_same (bytes_at (slice_set bytes (destination_of op) put)) (bytes_at bytes) (sources_of op) (λ k d lt. elsewhere bytes (destination_of op) (get_or (sources_of op) k d) put (apart op none k d lt))

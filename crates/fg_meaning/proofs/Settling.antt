@@ -7,6 +7,7 @@ use Rattle.std.proofs.lemmas.List.{length-map, length-set, length-replicate, get
 use Rattle.std.proofs.lemmas.List.Elements.{All-cons, All-head, All-tail}
 use Rattle.std.proofs.lemmas.List.Folds.{list_any_at}
 use Rattle.std.proofs.lemmas.Option.{get_or_from_slice_get}
+use Rattle.fg_base.proofs.Lists.{map_same}
 use Rattle.fg_base.specs.Applied.{applied, bytes_at, after_op}
 use Rattle.fg_base.specs.Bounds.{size_allowed}
 use Rattle.fg_base.specs.Operands.{sources_of, destination_of, operands_of, touches}
@@ -18,7 +19,7 @@ use Rattle.fg_frame.specs.Units.{Unit}
 use Rattle.fg_meaning.proofs.Exported.{and_left, exported}
 use Rattle.fg_meaning.proofs.Lists.{item_first}
 use Rattle.fg_meaning.proofs.Remaining.{as_ops}
-use Rattle.fg_meaning.proofs.Runs.{at_destination, at_sources, map_same, still_sized}
+use Rattle.fg_meaning.proofs.Runs.{at_destination, at_sources, still_sized}
 use Rattle.fg_meaning.proofs.Steps.{are_sized}
 use Rattle.fg_meaning.specs.Code.Held.{IsAt, Stands, all_ops, all_released, all_settled, first_at, is_wanted, released, settled}
 use Rattle.fg_meaning.specs.Meaning.{first_bytes, all_bytes, has_picture, meaning}

@@ -1,5 +1,5 @@
 -- What a frame means: all operations of all passes one after another, each unit having bytes of its own.
-use Rattle.std.specs.Prelude.{ℕ, List, [], ◌∷◌, ◌==◌, ◌||◌, map, replicate, Bool, Option, Some, None, unwrap_or, if◌then◌else◌}
+use Rattle.std.specs.Prelude.{◌≡◌, ℕ, List, [], ◌∷◌, ◌==◌, ◌||◌, map, replicate, Bool, Option, Some, None, slice_get, unwrap_or, if◌then◌else◌}
 use Rattle.std.specs.List.{list_any}
 use Rattle.fg_base.specs.Applied.{bytes_at, after_op}
 use Rattle.fg_base.specs.Operands.{destination_of}
@@ -39,3 +39,7 @@ has_picture frame unit = is_import frame.units unit || list_any (stores_to unit)
 -- the bytes of a unit after all passes; none where it is no import and no operation stores to it
 abbrev pub meaning : NumberedFrame → ℕ → Option (List ℕ)
 meaning frame unit = if has_picture frame unit then Some (bytes_at (all_bytes frame) unit) else None
+
+-- export k of the frame has the bytes of k, and these are what its unit means
+abbrev pub AreMeant : NumberedFrame → (ℕ → List ℕ) → Type 0
+AreMeant frame bytes = (k unit : ℕ) → slice_get frame.exports k ≡ Some unit → meaning frame unit ≡ Some (bytes k)

@@ -13,6 +13,7 @@ use Rattle.fg_frame.specs.declared.numbered.Stretch.{Stretch}
 use Rattle.fg_named.proofs.OwnNames.{own_at, own_count, own_names}
 use Rattle.fg_named.proofs.Stretches.{moved_stretch, stretch_count}
 use Rattle.fg_named.specs.Names.{numbered_name, rename_in}
+use Rattle.fg_window.proofs.Means.{got_front, got_back}
 use Rattle.fg_window.proofs.Moves.{at_middle}
 
 -- LOOK-UPS
@@ -21,15 +22,6 @@ got_inside : {X : Type 0} (xs : List X) (j : ℕ) (x : X) → slice_get xs j ≡
 got_inside [] j x e = absurd cc
 got_inside (y ∷ xs) zero x e = omega arith
 got_inside (y ∷ xs) (suc j) x e = let lt : j < length xs = got_inside xs j x e in omega arith
-
-got_after : {X : Type 0} (before xs : List X) (j : ℕ) → slice_get (before ++ xs) (length before + j) ≡ slice_get xs j
-got_after [] xs j = let e : 0 + j ≡ j = omega arith in ap (slice_get xs) e
-got_after (y ∷ before) xs j = let e : suc (length before) + j ≡ suc (length before + j) = omega arith in ap (slice_get (y ∷ (before ++ xs))) e ∙ got_after before xs j
-
-got_first : {X : Type 0} (xs after : List X) (j : ℕ) (x : X) → slice_get xs j ≡ Some x → slice_get (xs ++ after) j ≡ Some x
-got_first [] after j x e = absurd cc
-got_first (y ∷ xs) after zero x e = e
-got_first (y ∷ xs) after (suc j) x e = got_first xs after j x e
 
 got_mapped : {X Y : Type 0} (f : X → Y) (xs : List X) (j : ℕ) (x : X) → slice_get xs j ≡ Some x → slice_get (map f xs) j ≡ Some (f x)
 got_mapped f [] j x e = absurd cc
@@ -68,7 +60,7 @@ own_stands W i n rs S k s got =
     let size : length W.names ≡ length S.names-before + (length own + length S.names-after) = ap length S.names ∙ length-append S.names-before (own ++ S.names-after) ∙ ap (λ m. length S.names-before + m) (length-append own S.names-after) in
     let at_place : position (bytes_eq (numbered_name i k)) W.names ≡ Some place = ap (λ x. position (bytes_eq x) W.names) (sym here) ∙ found_by W.names S.once place (omega arith) in
     let stands : slice_get W.stretches place ≡ Some (moved_stretch n s) =
-    ap₂ slice_get S.stretches_are (ap (λ m. m + k) S.same) ∙ got_after S.before (map (moved_stretch n) (stretches 0 rs) ++ S.after) k ∙ got_first (map (moved_stretch n) (stretches 0 rs)) S.after k (moved_stretch n s) (got_mapped (moved_stretch n) (stretches 0 rs) k s got) in
+    ap₂ slice_get S.stretches_are (ap (λ m. m + k) S.same) ∙ got_back S.before (map (moved_stretch n) (stretches 0 rs) ++ S.after) k ∙ got_front (map (moved_stretch n) (stretches 0 rs)) S.after k (moved_stretch n s) (got_mapped (moved_stretch n) (stretches 0 rs) k s got) in
     ap (option_and_then (slice_get W.stretches)) at_place ∙ stands
 
 -- what a name of the frame finds, its new name finds in the window, n units further on

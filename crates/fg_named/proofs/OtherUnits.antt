@@ -12,7 +12,7 @@ use Rattle.std.proofs.lemmas.List.Quantifiers.{position-Some}
 use Rattle.std.proofs.lemmas.Slice.Eq.{bytes_eq-Decides}
 use Rattle.fg_base.proofs.Booleans.{clash}
 use Rattle.fg_frame.proofs.Once.{one_after}
-use Rattle.fg_frame.specs.Units.{Numbering, layer_unit, no_units, numbering, span_in, stretch_of, stretches, unit_of, units_in, units_of}
+use Rattle.fg_frame.specs.Units.{Numbering, layer_unit, no_units, numbering, span_in, stretch_of, unit_of, units_in, units_of}
 use Rattle.fg_frame.specs.Unknowns.{has_layer, is_known}
 use Rattle.fg_frame.specs.declared.frame.Frame.{Frame}
 use Rattle.fg_frame.specs.declared.frame.Spot.{Spot}

@@ -9,6 +9,7 @@ use Rattle.std.proofs.lemmas.List.Kept.{AllPairs-cons, AllPairs-filter}
 use Rattle.std.proofs.lemmas.Option.{get_or_from_slice_get, slice_get_within}
 use Rattle.fg_base.specs.declared.shape.Shape.{Shape}
 use Rattle.fg_base.specs.declared.touch.Touch.{Touch}
+use Rattle.fg_groups.proofs.InOrder.{late}
 use Rattle.fg_groups.specs.Laws.{IsFound, IsGrouped}
 use Rattle.fg_groups.specs.Needs.{group_of, uses_in, uses_at, use_at}
 use Rattle.fg_groups.specs.Uses.{is_first_named, use_of, uses_from, command_uses, uses_of}
@@ -93,20 +94,13 @@ module _ (shapes : List Shape) (units c q : ℕ) where
 
 -- USES OF ALL COMMANDS
 
-later : (shapes : List Shape) (units c : ℕ) (commands : List Command) → All (λ u. c ≤ u.command) (uses_of shapes units c commands)
-later shapes units c [] = All-nil (λ u. c ≤ u.command)
-later shapes units c (command ∷ commands) =
-    All-append (λ u. c ≤ u.command) (command_uses shapes units c command) (uses_of shapes units (suc c) commands)
-    (All-weaker (λ (u : Use). u.command ≡ c) (λ u. c ≤ u.command) (λ u e. omega (arith, e)) (command_uses shapes units c command) (of_command shapes units c command.queue 0 [] _))
-    (All-weaker (λ (u : Use). suc c ≤ u.command) (λ u. c ≤ u.command) (λ u e. omega (arith, e)) (uses_of shapes units (suc c) commands) (later shapes units (suc c) commands))
-
 unlike : (shapes : List Shape) (units c : ℕ) (commands : List Command) → AllPairs Unlike (uses_of shapes units c commands)
 unlike shapes units c [] = pairs_nil Unlike
 unlike shapes units c (command ∷ commands) =
     pairs_join Unlike (command_uses shapes units c command) (uses_of shapes units (suc c) commands)
     (λ i j d lt within same. apart shapes units c command.queue 0 [] _ i j d lt within)
     (unlike shapes units (suc c) commands)
-    (All-weaker (λ (u : Use). u.command ≡ c) (λ u. All (Unlike u) (uses_of shapes units (suc c) commands)) (λ u e. All-weaker (λ (v : Use). suc c ≤ v.command) (Unlike u) (λ v le same unit. omega (arith, e, le, same)) (uses_of shapes units (suc c) commands) (later shapes units (suc c) commands)) (command_uses shapes units c command) (of_command shapes units c command.queue 0 [] _))
+    (All-weaker (λ (u : Use). u.command ≡ c) (λ u. All (Unlike u) (uses_of shapes units (suc c) commands)) (λ u e. All-weaker (λ (v : Use). suc c ≤ v.command) (Unlike u) (λ v le same unit. omega (arith, e, le, same)) (uses_of shapes units (suc c) commands) (late shapes units (suc c) commands)) (command_uses shapes units c command) (of_command shapes units c command.queue 0 [] _))
 
 -- GROUPS OF A COMMAND
 

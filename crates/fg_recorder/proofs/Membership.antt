@@ -38,7 +38,7 @@ pub record IsUsed (G : Grouping) (c g : ℕ) : Type 0 where
   pub command : one.command ≡ c
 
 -- a use of a command is one of all uses
-among_uses : (shapes : List Shape) (units c : ℕ) (commands : List Command) (place : ℕ) (command : Command) (u : Use) → slice_get commands place ≡ Some command → Contains (command_uses shapes units (c + place) command) u → Contains (uses_of shapes units c commands) u
+pub among_uses : (shapes : List Shape) (units c : ℕ) (commands : List Command) (place : ℕ) (command : Command) (u : Use) → slice_get commands place ≡ Some command → Contains (command_uses shapes units (c + place) command) u → Contains (uses_of shapes units c commands) u
 among_uses shapes units c [] place command u e h = absurd cc
 among_uses shapes units c (x ∷ commands) zero command u e h =
     let here : x ≡ command = cc in

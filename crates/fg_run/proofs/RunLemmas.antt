@@ -1,7 +1,6 @@
 -- Devices that have run a program.
 use Rattle.std.proofs.Common.{◌≡◌, ◌<◌, Bool, ◌++◌, ℕ, List, false, length, refl, sym, ap, subst, ◌∙◌, Option, Some, None}
 use Rattle.std.proofs.lemmas.Option.{slice_get_within}
-use Rattle.std.specs.Prelude.{IfOk, Result, Ok, Err}
 use Rattle.fg_checker.specs.Apart.{host_bytes}
 use Rattle.fg_checker.specs.Sound.{IsSound}
 use Rattle.fg_compile.specs.Right.{IsRightFor}
@@ -20,7 +19,7 @@ use Rattle.fg_view.specs.Views.{view_of}
 use Rattle.fg_run.specs.Runs.{HasRun, read_by}
 use Rattle.fg_stages.specs.Compiles.{Compiles}
 use Rattle.fg_run.specs.FrameRuns.{RunsOn}
-use Rattle.fg_stages.specs.Exports.{AreMeant}
+use Rattle.fg_meaning.specs.Meaning.{AreMeant}
 
 pub has_run : (program : Program) (tend : Option ℕ) (d : Device) → ((e : Device) → e.program ≡ program → Runs e) → d.program ≡ program → d.fill ≡ 0 → AllCame d → IsComplete d → moves_in d.history ≡ tended_moves program tend 256 → HasRun program tend d
 has_run program tend d laws is fill came complete moves = record {
@@ -74,7 +73,3 @@ runs_on tend tight frame kept places program d compiles has = record {
   has_run = has;
   meant = meant frame program tend d compiles.right has;
 }
-
-pub if_ok : {X E : Type 0} {P Q : X → Type 0} (r : Result X E) → ((x : X) → P x → Q x) → IfOk r P → IfOk r Q
-if_ok (Ok x) f p = f x p
-if_ok (Err e) f p = tt

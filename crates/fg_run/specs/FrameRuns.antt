@@ -4,7 +4,7 @@ use Rattle.fg_frame.specs.Numbered.{NumberedFrame}
 use Rattle.fg_place.specs.Placing.{Places}
 use Rattle.fg_stages.specs.Compiles.{Compiles}
 use Rattle.fg_run.specs.Runs.{HasRun, read_by}
-use Rattle.fg_stages.specs.Exports.{AreMeant}
+use Rattle.fg_meaning.specs.Meaning.{AreMeant}
 use Rattle.fg_steps.specs.Devices.{Device}
 use Rattle.fg_subs.specs.declared.program.Program.{Program}
 

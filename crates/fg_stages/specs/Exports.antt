@@ -1,8 +1,7 @@
 -- What is printed of exports.
-use Rattle.std.specs.Prelude.{◌≡◌, ℕ, zero, suc, List, [], ◌++◌, length, slice_get, Some}
-use Rattle.fg_frame.specs.Numbered.{NumberedFrame, numbered}
+use Rattle.std.specs.Prelude.{ℕ, zero, suc, List, [], ◌++◌, length}
+use Rattle.fg_frame.specs.Numbered.{numbered}
 use Rattle.fg_frame.specs.declared.frame.Frame.{Frame}
-use Rattle.fg_meaning.specs.Meaning.{meaning}
 use Rattle.fg_report.specs.Exports.{export_text}
 
 -- text 0, text 1 and so on, so many of them
@@ -13,7 +12,3 @@ in_turn text (suc k) = in_turn text k ++ text k
 -- the exports of a frame; export k has the bytes of k
 abbrev pub exports_text : Frame → (ℕ → List ℕ) → List ℕ
 exports_text frame bytes = in_turn (λ k. export_text frame k (bytes k)) (length (numbered frame).exports)
-
--- each export has the bytes that its unit has after all passes, one after another, each unit having bytes of its own
-abbrev pub AreMeant : NumberedFrame → (ℕ → List ℕ) → Type 0
-AreMeant frame bytes = (k unit : ℕ) → slice_get frame.exports k ≡ Some unit → meaning frame unit ≡ Some (bytes k)

@@ -64,11 +64,6 @@ stores_changes (Store agent layout) h = refl
 stores_changes (Transition layouts) h = refl
 stores_changes d h = absurd (false≢true h)
 
-pub change_no_transfer : (d : AccessKind) → changes d ≡ true → transfers d ≡ false
-change_no_transfer (Release handover) h = absurd (false≢true h)
-change_no_transfer (Acquire handover) h = absurd (false≢true h)
-change_no_transfer d h = refl
-
 pub load_no_transfer : (d : AccessKind) → loads d ≡ true → transfers d ≡ false
 load_no_transfer (Release handover) h = absurd (false≢true h)
 load_no_transfer (Acquire handover) h = absurd (false≢true h)

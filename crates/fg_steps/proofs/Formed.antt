@@ -5,8 +5,9 @@ use Rattle.std.specs.Option.{option_map_or}
 use Rattle.std.proofs.lemmas.Bool.{false≢true, cases_lt}
 use Rattle.fg_steps.specs.Ready.{is_command, kind_at}
 use Rattle.fg_steps.specs.Steps.{store_of, agent_count}
-use Rattle.fg_steps.proofs.Cases.{IsNumbered, IsPlain, of_queue_plain, command_is, change_no_transfer}
+use Rattle.fg_steps.proofs.Cases.{IsNumbered, IsPlain, of_queue_plain, command_is}
 use Rattle.fg_hb.specs.Edges.{edge, is_host}
+use Rattle.fg_ties.proofs.Through.{change_plain}
 use Rattle.fg_view.specs.AccessKinds.{changes, sets_owner, is_acquire}
 use Rattle.fg_view.specs.ShapedView.{ShapedView, AccessAt, Has}
 use Rattle.fg_view.specs.Effects.{access}
@@ -71,7 +72,7 @@ module _ (V : View) (F : Formed V) where
   one_change n c d h k a b = go (cases_lt h.0 k.0) (cases_lt k.0 h.0)
     where
       not_after : (i j : ℕ) (x y : Access) → AccessAt V n i x → AccessAt V n j y → changes x.kind ≡ true → changes y.kind ≡ true → i < j → ⊥
-      not_after i j x y p q f g lt = false≢true (sym (change_no_transfer y.kind g) ∙ F.shaped.last n i j x y p q lt f)
+      not_after i j x y p q f g lt = false≢true (sym (change_plain y.kind g) ∙ F.shaped.last n i j x y p q lt f)
 
       go : (h.0 < k.0) ⊎ (k.0 ≤ h.0) → (k.0 < h.0) ⊎ (h.0 ≤ k.0) → c ≡ d
       go (inl lt) r = absurd (not_after h.0 k.0 c d h.1 k.1 a b lt)

@@ -16,11 +16,12 @@ use Rattle.fg_steps.proofs.Formed.{Formed, At, at_first, at_rest, command_plain,
 use Rattle.fg_steps.proofs.Found.{FedBy}
 use Rattle.fg_steps.proofs.Holds.{loaded_of, Agrees, Holds, load_sees, host_sees}
 use Rattle.fg_steps.proofs.Invariant.{is_dirty, Values, Spares, Acyclic, ByteOk, Finishes}
-use Rattle.fg_steps.proofs.Cases.{is_store, not_sync, not_host, sync_not_host, change_no_transfer, loads_not_discard, store_loads_not}
+use Rattle.fg_steps.proofs.Cases.{is_store, not_sync, not_host, sync_not_host, loads_not_discard, store_loads_not}
 use Rattle.fg_steps.proofs.Moves.{drop_ok, fill_ok, flush_ok, written_to, FlushTo}
 use Rattle.fg_steps.proofs.Nodes.{left_clean, store_ok, spare_ok}
 use Rattle.fg_steps.proofs.Shared.{flush_syncs, show_syncs}
 use Rattle.fg_hb.specs.Edges.{is_sync, is_host}
+use Rattle.fg_ties.proofs.Through.{change_plain}
 use Rattle.fg_ties.specs.Tied.{Tied}
 use Rattle.fg_view.specs.AccessKinds.{changes, loads, is_discard}
 use Rattle.fg_view.specs.ShapedView.{Has}
@@ -161,7 +162,7 @@ module _ (V : View) (F : Formed V) (T : Tied V) (A : Acyclic V) (out : ℕ → L
         byte m i (inl at) =
             store_ok V F T A W (done_of s.phase) (done_of (put s.phase n Done)) n m i (λ g. s.line g m i) (s.main m i) N (H.bytes m i) (store_of V n) hd dc at
             (λ g. stored_in (agent_of (store_of V n).kind) (piece_range V (store_of V n).piece) bytes s.line g m i) ds
-            (left_clean V F T A W (done_of s.phase) (done_of (put s.phase n Done)) n m i (λ g. s.line g m i) (s.main m i) N (H.bytes m i) (λ g f. never_flushes n cl g m i f) (store_of V n) hd (change_no_transfer (store_of V n).kind dc) at)
+            (left_clean V F T A W (done_of s.phase) (done_of (put s.phase n Done)) n m i (λ g. s.line g m i) (s.main m i) N (H.bytes m i) (λ g f. never_flushes n cl g m i f) (store_of V n) hd (change_plain (store_of V n).kind dc) at)
             (ap (λ z. if z then Dirty (slice_index bytes (i - (piece_at V (store_of V n).piece).offset)) else s.line (agent_of (store_of V n).kind) m i) (and_from (agent_of (store_of V n).kind == agent_of (store_of V n).kind) (covers V (store_of V n).piece m i) (eq-eqb (agent_of (store_of V n).kind) (agent_of (store_of V n).kind) refl) at) ∙ ap Dirty (stored m i at))
             (λ g ne. ap (λ z. if z then Dirty (slice_index bytes (i - (piece_at V (store_of V n).piece).offset)) else s.line g m i) (and_left (g == agent_of (store_of V n).kind) (covers V (store_of V n).piece m i) (ne_eqb g (agent_of (store_of V n).kind) ne)))
         byte m i (inr off) = subst (λ f. ByteOk V (done_of (put s.phase n Done)) m i W f (s.main m i)) (fun_ext same) spared

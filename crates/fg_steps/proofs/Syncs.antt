@@ -12,10 +12,11 @@ use Rattle.fg_steps.proofs.Formed.{Formed, At, at_first, at_rest, at_cases, at_n
 use Rattle.fg_steps.proofs.Found.{FedBy}
 use Rattle.fg_steps.proofs.Holds.{Agrees, Holds, keep_sees}
 use Rattle.fg_steps.proofs.Invariant.{is_dirty, Values, Acyclic, ByteOk, Finishes, Owned}
-use Rattle.fg_steps.proofs.Cases.{is_store, IsNumbered, sync_not_host, change_no_transfer, barrier_no_store, stores_loads, discard_stores_not, discard_changes}
+use Rattle.fg_steps.proofs.Cases.{is_store, IsNumbered, sync_not_host, barrier_no_store, stores_loads, discard_stores_not, discard_changes}
 use Rattle.fg_steps.proofs.Moves.{flush_ok, flushed_to, cleaned_clean}
 use Rattle.fg_steps.proofs.Nodes.{left_clean, turn_ok, spare_ok, store_numbered}
 use Rattle.fg_hb.specs.Edges.{is_sync, is_host}
+use Rattle.fg_ties.proofs.Through.{change_plain}
 use Rattle.fg_ties.specs.Tied.{Tied}
 use Rattle.fg_view.specs.AccessKinds.{changes, loads, stores, is_discard}
 use Rattle.fg_view.specs.ShapedView.{Has}
@@ -111,7 +112,7 @@ module _ (V : View) (F : Formed V) (T : Tied V) (A : Acyclic V) (out : ℕ → L
       ds = barrier_no_store t.0.kind (F.shaped.sync n hd.0 t.0 hd.1 sl)
 
       none : (g : ℕ) → is_dirty (cleans m i g) ≡ false
-      none = left_clean V F T A W (done_of s.phase) (done_of (put s.phase n Done)) n m i (cleans m i) (main m i) N (B m i) (clean m i) t.0 hd (change_no_transfer t.0.kind dc) at
+      none = left_clean V F T A W (done_of s.phase) (done_of (put s.phase n Done)) n m i (cleans m i) (main m i) N (B m i) (clean m i) t.0 hd (change_plain t.0.kind dc) at
 
       kept : stores t.0.kind ≡ true → (synced V s n junk).main m i ≡ W.byte n m i
       kept k =

@@ -1,6 +1,6 @@
-mod Below
+pub mod Below
 mod Entering
-mod Latest
+pub mod Latest
 mod Placed
 mod Scripts
 mod Walks

@@ -12,12 +12,11 @@ use Rattle.fg_faithful.specs.Laws.{AreAsLong}
 use Rattle.fg_frame.specs.Good.{IsGood, shapes_in}
 use Rattle.fg_frame.specs.Numbered.{NumberedFrame}
 use Rattle.fg_frame.specs.Units.{Unit as FrameUnit}
-use Rattle.fg_meaning.specs.Meaning.{all_bytes, has_picture}
+use Rattle.fg_meaning.specs.Meaning.{AreMeant, all_bytes, has_picture}
 use Rattle.fg_place.specs.Placing.{Places}
 use Rattle.fg_subs.specs.declared.program.Program.{Program}
 use Rattle.fg_top.specs.Code.Totals.{IsTotal}
 use Rattle.fg_top.specs.Summaries.{summary_of, summary_with}
-use Rattle.fg_stages.specs.Exports.{AreMeant}
 use Rattle.fg_top.specs.declared.totals.Total.{Total}
 
 no_unit : FrameUnit

@@ -103,7 +103,7 @@ stage_more a b h stage = go (has a stage.bit) refl
     go false e = none_inside (stage_part b stage)
     go true e = subst (λ t. Inside stage.stands_for (if t then stage.stands_for else 0)) (sym (has_from_inside b stage.bit (inside_then stage.bit a b (inside_from_has a stage.bit e) h))) (inside_self stage.stands_for)
 
-expand_more : (a b : ℕ) → Inside a b → Inside (expand a) (expand b)
+pub expand_more : (a b : ℕ) → Inside a b → Inside (expand a) (expand b)
 expand_more a b h = over_more (stage_part a) (stage_part b) stages (stage_more a b h)
 
 access_more : (a b : ℕ) → Inside a b → (access : Access) → Inside (supported_part a access) (supported_part b access)

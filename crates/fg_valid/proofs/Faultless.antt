@@ -36,6 +36,7 @@ use Rattle.fg_base.specs.Maxima.{max_queues, max_memories, max_pieces, max_nodes
 use Rattle.fg_base.specs.Rooms.{first_over}
 use Rattle.fg_base.specs.Walks.{first_in}
 use Rattle.fg_base.specs.declared.limit.Limit.TheVariants as limits
+use Rattle.fg_frame.proofs.Sufficient.{both_none}
 use Rattle.fg_subs.specs.Entries.{entries_of}
 use Rattle.fg_subs.specs.FirstFault.{rule_broken, form_broken, use_broken, rules_broken, first_broken, first_fault}
 use Rattle.fg_subs.specs.Limits.{over, memory_bytes, all_bytes, rects_over, count_broken, size_broken, limit_broken}
@@ -69,14 +70,11 @@ none_fails test xs all = ap (λ b. if b then Some (position_or_len (λ x. not (t
 mapped_none : {X Y : Type 0} (f : X → Y) (o : Option X) → o ≡ None → option_map f o ≡ None
 mapped_none f o e = ap (option_map f) e
 
-either_none : {X : Type 0} (a b : Option X) → a ≡ None → b ≡ None → option_or a b ≡ None
-either_none a b e f = ap (λ o. option_or o b) e ∙ f
-
 all_none : {X Y : Type 0} (rule : ℕ → X → Option Y) (i : ℕ) (xs : List X) → ((k : ℕ) (x : X) → slice_get xs k ≡ Some x → rule (i + k) x ≡ None) → first_in rule i xs ≡ None
 all_none rule i [] each = refl
 all_none rule i (x ∷ xs) each =
     let z : i + 0 ≡ i = omega arith in
-    either_none (rule i x) (first_in rule (suc i) xs) (subst (λ n. rule n x ≡ None) z (each 0 x refl))
+    both_none (rule i x) (first_in rule (suc i) xs) (subst (λ n. rule n x ≡ None) z (each 0 x refl))
     (all_none rule (suc i) xs (λ k y is. let next : i + suc k ≡ suc i + k = omega arith in subst (λ n. rule n y ≡ None) next (each (suc k) y is)))
 
 from_first : {X Y : Type 0} (rule : ℕ → X → Option Y) (xs : List X) → ((k : ℕ) (x : X) → slice_get xs k ≡ Some x → rule k x ≡ None) → first_in rule 0 xs ≡ None
@@ -96,9 +94,9 @@ batch_none rule program queue q b batch O =
     let waits = position (λ wait. not (wait_obeys rule (length program.queues) queue.family wait)) batch.waits in
     let items = position (λ item. not (item_obeys rule (shapes_of program) queue.family item)) batch.items in
     let signal = signal_place rule queue.family (highest (take b queue.batches)) q b batch.signal in
-    either_none (option_map (λ k. at.Wait q b k) waits) (option_or (option_map (λ k. at.Item q b k) items) signal)
+    both_none (option_map (λ k. at.Wait q b k) waits) (option_or (option_map (λ k. at.Item q b k) items) signal)
     (mapped_none (λ k. at.Wait q b k) waits (none_fails (wait_obeys rule (length program.queues) queue.family) batch.waits O.waits))
-    (either_none (option_map (λ k. at.Item q b k) items) signal
+    (both_none (option_map (λ k. at.Item q b k) items) signal
     (mapped_none (λ k. at.Item q b k) items (none_fails (item_obeys rule (shapes_of program) queue.family) batch.items O.items))
     (signal_none rule queue (highest (take b queue.batches)) q b batch.signal O.signal))
 
@@ -110,9 +108,9 @@ rule_none rule program O =
     let queues = first_in (queue_place rule count shapes) 0 program.queues in
     let readbacks = option_map (λ k. at.Readback k) (position (λ piece. not (readback_obeys rule shapes piece)) program.readbacks) in
     mapped_none (of_rule rule) (broken_at rule program shapes)
-    (either_none pieces (option_or queues readbacks)
+    (both_none pieces (option_or queues readbacks)
     (mapped_none (λ i. at.Piece i) (position (λ piece. not (piece_obeys rule program.memories piece)) program.pieces) (none_fails (piece_obeys rule program.memories) program.pieces O.pieces))
-    (either_none queues readbacks
+    (both_none queues readbacks
     (from_first (queue_place rule count shapes) program.queues (λ q queue is.
     from_first (next_place rule count shapes queue.family q queue.batches) queue.batches (λ b batch there.
     batch_none rule program queue q b batch (O.batches q b queue batch (record { queue_is = is; batch_is = there })))))
@@ -135,21 +133,21 @@ limits_none program small rects =
     let sides = option_map (λ i. over limits.Side (at.Piece i)) (position (λ piece. not (sides_allowed piece.shape)) program.pieces) in
     let sizes = option_map (λ i. over limits.Size (at.Piece i)) (position (λ piece. not (size_allowed piece.shape)) program.pieces) in
     let bytes = option_map (λ i. over limits.Total (at.Memory i)) (first_over memory_bytes max_memory_bytes program.memories) in
-    either_none (count_broken program) (size_broken program)
-    (either_none queues (option_or memories (option_or pieces (option_or nodes (option_or drawn readbacks))))
+    both_none (count_broken program) (size_broken program)
+    (both_none queues (option_or memories (option_or pieces (option_or nodes (option_or drawn readbacks))))
     (has (is_between 1 max_queues (length program.queues)) (over limits.Queues at.Queues) (and_from (nat_le 1 (length program.queues)) (nat_le (length program.queues) max_queues) (le-leb 1 (length program.queues) small.some_queue) (le-leb (length program.queues) max_queues small.queues)))
-    (either_none memories (option_or pieces (option_or nodes (option_or drawn readbacks)))
+    (both_none memories (option_or pieces (option_or nodes (option_or drawn readbacks)))
     (has (nat_le (length program.memories) max_memories) (over limits.Memories at.Memories) (le-leb (length program.memories) max_memories small.memories))
-    (either_none pieces (option_or nodes (option_or drawn readbacks))
+    (both_none pieces (option_or nodes (option_or drawn readbacks))
     (has (nat_le (length program.pieces) max_pieces) (over limits.Pieces at.Pieces) (le-leb (length program.pieces) max_pieces small.pieces))
-    (either_none nodes (option_or drawn readbacks)
+    (both_none nodes (option_or drawn readbacks)
     (has (nat_le (length (entries_of program)) max_nodes) (over limits.Nodes at.Whole) (le-leb (length (entries_of program)) max_nodes small.entries))
-    (either_none drawn readbacks
+    (both_none drawn readbacks
     (mapped_none (over limits.Rects) (rects_over program.queues) rects)
     (has (nat_le (length program.readbacks) max_readbacks) (over limits.Readbacks at.Readbacks) (le-leb (length program.readbacks) max_readbacks small.readbacks)))))))
-    (either_none sides (option_or sizes bytes)
+    (both_none sides (option_or sizes bytes)
     (mapped_none (λ i. over limits.Side (at.Piece i)) (position (λ piece. not (sides_allowed piece.shape)) program.pieces) (none_fails (λ (piece : Piece). sides_allowed piece.shape) program.pieces small.sides))
-    (either_none sizes bytes
+    (both_none sizes bytes
     (mapped_none (λ i. over limits.Size (at.Piece i)) (position (λ piece. not (size_allowed piece.shape)) program.pieces) (none_fails (λ (piece : Piece). size_allowed piece.shape) program.pieces small.sizes))
     (mapped_none (λ i. over limits.Total (at.Memory i)) (first_over memory_bytes max_memory_bytes program.memories) (never_over memory_bytes program.memories max_memory_bytes (let same = bytes_sum program.memories in let few = small.bytes in omega (arith, same, few))))))
 
@@ -161,16 +159,16 @@ faultless program small rects obeys =
     let by = λ (rule : Rule). rule_broken rule program shapes in
     let none = λ (rule : Rule). rule_none rule program (obeys rule) in
     mapped_none told (first_broken program)
-    (either_none (limit_broken program) (rules_broken program shapes)
+    (both_none (limit_broken program) (rules_broken program shapes)
     (limits_none program small rects)
-    (either_none (form_broken program shapes) (use_broken program shapes)
-    (either_none (by rules.Range) (option_or (by rules.Known) (option_or (by rules.Stages) (by rules.Ignored)))
+    (both_none (form_broken program shapes) (use_broken program shapes)
+    (both_none (by rules.Range) (option_or (by rules.Known) (option_or (by rules.Stages) (by rules.Ignored)))
     (none rules.Range)
-    (either_none (by rules.Known) (option_or (by rules.Stages) (by rules.Ignored))
+    (both_none (by rules.Known) (option_or (by rules.Stages) (by rules.Ignored))
     (none rules.Known)
-    (either_none (by rules.Stages) (by rules.Ignored) (none rules.Stages) (none rules.Ignored))))
-    (either_none (by rules.Supported) (option_or (by rules.OnQueue) (option_or (by rules.Runs) (by rules.Timeline)))
+    (both_none (by rules.Stages) (by rules.Ignored) (none rules.Stages) (none rules.Ignored))))
+    (both_none (by rules.Supported) (option_or (by rules.OnQueue) (option_or (by rules.Runs) (by rules.Timeline)))
     (none rules.Supported)
-    (either_none (by rules.OnQueue) (option_or (by rules.Runs) (by rules.Timeline))
+    (both_none (by rules.OnQueue) (option_or (by rules.Runs) (by rules.Timeline))
     (none rules.OnQueue)
-    (either_none (by rules.Runs) (by rules.Timeline) (none rules.Runs) (none rules.Timeline))))))
+    (both_none (by rules.Runs) (by rules.Timeline) (none rules.Runs) (none rules.Timeline))))))

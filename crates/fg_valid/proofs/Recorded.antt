@@ -68,7 +68,7 @@ transfer_at false s false false true e = absurd cc
 transfer_at false s false true false e = absurd cc
 transfer_at false s false true true e = absurd cc
 
-is_transfer_kind : (kind : TurnKind) → is_transfer kind ≡ true → kind ≡ Transfer
+pub is_transfer_kind : (kind : TurnKind) → is_transfer kind ≡ true → kind ≡ Transfer
 is_transfer_kind Nothing e = absurd cc
 is_transfer_kind Barrier e = absurd cc
 is_transfer_kind Transfer e = refl

@@ -35,7 +35,7 @@ abbrev pub MarkedObeys : Grouping → List Shape → Marked → Type 0
 MarkedObeys G shapes (Does q mark it) = ObeysAll shapes (family_of G.families q) it
 MarkedObeys G shapes (Needs q mark) = Unit {0}
 
-some_from : (A : List Use) → has_uses A ≡ true → 0 < length A
+pub some_from : (A : List Use) → has_uses A ≡ true → 0 < length A
 some_from [] e = absurd (clash e)
 some_from (u ∷ A) e = omega arith
 

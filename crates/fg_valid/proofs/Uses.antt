@@ -74,7 +74,7 @@ role-accesses StorageWrite whole = refl
 role-accesses (Attachment true) whole = refl
 role-accesses (Attachment false) whole = refl
 
-role-layout : (role : Role) → is_undefined (role_layout role) ≡ false
+pub role-layout : (role : Role) → is_undefined (role_layout role) ≡ false
 role-layout CopyRead = refl
 role-layout CopyWrite = refl
 role-layout ClearWrite = refl

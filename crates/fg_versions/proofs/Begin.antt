@@ -33,9 +33,6 @@ pub counted-length : (rows : List (List ℕ)) (refs : List ℕ) → length (coun
 counted-length [] refs = refl
 counted-length (row ∷ rows) refs = counted-length rows (raised row refs) ∙ raised-length row refs
 
-AllWithin : ℕ → List (List ℕ) → Type 0
-AllWithin n rows = (q : ℕ) (d : List ℕ) → q < length rows → All (λ w. w < n) (get_or rows q d)
-
 counted-count : (rows : List (List ℕ)) (refs : List ℕ) (w : ℕ) → ((q : ℕ) (d : List ℕ) → q < length rows → All (λ x. x < length refs) (get_or rows q d)) → count_of (counted rows refs) w ≡ count_of refs w + sum_by (times w) rows
 counted-count [] refs w within = omega arith
 counted-count (row ∷ rows) refs w within =

@@ -6,6 +6,7 @@ use Rattle.std.proofs.lemmas.List.{append-nil, ext_get_or, length-set, get_or-se
 use Rattle.std.proofs.lemmas.Option.{slice_get-get_or}
 use Rattle.std.proofs.lemmas.List.Elements.{All-same, All-push, All-head, All-tail, All-cons, All-append}
 use Rattle.std.proofs.lemmas.List.FromFn.{length-map-range_with_len, get_or-map-range_with_len, map-range_with_len_more}
+use Rattle.fg_base.proofs.Lists.{map_same}
 use Rattle.fg_frame.specs.Good.{is_import}
 use Rattle.fg_frame.specs.Numbered.{NumberedFrame}
 use Rattle.fg_frame.specs.Units.{Unit}
@@ -15,10 +16,6 @@ use Rattle.fg_versions.specs.Code.Rows.{grown, added, added_numbers}
 use Rattle.fg_versions.specs.Versions.{row_of, made_by, made, imported, versions, latest, latest_maker, no_pass, pass_at, read_by, numbers_after, written_by, changes, used, sources, Numbers, numbers_until}
 
 -- LISTS
-
-pub map_same : {X Y : Type 0} (f g : X → Y) (xs : List X) → All (λ x. f x ≡ g x) xs → map f xs ≡ map g xs
-map_same f g [] same = refl
-map_same f g (x ∷ xs) same = ap₂ (λ y ys. y ∷ ys) (All-head (λ x. f x ≡ g x) x xs same) (map_same f g xs (All-tail (λ x. f x ≡ g x) x xs same))
 
 pub filter_map_same : {X Y : Type 0} (f g : X → Option Y) (xs : List X) → All (λ x. f x ≡ g x) xs → filter_map f xs ≡ filter_map g xs
 filter_map_same f g [] same = refl

@@ -9,10 +9,10 @@ use Rattle.fg_frame.specs.Good.{is_import, shapes_in}
 use Rattle.fg_frame.specs.Numbered.{NumberedFrame}
 use Rattle.fg_frame.specs.Units.{Unit}
 use Rattle.fg_frame.specs.declared.numbered.NumberedPass.{NumberedPass}
+use Rattle.fg_meaning.proofs.Exported.{further}
 use Rattle.fg_window.proofs.GoodJoin.{Different, IsCarry, carried}
 use Rattle.fg_window.proofs.Imports.{all_length, import_last, is_as_before, is_imported, same_length}
 use Rattle.fg_window.proofs.Sources.{AllPlaced, AreLeft}
-use Rattle.fg_window.proofs.Tests.{further}
 use Rattle.fg_window.specs.Flown.{with_import, with_imports}
 use Rattle.fg_window.specs.Joins.{Carry, carries}
 use Rattle.fg_window.specs.Sources.{Given, Left, Source, import_from}

@@ -15,8 +15,9 @@ use Rattle.fg_frame.specs.Good.{IsGoodOp, IsGoodPass, has_contents, renews, shap
 use Rattle.fg_frame.specs.Numbered.{NumberedFrame}
 use Rattle.fg_frame.specs.Uses.{reads_it, starts_whole, stores_whole, writes_it}
 use Rattle.fg_frame.specs.declared.numbered.NumberedPass.{NumberedPass}
+use Rattle.fg_meaning.proofs.Exported.{further}
 use Rattle.fg_window.proofs.Each.{all_of}
-use Rattle.fg_window.proofs.Tests.{any_mapped, further}
+use Rattle.fg_window.proofs.Tests.{any_mapped}
 use Rattle.fg_window.specs.Joins.{Carry, copy_of, join_of, joins, renewal}
 
 -- copies from units before n to units from n on, of their size

@@ -35,7 +35,7 @@ got_taken n (suc m) [] lt = refl
 got_taken zero (suc m) (x ∷ xs) lt = refl
 got_taken (suc n) (suc m) (x ∷ xs) lt = got_taken n m xs (omega (arith, lt))
 
-got_dropped : {X : Type 0} (n m : ℕ) (xs : List X) → slice_get (drop n xs) m ≡ slice_get xs (n + m)
+pub got_dropped : {X : Type 0} (n m : ℕ) (xs : List X) → slice_get (drop n xs) m ≡ slice_get xs (n + m)
 got_dropped zero m xs = let z : m ≡ 0 + m = omega arith in ap (slice_get xs) z
 got_dropped (suc n) m [] = refl
 got_dropped (suc n) m (x ∷ xs) = let e : suc (n + m) ≡ suc n + m = omega arith in got_dropped n m xs ∙ ap (slice_get (x ∷ xs)) e
@@ -47,7 +47,7 @@ held_on zero m frames held = let z : 0 + m ≡ m = omega arith in ap (λ k. held
 held_on (suc n) m [] held = ap (λ xs. held_after xs held) (take_none (suc n + m) ∙ sym (take_none m))
 held_on (suc n) m (flown ∷ frames) held = let e : suc n + m ≡ suc (n + m) = omega arith in ap (λ k. held_after (take k (flown ∷ frames)) held) e ∙ held_on n m frames (held_by flown held)
 
-still_sized : (queues : List Family) (sizes : List ℕ) (frames : List Flown) → AllByRecursion (Flies queues sizes) frames → (held : List (List ℕ)) → map length held ≡ sizes → map length (held_after frames held) ≡ sizes
+pub still_sized : (queues : List Family) (sizes : List ℕ) (frames : List Flown) → AllByRecursion (Flies queues sizes) frames → (held : List (List ℕ)) → map length held ≡ sizes → map length (held_after frames held) ≡ sizes
 still_sized queues sizes [] fly held is = is
 still_sized queues sizes (flown ∷ frames) fly held is = still_sized queues sizes frames fly.1 (held_by flown held) (held_sized queues sizes flown fly.0 held is)
 

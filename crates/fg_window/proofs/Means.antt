@@ -63,12 +63,12 @@ picture_held flown held unit e = or_more (is_import flown.frame.units unit) (lis
 
 -- THE EXPORTS OF EACH FRAME
 
-got_front : {X : Type 0} (xs ys : List X) (p : ℕ) (x : X) → slice_get xs p ≡ Some x → slice_get (xs ++ ys) p ≡ Some x
+pub got_front : {X : Type 0} (xs ys : List X) (p : ℕ) (x : X) → slice_get xs p ≡ Some x → slice_get (xs ++ ys) p ≡ Some x
 got_front [] ys p x at = absurd cc
 got_front (y ∷ xs) ys zero x at = at
 got_front (y ∷ xs) ys (suc p) x at = got_front xs ys p x at
 
-got_back : {X : Type 0} (xs ys : List X) (p : ℕ) → slice_get (xs ++ ys) (length xs + p) ≡ slice_get ys p
+pub got_back : {X : Type 0} (xs ys : List X) (p : ℕ) → slice_get (xs ++ ys) (length xs + p) ≡ slice_get ys p
 got_back [] ys p = let z : 0 + p ≡ p = omega arith in ap (slice_get ys) z
 got_back (x ∷ xs) ys p = let e : suc (length xs) + p ≡ suc (length xs + p) = omega arith in ap (slice_get (x ∷ (xs ++ ys))) e ∙ got_back xs ys p
 

@@ -18,10 +18,6 @@ use Rattle.fg_base.proofs.Operands.{destination_mapped, mapped_twice, operands_m
 use Rattle.fg_window.proofs.Moves.{at_middle}
 use Rattle.fg_window.specs.Moved.{moved, moved_write}
 
-pub further : (a b : Bool) → b ≡ true → (a || b) ≡ true
-further true b e = refl
-further false b e = e
-
 pub any_mapped : {X Y : Type 0} (f : Y → Bool) (g : X → Y) (h : X → Bool) (xs : List X) → ((x : X) → f (g x) ≡ h x) → list_any f (map g xs) ≡ list_any h xs
 any_mapped f g h [] same = refl
 any_mapped f g h (x ∷ xs) same = ap₂ (λ a b. a || b) (same x) (any_mapped f g h xs same)
