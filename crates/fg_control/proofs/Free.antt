@@ -7,8 +7,9 @@ use Rattle.std.proofs.lemmas.Option.{slice_get_within}
 use Rattle.std.specs.List.{list_all}
 use Rattle.std.specs.Prelude.{if◌then◌else◌}
 use Rattle.fg_bits.specs.Sets.{meets}
+use Rattle.fg_caches.proofs.Placing.{same_Bool}
 use Rattle.fg_control.proofs.Below.{some_at, some_one, last_at, last_is, IsLast}
-use Rattle.fg_control.proofs.Ranges.{every_node, at_node, all_items, item_all, both_ways}
+use Rattle.fg_control.proofs.Ranges.{every_node, at_node, all_items, item_all}
 use Rattle.fg_control.proofs.Signals.{next_some, next_none, next_is, next_is_none}
 use Rattle.fg_control.specs.Code.Held.{is_open, holds_all, holds_by_sync, signal_below, Gathers, is_held, AreLast, is_free}
 use Rattle.fg_control.specs.declared.held.Held.{Held}
@@ -25,7 +26,7 @@ use Rattle.fg_view.specs.Views.{View, queue_at}
 
 -- EDGES
 
-met_within : (nodes : List Node) (kind : Kind) (x : ℕ) → meeting nodes kind ≡ Some x → x < length nodes
+pub met_within : (nodes : List Node) (kind : Kind) (x : ℕ) → meeting nodes kind ≡ Some x → x < length nodes
 met_within nodes (Wait queue value) x e = (position-Some (reaches queue value) nodes x no_node e).0
 met_within nodes Command x e = absurd cc
 met_within nodes Barrier x e = absurd cc
@@ -36,7 +37,7 @@ same_place : (o : Option ℕ) (x : ℕ) → is_at o x ≡ true → o ≡ Some x
 same_place None x e = absurd (false≢true e)
 same_place (Some y) x e = ap (λ z. Some z) (eqb-true y x e)
 
-signal_not_host : (kind : Kind) → is_signal kind ≡ true → is_host kind ≡ false
+pub signal_not_host : (kind : Kind) → is_signal kind ≡ true → is_host kind ≡ false
 signal_not_host (Signal value) h = refl
 signal_not_host Command h = absurd (false≢true h)
 signal_not_host Barrier h = absurd (false≢true h)
@@ -52,7 +53,7 @@ module _ (nodes : List Node) (x n : ℕ) where
       or_right (nat_lt x n && holds_back (node_at nodes x) (node_at nodes n)) (signalled nodes x n || is_at (meeting nodes (node_at nodes n).kind) x)
       (or_left (signalled nodes x n) (is_at (meeting nodes (node_at nodes n).kind) x) (and_from (is_signal (node_at nodes x).kind) (goes_to nodes n (next_signal nodes x)) s h))
 
-  met_edge : meeting nodes (node_at nodes n).kind ≡ Some x → edge nodes x n ≡ true
+  pub met_edge : meeting nodes (node_at nodes n).kind ≡ Some x → edge nodes x n ≡ true
   met_edge e =
       or_right (nat_lt x n && holds_back (node_at nodes x) (node_at nodes n)) (signalled nodes x n || is_at (meeting nodes (node_at nodes n).kind) x)
       (or_right (signalled nodes x n) (is_at (meeting nodes (node_at nodes n).kind) x) (ap (λ o. is_at o x) e ∙ eq-eqb x x refl))
@@ -60,6 +61,21 @@ module _ (nodes : List Node) (x n : ℕ) where
 -- a node with an edge is there
 no_signal : (nodes : List Node) (x : ℕ) → is_signal (node_at nodes x).kind ≡ true → x < length nodes
 no_signal nodes x h = ⊎_elim (λ lt. lt) (λ ge. absurd (false≢true (sym (ap (λ z. is_signal z.kind) (get_or_past nodes x no_node ge)) ∙ h))) (cases_lt x (length nodes))
+
+-- where each node with an edge to node n is done
+module _ (V : View) (phase : ℕ → Phase) (n : ℕ) (lt : n < length V.nodes) (h : each_node V (λ x. not (edge V.nodes x n) || is_done (phase x)) ≡ true) where
+  pub edge_done : (x : ℕ) → x < length V.nodes → edge V.nodes x n ≡ true → is_done (phase x) ≡ true
+  edge_done x l e = ⊎_elim (λ k. absurd (false≢true (sym (ap not e) ∙ k))) (λ k. k) (or_cases (not (edge V.nodes x n)) (is_done (phase x)) (at_node V (λ x. not (edge V.nodes x n) || is_done (phase x)) h x l))
+
+  -- no open node of its queue holds it back
+  pub line_clash : (x : ℕ) → x < n → holds_all V phase (queue_at V n) (node_at V.nodes n).src_stages.0 x ≡ true → (is_sync (kind_at V x) || is_sync (kind_at V n)) ≡ true → ⊥
+  line_clash x l k sync =
+      let held = (node_at V.nodes x).dst_stages.0 in
+      let waits = (node_at V.nodes n).src_stages.0 in
+      let p = and_parts ((queue_at V x == queue_at V n) && not (is_done (phase x))) (meets held waits) k in
+      let q = and_parts (queue_at V x == queue_at V n) (not (is_done (phase x))) p.0 in
+      let back = and_from (queue_at V x == queue_at V n) ((is_sync (kind_at V x) || is_sync (kind_at V n)) && meets held waits) q.0 (and_from (is_sync (kind_at V x) || is_sync (kind_at V n)) (meets held waits) sync p.1) in
+      false≢true (sym (not-true (is_done (phase x)) q.1) ∙ edge_done x (omega (arith, l, lt)) (line_edge V.nodes x n l back))
 
 module _ (V : View) (S : ShapedView V) (phase : ℕ → Phase) (n : ℕ) (lt : n < length V.nodes) (held : Held) (G : Gathers V phase (queue_at V n) n held) (lasts : List (Option ℕ)) (L : AreLast V lasts) where
   abbrev at : ℕ → Node
@@ -160,26 +176,17 @@ module _ (V : View) (S : ShapedView V) (phase : ℕ → Phase) (n : ℕ) (lt : n
   -- WHERE EACH IS DONE
 
   module _ (h : each_node V goes ≡ true) where
-    edge_done : (x : ℕ) → x < length V.nodes → edge V.nodes x n ≡ true → is_done (phase x) ≡ true
-    edge_done x l e = ⊎_elim (λ k. absurd (false≢true (sym (ap not e) ∙ k))) (λ k. k) (or_cases (not (edge V.nodes x n)) (is_done (phase x)) (at_node V goes h x l))
-
     clash : (x : ℕ) → x < length V.nodes → edge V.nodes x n ≡ true → is_done (phase x) ≡ false → ⊥
-    clash x l e k = false≢true (sym k ∙ edge_done x l e)
-
-    line_clash : (x : ℕ) → x < n → holds_all V phase (queue_at V n) (at n).src_stages.0 x ≡ true → (is_sync (at x).kind || is_sync (at n).kind) ≡ true → ⊥
-    line_clash x l k sync =
-        let p = and_parts ((queue_at V x == queue_at V n) && not (is_done (phase x))) (meets (at x).dst_stages.0 (at n).src_stages.0) k in
-        let q = and_parts (queue_at V x == queue_at V n) (not (is_done (phase x))) p.0 in
-        clash x (omega (arith, l, lt)) (line_edge V.nodes x n l (and_from ((at x).queue == (at n).queue) ((is_sync (at x).kind || is_sync (at n).kind) && meets (at x).dst_stages.0 (at n).src_stages.0) q.0 (and_from (is_sync (at x).kind || is_sync (at n).kind) (meets (at x).dst_stages.0 (at n).src_stages.0) sync p.1))) (not-true (is_done (phase x)) q.1)
+    clash x l e k = false≢true (sym k ∙ edge_done V phase n lt h x l e)
 
     no_waits : (b : Bool) → is_sync (at n).kind ≡ b → waits b ≡ true → ⊥
     no_waits true s w =
         let r = some_one (holds_all V phase (queue_at V n) (at n).src_stages.0) n (sym (G.by_all (at n).src_stages.0) ∙ w) in
-        line_clash r.0 r.1 r.2 (or_right (is_sync (at r.0).kind) (is_sync (at n).kind) s)
+        line_clash V phase n lt h r.0 r.1 r.2 (or_right (is_sync (at r.0).kind) (is_sync (at n).kind) s)
     no_waits false s w =
         let r = some_one (holds_by_sync V phase (queue_at V n) (at n).src_stages.0) n (sym (G.by_syncs (at n).src_stages.0) ∙ w) in
         let p = and_parts (is_sync (at r.0).kind) (holds_all V phase (queue_at V n) (at n).src_stages.0 r.0) r.2 in
-        line_clash r.0 r.1 p.1 (or_left (is_sync (at r.0).kind) (is_sync (at n).kind) p.0)
+        line_clash V phase n lt h r.0 r.1 p.1 (or_left (is_sync (at r.0).kind) (is_sync (at n).kind) p.0)
 
     no_signal_open : is_signal (at n).kind ≡ true → (o : Option ℕ) → signal_below V (queue_at V n) n ≡ o → is_open phase o ≡ true → ⊥
     no_signal_open s None e k = false≢true k
@@ -197,7 +204,7 @@ module _ (V : View) (S : ShapedView V) (phase : ℕ → Phase) (n : ℕ) (lt : n
 
     met_done : (o : Option ℕ) → met ≡ o → is_open phase o ≡ false
     met_done None e = refl
-    met_done (Some x) e = ap not (edge_done x (met_within V.nodes (kind_at V n) x e) (met_edge V.nodes x n e))
+    met_done (Some x) e = ap not (edge_done V phase n lt h x (met_within V.nodes (kind_at V n) x e) (met_edge V.nodes x n e))
 
     last_done : is_host (at n).kind ≡ true → (q : ℕ) → q < length V.families → (o : Option ℕ) → signal_below V q (length V.nodes) ≡ o → done_last o ≡ true
     last_done host q l None e = refl
@@ -206,7 +213,7 @@ module _ (V : View) (S : ShapedView V) (phase : ℕ → Phase) (n : ℕ) (lt : n
         let p = and_parts ((at x).queue == q) (is_signal (at x).kind) last.passes in
         let on : q ≡ (at x).queue = sym (eqb-true (at x).queue q p.0) in
         let none : next_signal V.nodes x ≡ None = next_is_none V.nodes x (subst (λ z. IsLast (λ y. signals z (at y)) (length V.nodes) x) on last) in
-        ap (λ z. not (not z)) (edge_done x last.below (signal_edge V.nodes x n p.1 (ap (goes_to V.nodes n) none ∙ host)))
+        ap (λ z. not (not z)) (edge_done V phase n lt h x last.below (signal_edge V.nodes x n p.1 (ap (goes_to V.nodes n) none ∙ host)))
 
     lasts_done : (b : Bool) → is_host (at n).kind ≡ b → (not b || list_all done_last lasts) ≡ true
     lasts_done false e = refl
@@ -218,4 +225,4 @@ module _ (V : View) (S : ShapedView V) (phase : ℕ → Phase) (n : ℕ) (lt : n
         (and_from (not (is_open phase met)) (not (is_host (kind_at V n)) || list_all done_last lasts) (ap not (met_done met refl)) (lasts_done (is_host (at n).kind) refl))
 
   pub free_edges : is_free V phase lasts held n ≡ each_node V goes
-  free_edges = both_ways (is_free V phase lasts held n) (each_node V goes) free_each each_free
+  free_edges = same_Bool (is_free V phase lasts held n) (each_node V goes) free_each each_free

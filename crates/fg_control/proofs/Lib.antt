@@ -6,6 +6,7 @@ pub mod Gathering
 pub mod Listing
 pub mod Lists
 pub mod Marking
+pub mod Needing
 pub mod Pigeons
 pub mod Ranges
 pub mod Readiness

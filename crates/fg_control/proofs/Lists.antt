@@ -3,13 +3,8 @@ use Rattle.std.proofs.Common.{◌≡◌, ℕ, zero, suc, ◌+◌, ◌<◌, ◌�
 use Rattle.std.specs.List.{list_any}
 use Rattle.std.proofs.lemmas.Bool.{cases_eq, ne_eqb}
 use Rattle.std.proofs.lemmas.List.{get_or_default, get_or-set_same, get_or-set_other}
+use Rattle.fg_steps.proofs.Control.{put_at, put_other}
 use Rattle.fg_steps.specs.States.{put}
-
-pub put_at : {X : Type 0} (f : ℕ → X) (n x : ℕ) (v : X) → x ≡ n → put f n v x ≡ v
-put_at f n x v h = ap (λ z. if z then v else f x) (eq-eqb x n h)
-
-pub put_other : {X : Type 0} (f : ℕ → X) (n x : ℕ) (v : X) → (x ≡ n → ⊥) → put f n v x ≡ f x
-put_other f n x v h = ap (λ z. if z then v else f x) (ne_eqb x n h)
 
 pub set_put : {X : Type 0} (xs : List X) (n : ℕ) (v d : X) → n < length xs → (k : ℕ) → get_or (slice_set xs n v) k d ≡ put (λ k. get_or xs k d) n v k
 set_put xs n v d lt k = ⊎_elim

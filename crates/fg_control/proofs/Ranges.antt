@@ -1,5 +1,5 @@
 -- Tests of all or some numbers of a range, and of all items of a list.
-use Rattle.std.proofs.Common.{◌≡◌, ℕ, zero, suc, ◌+◌, ◌<◌, ◌≤◌, Bool, true, false, List, [], ◌∷◌, length, get_or, refl, sym, ap, ◌∙◌, ⊎_elim, arith}
+use Rattle.std.proofs.Common.{◌≡◌, ℕ, zero, suc, ◌+◌, ◌<◌, ◌≤◌, Bool, true, List, [], ◌∷◌, length, get_or, refl, sym, ap, ◌∙◌, ⊎_elim, arith}
 use Rattle.std.specs.List.{list_all, list_any, range_with_len}
 use Rattle.std.proofs.lemmas.Bool.{cases_eq, false≢true, and_parts, and_from, or_cases, or_left, or_right}
 use Rattle.fg_steps.specs.Ready.{each_node, some_node}
@@ -54,8 +54,3 @@ item_all f (x ∷ xs) d h zero lt = (and_parts (f x) (list_all f xs) h).0
 item_all f (x ∷ xs) d h (suc k) lt = item_all f xs d (and_parts (f x) (list_all f xs) h).1 k (omega (arith, lt))
 
 -- BOOLEANS
-
-pub both_ways : (a b : Bool) → (a ≡ true → b ≡ true) → (b ≡ true → a ≡ true) → a ≡ b
-both_ways true b f g = sym (f refl)
-both_ways false true f g = g refl
-both_ways false false f g = refl

@@ -4,16 +4,16 @@ use mathlib.Core.Path.{fun_ext}
 use Rattle.std.proofs.lemmas.Bool.{cases_lt, cases_eq, false≢true, and_parts, lt-ltb, ltb-true}
 use Rattle.std.proofs.lemmas.List.{get_or_past}
 use Rattle.std.proofs.lemmas.Option.{slice_get_within}
+use Rattle.fg_control.proofs.Free.{signal_not_host}
 use Rattle.fg_control.proofs.Listing.{runs_on}
-use Rattle.fg_control.proofs.Lists.{set_put, put_at, put_other}
+use Rattle.fg_control.proofs.Lists.{set_put}
 use Rattle.fg_control.specs.Code.Running.{Runs}
 use Rattle.fg_control.specs.Code.Spans.{Spanned}
 use Rattle.fg_control.specs.Controls.{Control, phase_of, is_ready, IsNext, NoneReady}
 use Rattle.fg_control.specs.declared.running.Running.{Running}
 use Rattle.fg_control.specs.declared.spans.Spans.{Spans}
-use Rattle.fg_hb.specs.Edges.{edge, is_signal, is_host}
-use Rattle.fg_hb.specs.declared.kind.Kind.{Kind}
-use Rattle.fg_hb.specs.declared.kind.Kind.TheVariants.{Command, Barrier, Wait, Signal, Host}
+use Rattle.fg_hb.specs.Edges.{edge, is_signal}
+use Rattle.fg_steps.proofs.Control.{done_started, put_at, put_other}
 use Rattle.fg_steps.specs.Ready.{kind_at, each_node, reached, may_go}
 use Rattle.fg_steps.specs.States.{is_idle, is_begun, is_done, put}
 use Rattle.fg_steps.specs.declared.phase.Phase.{Phase}
@@ -27,16 +27,6 @@ pub idle_not_begun : (p : Phase) → is_idle p ≡ true → is_begun p ≡ false
 idle_not_begun Idle h = refl
 idle_not_begun Begun h = absurd (false≢true h)
 idle_not_begun Done h = absurd (false≢true h)
-
-pub idle_not_done : (p : Phase) → is_idle p ≡ true → is_done p ≡ true → ⊥
-idle_not_done Idle h k = false≢true k
-idle_not_done Begun h k = false≢true h
-idle_not_done Done h k = false≢true h
-
-done_not_idle : (p : Phase) → is_done p ≡ true → is_idle p ≡ false
-done_not_idle Idle h = absurd (false≢true h)
-done_not_idle Begun h = refl
-done_not_idle Done h = refl
 
 -- a list of phases with one set
 module _ (phases new : List Phase) (n : ℕ) (p : Phase) (lt : n < length phases) (e : new ≡ slice_set phases n p) where
@@ -63,7 +53,7 @@ begun_within phases n h = ⊎_elim (λ lt. lt) (λ ge. absurd (false≢true (sym
 
 -- where node n stands, by whether it is idle and what it follows is done
 module _ (V : View) (phase : ℕ → Phase) (counter : ℕ → ℕ) (n : ℕ) where
-  abbrev follows : Bool
+  abbrev pub follows : Bool
   follows = each_node V (λ x. not (edge V.nodes x n) || is_done (phase x))
 
   fails_second : (a b c : Bool) → b ≡ false → (a && (b && c)) ≡ false
@@ -102,7 +92,7 @@ module _ (c : Control) (n : ℕ) where
       second a b d h = (and_parts b d (and_parts a (b && d) h).1).0
 
   pub done_not_ready : is_done (phase_of c n) ≡ true → is_ready c n ≡ false
-  done_not_ready h = none (nat_lt n (length c.view.nodes)) (is_idle (phase_of c n)) _ (done_not_idle (phase_of c n) h)
+  done_not_ready h = none (nat_lt n (length c.view.nodes)) (is_idle (phase_of c n)) _ (done_started (phase_of c n) h)
     where
       none : (a b d : Bool) → b ≡ false → (a && (b && d)) ≡ false
       none true b d e = ap (λ z. z && d) e
@@ -136,13 +126,6 @@ module _ (c : Control) (queue n : ℕ) where
 
 -- TIMELINES
 
-signal_no_host : (kind : Kind) → is_signal kind ≡ true → is_host kind ≡ false
-signal_no_host (Signal value) h = refl
-signal_no_host Command h = absurd (false≢true h)
-signal_no_host Barrier h = absurd (false≢true h)
-signal_no_host (Wait queue value) h = absurd (false≢true h)
-signal_no_host Host h = absurd (false≢true h)
-
 -- a signal has a queue
 pub signal_within : (V : View) → ShapedView V → (n : ℕ) → n < length V.nodes → is_signal (kind_at V n) ≡ true → queue_at V n < length V.families
-signal_within V S n lt s = let f = S.family n lt (signal_no_host (kind_at V n) s) in slice_get_within V.families (queue_at V n) f.0 f.1
+signal_within V S n lt s = let f = S.family n lt (signal_not_host (kind_at V n) s) in slice_get_within V.families (queue_at V n) f.0 f.1

@@ -2,9 +2,10 @@
 use Rattle.std.proofs.Common.{◌≡◌, ℕ, ◌+◌, ◌<◌, ◌≤◌, true, List, length, get_or, slice_set, replicate, sym, ap, ◌∙◌, subst, ⊎_elim, arith}
 use Rattle.std.proofs.lemmas.Bool.{cases_lt, cases_eq}
 use Rattle.std.proofs.lemmas.List.{get_or-set_same, get_or-set_other, get_or_past, get_or-replicate, length-replicate}
-use Rattle.fg_control.proofs.Lists.{put_at, put_other, copies}
+use Rattle.fg_control.proofs.Lists.{copies}
 use Rattle.fg_control.specs.Code.Spans.{from_of, Ends, Spanned}
 use Rattle.fg_control.specs.declared.spans.Spans.{Spans}
+use Rattle.fg_steps.proofs.Control.{put_at, put_other}
 use Rattle.fg_steps.specs.States.{is_done, put}
 use Rattle.fg_steps.specs.declared.phase.Phase.{Phase}
 use Rattle.fg_view.specs.Views.{View, queue_at}

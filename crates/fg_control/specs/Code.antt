@@ -2,5 +2,6 @@
 pub mod Fresh
 pub mod Held
 pub mod Kept
+pub mod Needs
 pub mod Running
 pub mod Spans

@@ -1,8 +1,9 @@
 //! Nodes, pieces and timelines of a running device.
 
-ghost use Rattle.std.specs.Prelude.{◌≡◌, ◌<◌, ◌+◌, ◌==◌, ◌&&◌, ◌↔◌, ℕ, List, length, true, IsTrue, IfOk, IfSome, IfNone};
+ghost use Rattle.std.specs.Prelude.{◌≡◌, ◌<◌, ◌+◌, ◌==◌, ◌&&◌, ◌↔◌, ℕ, List, length, true, false, IsTrue, IfOk, IfSome, IfNone};
 ghost use Rattle.fg_caches.specs.Lines.{Bytes};
 ghost use Rattle.fg_control.specs.Code.Held.{Gathers};
+ghost use Rattle.fg_control.specs.Code.Needs.{NoLooseReady, NoneReadyFrom};
 ghost use Rattle.fg_control.specs.Controls.{phase_of, mark_of, counter_of, is_ready, Agrees, IsNext, NoneReady};
 ghost use Rattle.fg_steps.specs.Laws.{AllDone};
 ghost use Rattle.fg_steps.specs.Ready.{is_spoilt};
@@ -12,10 +13,11 @@ ghost use Rattle.fg_view.specs.ShapedView.{ShapedView};
 ghost use Rattle.fg_view.specs.Views.{view_of, queue_at};
 
 use crate::fresh::Fresh;
-use crate::going::may_go;
+use crate::going::{may_go, might_go};
 use crate::held::Held;
 use crate::lasts::last_signals;
 use crate::marks::{hits_running, mark};
+use crate::needs::Needs;
 use crate::pieces::{lay, own};
 use crate::running::Running;
 use crate::spans::{Spans, finish};
@@ -43,6 +45,7 @@ pub struct Control {
     spans: Spans,
     // Of each queue its last signal.
     lasts: List<Option<usize>>,
+    needs: Needs,
 }
 
 impl Model for Control {
@@ -68,6 +71,7 @@ impl Control {
         let running = Running::new(alloc, view.count())?;
         let spans = Spans::new(alloc, &view, &fresh.phases, queues + 1)?;
         let lasts = last_signals(alloc, &view, queues)?;
+        let needs = Needs::new(alloc, &view, queues + 1)?;
         Ok(Control {
             view,
             phases: fresh.phases,
@@ -78,6 +82,7 @@ impl Control {
             running,
             spans,
             lasts,
+            needs,
         })
     }
 
@@ -143,18 +148,53 @@ impl Control {
         self.may_go(held, node)
     }
 
+    // Whether the node, if it waits at no stage, is of the queue and might go on.
+    fn might_come(&self, queue: u32, n: u32) -> bool
+        requires { n < length self.now.view.nodes }
+        ensures { result ≡ false → queue_at self.now.view n ≡ queue → is_ready self.now n ≡ false }
+    {
+        self.view.node(n).queue == queue && might_go(&self.view, &self.phases, n)
+    }
+
+    // Whether one of the queue's nodes that wait at no stage might go on.
+    fn some_might_come(&self, queue: u32) -> bool
+        ensures { result ≡ false → NoLooseReady self.now queue }
+    {
+        for i in 0..self.needs.loose.len() {
+            if self.might_come(queue, self.needs.loose[i]) {
+                return true;
+            }
+        }
+        false
+    }
+
+    // Whether what is held back before number n holds back every node of the queue from it on that waits at some stage.
+    fn all_wait(&self, held: Held, queue: u32, n: u32) -> bool
+        requires held { Gathers self.now.view (phase_of self.now) queue n held }
+        ensures { IsTrue result → NoLooseReady self.now queue → NoneReadyFrom self.now queue n }
+    {
+        self.needs.hold_all(held.by_syncs, queue as usize)
+    }
+
     /// The least ready node of a queue; host reads are of the number after the last queue.
     pub fn pick(&self, queue: u32) -> Option<u32>
         ensures some { IfSome result (IsNext self.now queue) }
         ensures none { IfNone result (NoneReady self.now queue) }
     {
         let mut held = Held::nothing();
+        let mut looked = false;
         let from = self.spans.from(queue as usize);
         for n in from..self.spans.to(&self.view, queue as usize) {
             if self.is_next(held, queue, n) {
                 return Some(n);
             }
             held = self.past(held, queue, n);
+            if !looked && self.all_wait(held, queue, n + 1) {
+                if !self.some_might_come(queue) {
+                    return None;
+                }
+                looked = true;
+            }
         }
         None
     }

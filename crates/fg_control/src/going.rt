@@ -1,10 +1,10 @@
 //! Which nodes may go on.
 
-ghost use Rattle.std.specs.Prelude.{◌≡◌, ◌<◌, ◌||◌, not, length, get_or};
-ghost use Rattle.fg_control.specs.Code.Held.{is_free, AreLast, Gathers};
-ghost use Rattle.fg_hb.specs.Edges.{edge};
-ghost use Rattle.fg_steps.specs.Ready.{each_node, may_go};
-ghost use Rattle.fg_steps.specs.States.{is_done};
+ghost use Rattle.std.specs.Prelude.{◌≡◌, ◌<◌, ◌&&◌, ◌||◌, not, length, get_or};
+ghost use Rattle.fg_control.specs.Code.Held.{is_free, is_open, AreLast, Gathers};
+ghost use Rattle.fg_hb.specs.Edges.{edge, meeting};
+ghost use Rattle.fg_steps.specs.Ready.{each_node, kind_at, may_go};
+ghost use Rattle.fg_steps.specs.States.{is_done, is_idle};
 ghost use Rattle.fg_steps.specs.declared.phase.Phase.TheVariants.{Idle};
 ghost use Rattle.fg_view.specs.ShapedView.{ShapedView};
 ghost use Rattle.fg_view.specs.Views.{queue_at};
@@ -60,4 +60,13 @@ pub(crate) fn may_go(
         return false;
     }
     has_reached(view.node(n).kind, counters)
+}
+
+/// Whether the node is idle and no signal that is not done meets it: of a node that waits at no stage, whether it might go on.
+pub(crate) fn might_go(view: &View, phases: &[Phase], n: u32) -> bool
+    requires n { n < length view.now.nodes }
+    requires size { length phases.now ≡ length view.now.nodes }
+    ensures { result ≡ (is_idle (get_or phases.now n Idle) && not (is_open (λ x. get_or phases.now x Idle) (meeting view.now.nodes (kind_at view.now n)))) }
+{
+    phases[n as usize].is_idle() && !is_open(phases, view.edges().met(n as usize))
 }

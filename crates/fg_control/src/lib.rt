@@ -7,6 +7,7 @@ mod going;
 mod held;
 mod lasts;
 mod marks;
+mod needs;
 mod pieces;
 mod running;
 mod spans;

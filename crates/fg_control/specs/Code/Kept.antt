@@ -1,6 +1,7 @@
 -- What the fields keep.
 use Rattle.std.specs.Prelude.{◌≡◌, length, get_or}
 use Rattle.fg_control.specs.Code.Held.{AreLast}
+use Rattle.fg_control.specs.Code.Needs.{Needed}
 use Rattle.fg_control.specs.Code.Running.{Runs}
 use Rattle.fg_control.specs.Code.Spans.{Spanned}
 use Rattle.fg_control.specs.Controls.{Control}
@@ -28,3 +29,4 @@ pub record IsKept (i : Inside) : Type 0 where
   pub running : Runs (length i.view.nodes) (λ n. get_or i.phases n Idle) i.running
   pub spanned : Spanned i.view (λ n. get_or i.phases n Idle) i.spans
   pub lasts : AreLast i.view i.lasts
+  pub needed : Needed i.view i.needs

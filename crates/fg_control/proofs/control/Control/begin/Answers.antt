@@ -2,11 +2,12 @@ use Rattle.std.proofs.Common.{◌≡◌, ◌<◌, ◌∙◌, List, ℕ, length, 
 use Rattle.std.proofs.lemmas.List.{length-set}
 use Rattle.fg_control.proofs.Agreement.{begun_agrees}
 use Rattle.fg_control.proofs.Listing.{room_left}
-use Rattle.fg_control.proofs.Readiness.{ready_within, ready_idle, idle_not_begun, idle_not_done, runs_set, spans_set}
+use Rattle.fg_control.proofs.Readiness.{ready_within, ready_idle, idle_not_begun, runs_set, spans_set}
 use Rattle.fg_control.proofs.Spanning.{spanned_put}
 use Rattle.fg_control.proofs.control.Control.begin.Goals as goal
 use Rattle.fg_control.specs.Code.Kept.{control_in}
 use Rattle.fg_control.specs.Controls.{Control, phase_of, is_ready, Agrees}
+use Rattle.fg_steps.proofs.Control.{idle_not_done}
 use Rattle.fg_steps.specs.States.{State}
 use Rattle.fg_steps.specs.Steps.{begun}
 use Rattle.fg_steps.specs.declared.phase.Phase.TheVariants.{Begun}
@@ -39,6 +40,7 @@ invariant_of-self c =
       running = runs_set i.phases c.set-2.new.self n Begun there c.set-2.ensures (length i.view.nodes) c.add.new.self (c.add.ensures (length i.view.nodes) (phase_of (control_in i)) lt (idle_not_begun (phase_of (control_in i) n) idle) keeps.running);
       spanned = spans_set i.phases c.set-2.new.self n Begun there c.set-2.ensures i.view i.spans (spanned_put i.view (phase_of (control_in i)) i.spans keeps.spanned n Begun (λ d. absurd (idle_not_done (phase_of (control_in i) n) idle d)));
       lasts = keeps.lasts;
+      needed = keeps.needed;
     }
 
 pub returns-clause-agrees : goal.returns-clause-agrees

@@ -33,6 +33,7 @@ invariant_of-self c =
       running = runs_set i.phases c.finish.new.phases n Done there c.finish.ensures.phases (length i.view.nodes) c.remove.new.self (c.remove.ensures (length i.view.nodes) (phase_of (control_in i)) run keeps.running);
       spanned = c.finish.ensures.spanned;
       lasts = keeps.lasts;
+      needed = keeps.needed;
     }
 
 pub returns-clause-agrees : goal.returns-clause-agrees

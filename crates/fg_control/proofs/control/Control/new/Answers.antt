@@ -27,6 +27,7 @@ invariant_of-result c =
           (c.in_ok-running.ensures (λ n. get_or fresh.phases n Idle) (λ n. ap is_begun (ap (λ l. get_or l n Idle) F.phases ∙ copies (length V.nodes) Idle n)));
       spanned = subst (λ l. Spanned V (λ n. get_or l n Idle) c.in_ok-spans.spans) c.deref.ensures c.in_ok-spans.ensures;
       lasts = c.in_ok-lasts.ensures;
+      needed = c.in_ok-needs.ensures;
     }
 
 pub returns-clause-agrees : goal.returns-clause-agrees

@@ -1,5 +1,6 @@
-use Rattle.std.proofs.Common.{◌≡◌, ◌<◌, ◌≤◌, ℕ, length, get_or, sym, ap, subst, ◌∙◌, arith}
+use Rattle.std.proofs.Common.{◌≡◌, ◌+◌, ◌<◌, ◌≤◌, ℕ, length, get_or, sym, ap, subst, ◌∙◌, arith}
 use Rattle.fg_control.proofs.Gathering.{nothing_held}
+use Rattle.fg_control.proofs.Needing.{none_below_from}
 use Rattle.fg_control.proofs.Readiness.{NoneBelow, none_first, none_more, next_not, next_here, none_at_all}
 use Rattle.fg_control.proofs.Spanning.{done_below}
 use Rattle.fg_control.proofs.control.Control.pick.Goals as goal
@@ -28,6 +29,14 @@ loop-n-preserved c = record {
   gathers = c.past-held.ensures;
   none = none_more c.args.self.now c.args.queue c.loop-n.n c.loop-n.invariant.none (next_not c.args.self.now c.args.queue c.loop-n.n (sym c.is_next.ensures ∙ c.if-is_next.false));
 }
+
+pub returns-then-not-some_might_come-clause-none : goal.returns-then-not-some_might_come-clause-none
+returns-then-not-some_might_come-clause-none c =
+    let now = c.args.self.now in
+    let q = c.args.queue in
+    let n = c.loop-n.n in
+    none_below_from now q (n + 1) (none_more now q n c.loop-n.invariant.none (next_not now q n (sym c.is_next.ensures ∙ c.if-is_next.false)))
+    (c.all_wait.ensures c.if-all_wait.true (c.some_might_come.ensures c.if-not-some_might_come.true))
 
 pub returns-then-is_next-clause-some : goal.returns-then-is_next-clause-some
 returns-then-is_next-clause-some c = next_here c.args.self.now c.args.queue c.loop-n.n c.loop-n.invariant.none (sym c.is_next.ensures ∙ c.if-is_next.true)

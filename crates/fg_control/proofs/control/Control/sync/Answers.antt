@@ -36,6 +36,7 @@ invariant_of-self c =
       running = runs_done i.phases c.finish.new.phases n Done there c.finish.ensures.phases (length i.view.nodes) i.running refl (idle_not_begun (phase_of (control_in i) n) (ready_idle (control_in i) n may)) keeps.running;
       spanned = c.finish.ensures.spanned;
       lasts = keeps.lasts;
+      needed = keeps.needed;
     }
 
 pub returns-clause-agrees : goal.returns-clause-agrees
