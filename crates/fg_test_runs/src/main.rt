@@ -1,4 +1,5 @@
 //! Tests of the one top call over memory forms: command lines that run on a device, and generated frames.
+//! The program itself does nothing, and nothing stands on it.
 #![tactic(auto)]
 
 #[cfg(test)]
@@ -21,3 +22,5 @@ mod meeting;
 mod operations;
 #[cfg(test)]
 mod taps;
+
+fn main() {}

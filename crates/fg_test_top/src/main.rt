@@ -1,4 +1,5 @@
 //! Tests of the one top call over memory forms: command lines that need no device, and ends that fail.
+//! The program itself does nothing, and nothing stands on it.
 #![tactic(auto)]
 
 #[cfg(test)]
@@ -17,3 +18,5 @@ mod given;
 mod placing;
 #[cfg(test)]
 mod tightening;
+
+fn main() {}

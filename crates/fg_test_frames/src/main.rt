@@ -1,4 +1,5 @@
 //! Tests of what frames are and mean: faults, versions, culling, meaning, groups, lifetimes, the choice of queues.
+//! The program itself does nothing, and nothing stands on it.
 #![tactic(auto)]
 
 #[cfg(test)]
@@ -15,3 +16,5 @@ mod meaning;
 mod sketched;
 #[cfg(test)]
 mod versions;
+
+fn main() {}

@@ -1,4 +1,5 @@
 //! Tests of what submissions are, and of what judges them: shape, nodes, accesses, ties, hazards, steps, timelines, tight waits.
+//! The program itself does nothing, and nothing stands on it.
 #![tactic(auto)]
 
 #[cfg(test)]
@@ -21,3 +22,5 @@ mod tight;
 mod timeline;
 #[cfg(test)]
 mod view;
+
+fn main() {}

@@ -1,4 +1,5 @@
 //! Tests of workers and their tender.
+//! The program itself does nothing, and nothing stands on it.
 #![tactic(auto)]
 
 #[cfg(test)]
@@ -9,3 +10,5 @@ mod outcome;
 mod programs;
 #[cfg(test)]
 mod workers;
+
+fn main() {}

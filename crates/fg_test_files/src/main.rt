@@ -1,4 +1,5 @@
 //! Tests of both file formats: each member read and written, the first fault of each file.
+//! The program itself does nothing, and nothing stands on it.
 #![tactic(auto)]
 
 #[cfg(test)]
@@ -21,3 +22,5 @@ mod subfile_judge;
 mod subfile_texts;
 #[cfg(test)]
 mod subfile_vectors;
+
+fn main() {}

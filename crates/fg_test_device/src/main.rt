@@ -1,4 +1,5 @@
 //! Tests of a running device.
+//! The program itself does nothing, and nothing stands on it.
 #![tactic(auto)]
 
 #[cfg(test)]
@@ -7,3 +8,5 @@ mod control;
 mod device;
 #[cfg(test)]
 mod drive;
+
+fn main() {}

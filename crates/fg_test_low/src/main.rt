@@ -1,4 +1,5 @@
 //! Tests of the crates that know no frame and no submission: numbers, names, kernels, lines, reachability, places, bounds, words.
+//! The program itself does nothing, and nothing stands on it.
 #![tactic(auto)]
 
 #[cfg(test)]
@@ -23,3 +24,5 @@ mod place;
 mod reach;
 #[cfg(test)]
 mod words;
+
+fn main() {}
