@@ -12,6 +12,10 @@ pub const APART: &str =
 pub const CHAINED: &str =
     "plain:16 plain:16 buffer:16:0:0:shared buffer:16:1:0 read:1 ; graphics fill:0:16 signal:1 ; transfer wait:0:1 copy:0:1:16 all:COPY,TRANSFER_WRITE>HOST,HOST_READ signal:1";
 
+// A long fill, and behind it two fills on two queues.
+pub const BEHIND: &str =
+    "plain:16 plain:16 plain:16000000 buffer:16:0:0 buffer:16:1:0 buffer:16000000:2:0 read:0 read:1 ; graphics fill:2:16000000 all:CLEAR,TRANSFER_WRITE>CLEAR,TRANSFER_WRITE signal:1 batch fill:0:16 all:CLEAR,TRANSFER_WRITE>HOST,HOST_READ signal:2 ; transfer wait:0:1 fill:1:16 all:CLEAR,TRANSFER_WRITE>HOST,HOST_READ signal:1";
+
 const WORDS: [u8; 16] = [7, 0, 0, 0, 7, 0, 0, 0, 7, 0, 0, 0, 7, 0, 0, 0];
 
 fn shaped(alloc: Global, program: Program) -> Result<Shaped, SketchError> {

@@ -1,6 +1,6 @@
 use crate::alone::is_own_first;
 use crate::outcome::{Outcome, run_by};
-use crate::programs::{APART, CHAINED, checked};
+use crate::programs::{APART, BEHIND, CHAINED, checked};
 use fg_base::{Event, IdleGate, NoMemory};
 use fg_checker::Checked;
 use fg_meeting::Meeting;
@@ -50,6 +50,17 @@ fn meet<R: Threads + Wait + Sync>(
     Ok(are_side_by_side(&outcome, gate))
 }
 
+// Whether a worker that waits while the other one computes is called for the second of two commands, which meet.
+fn is_called<R: Threads + Wait + Sync>(
+    rt: &R,
+    alloc: Global,
+    program: &Checked,
+    gate: &Meeting,
+) -> Result<bool, NoMemory> {
+    let outcome = run_by(rt, alloc, program, 2, None, gate)?;
+    Ok(gate.took_place() && outcome.is_whole)
+}
+
 fn is_alone<R: Threads + Wait + Sync>(
     rt: &R,
     alloc: Global,
@@ -76,6 +87,8 @@ fn comes_through<R: Threads + Wait + Sync>(
 enum Way {
     // Two workers meet.
     Meeting,
+    // They meet behind a command for which one of them waits.
+    Called,
     // One worker takes every queue.
     Alone,
     // A worker of the second queue takes its own nodes first.
@@ -92,6 +105,7 @@ fn goes<R: Threads + Wait + Sync>(
 ) -> Result<bool, NoMemory> {
     match way {
         Way::Meeting => meet(rt, alloc, program, &Meeting::new(0, 3)),
+        Way::Called => is_called(rt, alloc, program, &Meeting::new(3, 7)),
         Way::Alone => is_alone(rt, alloc, program),
         Way::OwnFirst => is_own_first(rt, alloc, program),
         Way::Tended(workers, seed) => comes_through(rt, alloc, program, workers, seed),
@@ -112,6 +126,12 @@ fn holds<R: Threads + Wait + Sync>(
 #[test]
 fn two_commands_meet(rt: HostRuntime) -> Result<(), Fail> {
     assert!(&rt; holds(&rt, rt.alloc(), APART, Way::Meeting)?);
+    Ok(())
+}
+
+#[test]
+fn a_waiting_worker_is_called(rt: HostRuntime) -> Result<(), Fail> {
+    assert!(&rt; holds(&rt, rt.alloc(), BEHIND, Way::Called)?);
     Ok(())
 }
 

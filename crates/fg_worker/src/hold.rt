@@ -31,7 +31,10 @@ pub trait Hold {
         ensures { TendsTo (told self.old) (told self.new) event result };
 }
 
-/// A device under a lock that others share, with a bell that is rung when it has changed. It tells nothing.
+/// A device under a lock that others share, with a bell at which workers wait. It tells nothing.
+///
+/// A worker that made an event takes the next turn itself, so it rings only where it cannot: for one other where it goes to compute,
+/// since more may be ready, and for all where every node is done or it found no memory.
 #[derive(Drop)]
 pub struct Shared<'a, R: Wait> {
     pub rt: &'a R,
@@ -46,16 +49,19 @@ impl<'a, R: Wait> Hold for Shared<'a, R> {
         let mut held = self.device.lock(self.rt);
         let turn = take_turn(&mut held, alloc, own_queue);
         match &turn {
+            Ok(Turn::Stepped) => {}
+            Ok(Turn::Compute(_)) => {
+                drop(held);
+                self.bell.notify_one();
+            }
             Ok(Turn::Wait) => drop(self.bell.wait(self.rt, held)),
-            Ok(Turn::Compute(_)) => {}
-            _ => self.bell.notify_all(),
+            Ok(Turn::Complete) | Err(_) => self.bell.notify_all(),
         }
         turn
     }
 
     fn land(&mut self, done: Finished) {
         let _landed = self.device.lock(self.rt).end(done);
-        self.bell.notify_all();
     }
 
     fn tend(&mut self, event: Event) -> bool {
