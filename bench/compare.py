@@ -10,7 +10,8 @@ effect; one that has no such word is left out), the summary of that frame as it 
 barriers alone; fills of one buffer with a full barrier between each two; one fill and its many readers; fills of many
 buffers that share memory. Then each operation: a frame applies it again and again to images of 1920 by 1080 texels and
 exports one texel, so that little is printed; a frame without it is timed too, and its time is taken off. Each is timed by `meaning`,
-which takes the plain way, and by `run` with one worker, whose device computes by lanes and bands. For each case one
+which takes the plain way, and by `run` with one worker, whose device computes by lanes and bands; those that go by bands have
+one more line, ours in `run` beside the other's in `meaning`, which takes one thread. For each case one
 line: the least processor time in both programs in milliseconds, of the command or of one operation, their ratio, the ratio
 of the least times by the clock, and that of the most memory that the programs took. (The least of many runs is what the
 programs take by themselves; a median moves with whatever else the machine does.) The texts of both have to be the same.
@@ -29,6 +30,9 @@ TOP = Path(__file__).resolve().parent.parent
 
 WIDTH, HEIGHT = 1920, 1080
 TIMES = 12
+
+# Operations that go by bands of rows in both programs.
+BANDED = ("convert", "box3", "halve")
 
 
 def image(name, texel, width=WIDTH, height=HEIGHT):
@@ -259,12 +263,17 @@ def main():
             if wanted(name):
                 (own, other), most = measured(programs, words, options.runs, path)
                 row(name, own, other, most)
+        alone = None
         for name, words, idle_path, busy_path in operations(folder):
             if wanted(name):
                 idle, _ = measured(programs, words, options.runs, idle_path)
                 busy, most = measured(programs, words, options.runs, busy_path)
                 own, other = [[max(b - i, 0.001) / TIMES for b, i in zip(*times)] for times in zip(busy, idle)]
                 row(name, own, other, most)
+                if words == ["meaning"]:
+                    alone = other
+                elif name.startswith(BANDED):
+                    row(f"{name}, one thread", own, alone, most)
 
 
 if __name__ == "__main__":
