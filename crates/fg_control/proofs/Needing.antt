@@ -1,76 +1,42 @@
 -- What the nodes of a queue wait for, node by node, and where no node of a queue is ready.
-use Rattle.std.proofs.Common.{◌≡◌, ◌==◌, ◌&&◌, ℕ, ◌+◌, ◌<◌, ◌≤◌, not, Bool, true, false, Option, Some, None, List, length, slice_set, bit_and, bit_or, refl, sym, ap, ◌∙◌, subst, ⊎_elim, eq-eqb, eqb-true, arith}
-use Rattle.std.proofs.lemmas.Bool.{and_parts, cases_Bool, cases_eq, cases_lt, false≢true, or_left}
-use Rattle.std.proofs.lemmas.List.{get_or-set_same, get_or-set_other, length-set}
-use Rattle.std.proofs.lemmas.Nat.Bits.{bit_at_and, bit_at_or, same_from_bits}
-use Rattle.std.specs.Int.{bit_at}
-use Rattle.fg_bits.specs.Sets.{has, meets}
-use Rattle.fg_bits.specs.declared.stages.Stages.{Stages}
+use Rattle.std.proofs.Common.{◌≡◌, ◌==◌, ◌&&◌, ℕ, ◌+◌, ◌<◌, not, Bool, true, false, Option, Some, None, List, [], ◌∷◌, ◌++◌, length, refl, sym, ap, ◌∙◌, subst, ⊎_elim, arith}
+use Rattle.std.proofs.lemmas.Bool.{and_parts, cases_Bool, cases_lt, false≢true, or_left}
+use Rattle.std.proofs.lemmas.List.{get_or_append_left, get_or_push, length-append}
 use Rattle.fg_control.proofs.Below.{some_one}
 use Rattle.fg_control.proofs.Free.{edge_done, line_clash, met_edge, met_within}
 use Rattle.fg_control.proofs.Readiness.{NoneBelow, busy, follows, held_up}
 use Rattle.fg_control.specs.Code.Held.{holds_all, holds_by_sync, is_open, Gathers}
-use Rattle.fg_control.specs.Code.Needs.{waits_at, no_stages, stages_of, HoldAll, NeedsBelow, NoLooseReady, NoneReadyFrom}
+use Rattle.fg_control.specs.Code.Needs.{waits_at, no_need, HoldAll, IsListed, NeedsBelow, NoLooseReady, NoneReadyFrom}
 use Rattle.fg_control.specs.Controls.{Control, counter_of, is_ready, phase_of, NoneReady}
 use Rattle.fg_control.specs.declared.held.Held.{Held}
+use Rattle.fg_control.specs.declared.needs.Need.{Need}
 use Rattle.fg_hb.specs.Edges.{is_sync, meeting}
 use Rattle.fg_steps.specs.Ready.{kind_at}
 use Rattle.fg_steps.specs.States.{is_idle}
 use Rattle.fg_view.specs.Views.{View, queue_at}
 
--- SETS OF STAGES
-
-has_first : (set a b : ℕ) → has set (bit_or a b) ≡ true → has set a ≡ true
-has_first set a b e = eq-eqb (bit_and set a) a (same_from_bits (bit_and set a) a (λ i.
-    let same : bit_at (bit_and set (bit_or a b)) i ≡ bit_at (bit_or a b) i = ap (λ n. bit_at n i) (eqb-true (bit_and set (bit_or a b)) (bit_or a b) e) in
-    omega (arith, same, bit_at_and set (bit_or a b) i, bit_at_or a b i, bit_at_and set a i)))
-
-has_second : (set a b : ℕ) → has set (bit_or a b) ≡ true → has set b ≡ true
-has_second set a b e = eq-eqb (bit_and set b) b (same_from_bits (bit_and set b) b (λ i.
-    let same : bit_at (bit_and set (bit_or a b)) i ≡ bit_at (bit_or a b) i = ap (λ n. bit_at n i) (eqb-true (bit_and set (bit_or a b)) (bit_or a b) e) in
-    omega (arith, same, bit_at_and set (bit_or a b) i, bit_at_or a b i, bit_at_and set b i)))
-
--- what has all of some stages meets them
-has_meets : (set a : ℕ) → has set a ≡ true → (a == 0) ≡ false → meets set a ≡ true
-has_meets set a e some = ap (λ n. not (n == 0)) (eqb-true (bit_and set a) a e) ∙ ap not some
-
 -- NODE BY NODE
 
-module _ (V : View) (n : ℕ) (needs : List Stages) (B : NeedsBelow V n needs) where
-  -- a queue that is not kept
-  pub needs_past : length needs ≤ queue_at V n → NeedsBelow V (n + 1) needs
-  needs_past past q lt held h m l on some = ⊎_elim
-      (λ below. B q lt held h m below on some)
-      (λ here. absurd (let same : m ≡ n = omega (arith, here, l) in let far : queue_at V n ≡ q = ap (queue_at V) (sym same) ∙ on in omega (arith, past, lt, far)))
-      (cases_lt m n)
+module _ (list : List Need) (need : Need) where
+  abbrev longer : List Need
+  longer = list ++ need ∷ []
 
-  module _ (there : queue_at V n < length needs) (all : Stages) (e : all.0 ≡ bit_or (stages_of needs (queue_at V n)) (waits_at V n)) where
-    abbrev new : List Stages
-    new = slice_set needs (queue_at V n) all
+  pub still_listed : (q stages : ℕ) → IsListed list q stages → IsListed longer q stages
+  still_listed q stages at =
+      let same = get_or_append_left list (need ∷ []) no_need at.0 at.1 in
+      (at.0, (let l = length-append list (need ∷ []) in let lt = at.1 in omega (arith, l, lt)), ap (λ (z : Need). z.queue) same ∙ at.2, ap (λ (z : Need). z.stages.0) same ∙ at.3)
 
-    here : (q : ℕ) → q ≡ queue_at V n → stages_of new q ≡ bit_or (stages_of needs q) (waits_at V n)
-    here q same = ap (stages_of new) same ∙ ap (λ (s : Stages). s.0) (get_or-set_same needs (queue_at V n) all no_stages there) ∙ e ∙ ap (λ z. bit_or (stages_of needs z) (waits_at V n)) (sym same)
+  pub last_listed : IsListed longer need.queue need.stages.0
+  last_listed =
+      let same = get_or_push list need no_need (length list) refl in
+      (length list, (let l = length-append list (need ∷ []) in omega (arith, l)), ap (λ (z : Need). z.queue) same, ap (λ (z : Need). z.stages.0) same)
 
-    elsewhere : (q : ℕ) → (q ≡ queue_at V n → ⊥) → stages_of new q ≡ stages_of needs q
-    elsewhere q other = ap (λ (s : Stages). s.0) (get_or-set_other needs (queue_at V n) q all no_stages other)
-
-    pub needs_put : NeedsBelow V (n + 1) new
-    needs_put q lt held h m l on some =
-        let within : q < length needs = subst (λ k. q < k) (length-set needs (queue_at V n) all) lt in
-        ⊎_elim
-        (λ (same : q ≡ queue_at V n).
-        let whole : has held (bit_or (stages_of needs q) (waits_at V n)) ≡ true = subst (λ s. has held s ≡ true) (here q same) h in
-        ⊎_elim
-        (λ below. B q within held (has_first held (stages_of needs q) (waits_at V n) whole) m below on some)
-        (λ past. let is : m ≡ n = omega (arith, past, l) in subst (λ k. (waits_at V k == 0) ≡ false → meets held (waits_at V k) ≡ true) (sym is) (has_meets held (waits_at V n) (has_second held (stages_of needs q) (waits_at V n) whole)) some)
-        (cases_lt m n))
-        (λ (other : q ≡ queue_at V n → ⊥).
-        let kept : has held (stages_of needs q) ≡ true = subst (λ s. has held s ≡ true) (elsewhere q other) h in
-        ⊎_elim
-        (λ below. B q within held kept m below on some)
-        (λ past. absurd (let is : m ≡ n = omega (arith, past, l) in other (sym on ∙ ap (queue_at V) is)))
-        (cases_lt m n))
-        (cases_eq q (queue_at V n))
+-- one node more
+pub needs_more : (V : View) (n : ℕ) (list : List Need) → NeedsBelow V n list → IsListed list (queue_at V n) (waits_at V n) → NeedsBelow V (n + 1) list
+needs_more V n list B here m lt = ⊎_elim
+    (λ below. B m below)
+    (λ past. let is : m ≡ n = omega (arith, past, lt) in subst (λ k. IsListed list (queue_at V k) (waits_at V k)) (sym is) here)
+    (cases_lt m n)
 
 -- WHERE NO NODE OF A QUEUE IS READY
 

@@ -71,7 +71,7 @@ impl Control {
         let running = Running::new(alloc, view.count())?;
         let spans = Spans::new(alloc, &view, &fresh.phases, queues + 1)?;
         let lasts = last_signals(alloc, &view, queues)?;
-        let needs = Needs::new(alloc, &view, queues + 1)?;
+        let needs = Needs::new(alloc, &view)?;
         Ok(Control {
             view,
             phases: fresh.phases,
@@ -173,7 +173,7 @@ impl Control {
         requires held { Gathers self.now.view (phase_of self.now) queue n held }
         ensures { IsTrue result → NoLooseReady self.now queue → NoneReadyFrom self.now queue n }
     {
-        self.needs.hold_all(held.by_syncs, queue as usize)
+        self.needs.hold_all(held.by_syncs, queue)
     }
 
     /// The least ready node of a queue; host reads are of the number after the last queue.

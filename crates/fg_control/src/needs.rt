@@ -1,7 +1,7 @@
-//! What the nodes of a queue wait for, known beforehand.
+//! What the nodes of queues wait for, known beforehand.
 
 ghost use Rattle.std.specs.Prelude.{◌≡◌, ◌<◌, ◌+◌, ℕ, length, IfOk, IsTrue};
-ghost use Rattle.fg_control.specs.Code.Needs.{AreNodes, HoldAll, LooseBelow, Needed, NeedsBelow};
+ghost use Rattle.fg_control.specs.Code.Needs.{AreNodes, HoldAll, IsListed, LooseBelow, Needed, NeedsBelow};
 
 use bitflags::Flags;
 use fg_base::{List, NoMemory};
@@ -9,38 +9,57 @@ use fg_bits::Stages;
 use fg_view::View;
 use std::alloc::Global;
 
-/// Of each queue all stages at which its nodes wait for earlier ones. Where these are held back, so is each node of the queue that
-/// waits at some stage, and a search for the next node has to look only at those that wait at none: these are listed.
+/// Stages at which some node of a queue waits for earlier ones.
+#[derive(Clone, Copy, Debug)]
+pub(crate) struct Need {
+    pub(crate) queue: u32,
+    pub(crate) stages: Stages,
+}
+
+/// The stages at which nodes wait, and the nodes that wait at none. What holds back one stage of each need of a queue holds back
+/// every node of it that waits at some stage, so a search for the next node has to look no further but at those that wait at none.
 #[derive(Debug, Drop)]
 pub(crate) struct Needs {
-    pub(crate) stages: List<Stages>,
+    // Each once.
+    pub(crate) list: List<Need>,
     // Of all queues.
     pub(crate) loose: List<u32>,
 }
 
-// Goes past node n.
-fn put_stages(stages: &mut List<Stages>, view: &View, n: u32)
-    requires n { n < length view.now.nodes }
-    ensures { NeedsBelow view.now n stages.old → NeedsBelow view.now (n + 1) stages.new }
+// Whether a queue's need of these stages is listed.
+fn is_listed(list: &[Need], queue: u32, stages: Stages) -> bool
+    ensures { IsTrue result → IsListed list.now queue stages.0 }
 {
-    let node = view.node(n);
-    let queue = node.queue as usize;
-    if queue >= stages.len() {
-        return;
+    for i in 0..list.len() {
+        if list[i].queue == queue && list[i].stages.0 == stages.0 {
+            return true;
+        }
     }
-    let all = stages[queue].union(node.src_stages);
-    stages.set(queue, all);
+    false
 }
 
-// The stages at which the nodes of each queue wait.
-fn stages_of(alloc: Global, view: &View, queues: usize) -> Result<List<Stages>, NoMemory>
-    ensures { IfOk result (λ stages. NeedsBelow view.now (length view.now.nodes) stages) }
+// Goes past node n.
+fn put_need(list: &mut List<Need>, view: &View, n: u32) -> Result<(), NoMemory>
+    requires n { n < length view.now.nodes }
+    ensures { IfOk result (λ u. NeedsBelow view.now n list.old → NeedsBelow view.now (n + 1) list.new) }
 {
-    let mut stages = List::from_vec(vec![in alloc; Stages::empty(); queues]?);
-    for n in 0..view.count() as u32 {
-        put_stages(&mut stages, view, n);
+    let node = view.node(n);
+    let (queue, stages) = (node.queue, node.src_stages);
+    if !is_listed(list, queue, stages) {
+        list.push(Need { queue, stages })?;
     }
-    Ok(stages)
+    Ok(())
+}
+
+// The needs of all nodes.
+fn needs_of(alloc: Global, view: &View) -> Result<List<Need>, NoMemory>
+    ensures { IfOk result (λ list. NeedsBelow view.now (length view.now.nodes) list) }
+{
+    let mut list = List::new(alloc);
+    for n in 0..view.count() as u32 {
+        put_need(&mut list, view, n)?;
+    }
+    Ok(list)
 }
 
 // Goes past node n.
@@ -68,23 +87,25 @@ fn loose_of(alloc: Global, view: &View) -> Result<List<u32>, NoMemory>
 }
 
 impl Needs {
-    /// Of so many queues.
-    pub(crate) fn new(alloc: Global, view: &View, queues: usize) -> Result<Self, NoMemory>
+    pub(crate) fn new(alloc: Global, view: &View) -> Result<Self, NoMemory>
         ensures { IfOk result (λ needs. Needed view.now needs) }
     {
         Ok(Needs {
-            stages: stages_of(alloc, view, queues)?,
+            list: needs_of(alloc, view)?,
             loose: loose_of(alloc, view)?,
         })
     }
 
     /// Whether these stages hold back each node of the queue that waits at some stage.
-    pub(crate) fn hold_all(&self, held: Stages, queue: usize) -> bool
-        ensures { IsTrue result → (V : _) (n : ℕ) → NeedsBelow V n self.now.stages → HoldAll V queue n held.0 }
+    pub(crate) fn hold_all(&self, held: Stages, queue: u32) -> bool
+        ensures { IsTrue result → (V : _) (n : ℕ) → NeedsBelow V n self.now.list → HoldAll V queue n held.0 }
     {
-        match self.stages.get(queue) {
-            Some(all) => held.contains(*all),
-            None => false,
+        for i in 0..self.list.len() {
+            let need = self.list[i];
+            if need.queue == queue && !need.stages.is_empty() && !held.intersects(need.stages) {
+                return false;
+            }
         }
+        true
     }
 }

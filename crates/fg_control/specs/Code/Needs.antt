@@ -1,8 +1,8 @@
 -- What the nodes of a queue wait for, known beforehand.
 use Rattle.std.specs.Prelude.{◌≡◌, ◌==◌, ℕ, ◌<◌, ◌≤◌, List, length, get_or, true, false}
-use Rattle.fg_bits.specs.Sets.{has, meets}
-use Rattle.fg_bits.specs.declared.stages.Stages.{Stages}
+use Rattle.fg_bits.specs.Sets.{meets}
 use Rattle.fg_control.specs.Controls.{Control, is_ready}
+use Rattle.fg_control.specs.declared.needs.Need.{Need}
 use Rattle.fg_control.specs.declared.needs.Needs.{Needs}
 use Rattle.fg_hb.specs.Edges.{node_at}
 use Rattle.fg_view.specs.Views.{View, queue_at}
@@ -11,19 +11,20 @@ use Rattle.fg_view.specs.Views.{View, queue_at}
 abbrev pub waits_at : View → ℕ → ℕ
 waits_at V m = (node_at V.nodes m).src_stages.0
 
-abbrev pub no_stages : Stages
-no_stages = record { 0 = 0 }
+abbrev pub no_need : Need
+no_need = record { queue = 0; stages = record { 0 = 0 } }
 
-abbrev pub stages_of : List Stages → ℕ → ℕ
-stages_of needs q = (get_or needs q no_stages).0
+-- a queue's need of these stages is listed
+abbrev pub IsListed : List Need → ℕ → ℕ → Type 0
+IsListed list q stages = (i : ℕ) × (i < length list) × ((get_or list i no_need).queue ≡ q) × ((get_or list i no_need).stages.0 ≡ stages)
 
 -- these stages hold back each node of queue q below n that waits at some stage
 abbrev pub HoldAll : View → ℕ → ℕ → ℕ → Type 0
 HoldAll V q n held = (m : ℕ) → m < n → queue_at V m ≡ q → (waits_at V m == 0) ≡ false → meets held (waits_at V m) ≡ true
 
--- what has all stages that are kept of a queue holds back so each of its nodes below n
-abbrev pub NeedsBelow : View → ℕ → List Stages → Type 0
-NeedsBelow V n needs = (q : ℕ) → q < length needs → (held : ℕ) → has held (stages_of needs q) ≡ true → HoldAll V q n held
+-- what each node below n waits for is listed
+abbrev pub NeedsBelow : View → ℕ → List Need → Type 0
+NeedsBelow V n list = (m : ℕ) → m < n → IsListed list (queue_at V m) (waits_at V m)
 
 -- each node below n that waits at no stage is listed
 abbrev pub LooseBelow : View → ℕ → List ℕ → Type 0
@@ -33,7 +34,7 @@ abbrev pub AreNodes : View → List ℕ → Type 0
 AreNodes V list = (i : ℕ) → i < length list → get_or list i 0 < length V.nodes
 
 pub record Needed (V : View) (needs : Needs) : Type 0 where
-  pub stages : NeedsBelow V (length V.nodes) needs.stages
+  pub list : NeedsBelow V (length V.nodes) needs.list
   pub loose : LooseBelow V (length V.nodes) needs.loose
   pub nodes : AreNodes V needs.loose
 
