@@ -30,7 +30,7 @@ fn bits(texel: Texel) -> u32
 /// The function of two texels, where the result is still to be cut.
 #[inline(always)]
 #[tactic(auto, using(crate::proofs::Moduli::kept))]
-pub(crate) fn fun_at(texel: Texel, fun: Fun, a: u32, b: u32) -> u32
+pub fn fun_at(texel: Texel, fun: Fun, a: u32, b: u32) -> u32
     requires first { a < modulus texel }
     requires second { b < modulus texel }
     ensures { result % modulus texel ≡ fun_of texel fun a b % modulus texel }

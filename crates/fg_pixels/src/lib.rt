@@ -33,7 +33,7 @@ pub use combine::combine_rows;
 pub use convert::convert_rows;
 pub use copies::{copy_area, copy_range};
 pub use fill::fill_words;
-pub use function::cut;
+pub use function::{cut, fun_at};
 pub use halve::halve_rows;
 pub use histogram::count_texels;
 pub use map::map_rows;
