@@ -10,6 +10,7 @@ pub mod Growing
 pub mod Making
 pub mod Naming
 pub mod Placing
+pub mod Repeating
 pub mod Rooms
 pub mod Running
 pub mod Storing

@@ -3,4 +3,5 @@ pub mod Draws
 pub mod Effects
 pub mod Lines
 pub mod Places
+pub mod Repeats
 pub mod Tables

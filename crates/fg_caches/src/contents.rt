@@ -1,10 +1,12 @@
-//! What a slot has.
+//! Bytes in the form in which they are kept.
 
-ghost use Rattle.std.specs.Prelude.{◌≡◌, ◌<◌, ◌≤◌, ◌+◌, ◌^◌, ℕ, length, replicate, slice_index, slice_range, IfSome};
+ghost use Rattle.std.specs.Prelude.{◌≡◌, ◌<◌, ◌≤◌, ◌+◌, ◌^◌, ℕ, length, replicate, slice_index, slice_range, IfSome, IfOk};
 ghost use Rattle.fg_caches.specs.Code.Contents.{bytes_of};
+ghost use Rattle.fg_caches.specs.Repeats.{byte_of, repeated};
 
 use bytes::{Bytes, BytesMut};
 use fg_base::NoMemory;
+use std::alloc::Global;
 use std::marker::Model;
 
 /// The forms in which bytes are kept.
@@ -12,23 +14,42 @@ use std::marker::Model;
 pub(crate) enum Form {
     Own(BytesMut),
     Shared(Bytes),
-    // One byte, so many times.
-    Filled { byte: u8, len: usize },
+    // So many bytes, which are those of a word again and again.
+    Repeated { word: u32, len: usize },
 }
 
 /// Bytes that do not change.
 #[derive(Drop)]
-pub struct Slot {
+pub struct Contents {
     form: Form,
 }
 
-impl Model for Slot {
+impl Model for Contents {
     ghost use Rattle.std.specs.Prelude.{ℕ, List};
     ghost use Rattle.fg_caches.specs.Code.Contents.{bytes_of};
 
     ghost Value = { List ℕ };
 
     ghost view = { λ slot. bytes_of slot.form };
+}
+
+// The byte in a place.
+#[inline(always)]
+fn byte_at(word: u32, place: usize) -> u8
+    ensures { result ≡ byte_of word place }
+{
+    (word >> (8 * (place % 4) as u32) & 0xff) as u8
+}
+
+// The bytes of a word again and again, from a place on.
+#[tactic(auto, using(crate::proofs::Repeating::turned))]
+fn repeat(word: u32, first: usize, out: &mut [u8])
+    ensures { (k : ℕ) → k < length out.old → slice_index out.new k ≡ byte_of word (first + k) }
+{
+    let turn = first % 4;
+    for k in 0..out.len() {
+        out[k] = byte_at(word, turn + k % 4);
+    }
 }
 
 // The bytes from a place on.
@@ -38,6 +59,46 @@ fn copy_from(bytes: &[u8], first: usize, out: &mut [u8])
 {
     let len = out.len();
     out.copy_from_slice(&bytes[first..first + len]);
+}
+
+// The same from the first one on.
+#[tactic(auto, using(crate::proofs::Repeating::repeats))]
+fn repeat_all(word: u32, out: &mut [u8])
+    ensures { out.new ≡ repeated word (length out.old) }
+{
+    repeat(word, 0, out);
+}
+
+// Those bytes in memory.
+fn spelled(alloc: Global, word: u32, len: usize) -> Result<Bytes, NoMemory>
+    ensures { IfOk result (λ bytes. bytes ≡ repeated word len) }
+{
+    let mut bytes = vec![in alloc; 0; len]?;
+    repeat_all(word, &mut bytes);
+    Ok(Bytes::from_vec(bytes)?)
+}
+
+// Some of the bytes that are shared.
+fn shared_part(bytes: &Bytes, first: usize, len: usize) -> Option<Contents>
+    requires within { first + len ≤ length bytes.now }
+    requires small { first + len < 2 ^ 63 }
+    ensures { IfSome result (λ part. part ≡ slice_range bytes.now first (first + len)) }
+{
+    let part = bytes.slice(first..first + len).ok()?;
+    Some(Contents::shared(part))
+}
+
+// So many bytes from a place on, where they begin as the word does.
+#[tactic(auto, using(crate::proofs::Repeating::repeated_part))]
+fn repeated_part(word: u32, all: usize, first: usize, len: usize) -> Option<Contents>
+    requires { first + len ≤ all }
+    ensures { IfSome result (λ part. part ≡ slice_range (repeated word all) first (first + len)) }
+{
+    if first % 4 == 0 {
+        Some(Contents::repeated(word, len))
+    } else {
+        None
+    }
 }
 
 // The same bytes in a form that can be shared, where there is memory for that.
@@ -53,35 +114,83 @@ fn shared(form: Form) -> (Form, Result<(), NoMemory>)
     }
 }
 
-impl Slot {
+impl Contents {
     /// Bytes of one's own. It takes no memory.
-    pub fn own(bytes: BytesMut) -> Slot
+    pub fn own(bytes: BytesMut) -> Contents
         ensures { result ≡ bytes.items }
     {
-        Slot {
+        Contents {
             form: Form::Own(bytes),
         }
     }
 
     /// Bytes that others may share. It takes no memory.
-    pub fn shared(bytes: Bytes) -> Slot
+    pub fn shared(bytes: Bytes) -> Contents
         ensures { result ≡ bytes }
     {
-        Slot {
+        Contents {
             form: Form::Shared(bytes),
         }
     }
 
-    /// One byte, so many times. It takes no memory, for the bytes neither.
-    pub fn filled(byte: u8, len: u32) -> Slot
+    /// So many bytes, which are those of a word again and again, the lowest first. It takes no memory, for the bytes neither.
+    pub fn repeated(word: u32, len: usize) -> Contents
+        ensures { result ≡ repeated word len }
+    {
+        Contents {
+            form: Form::Repeated { word, len },
+        }
+    }
+
+    /// One byte, so many times. It takes no memory either.
+    #[tactic(auto, using(crate::proofs::Repeating::one_byte))]
+    pub fn filled(byte: u8, len: u32) -> Contents
         ensures { result ≡ replicate len byte }
     {
-        Slot {
-            form: Form::Filled {
-                byte,
-                len: len as usize,
-            },
+        Contents::repeated(u32::from(byte) * 0x0101_0101, len as usize)
+    }
+
+    /// The word whose bytes they are again and again, where they are kept in this form.
+    #[tactic(auto, using(crate::proofs::Repeating::itself))]
+    pub fn word(&self) -> Option<u32>
+        ensures { IfSome result (λ word. self.now ≡ repeated word (length self.now)) }
+    {
+        match &self.form {
+            Form::Repeated { word, .. } => Some(*word),
+            _ => None,
         }
+    }
+
+    /// The bytes, where they are in memory.
+    pub fn as_slice(&self) -> Option<&[u8]>
+        ensures { IfSome result (λ bytes. bytes.now ≡ self.now) }
+    {
+        match &self.form {
+            Form::Own(own) => Some(own.as_slice()),
+            Form::Shared(bytes) => Some(bytes),
+            Form::Repeated { .. } => None,
+        }
+    }
+
+    /// The bytes in memory. They are copied only where nobody shares them.
+    pub fn to_bytes(&self, alloc: Global) -> Result<Bytes, NoMemory>
+        ensures { IfOk result (λ bytes. bytes ≡ self.now) }
+    {
+        match &self.form {
+            Form::Own(own) => Ok(Bytes::copy_from_slice(alloc, own.as_slice())?),
+            Form::Shared(bytes) => Ok(bytes.clone()?),
+            Form::Repeated { word, len } => spelled(alloc, *word, *len),
+        }
+    }
+
+    /// The same bytes. They are copied only where nobody shares them.
+    pub fn copy(&self, alloc: Global) -> Result<Contents, NoMemory>
+        ensures { IfOk result (λ copy. copy ≡ self.now) }
+    {
+        if let Some(word) = self.word() {
+            return Ok(Contents::repeated(word, self.len()));
+        }
+        Ok(Contents::shared(self.to_bytes(alloc)?))
     }
 
     /// Whether it has memory of its own for just so many bytes, which nobody shares.
@@ -89,32 +198,34 @@ impl Slot {
         match &self.form {
             Form::Own(own) => own.len() == len,
             Form::Shared(bytes) => bytes.len() == len && bytes.is_unique(),
-            Form::Filled { .. } => false,
+            Form::Repeated { .. } => false,
         }
     }
 
     /// The bytes, where they are no one else's; what they are does not count.
     pub(crate) fn into_spare(self) -> Option<BytesMut> {
-        let Slot { form } = self;
+        let Contents { form } = self;
         match form {
             Form::Own(own) => Some(own),
             Form::Shared(bytes) => bytes.reclaim(),
-            Form::Filled { .. } => None,
+            Form::Repeated { .. } => None,
         }
     }
 
     /// How many bytes there are.
+    #[tactic(auto, using(crate::proofs::Repeating::length_repeated))]
     pub fn len(&self) -> usize
         ensures { result ≡ length self.now }
     {
         match &self.form {
             Form::Own(own) => own.len(),
             Form::Shared(bytes) => bytes.len(),
-            Form::Filled { len, .. } => *len,
+            Form::Repeated { len, .. } => *len,
         }
     }
 
     /// Copies the bytes from a place on.
+    #[tactic(auto, using(crate::proofs::Repeating::length_repeated, crate::proofs::Repeating::repeated_at))]
     pub(crate) fn copy_to(&self, first: usize, out: &mut [u8])
         requires within { first + length out.old ≤ length self.now }
         ensures { (k : ℕ) → k < length out.old → slice_index out.new k ≡ slice_index self.now (first + k) }
@@ -122,19 +233,21 @@ impl Slot {
         match &self.form {
             Form::Own(own) => copy_from(own, first, out),
             Form::Shared(bytes) => copy_from(bytes, first, out),
-            Form::Filled { byte, .. } => out.fill(*byte),
+            Form::Repeated { word, .. } => repeat(*word, first, out),
         }
     }
 
     /// The bytes from a place on, so many, where they can be had without a copy.
-    pub(crate) fn part(&self, first: usize, len: usize) -> Option<Bytes>
+    #[tactic(auto, using(crate::proofs::Repeating::length_repeated))]
+    pub(crate) fn part(&self, first: usize, len: usize) -> Option<Contents>
         requires within { first + len ≤ length self.now }
         requires small { first + len < 2 ^ 63 }
         ensures { IfSome result (λ bytes. bytes ≡ slice_range self.now first (first + len)) }
     {
         match &self.form {
-            Form::Shared(bytes) => bytes.slice(first..first + len).ok(),
-            _ => None,
+            Form::Own(_) => None,
+            Form::Shared(bytes) => shared_part(bytes, first, len),
+            Form::Repeated { word, len: all } => repeated_part(*word, *all, first, len),
         }
     }
 
@@ -144,7 +257,7 @@ impl Slot {
     {
         let (form, ended) = shared(std::mem::replace(
             &mut self.form,
-            Form::Filled { byte: 0, len: 0 },
+            Form::Repeated { word: 0, len: 0 },
         ));
         self.form = form;
         ended

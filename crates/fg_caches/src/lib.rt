@@ -17,7 +17,7 @@ mod table;
 mod tender;
 mod words;
 
-pub use contents::Slot;
+pub use contents::Contents;
 pub use table::Segments;
 pub use tender::{MOVES, Tender};
 

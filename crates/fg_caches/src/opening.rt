@@ -6,7 +6,7 @@ ghost use Rattle.fg_caches.specs.Code.Opened.{IsOpened, open_segment};
 ghost use Rattle.fg_caches.specs.Code.Uses.{uses};
 
 use crate::cell::Cell;
-use crate::contents::Slot;
+use crate::contents::Contents;
 use crate::memory::Memory;
 use crate::part::Part;
 use crate::row::Row;
@@ -63,7 +63,7 @@ fn open_segment(slot: u32, start: u32, len: u32) -> Segment
 /// Lays the memories out one behind the other; memory m has the bytes of slot m + 1. The answer is the first address
 /// past them.
 pub(crate) fn lay_out(
-    slots: &[Slot],
+    slots: &[Contents],
     memories: &mut Vec<Memory>,
     segments: &mut Vec<Segment>,
 ) -> u32
@@ -91,7 +91,11 @@ pub(crate) fn lay_out(
 }
 
 /// Slot 0 has the junk, and the slots after it the opening bytes; there is room for further slots.
-pub(crate) fn slots_of(junk: Slot, opening: List<Slot>, stores: u32) -> Result<Vec<Slot>, NoMemory>
+pub(crate) fn slots_of(
+    junk: Contents,
+    opening: List<Contents>,
+    stores: u32,
+) -> Result<Vec<Contents>, NoMemory>
     ensures items { IfOk result (λ v. v.items ≡ junk ∷ opening) }
     ensures room { IfOk result (λ v. vec_len v + stores ≤ vec_capacity v) }
 {

@@ -8,7 +8,7 @@ ghost use Rattle.fg_caches.specs.Tables.{slot_at, byte_in};
 ghost use Rattle.fg_caches.specs.Code.Kept.{IsThere, Knows};
 
 use crate::cell::Cell;
-use crate::contents::Slot;
+use crate::contents::Contents;
 use crate::part::Part;
 use crate::row::Row;
 use crate::segment::{Segment, place_of};
@@ -32,7 +32,7 @@ fn seen_in(row: &Row, agent: Option<u32>) -> Part
 }
 
 // The bytes of a part from an address on.
-fn copy_part(slots: &[Slot], part: Part, at: u32, out: &mut [u8])
+fn copy_part(slots: &[Contents], part: Part, at: u32, out: &mut [u8])
     requires slot { part.slot < length slots.now }
     requires from { part.start ≤ at }
     requires to { at + length out.old ≤ part.start + length (slot_at slots.now part.slot) }
@@ -70,7 +70,7 @@ fn run_at(segments: &[Segment], index: usize, agent: Option<u32>, at: u32, to: u
 /// Copies the bytes from an address on, as the agent sees them, or main's.
 pub(crate) fn copy_out(
     segments: &[Segment],
-    slots: &[Slot],
+    slots: &[Contents],
     agent: Option<u32>,
     from: u32,
     out: &mut [u8],
@@ -119,14 +119,14 @@ fn one_part(segments: &[Segment], agent: Option<u32>, from: u32, to: u32) -> Opt
     Some(first.part)
 }
 
-// The bytes from an address on, so many, where one slot has them all and shares them.
+// The bytes from an address on, so many, where one slot has them all and they need no copy.
 fn shared_bytes(
     segments: &[Segment],
-    slots: &[Slot],
+    slots: &[Contents],
     agent: Option<u32>,
     from: u32,
     len: u32,
-) -> Option<Bytes>
+) -> Option<Contents>
     requires ascending { Ascending segments.now }
     requires there { (x : ℕ) → from ≤ x → x < from + len → IsThere slots.now segments.now x }
     requires agent { Knows 32 agent }
@@ -143,11 +143,11 @@ fn shared_bytes(
 fn copied_bytes(
     alloc: Global,
     segments: &[Segment],
-    slots: &[Slot],
+    slots: &[Contents],
     agent: Option<u32>,
     from: u32,
     len: u32,
-) -> Result<Bytes, NoMemory>
+) -> Result<Contents, NoMemory>
     requires ascending { Ascending segments.now }
     requires there { (x : ℕ) → from ≤ x → x < from + len → IsThere slots.now segments.now x }
     requires agent { Knows 32 agent }
@@ -157,18 +157,18 @@ fn copied_bytes(
 {
     let mut out = vec![in alloc; 0; len as usize]?;
     copy_out(segments, slots, agent, from, &mut out);
-    Ok(Bytes::from_vec(out)?)
+    Ok(Contents::shared(Bytes::from_vec(out)?))
 }
 
-/// The bytes from an address on, so many, as the agent sees them: without a copy where one slot has them all and shares them.
+/// The bytes from an address on, so many, as the agent sees them: without a copy where one slot has them all and its form needs none.
 pub(crate) fn seen_bytes(
     alloc: Global,
     segments: &[Segment],
-    slots: &[Slot],
+    slots: &[Contents],
     agent: Option<u32>,
     from: u32,
     len: u32,
-) -> Result<Bytes, NoMemory>
+) -> Result<Contents, NoMemory>
     requires ascending { Ascending segments.now }
     requires there { (x : ℕ) → from ≤ x → x < from + len → IsThere slots.now segments.now x }
     requires agent { Knows 32 agent }

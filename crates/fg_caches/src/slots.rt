@@ -4,7 +4,7 @@ ghost use Rattle.std.specs.Prelude.{◌≡◌, ◌≢◌, ◌<◌, ◌≤◌, �
 ghost use Rattle.fg_caches.specs.Code.Uses.{count_at, Counts};
 ghost use Rattle.fg_caches.specs.Tables.{slot_at};
 
-use crate::contents::Slot;
+use crate::contents::Contents;
 use bytes::BytesMut;
 use fg_base::NoMemory;
 
@@ -25,7 +25,7 @@ const LEAST: usize = 4096;
 
 /// The least slot after slot 0 that no part names and whose memory, for just so many bytes, nobody shares, if this is worth a
 /// search.
-pub(crate) fn spare_slot(slots: &[Slot], counts: &[u32], len: usize) -> Option<usize>
+pub(crate) fn spare_slot(slots: &[Contents], counts: &[u32], len: usize) -> Option<usize>
     requires { length counts.now ≡ length slots.now }
     ensures { IfSome result (λ t. (0 < t) × ((t < length slots.now) × (count_at counts.now t ≡ 0))) }
 {
@@ -41,19 +41,19 @@ pub(crate) fn spare_slot(slots: &[Slot], counts: &[u32], len: usize) -> Option<u
 }
 
 /// What a slot had, where it is no one else's. The slot has no bytes from now on.
-pub(crate) fn empty_slot(slots: &mut Vec<Slot>, slot: usize) -> Option<BytesMut>
+pub(crate) fn empty_slot(slots: &mut Vec<Contents>, slot: usize) -> Option<BytesMut>
     requires { slot < length slots.old.items }
     ensures others { (k : ℕ) → k < length slots.old.items → k ≢ slot → slot_at slots.new.items k ≡ slot_at slots.old.items k }
     ensures length { length slots.new.items ≡ length slots.old.items }
     ensures len { vec_len slots.new ≡ vec_len slots.old }
     ensures capacity { vec_capacity slots.new ≡ vec_capacity slots.old }
 {
-    let old = std::mem::replace(&mut slots[slot], Slot::filled(0, 0));
+    let old = std::mem::replace(&mut slots[slot], Contents::filled(0, 0));
     old.into_spare()
 }
 
-/// Puts bytes into the least slot after slot 0 that no part names, in place of what it held, or into a new one.
-pub(crate) fn store_in(slots: &mut Vec<Slot>, counts: &mut Vec<u32>, bytes: BytesMut) -> u32
+/// Puts contents into the least slot after slot 0 that no part names, in place of what it held, or into a new one.
+pub(crate) fn store_in(slots: &mut Vec<Contents>, counts: &mut Vec<u32>, contents: Contents) -> u32
     requires counts { length counts.old.items ≡ length slots.old.items }
     requires some { 0 < length slots.old.items }
     requires few { length slots.old.items + 1 < 2 ^ 32 }
@@ -61,7 +61,7 @@ pub(crate) fn store_in(slots: &mut Vec<Slot>, counts: &mut Vec<u32>, bytes: Byte
     requires counts_room { vec_len counts.old < vec_capacity counts.old }
     ensures slot { result < length slots.new.items }
     ensures later { 0 < result }
-    ensures here { slot_at slots.new.items result ≡ bytes.items }
+    ensures here { slot_at slots.new.items result ≡ contents }
     ensures others { (k : ℕ) → k < length slots.old.items → k ≢ result → slot_at slots.new.items k ≡ slot_at slots.old.items k }
     ensures unnamed { (f : ℕ → ℕ) → Counts counts.old.items f → f (length slots.old.items) ≡ 0 → f result ≡ 0 }
     ensures counts { length counts.new.items ≡ length slots.new.items }
@@ -75,20 +75,20 @@ pub(crate) fn store_in(slots: &mut Vec<Slot>, counts: &mut Vec<u32>, bytes: Byte
 {
     match free_slot(counts) {
         Some(slot) => {
-            slots[slot] = Slot::own(bytes);
+            slots[slot] = contents;
             slot as u32
         }
-        None => push_slot(slots, counts, bytes),
+        None => push_slot(slots, counts, contents),
     }
 }
 
-// Puts bytes into a new slot.
-fn push_slot(slots: &mut Vec<Slot>, counts: &mut Vec<u32>, bytes: BytesMut) -> u32
+// Puts contents into a new slot.
+fn push_slot(slots: &mut Vec<Contents>, counts: &mut Vec<u32>, contents: Contents) -> u32
     requires few { length slots.old.items < 2 ^ 32 }
     requires room { vec_len slots.old < vec_capacity slots.old }
     requires counts_room { vec_len counts.old < vec_capacity counts.old }
     ensures slot { result ≡ length slots.old.items }
-    ensures items { slots.new.items ≡ slots.old.items ++ bytes.items ∷ [] }
+    ensures items { slots.new.items ≡ slots.old.items ++ contents ∷ [] }
     ensures counts { counts.new.items ≡ counts.old.items ++ 0 ∷ [] }
     ensures len { vec_len slots.new ≡ vec_len slots.old + 1 }
     ensures capacity { vec_capacity slots.new ≡ vec_capacity slots.old }
@@ -96,13 +96,13 @@ fn push_slot(slots: &mut Vec<Slot>, counts: &mut Vec<u32>, bytes: BytesMut) -> u
     ensures counts_capacity { vec_capacity counts.new ≡ vec_capacity counts.old }
 {
     let slot = slots.len() as u32;
-    slots.push_reserved(Slot::own(bytes));
+    slots.push_reserved(contents);
     counts.push_reserved(0);
     slot
 }
 
 // The bytes of the slot can be had without a copy, if there is such a slot.
-fn share_slot(slots: &mut Vec<Slot>, slot: usize) -> Result<(), NoMemory>
+fn share_slot(slots: &mut Vec<Contents>, slot: usize) -> Result<(), NoMemory>
     ensures items { slots.new.items ≡ slots.old.items }
     ensures len { vec_len slots.new ≡ vec_len slots.old }
     ensures capacity { vec_capacity slots.new ≡ vec_capacity slots.old }
@@ -115,7 +115,7 @@ fn share_slot(slots: &mut Vec<Slot>, slot: usize) -> Result<(), NoMemory>
 }
 
 /// The bytes of the slots with these numbers can be had without a copy. A number is taken off as soon as this holds.
-pub(crate) fn share_all(slots: &mut Vec<Slot>, numbers: &mut Vec<u32>) -> Result<(), NoMemory>
+pub(crate) fn share_all(slots: &mut Vec<Contents>, numbers: &mut Vec<u32>) -> Result<(), NoMemory>
     ensures items { slots.new.items ≡ slots.old.items }
     ensures len { vec_len slots.new ≡ vec_len slots.old }
     ensures capacity { vec_capacity slots.new ≡ vec_capacity slots.old }

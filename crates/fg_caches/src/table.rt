@@ -11,14 +11,14 @@ ghost use Rattle.fg_caches.specs.Code.Segments.{within};
 ghost use Rattle.fg_caches.specs.Code.Uses.{uses};
 
 use crate::change::Change;
-use crate::contents::Slot;
+use crate::contents::Contents;
 use crate::memory::Memory;
 use crate::opening::{counts_of, lay_out, room_for, slots_of};
 use crate::part::Part;
 use crate::runs::{copy_out, seen_bytes};
 use crate::segment::{Segment, change_all, cut_at, place_of};
 use crate::slots::{empty_slot, share_all, spare_slot, store_in};
-use bytes::{Bytes, BytesMut};
+use bytes::BytesMut;
 use fg_base::{List, NoMemory};
 use std::alloc::Global;
 use std::marker::Model;
@@ -32,7 +32,7 @@ pub struct Segments {
     total: u32,
     segments: Vec<Segment>,
     // Slot 0 has the junk.
-    slots: Vec<Slot>,
+    slots: Vec<Contents>,
     // By the slot: at least as many as parts name it, and of slot 0 one more.
     counts: Vec<u32>,
     // Slots of stores whose bytes are not shared yet. Where one is left out its bytes are copied.
@@ -63,8 +63,8 @@ impl Segments {
     pub fn new(
         alloc: Global,
         agents: u32,
-        opening: List<Slot>,
-        junk: Slot,
+        opening: List<Contents>,
+        junk: Contents,
         cuts: &[(u32, u32)],
         moves: u32,
         stores: u32,
@@ -97,8 +97,8 @@ impl Segments {
     fn open(
         alloc: Global,
         agents: u32,
-        opening: List<Slot>,
-        junk: Slot,
+        opening: List<Contents>,
+        junk: Contents,
         cuts: u64,
         stores: u32,
     ) -> Result<Segments, NoMemory>
@@ -376,34 +376,34 @@ impl Segments {
         self.change(0, memory, start, len, Change::Junk(part));
     }
 
-    // Puts bytes into a slot that no part names.
-    fn store(&mut self, bytes: BytesMut) -> u32
+    // Puts contents into a slot that no part names.
+    fn store(&mut self, contents: Contents) -> u32
         requires { 0 < self.old.stores_left }
         ensures same { self.new ≡ record self.old { slots = self.new.slots; stores_left = self.old.stores_left - 1 } }
         ensures slot { result < length self.new.slots }
-        ensures here { slot_at self.new.slots result ≡ bytes.items }
+        ensures here { slot_at self.new.slots result ≡ contents }
         ensures junk { junk_of self.new ≡ junk_of self.old }
         ensures bytes { caches_of self.new ≡ caches_of self.old }
     {
         self.stores_left -= 1;
-        let slot = store_in(&mut self.slots, &mut self.counts, bytes);
+        let slot = store_in(&mut self.slots, &mut self.counts, contents);
         let _noted = self.stored.push(slot);
         slot
     }
 
     /// The agent stores bytes. They are moved into the table and not copied.
-    pub fn put(&mut self, agent: u32, memory: u32, start: u32, bytes: BytesMut)
+    pub fn put(&mut self, agent: u32, memory: u32, start: u32, contents: Contents)
         requires agent { agent < self.old.agents }
-        requires within { InMemory self.old memory start (length bytes.items) }
-        requires room { missing self.old memory start (length bytes.items) ≤ self.old.cuts_left }
+        requires within { InMemory self.old memory start (length contents) }
+        requires room { missing self.old memory start (length contents) ≤ self.old.cuts_left }
         requires store { 0 < self.old.stores_left }
-        ensures bytes { caches_of self.new ≡ effects.put agent (range memory start (length bytes.items)) bytes.items (caches_of self.old) }
+        ensures bytes { caches_of self.new ≡ effects.put agent (range memory start (length contents)) contents (caches_of self.old) }
         ensures keeps { Keeps self.old self.new }
-        ensures cuts { self.old.cuts_left ≤ self.new.cuts_left + missing self.old memory start (length bytes.items) }
+        ensures cuts { self.old.cuts_left ≤ self.new.cuts_left + missing self.old memory start (length contents) }
         ensures stores { self.new.stores_left ≡ self.old.stores_left - 1 }
     {
-        let len = self.checked_len(memory, start, bytes.len());
-        let slot = self.store(bytes);
+        let len = self.checked_len(memory, start, contents.len());
+        let slot = self.store(contents);
         self.lay(agent, memory, start, len, slot);
     }
 
@@ -475,7 +475,7 @@ impl Segments {
         memory: u32,
         start: u32,
         len: u32,
-    ) -> Result<Bytes, NoMemory>
+    ) -> Result<Contents, NoMemory>
         requires agent { agent < self.now.agents }
         requires within { InMemory self.now memory start len }
         ensures { IfOk result (λ bytes. bytes ≡ effects.load agent (range memory start len) (caches_of self.now)) }
@@ -491,7 +491,7 @@ impl Segments {
         memory: u32,
         start: u32,
         len: u32,
-    ) -> Result<Bytes, NoMemory>
+    ) -> Result<Contents, NoMemory>
         requires agent { agent < self.now.agents }
         requires within { InMemory self.now memory start len }
         ensures len { IfOk result (λ bytes. length bytes ≡ len) }

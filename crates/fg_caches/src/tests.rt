@@ -30,6 +30,21 @@ fn stored(alloc: Global, step: Step) -> Result<BytesMut, NoMemory>
     Ok(BytesMut::from_vec(bytes))
 }
 
+// A step that stores bytes.
+fn put(alloc: Global, table: &mut Segments, step: Step) -> Result<(), NoMemory>
+    requires agent { step.agent < table.old.agents }
+    requires within { InMemory table.old step.memory step.start step.len }
+    requires room { 2 ≤ table.old.cuts_left }
+    requires stores { 0 < table.old.stores_left }
+    ensures keeps { OnOk result (Keeps table.old table.new) }
+    ensures cuts { OnOk result (table.old.cuts_left ≤ table.new.cuts_left + 2) }
+    ensures stores { OnOk result (table.old.stores_left ≤ table.new.stores_left + 1) }
+{
+    let contents = Contents::own(stored(alloc, step)?);
+    table.put(step.agent, step.memory, step.start, contents);
+    Ok(())
+}
+
 fn make(alloc: Global, table: &mut Segments, step: Step) -> Result<(), NoMemory>
     requires agent { step.agent < table.old.agents }
     requires within { InMemory table.old step.memory step.start step.len }
@@ -41,7 +56,7 @@ fn make(alloc: Global, table: &mut Segments, step: Step) -> Result<(), NoMemory>
     ensures stores { OnOk result (table.old.stores_left ≤ table.new.stores_left + 1) }
 {
     match step.call {
-        Call::Put => table.put(step.agent, step.memory, step.start, stored(alloc, step)?),
+        Call::Put => put(alloc, table, step)?,
         Call::WriteBack => table.write_back(step.agent, step.memory, step.start, step.len),
         Call::Fill => table.fill(step.agent, step.memory, step.start, step.len),
         Call::DropClean => table.drop_clean(step.agent, step.memory, step.start, step.len),
@@ -197,12 +212,12 @@ fn junk(alloc: Global) -> Result<BytesMut, NoMemory>
     Ok(BytesMut::from_vec(bytes))
 }
 
-fn two(alloc: Global, large: BytesMut, small: BytesMut) -> Result<List<Slot>, NoMemory>
+fn two(alloc: Global, large: BytesMut, small: BytesMut) -> Result<List<Contents>, NoMemory>
     ensures { IfOk result (λ opening. opening ≡ large.items ∷ small.items ∷ []) }
 {
     let mut opening = List::new(alloc);
-    opening.push(Slot::own(large))?;
-    opening.push(Slot::own(small))?;
+    opening.push(Contents::own(large))?;
+    opening.push(Contents::own(small))?;
     Ok(opening)
 }
 
@@ -223,7 +238,7 @@ fn table(alloc: Global, large: BytesMut, small: BytesMut) -> Result<Segments, No
         alloc,
         AGENTS,
         opening,
-        Slot::own(junk),
+        Contents::own(junk),
         &[(0, 20)],
         2 * EVENTS,
         2 * EVENTS,

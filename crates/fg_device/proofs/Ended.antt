@@ -15,7 +15,7 @@ use Rattle.fg_device.proofs.Runnable.{room_is}
 use Rattle.fg_device.proofs.Stored.{begun_inside, not_none, is_held, made_is}
 use Rattle.fg_device.proofs.Touching.{formed, agent_known, piece_known, stores_there}
 use Rattle.fg_device.specs.Code.Kept.{device_in, IsKept}
-use Rattle.fg_device.specs.Code.Loads.{store_size, held_at, IsRunnable, IsHeld}
+use Rattle.fg_device.specs.Code.Loads.{store_size, held_at, IsWork, IsHeld}
 use Rattle.fg_device.specs.Code.Parts.{node_count}
 use Rattle.fg_device.specs.Code.Tables.{IsCutOut}
 use Rattle.fg_device.specs.declared.device.Device.TheInside.{Inside}
@@ -55,8 +55,8 @@ module _ (i : Inside) (K : IsKept i) (n : ℕ) (begun : is_begun (phase_of i.con
 
     -- what the operation needs
     module _ (op : Op ℕ) (at : op_at (arc_value i.program) n ≡ Some op) (shapes : List Shape) (same : shapes ≡ i.shapes) where
-      pub held_runs : IsRunnable shapes op h.loaded
-      held_runs = subst (λ (shapes : List Shape). IsRunnable shapes op h.loaded) (sym (same ∙ K.shapes)) (held_is.runs op at)
+      pub held_works : IsWork shapes op h.loaded h.work
+      held_works = subst (λ (shapes : List Shape). IsWork shapes op h.loaded h.work) (sym (same ∙ K.shapes)) (held_is.work op at)
 
       zeros : replicate (store_size (view_of (arc_value i.program)) n) 0 ≡ no_old (shapes_of (arc_value i.program)) op
       zeros = room_is (arc_value i.program) K.obeys n node_there held_is.command op at (formed (arc_value i.program) K.faultless K.small n)

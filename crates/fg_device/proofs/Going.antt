@@ -19,9 +19,8 @@ use Rattle.fg_device.proofs.Flushing.{synced_bytes}
 use Rattle.fg_device.proofs.Hosted.{read_at}
 use Rattle.fg_device.proofs.Keeping.{new_state, kept_event, idle_not_begun, ready_inside, ready_idle, command_no_read, sync_no_read}
 use Rattle.fg_device.proofs.Readiness.{agrees_ready}
-use Rattle.fg_device.proofs.Runnable.{loads_run}
 use Rattle.fg_device.specs.Code.Kept.{device_in, IsKept}
-use Rattle.fg_device.specs.Code.Loads.{IsRunnable, IsHeld, held_at}
+use Rattle.fg_device.specs.Code.Loads.{IsHeld, held_at}
 use Rattle.fg_device.specs.Code.Parts.{HasState, node_count}
 use Rattle.fg_device.specs.Code.Syncs.{synced_caches}
 use Rattle.fg_device.specs.Code.Tables.{HasBytes, Stays}
@@ -39,7 +38,6 @@ use Rattle.fg_steps.specs.States.{is_begun, State}
 use Rattle.fg_steps.specs.Steps.{store_of, taken, made, begun, ended, synced, hosted}
 use Rattle.fg_steps.specs.declared.phase.Phase.TheVariants.{Idle, Begun}
 use Rattle.fg_subs.specs.FirstFault.{first_fault}
-use Rattle.fg_subs.specs.Rules.{shapes_of}
 use Rattle.fg_subs.specs.declared.program.Program.{Program}
 use Rattle.fg_view.specs.ShapedView.{ShapedView}
 use Rattle.fg_view.specs.Views.{View, view_of, accesses_of, loads_of, queue_at}
@@ -138,7 +136,7 @@ module _ (i : Inside) (K : IsKept i) {d : Device} (same : device_in i ≡ d) (n 
   loaded_there =
       let V = view_of (arc_value i.program) in
       let s = state_of (device_in i) in
-      put_at s.loaded n n (map (taken V s n (i.fill ∷ [])) (loads_of V n)) refl ∙ sym takes_here.loaded
+      put_at s.loaded n n (map (taken V s n (i.fill ∷ [])) (loads_of V n)) refl ∙ sym takes_here.inputs.loaded
 
   -- what a command loads it loads where the commands run one after another
   pub loads_apart : ((d : Device) → first_fault d.program ≡ None → (n : ℕ) → MayGo is_command d n → IsJob d n) → LoadsApart (did (device_in i) (Begin n)) n h.loaded
@@ -161,7 +159,7 @@ module _ (i : Inside) (K : IsKept i) {d : Device} (same : device_in i ≡ d) (n 
           command = here.kind;
           loaded = sym loaded_there;
           room = takes_here.room;
-          runs = λ op at. subst (IsRunnable (shapes_of program) op) (sym takes_here.loaded) (loads_run program K.obeys n R.inside here.kind op at s junk);
+          work = takes_here.inputs.work;
         } in
         kept_event i (Begin n) r K begins next i.table held i.reads history items (and_from _ _ here.kind here.ready) view (ap length put ∙ length-set i.held.items n (Some h)) K.table
         (subst (λ held. HasState program next i.table held i.reads.items r) (sym put) (events.begins program i.control next i.table i.held.items i.reads.items s K.state n junk K.view agrees h (omega (arith, R.inside, K.places)) (command_no_read (device_in i) n here.ready here.kind) is_held))

@@ -12,7 +12,7 @@ use Rattle.fg_view.specs.Views.{view_of, piece_at}
 
 still : (program : Program) (s r : State) (n : ℕ) (held : Option Held) → is_begun (r.phase n) ≡ is_begun (s.phase n) → r.loaded n ≡ s.loaded n → Holds program s n held → Holds program r n held
 still program s r n None e l h = e ∙ h
-still program s r n (Some held) e l h = record { begun = e ∙ h.begun; command = h.command; loaded = h.loaded ∙ sym l; room = h.room; runs = h.runs }
+still program s r n (Some held) e l h = record { begun = e ∙ h.begun; command = h.command; loaded = h.loaded ∙ sym l; room = h.room; work = h.work }
 
 module _ (program : Program) (list : List (Option Held)) (s r : State) (H : HoldsAll program list s) where
   -- where no other command is begun, and none has ended

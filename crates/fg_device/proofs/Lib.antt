@@ -25,3 +25,4 @@ pub mod Spared
 pub mod Stored
 pub mod Touching
 pub mod Turning
+pub mod Working

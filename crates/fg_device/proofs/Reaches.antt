@@ -12,12 +12,13 @@ use Rattle.fg_caches.specs.Tables.{InMemory, caches_of}
 use Rattle.fg_checker.specs.Apart.{op_at}
 use Rattle.fg_control.specs.Controls.{Agrees}
 use Rattle.fg_device.proofs.Facts.{piece_small}
-use Rattle.fg_device.proofs.Runnable.{loads_run, room_is}
+use Rattle.fg_device.proofs.Runnable.{loads_run, room_is, some_same}
 use Rattle.fg_device.proofs.Sights.{takes}
 use Rattle.fg_device.proofs.Touching.{formed, agent_known, agent_small, piece_known, stores_there}
 use Rattle.fg_device.specs.Code.Kept.{device_in, IsKept}
-use Rattle.fg_device.specs.Code.Loads.{store_size, IsRunnable}
+use Rattle.fg_device.specs.Code.Loads.{store_size, IsRunnable, IsWork}
 use Rattle.fg_device.specs.declared.device.Device.TheInside.{Inside}
+use Rattle.fg_device.specs.declared.work.Work.{Work}
 use Rattle.fg_steps.proofs.Formed.{Formed}
 use Rattle.fg_steps.specs.Agents.{agent_of}
 use Rattle.fg_steps.specs.Devices.{Device, state_of, view_in}
@@ -89,6 +90,10 @@ module _ (i : Inside) (K : IsKept i) (d : Device) (is : device_in i ≡ d) (n : 
     module _ (op : Op ℕ) (at : op_at d.program n ≡ Some op) (shapes : List Shape) (shapes_are : shapes ≡ shapes_of d.program) where
       pub runs_on : (loaded : List (List ℕ)) → loaded ≡ map (taken (view_in d) (state_of d) n (d.fill ∷ [])) (loads_of (view_in d) n) → IsRunnable shapes op loaded
       runs_on loaded e = subst (λ (shapes : List Shape). IsRunnable shapes op loaded) (sym shapes_are) (subst (IsRunnable (shapes_of d.program) op) (sym e) (loads_run d.program obeying n lt command op at (state_of d) (d.fill ∷ [])))
+
+      -- what is computed of that, of the operation as it is found
+      pub works_on : (loaded : List (List ℕ)) (work : Work) → IsWork shapes op loaded work → (other : Op ℕ) → op_at d.program n ≡ Some other → IsWork (shapes_of d.program) other loaded work
+      works_on loaded work W other here = subst (λ (shapes : List Shape). IsWork shapes other loaded work) shapes_are (subst (λ (own : Op ℕ). IsWork shapes own loaded work) (some_same (sym at ∙ here)) W)
 
       pub room_on : (room : List ℕ) → room ≡ replicate (store_size (view_in d) n) 0 → room ≡ no_old shapes op
       room_on room e =

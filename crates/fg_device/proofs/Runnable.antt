@@ -38,7 +38,7 @@ use Rattle.fg_view.specs.declared.access.Access.{Access}
 use Rattle.fg_view.specs.declared.access.AccessKind.TheVariants.{Load}
 use Rattle.fg_view.specs.declared.access.Agent.TheVariants.{Host}
 
-some_same : {X : Type 0} {a b : X} → Some a ≡ Some b → a ≡ b
+pub some_same : {X : Type 0} {a b : X} → Some a ≡ Some b → a ≡ b
 some_same e = cc
 
 -- each load is as long as its piece

@@ -2,7 +2,7 @@
 
 ghost use Rattle.std.specs.Prelude.{◌≡◌, true};
 
-use bytes::Bytes;
+use fg_caches::Contents;
 
 // Each byte is looked at, also after two that differ, so that it can be done for many at once.
 fn same_bytes(a: &[u8], b: &[u8]) -> bool
@@ -18,15 +18,28 @@ fn same_bytes(a: &[u8], b: &[u8]) -> bool
     same
 }
 
-/// Whether all bytes are the same, load by load.
-pub(crate) fn same_loads(a: &[Bytes], b: &[Bytes]) -> bool
+// Whether both are in one form, with the same bytes.
+fn same_contents(a: &Contents, b: &Contents) -> bool
+    ensures { result ≡ true → a.now ≡ b.now }
+{
+    if let (Some(one), Some(other)) = (a.word(), b.word()) {
+        return one == other && a.len() == b.len();
+    }
+    if let (Some(one), Some(other)) = (a.as_slice(), b.as_slice()) {
+        return same_bytes(one, other);
+    }
+    false
+}
+
+/// Whether all bytes are known to be the same, load by load.
+pub(crate) fn same_loads(a: &[Contents], b: &[Contents]) -> bool
     ensures { result ≡ true → a.now ≡ b.now }
 {
     if a.len() != b.len() {
         return false;
     }
     for k in 0..a.len() {
-        if !same_bytes(&a[k], &b[k]) {
+        if !same_contents(&a[k], &b[k]) {
             return false;
         }
     }

@@ -4,14 +4,16 @@ ghost use Rattle.std.specs.Prelude.{◌≡◌, ◌<◌, length, replicate, slice
 ghost use Rattle.fg_device.specs.Code.Loads.{held_at};
 
 use crate::room::Room;
-use bytes::Bytes;
+use crate::work::Work;
 use fg_base::{List, NoMemory};
+use fg_caches::Contents;
 use std::alloc::Global;
 
-/// What a begun command loaded, and room for what it stores.
+/// What a begun command loaded, what is to be computed of it, and room for what it stores.
 #[derive(Drop)]
 pub(crate) struct Held {
-    pub loaded: List<Bytes>,
+    pub loaded: List<Contents>,
+    pub work: Work,
     pub room: Room,
 }
 

@@ -2,15 +2,16 @@
 
 ghost use Rattle.std.specs.Prelude.{◌≡◌};
 ghost use Rattle.std.specs.Arc.{arc_value};
-ghost use Rattle.fg_device.specs.Code.Loads.{IsRunnable, LoadsIn};
+ghost use Rattle.fg_device.specs.Code.Loads.{IsWork, LoadsIn};
 ghost use Rattle.fg_device.specs.Code.Results.{IsResult};
 ghost use Rattle.fg_steps.specs.Outputs.{no_old, stored_by};
 
 use crate::helpers::Helpers;
 use crate::room::Room;
 use crate::running::stored_fast;
-use bytes::{Bytes, BytesMut};
+use crate::work::Work;
 use fg_base::{List, Op, Shape};
+use fg_caches::Contents;
 use fg_subs::Shaped;
 use std::alloc::Global;
 use std::marker::Model;
@@ -18,17 +19,18 @@ use std::sync::Arc;
 use std::thread::Threads;
 
 /// A begun command: its node, its operation, the shapes of all pieces, and the bytes that it loaded, load by load.
-#[derive(Debug, Drop)]
+#[derive(Drop)]
 pub struct Command {
     pub node: u32,
     pub op: Op<u32>,
     pub shapes: List<Shape>,
-    pub loaded: List<Bytes>,
+    pub loaded: List<Contents>,
 }
 
 /// A begun command that is to be computed. It has the memory that this takes, and cannot be let go.
 pub struct Job {
     command: Command,
+    work: Work,
     room: Room,
     // Of the device that began it.
     program: Arc<Shaped, Global>,
@@ -50,7 +52,7 @@ impl Model for Job {
 /// A command that was computed, with the bytes that it stores. It is of the device that began it, and cannot be let go.
 pub struct Finished {
     command: Command,
-    bytes: BytesMut,
+    stored: Contents,
     program: Arc<Shaped, Global>,
     // Those that it might start.
     helpers: usize,
@@ -76,14 +78,15 @@ pub enum Landed {
 }
 
 impl Job {
-    pub(crate) fn new(command: Command, room: Room, program: Arc<Shaped, Global>) -> Job
-        requires runnable { IsRunnable command.shapes command.op command.loaded }
+    pub(crate) fn new(command: Command, work: Work, room: Room, program: Arc<Shaped, Global>) -> Job
+        requires work { IsWork command.shapes command.op command.loaded work }
         requires loads { LoadsIn (arc_value program) command.node command.loaded }
         requires room { room ≡ no_old command.shapes command.op }
         ensures { result ≡ command }
     {
         Job {
             command,
+            work,
             room,
             program,
             helpers: 0,
@@ -96,13 +99,15 @@ impl Job {
     {
         let Job {
             command,
+            work,
             room,
             program,
             helpers: _,
         } = self;
-        let helpers = helpers.take(room.helpers(&command.op));
+        let helpers = helpers.take(room.helpers(work.op(&command.op)));
         Job {
             command,
+            work,
             room,
             program,
             helpers,
@@ -116,27 +121,28 @@ impl Job {
         &self.command
     }
 
-    /// Runs the operation, by lanes and by bands, in as many threads as the device had left for it. It has no part in the device.
+    /// Runs the operation, or a simpler one that leaves the same, by lanes and by bands, in as many threads as the device had left for it. It has no part in the device.
     pub fn compute<R: Threads + Sync>(self, rt: &R) -> Finished
         ensures { result ≡ self }
     {
         let Job {
             command,
+            work,
             room,
             program,
             helpers,
         } = self;
-        let bytes = stored_fast(
+        let stored = stored_fast(
             rt,
             helpers,
-            &command.op,
+            work.op(&command.op),
             &command.shapes,
-            &command.loaded,
+            &work.bytes,
             room,
         );
         Finished {
             command,
-            bytes,
+            stored,
             program,
             helpers,
         }
@@ -152,10 +158,10 @@ impl Finished {
     }
 
     /// The bytes that the operation stores.
-    pub fn bytes(&self) -> &[u8]
+    pub fn stored(&self) -> &Contents
         ensures { result.now ≡ stored_by self.now.shapes self.now.op self.now.loaded }
     {
-        self.bytes.as_slice()
+        &self.stored
     }
 
     /// The threads that it might start, which others may start now.
@@ -164,17 +170,17 @@ impl Finished {
     }
 
     /// The command, its bytes, and the program of the device that began it.
-    pub(crate) fn into_parts(self) -> (Command, BytesMut, Arc<Shaped, Global>)
+    pub(crate) fn into_parts(self) -> (Command, Contents, Arc<Shaped, Global>)
         ensures command { result.0 ≡ self }
-        ensures bytes { IsResult self result.1.items }
+        ensures bytes { IsResult self result.1 }
         ensures loads { LoadsIn (arc_value result.2) self.node self.loaded }
     {
         let Finished {
             command,
-            bytes,
+            stored,
             program,
             helpers: _,
         } = self;
-        (command, bytes, program)
+        (command, stored, program)
     }
 }

@@ -15,6 +15,7 @@ mod origin;
 mod room;
 mod running;
 mod syncing;
+mod work;
 
 pub use device::Device;
 pub use job::{Command, Finished, Job, Landed};

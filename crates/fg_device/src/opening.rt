@@ -17,22 +17,22 @@ use crate::buffer::Buffer;
 use crate::held::{Held, none_held};
 use bytes::Bytes;
 use fg_base::{Event, List, NoMemory, Shape};
-use fg_caches::{Segments, Slot};
+use fg_caches::{Contents, Segments};
 use fg_subs::{Memory, Piece, Program};
 use fg_view::View;
 use std::alloc::Global;
 
-fn opened(alloc: Global, memory: &Memory, fill: u8) -> Result<Slot, NoMemory>
+fn opened(alloc: Global, memory: &Memory, fill: u8) -> Result<Contents, NoMemory>
     ensures { IfOk result (λ slot. slot ≡ opened_memory fill memory.now) }
 {
     match memory {
-        Memory::Plain { size } => Ok(Slot::filled(fill, *size)),
-        Memory::Import { bytes } => Ok(Slot::shared(Bytes::copy_from_slice(alloc, bytes)?)),
+        Memory::Plain { size } => Ok(Contents::filled(fill, *size)),
+        Memory::Import { bytes } => Ok(Contents::shared(Bytes::copy_from_slice(alloc, bytes)?)),
     }
 }
 
 // The imports' bytes, and memories full of one byte.
-fn opening_of(alloc: Global, memories: &[Memory], fill: u8) -> Result<List<Slot>, NoMemory>
+fn opening_of(alloc: Global, memories: &[Memory], fill: u8) -> Result<List<Contents>, NoMemory>
     ensures { IfOk result (λ opening. opening ≡ map (opened_memory fill) memories.now) }
 {
     let mut opening = List::new(alloc);
@@ -86,7 +86,7 @@ fn table_of(
 {
     let opening = opening_of(alloc, &program.memories, fill)?;
     let cuts = cuts_of(alloc, &program.pieces)?;
-    let junk = Slot::filled(fill, longest(&program.pieces));
+    let junk = Contents::filled(fill, longest(&program.pieces));
     let agents = 8 * program.queues.len() as u32;
     Segments::new(alloc, agents, opening, junk, &cuts, moves, stores)
 }

@@ -1,6 +1,6 @@
 //! How much there is to compare where a command comes back.
 
-use bytes::Bytes;
+use fg_caches::Contents;
 use fg_subs::Memory;
 
 // As many bytes as comparing a node takes, about.
@@ -17,14 +17,23 @@ pub(crate) fn weight_of(memories: &[Memory], nodes: usize) -> usize {
     weight
 }
 
-/// Whether all these together are more bytes than so many.
-pub(crate) fn are_more(loaded: &[Bytes], count: usize) -> bool {
+// How many bytes a comparison reads.
+fn weight_in(contents: &Contents) -> usize {
+    match contents.as_slice() {
+        Some(bytes) => bytes.len(),
+        None => 0,
+    }
+}
+
+/// Whether a comparison of all these reads more bytes than so many.
+pub(crate) fn are_more(loaded: &[Contents], count: usize) -> bool {
     let mut left = count;
-    for bytes in loaded {
-        if bytes.len() > left {
+    for contents in loaded {
+        let weight = weight_in(contents);
+        if weight > left {
             return true;
         }
-        left -= bytes.len();
+        left -= weight;
     }
     false
 }

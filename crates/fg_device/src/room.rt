@@ -42,6 +42,13 @@ impl Room {
         })
     }
 
+    /// For how many bytes.
+    pub fn len(&self) -> usize
+        ensures { result ≡ length self.now }
+    {
+        self.bytes.len()
+    }
+
     /// How many threads an operation that stores here has use for, beside the one that computes it.
     pub fn helpers(&self, op: &Op<u32>) -> usize {
         helpers_for(op, &self.bytes)

@@ -1,8 +1,9 @@
 //! What a command stores, by what it loaded.
 
-ghost use Rattle.std.specs.Prelude.{◌≡◌, ◌≤◌, ◌<◌, ℕ, List, [], length, take, slice_get, slice_index_or, Some};
+ghost use Rattle.std.specs.Prelude.{◌≡◌, ◌≤◌, ◌<◌, ℕ, List, [], length, take, slice_get, slice_index_or, Some, true, IfSome};
 ghost use Rattle.std.specs.List.{All};
 ghost use Rattle.fg_base.specs.Applied.{applied};
+ghost use Rattle.fg_base.specs.Fits.{fits};
 ghost use Rattle.fg_base.specs.Operands.{sources_of, destination_of, operands_of, mapped};
 ghost use Rattle.fg_base.specs.Shapes.{bytes_of, shape_at};
 ghost use Rattle.fg_base.specs.Wholes.{is_whole};
@@ -11,7 +12,9 @@ ghost use Rattle.fg_steps.specs.Outputs.{no_old, stored_by};
 
 use crate::room::Room;
 use bytes::{Bytes, BytesMut};
-use fg_base::{Op, Shape};
+use fg_base::{Op, Shape, shape_at};
+use fg_caches::Contents;
+use fg_clears::cleared;
 use fg_draw::draw;
 use fg_lanes::{Target, apply_fast};
 use fg_pixels::{apply, whole_leaves_nothing_old};
@@ -130,19 +133,33 @@ fn store_in(op: &Op<u32>, shapes: &[Shape], loaded: &[Bytes], out: &mut [u8])
 }
 
 /// What a command stores. The room takes the old bytes where these were loaded.
-pub(crate) fn stored_by(op: &Op<u32>, shapes: &[Shape], loaded: &[Bytes], room: Room) -> BytesMut
+pub(crate) fn stored_by(op: &Op<u32>, shapes: &[Shape], loaded: &[Bytes], room: Room) -> Contents
     requires runnable { IsRunnable shapes.now op.now loaded.now }
     requires room { room ≡ no_old shapes.now op.now }
-    ensures stored { result.items ≡ stored_by shapes.now op.now loaded.now }
-    ensures long { length result.items ≡ bytes_of (shape_at shapes.now (destination_of op.now)) }
+    ensures stored { result ≡ stored_by shapes.now op.now loaded.now }
+    ensures long { length result ≡ bytes_of (shape_at shapes.now (destination_of op.now)) }
 {
     let mut out = first_bytes(op, shapes, loaded, room).into_bytes();
     store_in(op, shapes, loaded, out.as_mut_slice());
-    out
+    Contents::own(out)
 }
 
-/// The same, by lanes and by bands.
-pub(crate) fn stored_fast<R: Threads + Sync>(
+// What a clear stores, whatever was loaded. It takes no memory.
+fn stored_by_clear(op: &Op<u32>, shapes: &[Shape], len: usize) -> Option<Contents>
+    requires operands { All (λ p. p < length shapes.now) (operands_of op.now) }
+    requires fits { fits (mapped (shape_at shapes.now) op.now) ≡ true }
+    requires long { len ≡ bytes_of (shape_at shapes.now (destination_of op.now)) }
+    ensures stored { IfSome result (λ contents. (loaded : List (List ℕ)) → contents ≡ stored_by shapes.now op.now loaded) }
+    ensures long { IfSome result (λ contents. length contents ≡ len) }
+{
+    let Op::ClearImage { dst, value } = op else {
+        return None;
+    };
+    Some(cleared(shape_at(shapes, *dst), *value, len))
+}
+
+// What any operation stores, by lanes and by bands.
+fn stored_in_room<R: Threads + Sync>(
     rt: &R,
     helpers: usize,
     op: &Op<u32>,
@@ -157,4 +174,24 @@ pub(crate) fn stored_fast<R: Threads + Sync>(
 {
     let out = first_bytes(op, shapes, loaded, room);
     run_fast(rt, helpers, op, shapes, loaded, out)
+}
+
+/// The same, by lanes and by bands. A clear stores nothing but its number.
+pub(crate) fn stored_fast<R: Threads + Sync>(
+    rt: &R,
+    helpers: usize,
+    op: &Op<u32>,
+    shapes: &[Shape],
+    loaded: &[Bytes],
+    room: Room,
+) -> Contents
+    requires runnable { IsRunnable shapes.now op.now loaded.now }
+    requires room { room ≡ no_old shapes.now op.now }
+    ensures stored { result ≡ stored_by shapes.now op.now loaded.now }
+    ensures long { length result ≡ bytes_of (shape_at shapes.now (destination_of op.now)) }
+{
+    if let Some(contents) = stored_by_clear(op, shapes, room.len()) {
+        return contents;
+    }
+    Contents::own(stored_in_room(rt, helpers, op, shapes, loaded, room))
 }

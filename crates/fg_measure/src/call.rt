@@ -6,7 +6,7 @@ ghost use Rattle.fg_measure.specs.Code.Tables.{image, HoldsImage};
 use crate::ranges::Range;
 use crate::stopped::Stopped;
 use crate::table::zeros;
-use fg_caches::Segments;
+use fg_caches::{Contents, Segments};
 use std::alloc::Global;
 
 /// A call of the table, or what it is compared with.
@@ -73,7 +73,7 @@ pub fn put(alloc: Global, table: &mut Segments, agent: u32, range: Range) -> Res
         return Err(Stopped);
     }
     let bytes = zeros(alloc, range.len)?;
-    table.put(agent, 0, range.start, bytes);
+    table.put(agent, 0, range.start, Contents::own(bytes));
     Ok(())
 }
 

@@ -7,7 +7,7 @@ use crate::stopped::Stopped;
 use crate::table::{STORES, row, zeros};
 use bytes::BytesMut;
 use fg_base::NoMemory;
-use fg_caches::Segments;
+use fg_caches::{Contents, Segments};
 use std::alloc::Global;
 
 /// What becomes of the buffers.
@@ -51,7 +51,7 @@ fn put(table: &mut Segments, start: u32, bytes: BytesMut) -> Result<(), Stopped>
     if bytes.len() != LEN as usize || table.stores_left() == 0 || table.cuts_left() < 2 {
         return Err(Stopped);
     }
-    table.put(0, 0, start, bytes);
+    table.put(0, 0, start, Contents::own(bytes));
     Ok(())
 }
 

@@ -8,7 +8,7 @@ ghost use Rattle.fg_measure.specs.Code.Tables.{image, row, HoldsImage, HoldsRow}
 use crate::ranges::{IMAGE, place};
 use bytes::BytesMut;
 use fg_base::{List, NoMemory};
-use fg_caches::{Segments, Slot};
+use fg_caches::{Contents, Segments};
 use std::alloc::Global;
 
 const AGENTS: u32 = 2;
@@ -47,11 +47,11 @@ fn cuts(alloc: Global, count: u32) -> Result<Vec<(u32, u32)>, NoMemory>
     Ok(cuts)
 }
 
-fn one(alloc: Global, bytes: BytesMut) -> Result<List<Slot>, NoMemory>
+fn one(alloc: Global, bytes: BytesMut) -> Result<List<Contents>, NoMemory>
     ensures { IfOk result (λ opening. opening ≡ bytes.items ∷ []) }
 {
     let mut opening = List::new(alloc);
-    opening.push(Slot::own(bytes))?;
+    opening.push(Contents::own(bytes))?;
     Ok(opening)
 }
 
@@ -62,7 +62,7 @@ pub fn table(alloc: Global, places: u32, stores: u32) -> Result<Segments, NoMemo
 {
     let opening = one(alloc, picture(alloc)?)?;
     let cuts = cuts(alloc, places)?;
-    let junk = Slot::filled(0, 0);
+    let junk = Contents::filled(0, 0);
     Segments::new(alloc, AGENTS, opening, junk, &cuts, SPARE, stores)
 }
 
@@ -83,6 +83,6 @@ pub fn row(alloc: Global) -> Result<Segments, NoMemory>
 {
     let opening = one(alloc, zeros(alloc, 4096)?)?;
     let cuts = row_cuts(alloc)?;
-    let junk = Slot::filled(0, 0);
+    let junk = Contents::filled(0, 0);
     Segments::new(alloc, AGENTS, opening, junk, &cuts, SPARE, STORES)
 }

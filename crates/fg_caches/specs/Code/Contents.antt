@@ -1,9 +1,10 @@
 -- The bytes of each form.
-use Rattle.std.specs.Prelude.{ℕ, List, replicate}
+use Rattle.std.specs.Prelude.{ℕ, List}
+use Rattle.fg_caches.specs.Repeats.{repeated}
 use Rattle.fg_caches.specs.declared.contents.Form.{Form}
-use Rattle.fg_caches.specs.declared.contents.Form.TheVariants.{Own, Shared, Filled}
+use Rattle.fg_caches.specs.declared.contents.Form.TheVariants.{Own, Shared, Repeated}
 
 abbrev pub bytes_of : Form → List ℕ
 bytes_of (Own bytes) = bytes.items
 bytes_of (Shared bytes) = bytes
-bytes_of (Filled byte len) = replicate len byte
+bytes_of (Repeated word len) = repeated word len

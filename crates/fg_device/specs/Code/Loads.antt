@@ -3,14 +3,16 @@ use Rattle.std.specs.Prelude.{◌≡◌, ℕ, ◌<◌, ◌≤◌, List, [], leng
 use Rattle.std.specs.List.{All}
 use Rattle.fg_base.specs.Applied.{applied}
 use Rattle.fg_base.specs.Fits.{fits}
-use Rattle.fg_base.specs.Operands.{operands_of, sources_of, mapped}
+use Rattle.fg_base.specs.Operands.{operands_of, sources_of, destination_of, mapped}
 use Rattle.fg_base.specs.Shapes.{bytes_of, shape_at}
 use Rattle.fg_base.specs.declared.op.Op.{Op}
 use Rattle.fg_base.specs.declared.shape.Shape.{Shape}
 use Rattle.fg_checker.specs.Apart.{inputs, op_at}
 use Rattle.fg_checker.specs.Sound.{IsSound}
 use Rattle.fg_device.specs.declared.held.Held.{Held}
+use Rattle.fg_device.specs.declared.work.Work.{Work}
 use Rattle.fg_hb.specs.Orders.{Order}
+use Rattle.fg_steps.specs.Outputs.{stored_by}
 use Rattle.fg_steps.specs.Ready.{is_command, kind_at, read_node}
 use Rattle.fg_steps.specs.States.{is_begun, is_done, State}
 use Rattle.fg_steps.specs.Steps.{store_of}
@@ -25,6 +27,20 @@ pub record IsRunnable (shapes : List Shape) (op : Op ℕ) (loaded : List (List �
   pub sources : length (sources_of op) ≤ length loaded
   pub few : length loaded ≤ length (operands_of op)
   pub sized : (k : ℕ) → k < length loaded → length (get_or loaded k []) ≡ bytes_of (shape_at shapes (get_or (operands_of op) k 0))
+
+-- the operation that is run for a command: another one in the place of its own, if there is one
+abbrev pub op_or : Op ℕ → Option (Op ℕ) → Op ℕ
+op_or own None = own
+op_or own (Some other) = other
+
+abbrev pub op_in : Op ℕ → Work → Op ℕ
+op_in own work = op_or own work.other
+
+-- it runs on the bytes that it is given, and stores in the same destination what the command's own does with what was loaded
+pub record IsWork (shapes : List Shape) (op : Op ℕ) (loaded : List (List ℕ)) (work : Work) : Type 0 where
+  pub runnable : IsRunnable shapes (op_in op work) work.bytes
+  pub same : stored_by shapes (op_in op work) work.bytes ≡ stored_by shapes op loaded
+  pub destination : destination_of (op_in op work) ≡ destination_of op
 
 -- these bytes in the place of the destination's old ones lead to the same
 abbrev pub LeadsOn : List Shape → Op ℕ → List ℕ → List ℕ → Type 0
@@ -46,7 +62,7 @@ pub record IsHeld (program : Program) (s : State) (n : ℕ) (held : Held) : Type
   pub command : is_command (kind_at (view_of program) n) ≡ true
   pub loaded : held.loaded ≡ s.loaded n
   pub room : held.room ≡ replicate (store_size (view_of program) n) 0
-  pub runs : (op : Op ℕ) → op_at program n ≡ Some op → IsRunnable (shapes_of program) op held.loaded
+  pub work : (op : Op ℕ) → op_at program n ≡ Some op → IsWork (shapes_of program) op held.loaded held.work
 
 abbrev pub Holds : Program → State → ℕ → Option Held → Type 0
 Holds program s n None = is_begun (s.phase n) ≡ false

@@ -18,5 +18,5 @@ pub record IsResult (c : Command) (bytes : List ℕ) : Type 0 where
 
 -- the bytes are of the command, which loaded in this program
 pub record IsFinished (i : Inside) : Type 0 where
-  pub result : IsResult i.command i.bytes.items
+  pub result : IsResult i.command i.stored
   pub loads : LoadsIn (arc_value i.program) i.command.node i.command.loaded

@@ -1,9 +1,11 @@
 -- What a Begin takes memory for.
 use Rattle.std.specs.Prelude.{◌≡◌, ℕ, List, [], ◌∷◌, map, replicate, Some}
 use Rattle.fg_checker.specs.Apart.{op_at}
-use Rattle.fg_device.specs.Code.Loads.{store_size}
+use Rattle.fg_base.specs.declared.op.Op.{Op}
+use Rattle.fg_device.specs.Code.Loads.{store_size, IsWork}
 use Rattle.fg_device.specs.declared.held.Held.{Held}
 use Rattle.fg_device.specs.declared.job.Command.{Command}
+use Rattle.fg_device.specs.declared.work.Work.{Work}
 use Rattle.fg_steps.specs.Devices.{Device, state_of, view_in}
 use Rattle.fg_steps.specs.Steps.{taken}
 use Rattle.fg_subs.specs.Rules.{shapes_of}
@@ -14,9 +16,14 @@ use Rattle.fg_view.specs.Views.{loads_of}
 abbrev pub loads_in : Device → ℕ → List (List ℕ)
 loads_in d n = map (taken (view_in d) (state_of d) n (d.fill ∷ [])) (loads_of (view_in d) n)
 
--- that, and zeros in the room of what it stores
+-- that, and what is computed of it
+pub record AreInputs (d : Device) (n : ℕ) (bytes : List (List ℕ)) (what : Work) : Type 0 where
+  pub loaded : bytes ≡ loads_in d n
+  pub work : (op : Op ℕ) → op_at d.program n ≡ Some op → IsWork (shapes_of d.program) op bytes what
+
+-- with zeros in the room of what it stores
 pub record IsTaken (d : Device) (n : ℕ) (held : Held) : Type 0 where
-  pub loaded : held.loaded ≡ loads_in d n
+  pub inputs : AreInputs d n held.loaded held.work
   pub room : held.room ≡ replicate (store_size (view_in d) n) 0
 
 -- the command of a node, with these bytes

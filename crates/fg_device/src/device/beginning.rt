@@ -8,8 +8,8 @@ ghost use Rattle.fg_caches.specs.Effects.{load};
 ghost use Rattle.fg_caches.specs.Lines.{range};
 ghost use Rattle.fg_caches.specs.Tables.{InMemory, caches_of};
 ghost use Rattle.fg_device.specs.Carried.{Carries};
-ghost use Rattle.fg_device.specs.Code.Loads.{store_size, IsRunnable};
-ghost use Rattle.fg_device.specs.Code.Takes.{loads_in, IsCommand, IsTaken};
+ghost use Rattle.fg_device.specs.Code.Loads.{store_size, IsWork};
+ghost use Rattle.fg_device.specs.Code.Takes.{loads_in, AreInputs, IsCommand, IsTaken};
 ghost use Rattle.fg_steps.specs.Devices.{state_of, view_in, did, is_ready, LoadsApart};
 ghost use Rattle.fg_steps.specs.Outputs.{no_old};
 ghost use Rattle.fg_steps.specs.Ready.{is_command, kind_at};
@@ -23,9 +23,10 @@ use crate::held::{Held, hold};
 use crate::job::{Command, Job};
 use crate::nodes::op_of;
 use crate::room::Room;
-use bytes::{Bytes, BytesMut};
+use crate::work::Work;
+use bytes::BytesMut;
 use fg_base::{Event, List, NoMemory};
-use fg_caches::Segments;
+use fg_caches::{Contents, Segments};
 use fg_steps::event_laws;
 use fg_subs::{Piece, Shaped};
 use fg_view::Access;
@@ -36,18 +37,26 @@ use std::sync::Arc;
 #[derive(Drop)]
 struct Taken {
     command: Command,
+    work: Work,
     room: Room,
     program: Arc<Shaped, Global>,
     held: Held,
 }
 
-// The same bytes once more, shared.
-fn copies(alloc: Global, loaded: &[Bytes]) -> Result<List<Bytes>, NoMemory>
+// What a command loads, and what is computed of it.
+#[derive(Drop)]
+struct Inputs {
+    loaded: List<Contents>,
+    work: Work,
+}
+
+// The same once more; bytes in memory are shared.
+fn copies(alloc: Global, loaded: &[Contents]) -> Result<List<Contents>, NoMemory>
     ensures { IfOk result (λ copies. copies ≡ loaded.now) }
 {
     let mut copies = List::new(alloc);
-    for bytes in loaded {
-        copies.push(bytes.clone()?)?;
+    for contents in loaded {
+        copies.push(contents.copy(alloc)?)?;
     }
     Ok(copies)
 }
@@ -60,7 +69,7 @@ fn sight(
     table: &Segments,
     agent: u32,
     from: Piece,
-) -> Result<Bytes, NoMemory>
+) -> Result<Contents, NoMemory>
     requires small { bytes_of from.shape < 2 ^ 32 }
     requires agent { agent < table.now.agents }
     requires within { InMemory table.now from.memory from.offset (bytes_of from.shape) }
@@ -68,11 +77,10 @@ fn sight(
 {
     let len = from.shape.bytes() as u32;
     if spoilt {
-        let junk = vec![in alloc; byte; len as usize]?;
-        return Ok(Bytes::from_vec(junk)?);
+        return Ok(Contents::filled(byte, len));
     }
-    let bytes = table.seen(alloc, agent, from.memory, from.offset, len)?;
-    Ok(bytes)
+    let contents = table.seen(alloc, agent, from.memory, from.offset, len)?;
+    Ok(contents)
 }
 
 impl Device {
@@ -107,8 +115,9 @@ impl Device {
         ensures err { OnErr result (self.new ≡ self.old) }
     {
         self.share()?;
-        let spare = self.spare(node);
-        self.begun(alloc, node, spare)
+        let inputs = self.inputs(alloc, node)?;
+        let spare = self.spare(node, &inputs.work);
+        self.begun(alloc, node, inputs, spare)
     }
 
     // What was stored can be loaded without a copy from now on.
@@ -119,20 +128,30 @@ impl Device {
         Ok(())
     }
 
-    // Memory that the table needs no more, for as many bytes as the command stores.
-    fn spare(&mut self, node: u32) -> Option<BytesMut>
+    // Memory that the table needs no more, for as many bytes as the command stores; none where it stores a number alone.
+    fn spare(&mut self, node: u32, work: &Work) -> Option<BytesMut>
         requires command { is_command (kind_at (view_in self.old) node) ≡ true }
         requires node { node < length (view_in self.old).nodes }
         ensures { self.new ≡ self.old }
     {
+        if work.is_clear() {
+            return None;
+        }
         let len = self.store_len(node);
         self.table.take_spare(len as usize)
     }
 
     // The same without that.
-    fn begun(&mut self, alloc: Global, node: u32, spare: Option<BytesMut>) -> Result<Job, NoMemory>
+    fn begun(
+        &mut self,
+        alloc: Global,
+        node: u32,
+        inputs: Inputs,
+        spare: Option<BytesMut>,
+    ) -> Result<Job, NoMemory>
         requires command { is_command (kind_at (view_in self.old) node) ≡ true }
         requires ready { is_ready self.old node ≡ true }
+        requires inputs { AreInputs self.old node inputs.loaded inputs.work }
         ensures event { IfOk result (λ job. self.new ≡ did self.old (events.Begin node)) }
         ensures job { IfOk result (Carries self.new node) }
         ensures apart { IfOk result (λ job. LoadsApart self.new node job.loaded) }
@@ -140,12 +159,13 @@ impl Device {
     {
         let Taken {
             command,
+            work,
             room,
             program,
             held,
-        } = self.taken(alloc, node, spare)?;
+        } = self.taken(alloc, node, inputs, spare)?;
         self.keep(node, held);
-        Ok(Job::new(command, room, program))
+        Ok(Job::new(command, work, room, program))
     }
 
     // The event itself, once there is what the device holds of the command.
@@ -164,44 +184,75 @@ impl Device {
     }
 
     // All that a Begin takes memory for.
-    fn taken(&self, alloc: Global, node: u32, spare: Option<BytesMut>) -> Result<Taken, NoMemory>
+    fn taken(
+        &self,
+        alloc: Global,
+        node: u32,
+        inputs: Inputs,
+        spare: Option<BytesMut>,
+    ) -> Result<Taken, NoMemory>
         requires command { is_command (kind_at (view_in self.now) node) ≡ true }
         requires node { node < length (view_in self.now).nodes }
+        requires inputs { AreInputs self.now node inputs.loaded inputs.work }
         ensures held { IfOk result (λ t. IsTaken self.now node t.held) }
         ensures command { IfOk result (λ t. IsCommand self.now.program node t.held.loaded t.command) }
-        ensures runs { IfOk result (λ t. IsRunnable t.command.shapes t.command.op t.command.loaded) }
+        ensures work { IfOk result (λ t. IsWork t.command.shapes t.command.op t.command.loaded t.work) }
         ensures room { IfOk result (λ t. t.room ≡ no_old t.command.shapes t.command.op) }
         ensures program { IfOk result (λ t. arc_value t.program ≡ self.now.program) }
     {
         let room = self.room(alloc, node, spare)?;
-        let held = self.held_for(alloc, node)?;
+        let held = self.held_for(alloc, node, inputs)?;
         let command = self.command(alloc, node, &held.loaded)?;
+        let work = held.work.copy(alloc)?;
         let program = Arc::try_clone(&self.program)?;
         Ok(Taken {
             command,
+            work,
             room,
             program,
             held,
         })
     }
 
-    fn held_for(&self, alloc: Global, node: u32) -> Result<Held, NoMemory>
+    // What the command loads, and what is to be computed of it.
+    fn inputs(&self, alloc: Global, node: u32) -> Result<Inputs, NoMemory>
         requires command { is_command (kind_at (view_in self.now) node) ≡ true }
         requires node { node < length (view_in self.now).nodes }
-        ensures { IfOk result (IsTaken self.now node) }
+        ensures { IfOk result (λ inputs. AreInputs self.now node inputs.loaded inputs.work) }
     {
         let loaded = self.loads(alloc, node)?;
+        let work = self.work(alloc, node, &loaded)?;
+        Ok(Inputs { loaded, work })
+    }
+
+    fn work(&self, alloc: Global, node: u32, loaded: &[Contents]) -> Result<Work, NoMemory>
+        requires command { is_command (kind_at (view_in self.now) node) ≡ true }
+        requires node { node < length (view_in self.now).nodes }
+        requires loaded { loaded.now ≡ loads_in self.now node }
+        ensures { IfOk result (AreInputs self.now node loaded.now) }
+    {
+        let op = op_of(&self.program, node);
+        let work = Work::new(alloc, op, &self.shapes, loaded)?;
+        Ok(work)
+    }
+
+    fn held_for(&self, alloc: Global, node: u32, inputs: Inputs) -> Result<Held, NoMemory>
+        requires command { is_command (kind_at (view_in self.now) node) ≡ true }
+        requires node { node < length (view_in self.now).nodes }
+        requires inputs { AreInputs self.now node inputs.loaded inputs.work }
+        ensures { IfOk result (IsTaken self.now node) }
+    {
+        let Inputs { loaded, work } = inputs;
         let room = self.room(alloc, node, None)?;
-        Ok(Held { loaded, room })
+        Ok(Held { loaded, work, room })
     }
 
     // The command with what it loads.
-    fn command(&self, alloc: Global, node: u32, loaded: &[Bytes]) -> Result<Command, NoMemory>
+    fn command(&self, alloc: Global, node: u32, loaded: &[Contents]) -> Result<Command, NoMemory>
         requires command { is_command (kind_at (view_in self.now) node) ≡ true }
         requires node { node < length (view_in self.now).nodes }
         requires loaded { loaded.now ≡ loads_in self.now node }
         ensures command { IfOk result (IsCommand self.now.program node loaded.now) }
-        ensures runs { IfOk result (λ command. IsRunnable command.shapes command.op command.loaded) }
         ensures room { IfOk result (λ command. replicate (store_size (view_in self.now) node) 0 ≡ no_old command.shapes command.op) }
     {
         let op = op_of(&self.program, node).copy(alloc)?;
@@ -236,7 +287,7 @@ impl Device {
     }
 
     // What the command loads, load by load.
-    fn loads(&self, alloc: Global, node: u32) -> Result<List<Bytes>, NoMemory>
+    fn loads(&self, alloc: Global, node: u32) -> Result<List<Contents>, NoMemory>
         requires command { is_command (kind_at (view_in self.now) node) ≡ true }
         requires node { node < length (view_in self.now).nodes }
         ensures { IfOk result (λ loaded. loaded ≡ map (taken (view_in self.now) (state_of self.now) node (self.now.fill ∷ [])) (loads_of (view_in self.now) node)) }
@@ -251,7 +302,7 @@ impl Device {
     }
 
     // The bytes that the agent sees, or junk.
-    fn load(&self, alloc: Global, node: u32, access: Access) -> Result<Bytes, NoMemory>
+    fn load(&self, alloc: Global, node: u32, access: Access) -> Result<Contents, NoMemory>
         requires command { is_command (kind_at (view_in self.now) node) ≡ true }
         requires node { node < length (view_in self.now).nodes }
         requires has { Has (view_in self.now) node access }
@@ -260,7 +311,7 @@ impl Device {
         let piece = self.control.view().piece(access.piece);
         let spoilt = self.control.is_spoilt(node, access);
         let agent = agent_of(access.kind);
-        let bytes = sight(alloc, spoilt, self.fill, &self.table, agent, piece)?;
-        Ok(bytes)
+        let contents = sight(alloc, spoilt, self.fill, &self.table, agent, piece)?;
+        Ok(contents)
     }
 }

@@ -7,7 +7,7 @@ ghost use Rattle.fg_base.specs.Shapes.{bytes_of, shape_at};
 ghost use Rattle.fg_base.specs.declared.event.Event.TheVariants as events;
 ghost use Rattle.fg_caches.specs.Effects.{put};
 ghost use Rattle.fg_caches.specs.Tables.{caches_of, Keeps};
-ghost use Rattle.fg_device.specs.Code.Loads.{IsRunnable, LoadsIn};
+ghost use Rattle.fg_device.specs.Code.Loads.{IsWork, LoadsIn};
 ghost use Rattle.fg_device.specs.Code.Results.{IsResult};
 ghost use Rattle.fg_device.specs.Code.Tables.{IsCutOut};
 ghost use Rattle.fg_device.specs.Landings.{MatchLanded};
@@ -26,9 +26,8 @@ use crate::job::{Command, Finished, Landed};
 use crate::nodes::op_of;
 use crate::origin::are_more;
 use crate::running::stored_by;
-use bytes::BytesMut;
 use fg_base::{Event, Op, Shape};
-use fg_caches::Segments;
+use fg_caches::{Contents, Segments};
 use fg_same::Same;
 use fg_steps::{device_laws, event_laws};
 use fg_subs::Shaped;
@@ -54,7 +53,7 @@ fn same_program(a: &Shaped, b: &Shaped) -> bool
     a.program().same(b.program())
 }
 
-// The bytes that were computed, where they are of this command and of what it loaded; else it is computed here. Where it is known
+// What was computed, where it is of this command and of what it loaded; else it is computed here. Where it is known
 // that it loaded this, nothing of that is compared.
 fn computed(
     op: &Op<u32>,
@@ -62,31 +61,31 @@ fn computed(
     held: Held,
     known: bool,
     command: &Command,
-    bytes: BytesMut,
-) -> BytesMut
-    requires runs { IsRunnable shapes.now op.now held.loaded }
+    done: Contents,
+) -> Contents
+    requires work { IsWork shapes.now op.now held.loaded held.work }
     requires room { held.room ≡ no_old shapes.now op.now }
     requires known { known ≡ true → command.now.loaded ≡ held.loaded }
-    requires bytes { IsResult command.now bytes.items }
-    ensures stored { result.items ≡ stored_by shapes.now op.now held.loaded }
-    ensures long { length result.items ≡ bytes_of (shape_at shapes.now (destination_of op.now)) }
+    requires done { IsResult command.now done }
+    ensures stored { result ≡ stored_by shapes.now op.now held.loaded }
+    ensures long { length result ≡ bytes_of (shape_at shapes.now (destination_of op.now)) }
 {
-    let Held { loaded, room } = held;
+    let Held { loaded, work, room } = held;
     if has_op(command, op, shapes) && (known || same_loads(&command.loaded, &loaded)) {
-        return bytes;
+        return done;
     }
-    stored_by(op, shapes, &loaded, room)
+    stored_by(work.op(op), shapes, &work.bytes, room)
 }
 
 // Junk, as much as there is room for.
-fn filled(held: Held, byte: u8) -> BytesMut
-    ensures { result.items ≡ replicate (length held.room) byte }
+fn filled(held: Held, byte: u8) -> Contents
+    ensures { result ≡ replicate (length held.room) byte }
 {
     let Held { room, .. } = held;
-    room.into_filled(byte)
+    Contents::own(room.into_filled(byte))
 }
 
-// What a begun command stores: its bytes, or junk where it is marked.
+// What a begun command stores: what was computed, or junk where it is marked.
 fn made(
     junk: Option<u8>,
     op: &Op<u32>,
@@ -94,39 +93,39 @@ fn made(
     held: Held,
     known: bool,
     command: &Command,
-    bytes: BytesMut,
-) -> BytesMut
-    requires runs { IsRunnable shapes.now op.now held.loaded }
+    done: Contents,
+) -> Contents
+    requires work { IsWork shapes.now op.now held.loaded held.work }
     requires room { held.room ≡ no_old shapes.now op.now }
     requires known { known ≡ true → command.now.loaded ≡ held.loaded }
-    requires bytes { IsResult command.now bytes.items }
-    ensures junk { IfSome junk (λ byte. result.items ≡ replicate (length held.room) byte) }
-    ensures stored { IfNone junk (result.items ≡ stored_by shapes.now op.now held.loaded) }
-    ensures long { length result.items ≡ bytes_of (shape_at shapes.now (destination_of op.now)) }
+    requires done { IsResult command.now done }
+    ensures junk { IfSome junk (λ byte. result ≡ replicate (length held.room) byte) }
+    ensures stored { IfNone junk (result ≡ stored_by shapes.now op.now held.loaded) }
+    ensures long { length result ≡ bytes_of (shape_at shapes.now (destination_of op.now)) }
 {
     match junk {
         Some(byte) => filled(held, byte),
-        None => computed(op, shapes, held, known, command, bytes),
+        None => computed(op, shapes, held, known, command, done),
     }
 }
 
 // The agent of the command stores.
-fn store(table: &mut Segments, view: &View, node: u32, bytes: BytesMut)
+fn store(table: &mut Segments, view: &View, node: u32, contents: Contents)
     requires node { node < length view.now.effects }
     requires piece { (store_of view.now node).piece < length view.now.pieces }
     requires agent { agent_of (store_of view.now node).kind < table.old.agents }
     requires few { table.old.agents < 2 ^ 32 }
-    requires len { length bytes.items ≡ (piece_range view.now (store_of view.now node).piece).len }
+    requires len { length contents ≡ (piece_range view.now (store_of view.now node).piece).len }
     requires cut { IsCutOut table.old (piece_range view.now (store_of view.now node).piece) }
     requires room { 0 < table.old.stores_left }
-    ensures bytes { caches_of table.new ≡ put (agent_of (store_of view.now node).kind) (piece_range view.now (store_of view.now node).piece) bytes.items (caches_of table.old) }
+    ensures bytes { caches_of table.new ≡ put (agent_of (store_of view.now node).kind) (piece_range view.now (store_of view.now node).piece) contents (caches_of table.old) }
     ensures keeps { Keeps table.old table.new }
     ensures cuts { table.old.cuts_left ≤ table.new.cuts_left }
     ensures stores { table.new.stores_left ≡ table.old.stores_left - 1 }
 {
     let access = store_of(view, node);
     let piece = view.piece(access.piece);
-    table.put(agent_of(access.kind), piece.memory, piece.offset, bytes);
+    table.put(agent_of(access.kind), piece.memory, piece.offset, contents);
 }
 
 impl Device {
@@ -170,7 +169,7 @@ impl Device {
         ensures event { MatchLanded result (self.new ≡ did self.old (events.End done.node)) (self.new ≡ self.old) }
     {
         event_laws();
-        let (command, bytes, program) = done.into_parts();
+        let (command, contents, program) = done.into_parts();
         let node = command.node;
         if !self.control.is_begun(node) {
             return Landed::NotBegun;
@@ -181,7 +180,7 @@ impl Device {
         };
         let junk = junk_if(self.control.is_marked(node), self.fill);
         let op = op_of(&self.program, node);
-        let stored = made(junk, op, &self.shapes, held, known, &command, bytes);
+        let stored = made(junk, op, &self.shapes, held, known, &command, contents);
         store(&mut self.table, self.control.view(), node, stored);
         self.control.end(node);
         self.history.push_reserved(Event::End { node });

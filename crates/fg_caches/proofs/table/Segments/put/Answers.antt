@@ -10,7 +10,7 @@ lay-requires-clause-within c =
     let old = c.args.self.now in
     let new = c.store-slot.new.self in
     let P : ℕ → Type 0 = λ n. InMemory old c.args.memory c.args.start n in
-    let range = subst P (sym (c.checked_len-len.ensures ∙ c.len.ensures.value)) c.requires.within in
+    let range = subst P (sym (c.checked_len-len.ensures ∙ c.len.ensures)) c.requires.within in
     stored_range old new new.slots (old.stores_left - 1) c.store-slot.ensures.same c.args.memory c.args.start c.checked_len-len.result range
 
 pub lay-requires-clause-room : goal.lay-requires-clause-room
@@ -19,12 +19,12 @@ lay-requires-clause-room c =
     let new = c.store-slot.new.self in
     let m = c.args.memory in
     let s = c.args.start in
-    omega (arith, c.requires.room, ap (missing old m s) (c.checked_len-len.ensures ∙ c.len.ensures.value), stored_missing old new new.slots (old.stores_left - 1) c.store-slot.ensures.same m s c.checked_len-len.result, ap (λ (t : Table). t.cuts_left) c.store-slot.ensures.same)
+    omega (arith, c.requires.room, ap (missing old m s) (c.checked_len-len.ensures ∙ c.len.ensures), stored_missing old new new.slots (old.stores_left - 1) c.store-slot.ensures.same m s c.checked_len-len.result, ap (λ (t : Table). t.cuts_left) c.store-slot.ensures.same)
 
 pub returns-clause-bytes : goal.returns-clause-bytes
 returns-clause-bytes c =
     let e = c.store-slot.ensures in
-    c.lay.ensures.bytes ∙ ap (λ (xs : List ℕ). put c.args.agent (range c.args.memory c.args.start (length xs)) xs (caches_of c.store-slot.new.self)) e.here ∙ ap (put c.args.agent (range c.args.memory c.args.start (length c.args.bytes.items)) c.args.bytes.items) e.bytes
+    c.lay.ensures.bytes ∙ ap (λ (xs : List ℕ). put c.args.agent (range c.args.memory c.args.start (length xs)) xs (caches_of c.store-slot.new.self)) e.here ∙ ap (put c.args.agent (range c.args.memory c.args.start (length c.args.contents)) c.args.contents) e.bytes
 
 pub returns-clause-keeps : goal.returns-clause-keeps
 returns-clause-keeps c =
@@ -38,4 +38,4 @@ returns-clause-cuts c =
     let new = c.store-slot.new.self in
     let m = c.args.memory in
     let s = c.args.start in
-    omega (arith, c.lay.ensures.cuts, ap (missing old m s) (c.checked_len-len.ensures ∙ c.len.ensures.value), stored_missing old new new.slots (old.stores_left - 1) c.store-slot.ensures.same m s c.checked_len-len.result, ap (λ (t : Table). t.cuts_left) c.store-slot.ensures.same)
+    omega (arith, c.lay.ensures.cuts, ap (missing old m s) (c.checked_len-len.ensures ∙ c.len.ensures), stored_missing old new new.slots (old.stores_left - 1) c.store-slot.ensures.same m s c.checked_len-len.result, ap (λ (t : Table). t.cuts_left) c.store-slot.ensures.same)

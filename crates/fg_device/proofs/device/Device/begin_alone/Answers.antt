@@ -2,8 +2,15 @@ use Rattle.std.proofs.Common.{◌≡◌, ◌∙◌, ◌<◌, length, true, IfOk,
 use Rattle.fg_base.specs.declared.event.Event.TheVariants.{Begin}
 use Rattle.fg_device.proofs.Keeping.{ready_inside}
 use Rattle.fg_device.proofs.device.Device.begin_alone.Goals as goal
+use Rattle.fg_device.specs.Code.Takes.{AreInputs}
 use Rattle.fg_steps.specs.Devices.{Device, view_in, did, is_ready}
 use Rattle.fg_steps.specs.Ready.{is_command, kind_at}
+
+pub inputs-requires : goal.inputs-requires
+inputs-requires c = record {
+  command = subst (λ (d : Device). is_command (kind_at (view_in d) c.args.node) ≡ true) (sym c.share.ensures) c.requires.command;
+  node = subst (λ (d : Device). c.args.node < length (view_in d).nodes) (sym c.share.ensures) (ready_inside c.args.self.now c.args.node c.requires.ready);
+}
 
 pub spare-spare-requires : goal.spare-spare-requires
 spare-spare-requires c = record {
@@ -17,6 +24,7 @@ begun-requires c =
     record {
       command = subst (λ (d : Device). is_command (kind_at (view_in d) c.args.node) ≡ true) (sym same) c.requires.command;
       ready = subst (λ (d : Device). is_ready d c.args.node ≡ true) (sym same) c.requires.ready;
+      inputs = subst (λ (d : Device). AreInputs d c.args.node c.in_ok-inputs.inputs.loaded c.in_ok-inputs.inputs.work) (sym c.spare-spare.ensures) c.in_ok-inputs.ensures;
     }
 
 pub returns-clause-event : goal.returns-clause-event

@@ -10,7 +10,7 @@ use Rattle.fg_subs.specs.Rules.{shapes_of}
 use Rattle.fg_subs.specs.declared.program.Program.{Program}
 
 pub taken-requires : goal.taken-requires
-taken-requires c = record { command = c.requires.command; node = ready_inside c.args.self.now c.args.node c.requires.ready }
+taken-requires c = record { command = c.requires.command; node = ready_inside c.args.self.now c.args.node c.requires.ready; inputs = c.requires.inputs }
 
 pub new-requires : goal.new-requires
 new-requires c =
@@ -20,7 +20,7 @@ new-requires c =
     let loads = subst (λ (p : Program). LoadsIn p n c.in_ok-command.field-0.held.loaded) (sym program) c.keep.ensures.apart in
     let own = subst (λ (bytes : List (List ℕ)). LoadsIn (arc_value c.in_ok-command.field-0.program) n bytes) (sym e.command.loaded) loads in
     record {
-      runnable = e.runs;
+      work = e.work;
       loads = subst (λ (k : ℕ). LoadsIn (arc_value c.in_ok-command.field-0.program) k c.in_ok-command.field-0.command.loaded) (sym e.command.node) own;
       room = e.room;
     }

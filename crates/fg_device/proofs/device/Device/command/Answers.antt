@@ -1,6 +1,6 @@
 use Rattle.std.proofs.Common.{◌≡◌, ◌∙◌, true, Some, refl, sym, ap, subst}
 use Rattle.fg_checker.specs.Apart.{op_at}
-use Rattle.fg_device.proofs.Reaches.{runs_on, room_on}
+use Rattle.fg_device.proofs.Reaches.{room_on}
 use Rattle.fg_device.proofs.device.Device.command.Goals as goal
 use Rattle.fg_steps.specs.Devices.{Device}
 use Rattle.fg_steps.specs.Ready.{is_command, kind_at}
@@ -18,11 +18,6 @@ returns-clause-command c = record {
   shapes = c.in_ok-shapes.ensures ∙ c.self.invariant.shapes ∙ ap (λ (d : Device). shapes_of d.program) c.self.view_is;
   loaded = c.in_ok-loaded.ensures;
 }
-
-pub returns-clause-runs : goal.returns-clause-runs
-returns-clause-runs c =
-    let e = returns-clause-command c in
-    runs_on c.self.inside c.self.invariant c.args.self.now c.self.view_is c.args.node c.requires.command c.requires.node c.in_ok-op.op e.op c.in_ok-shapes.shapes e.shapes c.in_ok-loaded.loaded (c.in_ok-loaded.ensures ∙ c.requires.loaded)
 
 pub returns-clause-room : goal.returns-clause-room
 returns-clause-room c =

@@ -24,5 +24,5 @@ sight-requires-clause-within c = in_memory c.self.inside c.self.invariant c.args
 
 pub returns : goal.returns
 returns c =
-    c.in_ok-bytes.ensures
+    c.in_ok-contents.ensures
     ∙ is_taken c.self.inside c.self.invariant c.args.self.now c.self.view_is c.args.node c.requires.command c.args.access c.requires.has c.view.result.now c.view.ensures.view c.piece-piece.result c.piece-piece.ensures c.is_spoilt-spoilt.result c.agent_of-agent.result (replicate (bytes_of c.piece-piece.result.shape) c.self.inside.fill) c.is_spoilt-spoilt.ensures c.agent_of-agent.ensures refl

@@ -1,0 +1,53 @@
+-- Bytes that repeat.
+use Rattle.std.proofs.Common.{◌≡◌, ℕ, zero, suc, ◌+◌, ◌-◌, ◌*◌, ◌/◌, ◌%◌, ◌^◌, ◌<◌, ◌≤◌, List, length, get_or, take, drop, replicate, sym, ap, ◌∙◌, arith}
+use Rattle.std.specs.Prelude.{slice_index, slice_range}
+use Rattle.std.proofs.lemmas.List.{get_or-replicate, length-replicate, get_or-take, get_or-drop}
+use Rattle.std.proofs.lemmas.Grind.{common_steps}
+use Rattle.std.proofs.lemmas.List.FromFn.{fill_by_all, get_or-map-range_with_len, length-map-range_with_len}
+use Rattle.fg_caches.specs.Repeats.{byte_of, repeated}
+
+pub length_repeated : (word n : ℕ) → length (repeated word n) ≡ n
+unfolding repeated
+length_repeated word n = length-map-range_with_len (byte_of word) 0 n
+
+pub repeated_at : (word n k : ℕ) → k < n → slice_index (repeated word n) k ≡ byte_of word k
+unfolding repeated
+repeated_at word n k lt = get_or-map-range_with_len (byte_of word) 0 n k k 0 lt (omega arith)
+
+-- bytes that are those of the word in their places
+pub repeats : (word n : ℕ) (bytes : List ℕ) → length bytes ≡ n → ((k : ℕ) → k < n → slice_index bytes k ≡ byte_of word k) → bytes ≡ repeated word n
+unfolding repeated
+repeats word n bytes long each = fill_by_all (byte_of word) bytes n 0 long each
+
+-- one byte in each place
+same_byte : (byte r : ℕ) → byte < 256 → r < 4 → byte * 16843009 / 2 ^ (8 * r) % 256 ≡ byte
+same_byte byte zero small lt = omega (arith, small)
+same_byte byte (suc zero) small lt = omega (arith, small)
+same_byte byte (suc (suc zero)) small lt = omega (arith, small)
+same_byte byte (suc (suc (suc zero))) small lt = omega (arith, small)
+same_byte byte (suc (suc (suc (suc r)))) small lt = absurd (omega (arith, lt))
+
+pub one_byte : (byte n : ℕ) → byte < 256 → repeated (byte * 16843009) n ≡ replicate n byte
+one_byte byte n small =
+    sym (repeats (byte * 16843009) n (replicate n byte) (length-replicate n byte) (λ k lt.
+    get_or-replicate n k byte 0 lt ∙ sym (same_byte byte (k % 4) small (omega arith))))
+
+pub itself : (word n : ℕ) → repeated word n ≡ repeated word (length (repeated word n))
+itself word n = ap (repeated word) (sym (length_repeated word n))
+
+-- the places of a word, from one of them on
+pub turned : (word first k : ℕ) → byte_of word (first % 4 + k % 4) ≡ byte_of word (first + k)
+turned word first k = let e : (first % 4 + k % 4) % 4 ≡ (first + k) % 4 = omega arith in ap (λ r. word / 2 ^ (8 * r) % 256) e
+
+slice_range_at : (xs : List ℕ) (first size k : ℕ) → k < size → slice_index (slice_range xs first (first + size)) k ≡ get_or (drop first xs) k 0
+slice_range_at xs first size k lt = let e : first + size - first ≡ size = omega arith in ap (λ n. get_or (take n (drop first xs)) k 0) e ∙ get_or-take size (drop first xs) k 0 lt
+
+-- so many from a place on, where the word begins again
+pub repeated_part : (word n first size : ℕ) → first % 4 ≡ 0 → first + size ≤ n → repeated word size ≡ slice_range (repeated word n) first (first + size)
+repeated_part word n first size whole within =
+    sym (repeats word size (slice_range (repeated word n) first (first + size)) (grind (arith, common_steps, length_repeated word n)) (λ k lt.
+    let turn : (first + k) % 4 ≡ k % 4 = omega (arith, whole) in
+    slice_range_at (repeated word n) first size k lt
+    ∙ get_or-drop first (repeated word n) k 0
+    ∙ repeated_at word n (first + k) (omega (arith, lt, within))
+    ∙ ap (λ r. word / 2 ^ (8 * r) % 256) turn))

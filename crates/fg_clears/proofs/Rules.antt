@@ -1,0 +1,190 @@
+-- Operations over images of one number.
+use Rattle.std.proofs.Common.{◌≡◌, ℕ, zero, suc, ◌+◌, ◌%◌, ◌<◌, ◌≤◌, ◌==◌, true, List, [], ◌∷◌, length, get_or, take, Option, Some, None, refl, sym, ap, ◌∙◌, subst, arith}
+use Rattle.std.specs.List.{All}
+use Rattle.std.proofs.lemmas.List.{get_or-take, nil_from_length}
+use Rattle.std.proofs.lemmas.Nat.{and_comm, or_comm, xor_comm}
+use Rattle.std.proofs.Math.Nat.{mul_comm, min_comm, max_comm}
+use Rattle.fg_base.specs.Applied.{applied, effect}
+use Rattle.fg_base.specs.Fits.{fits}
+use Rattle.fg_base.specs.Kernels.{fun_of}
+use Rattle.fg_base.specs.Operands.{sources_of, destination_of}
+use Rattle.fg_base.specs.Shapes.{bytes_of, is_image, same_grid, shape_at}
+use Rattle.fg_base.specs.Texels.{canvas_of, modulus, painted, picture}
+use Rattle.fg_base.specs.declared.grid.Grid.{Grid}
+use Rattle.fg_base.specs.declared.op.Fun.{Fun}
+use Rattle.fg_base.specs.declared.op.Fun.TheVariants as funs
+use Rattle.fg_base.specs.declared.op.Op.{Op}
+use Rattle.fg_base.specs.declared.op.Op.TheVariants.{ClearImage, Map, Combine, Draw}
+use Rattle.fg_base.specs.declared.op.Rect.{Rect}
+use Rattle.fg_base.specs.declared.shape.Shape.{Shape}
+use Rattle.fg_base.specs.declared.shape.Texel.{Texel}
+use Rattle.fg_base.specs.declared.shape.Texel.TheVariants.{R8, R32}
+use Rattle.fg_clears.specs.Code.Words.{commutes}
+use Rattle.fg_clears.specs.Simpler.{Reads, IsSimpler}
+use Rattle.fg_pixels.proofs.Fitting.{both, number_same}
+use Rattle.fg_pixels.proofs.Pictures.{same_band, picture_painted}
+
+-- a texel of an image of one number
+one_at : (g : Grid) (bytes : List ℕ) (value x y : ℕ) → bytes ≡ painted g (λ x y. value) → x < g.width → y < g.height → picture g bytes x y ≡ value % modulus g.texel
+one_at g bytes value x y is hx hy = ap (λ (l : List ℕ). picture g l x y) is ∙ picture_painted g (λ x y. value) x y hx hy
+
+pub map_of_one : (from to : Shape) (fun : Fun) (value own number : ℕ) (src : List ℕ) → src ≡ painted (canvas_of to) (λ x y. own)
+    → number % modulus (canvas_of to).texel ≡ fun_of (canvas_of to).texel fun (own % modulus (canvas_of to).texel) (value % modulus (canvas_of to).texel) % modulus (canvas_of to).texel
+    → painted (canvas_of to) (λ x y. number) ≡ effect (Map from to fun value) src [] [] []
+map_of_one from to fun value own number src is at =
+    let g = canvas_of to in
+    let m = modulus g.texel in
+    same_band g.texel g.width 0 g.height (λ x y. number) (λ x y. fun_of g.texel fun (picture g src x y) (value % m)) (λ x y hx hy.
+    at ∙ ap (λ (n : ℕ). fun_of g.texel fun n (value % m) % m) (sym (one_at g src own x (0 + y) is hx (omega arith))))
+
+pub combination_of_two : (one two to : Shape) (fun : Fun) (first second number : ℕ) (a b : List ℕ) → a ≡ painted (canvas_of to) (λ x y. first) → b ≡ painted (canvas_of to) (λ x y. second)
+    → number % modulus (canvas_of to).texel ≡ fun_of (canvas_of to).texel fun (first % modulus (canvas_of to).texel) (second % modulus (canvas_of to).texel) % modulus (canvas_of to).texel
+    → painted (canvas_of to) (λ x y. number) ≡ effect (Combine one two to fun) a b [] []
+combination_of_two one two to fun first second number a b is_a is_b at =
+    let g = canvas_of to in
+    let m = modulus g.texel in
+    same_band g.texel g.width 0 g.height (λ x y. number) (λ x y. fun_of g.texel fun (picture g a x y) (picture g b x y)) (λ x y hx hy.
+    at
+    ∙ ap (λ (n : ℕ). fun_of g.texel fun n (second % m) % m) (sym (one_at g a first x (0 + y) is_a hx (omega arith)))
+    ∙ ap (λ (n : ℕ). fun_of g.texel fun (picture g a x (0 + y)) n % m) (sym (one_at g b second x (0 + y) is_b hx (omega arith))))
+
+pub combination_with_one : (one two to : Shape) (fun : Fun) (value : ℕ) (a b : List ℕ) → b ≡ painted (canvas_of to) (λ x y. value) → effect (Map one to fun value) a [] [] [] ≡ effect (Combine one two to fun) a b [] []
+combination_with_one one two to fun value a b is =
+    let g = canvas_of to in
+    let m = modulus g.texel in
+    same_band g.texel g.width 0 g.height (λ x y. fun_of g.texel fun (picture g a x y) (value % m)) (λ x y. fun_of g.texel fun (picture g a x y) (picture g b x y)) (λ x y hx hy.
+    ap (λ (n : ℕ). fun_of g.texel fun (picture g a x (0 + y)) n % m) (sym (one_at g b value x (0 + y) is hx (omega arith))))
+
+swapped : (t : Texel) (fun : Fun) (a b : ℕ) → commutes fun ≡ true → fun_of t fun a b ≡ fun_of t fun b a
+swapped t funs.Add a b e = omega arith
+swapped t funs.Sub a b e = absurd cc
+swapped t funs.Mul a b e = mul_comm a b
+swapped t funs.And a b e = and_comm a b
+swapped t funs.Or a b e = or_comm a b
+swapped t funs.Xor a b e = xor_comm a b
+swapped t funs.Min a b e = min_comm a b
+swapped t funs.Max a b e = max_comm a b
+swapped t funs.Shl a b e = absurd cc
+swapped t funs.Shr a b e = absurd cc
+
+pub combination_after_one : (one two to : Shape) (fun : Fun) (value : ℕ) (a b : List ℕ) → commutes fun ≡ true → a ≡ painted (canvas_of to) (λ x y. value) → effect (Map two to fun value) b [] [] [] ≡ effect (Combine one two to fun) a b [] []
+combination_after_one one two to fun value a b both is =
+    let g = canvas_of to in
+    let m = modulus g.texel in
+    same_band g.texel g.width 0 g.height (λ x y. fun_of g.texel fun (picture g b x y) (value % m)) (λ x y. fun_of g.texel fun (picture g a x y) (picture g b x y)) (λ x y hx hy.
+    ap (λ (n : ℕ). n % m) (swapped g.texel fun (picture g b x (0 + y)) (value % m) both)
+    ∙ ap (λ (n : ℕ). fun_of g.texel fun n (picture g b x (0 + y)) % m) (sym (one_at g a value x (0 + y) is hx (omega arith))))
+
+cut_twice : (t : Texel) (n : ℕ) → n % modulus t % modulus t ≡ n % modulus t
+cut_twice R8 n = omega arith
+cut_twice R32 n = omega arith
+
+one_entry : (P : ℕ → Type 0) (n : ℕ) → P n → All P (n ∷ [])
+one_entry P n p zero d lt = p
+one_entry P n p (suc k) d lt = absurd (omega (arith, lt))
+
+two_entries : (P : ℕ → Type 0) (m n : ℕ) → P m → P n → All P (m ∷ n ∷ [])
+two_entries P m n p q zero d lt = p
+two_entries P m n p q (suc zero) d lt = q
+two_entries P m n p q (suc (suc k)) d lt = absurd (omega (arith, lt))
+
+-- a clear in the place of an operation
+pub clears : (shapes : List Shape) (op : Op ℕ) (loaded : List (List ℕ)) (dst value : ℕ) → destination_of op ≡ dst → dst < length shapes → is_image (shape_at shapes dst) ≡ true
+    → ((old : List ℕ) → painted (canvas_of (shape_at shapes dst)) (λ x y. value) ≡ applied shapes op (take (length (sources_of op)) loaded) old)
+    → IsSimpler shapes op loaded (record { op = ClearImage dst value; source = None })
+clears shapes op loaded dst value is within image same = record {
+  reads = record { operands = one_entry (λ p. p < length shapes) dst within; fitting = image; sources = omega arith; sized = λ k lt. absurd (omega (arith, lt)) };
+  all = refl;
+  destination = sym is;
+  there = λ k e. absurd cc;
+  same = λ old before. same old;
+}
+
+-- a map of one of the sources in the place of an operation
+pub maps : (shapes : List Shape) (op : Op ℕ) (loaded : List (List ℕ)) (src dst : ℕ) (fun : Fun) (value k : ℕ) → destination_of op ≡ dst → src < length shapes → dst < length shapes
+    → fits (Map (shape_at shapes src) (shape_at shapes dst) fun value) ≡ true
+    → k < length loaded → length (get_or loaded k []) ≡ bytes_of (shape_at shapes src)
+    → ((old : List ℕ) → effect (Map (shape_at shapes src) (shape_at shapes dst) fun value) (get_or loaded k []) [] [] [] ≡ applied shapes op (take (length (sources_of op)) loaded) old)
+    → IsSimpler shapes op loaded (record { op = Map src dst fun value; source = Some k })
+maps shapes op loaded src dst fun value k is from to fit there long same = record {
+  reads = record { operands = two_entries (λ p. p < length shapes) src dst from to; fitting = fit; sources = omega arith; sized = only_one };
+  all = refl;
+  destination = sym is;
+  there = λ n e. place n e;
+  same = λ old before. same old;
+}
+  where
+    only_one : (n : ℕ) → n < 1 → length (get_or (get_or loaded k [] ∷ []) n []) ≡ bytes_of (shape_at shapes (get_or (src ∷ dst ∷ []) n 0))
+    only_one zero lt = long
+    only_one (suc n) lt = absurd (omega (arith, lt))
+
+    place : (n : ℕ) → Some k ≡ Some n → n < length loaded
+    place n e = let same : k ≡ n = cc in omega (arith, there, same)
+
+-- what a draw of nothing leaves
+pub nothing_drawn : (shapes : List Shape) (dst value : ℕ) (loaded : List (List ℕ)) (old : List ℕ) → painted (canvas_of (shape_at shapes dst)) (λ x y. value) ≡ applied shapes (Draw dst (Some value) []) loaded old
+nothing_drawn shapes dst value loaded old =
+    let g = canvas_of (shape_at shapes dst) in
+    same_band g.texel g.width 0 g.height (λ x y. value) (λ x y. value % modulus g.texel) (λ x y hx hy. sym (cut_twice g.texel value))
+
+-- what a map and a combination leave, by what was loaded
+pub map_loaded : (shapes : List Shape) (src dst : ℕ) (fun : Fun) (value : ℕ) (loaded : List (List ℕ)) (old : List ℕ) → effect (Map (shape_at shapes src) (shape_at shapes dst) fun value) (get_or loaded 0 []) [] [] [] ≡ applied shapes (Map src dst fun value) (take 1 loaded) old
+map_loaded shapes src dst fun value loaded old =
+    ap (λ (l : List ℕ). effect (Map (shape_at shapes src) (shape_at shapes dst) fun value) l [] [] []) (sym (get_or-take 1 loaded 0 [] (omega arith)))
+
+pub combine_loaded : (shapes : List Shape) (a b dst : ℕ) (fun : Fun) (loaded : List (List ℕ)) (old : List ℕ) → effect (Combine (shape_at shapes a) (shape_at shapes b) (shape_at shapes dst) fun) (get_or loaded 0 []) (get_or loaded 1 []) [] [] ≡ applied shapes (Combine a b dst fun) (take 2 loaded) old
+combine_loaded shapes a b dst fun loaded old =
+    let op = Combine (shape_at shapes a) (shape_at shapes b) (shape_at shapes dst) fun in
+    ap (λ (l : List ℕ). effect op l (get_or loaded 1 []) [] []) (sym (get_or-take 2 loaded 0 [] (omega arith)))
+    ∙ ap (λ (l : List ℕ). effect op (get_or (take 2 loaded) 0 []) l [] []) (sym (get_or-take 2 loaded 1 [] (omega arith)))
+
+module _ (shapes : List Shape) (op : Op ℕ) (loaded : List (List ℕ)) (R : Reads shapes op loaded) where
+  -- a draw of nothing over a clear
+  pub draws_nothing : (dst value : ℕ) (clear : Option ℕ) (rects : List Rect) → op ≡ Draw dst clear rects → clear ≡ Some value → rects ≡ [] → IsSimpler shapes op loaded (record { op = ClearImage dst value; source = None })
+  draws_nothing dst value clear rects is cleared none =
+      let same : op ≡ Draw dst (Some value) [] = is ∙ ap (λ (o : Option ℕ). Draw dst o rects) cleared ∙ ap (λ (l : List Rect). Draw dst (Some value) l) none in
+      let D = subst (λ (o : Op ℕ). Reads shapes o loaded) same R in
+      let P : Op ℕ → Type 0 = λ o. IsSimpler shapes o loaded (record { op = ClearImage dst value; source = None }) in
+      subst P (sym same) (clears shapes (Draw dst (Some value) []) loaded dst value refl (D.operands 0 0 (omega arith)) (both (is_image (shape_at shapes dst)) true D.fitting).0 (λ old. nothing_drawn shapes dst value (take 0 loaded) old))
+
+  -- a combination has two sources
+  pub two_loaded : (a b dst : ℕ) (fun : Fun) → op ≡ Combine a b dst fun → 2 ≤ length loaded
+  two_loaded a b dst fun is = (subst (λ (o : Op ℕ). Reads shapes o loaded) is R).sources
+
+  module _ (a b dst : ℕ) (fun : Fun) (is : op ≡ Combine a b dst fun) (to : Shape) (to_is : to ≡ shape_at shapes dst) where
+    C : Reads shapes (Combine a b dst fun) loaded
+    C = subst (λ (o : Op ℕ). Reads shapes o loaded) is R
+
+    fitting : (same_grid (shape_at shapes a) (shape_at shapes dst) ≡ true) × (same_grid (shape_at shapes b) (shape_at shapes dst) ≡ true)
+    fitting = both (same_grid (shape_at shapes a) (shape_at shapes dst)) (same_grid (shape_at shapes b) (shape_at shapes dst)) C.fitting
+
+    -- a map of the first source
+    pub by_second : (value : ℕ) (second : List ℕ) → second ≡ get_or loaded 1 []
+        → ((x : List ℕ) → effect (Map (shape_at shapes a) to fun value) x [] [] [] ≡ effect (Combine (shape_at shapes a) (shape_at shapes b) to fun) x second [] [])
+        → IsSimpler shapes op loaded (record { op = Map a dst fun value; source = Some 0 })
+    by_second value second second_is same =
+        let P : Op ℕ → Type 0 = λ o. IsSimpler shapes o loaded (record { op = Map a dst fun value; source = Some 0 }) in
+        let Q : Shape → Type 0 = λ s. effect (Map (shape_at shapes a) s fun value) (get_or loaded 0 []) [] [] [] ≡ effect (Combine (shape_at shapes a) (shape_at shapes b) s fun) (get_or loaded 0 []) second [] [] in
+        subst P (sym is)
+        (maps shapes (Combine a b dst fun) loaded a dst fun value 0 refl (C.operands 0 0 (omega arith)) (C.operands 2 0 (omega arith)) fitting.0
+        (let n = C.sources in omega (arith, n)) (C.sized 0 (let n = C.sources in omega (arith, n)))
+        (λ old. subst Q to_is (same (get_or loaded 0 []))
+        ∙ ap (λ (l : List ℕ). effect (Combine (shape_at shapes a) (shape_at shapes b) (shape_at shapes dst) fun) (get_or loaded 0 []) l [] []) second_is
+        ∙ combine_loaded shapes a b dst fun loaded old))
+
+    -- a map of the second source
+    pub by_first : (value : ℕ) (first : List ℕ) → first ≡ get_or loaded 0 []
+        → ((x : List ℕ) → effect (Map (shape_at shapes b) to fun value) x [] [] [] ≡ effect (Combine (shape_at shapes a) (shape_at shapes b) to fun) first x [] [])
+        → IsSimpler shapes op loaded (record { op = Map b dst fun value; source = Some 1 })
+    by_first value first first_is same =
+        let P : Op ℕ → Type 0 = λ o. IsSimpler shapes o loaded (record { op = Map b dst fun value; source = Some 1 }) in
+        let Q : Shape → Type 0 = λ s. effect (Map (shape_at shapes b) s fun value) (get_or loaded 1 []) [] [] [] ≡ effect (Combine (shape_at shapes a) (shape_at shapes b) s fun) first (get_or loaded 1 []) [] [] in
+        subst P (sym is)
+        (maps shapes (Combine a b dst fun) loaded b dst fun value 1 refl (C.operands 1 0 (omega arith)) (C.operands 2 0 (omega arith)) fitting.1
+        (let n = C.sources in omega (arith, n)) (C.sized 1 (let n = C.sources in omega (arith, n)))
+        (λ old. subst Q to_is (same (get_or loaded 1 []))
+        ∙ ap (λ (l : List ℕ). effect (Combine (shape_at shapes a) (shape_at shapes b) (shape_at shapes dst) fun) l (get_or loaded 1 []) [] []) first_is
+        ∙ combine_loaded shapes a b dst fun loaded old))
+
+pub no_entries : (rects : List Rect) → (length rects == 0) ≡ true → rects ≡ []
+no_entries rects e = nil_from_length rects (number_same (length rects) 0 e)

@@ -1,0 +1,2 @@
+-- Definitions that serve the code alone: no public clause reaches them.
+pub mod Words
