@@ -9,7 +9,7 @@ use std::test::Fail;
 use std::thread::Threads;
 
 // A frame, the text of its exports, and what `run` prints before them.
-const FRAMES: [(&str, &str, &str); 10] = [
+const FRAMES: [(&str, &str, &str); 11] = [
     // An import, and no passes.
     (
         r#"{"format":1,"queues":[{"name":"g","family":"graphics"},{"name":"c","family":"compute"}],"resources":[{"name":"in","buffer":4,"import":"01020304"}],"passes":[],"exports":["in"]}"#,
@@ -62,6 +62,12 @@ const FRAMES: [(&str, &str, &str); 10] = [
     (
         r#"{"format":1,"queues":[{"name":"g","family":"graphics"}],"resources":[{"name":"in","buffer":4,"import":"01020304"},{"name":"a","image":[2,2],"texel":"r8"},{"name":"out","image":[2,2],"texel":"r8"}],"passes":[{"name":"p","queue":"g","reads":["in"],"writes":[{"new":"a"},{"new":"out"}],"ops":[{"op":"buffer_to_image","src":"in","dst":"a","offset":0},{"op":"clear_image","dst":"out","value":9},{"op":"copy_image","src":"a","dst":"out","src_x":0,"src_y":0,"dst_x":1,"dst_y":1,"width":1,"height":1}]}],"exports":["out"]}"#,
         "export out 4\n09090901\n",
+        "kept 1 culled 0\n",
+    ),
+    // Clears and what is computed of them: of two, of one and a ramp, in each order, and on.
+    (
+        r#"{"format":1,"queues":[{"name":"c","family":"graphics"}],"resources":[{"name":"a","image":[2,2],"texel":"r8"},{"name":"b","image":[2,2],"texel":"r8"},{"name":"r","image":[2,2],"texel":"r8"},{"name":"both","image":[2,2],"texel":"r8"},{"name":"second","image":[2,2],"texel":"r8"},{"name":"first","image":[2,2],"texel":"r8"},{"name":"turned","image":[2,2],"texel":"r8"},{"name":"mapped","image":[2,2],"texel":"r8"},{"name":"blurred","image":[2,2],"texel":"r8"},{"name":"drawn","image":[2,2],"texel":"r8"}],"passes":[{"name":"p","queue":"c","writes":[{"new":"a"},{"new":"b"},{"new":"r"},{"new":"both"},{"new":"second"},{"new":"first"},{"new":"turned"},{"new":"mapped"},{"new":"blurred"},{"new":"drawn"}],"ops":[{"op":"clear_image","dst":"a","value":517},{"op":"draw","dst":"b","clear":9,"rects":[]},{"op":"ramp","dst":"r","base":1,"dx":1,"dy":2},{"op":"combine","a":"a","b":"b","dst":"both","fun":"sub"},{"op":"combine","a":"r","b":"b","dst":"second","fun":"shl"},{"op":"combine","a":"b","b":"r","dst":"first","fun":"mul"},{"op":"combine","a":"b","b":"r","dst":"turned","fun":"sub"},{"op":"map","src":"both","dst":"mapped","fun":"shr","value":1},{"op":"box3","src":"mapped","dst":"blurred"},{"op":"clear_image","dst":"drawn","value":3},{"op":"draw","dst":"drawn","rects":[{"x":1,"y":0,"width":1,"height":2,"value":7}]}]}],"exports":["both","second","first","turned","mapped","blurred","drawn"]}"#,
+        "export both 4\nfcfcfcfc\nexport second 4\n02040608\nexport first 4\n09121b24\nexport turned 4\n08070605\nexport mapped 4\n7e7e7e7e\nexport blurred 4\n7e7e7e7e\nexport drawn 4\n03070307\n",
         "kept 1 culled 0\n",
     ),
     // Digits of both cases.
