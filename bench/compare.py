@@ -4,11 +4,12 @@
     bench/compare.py OTHER [--ours PROGRAM] [--runs 15] [--case NAME ..]
 
 First whole commands: `run`, with one worker and with four, `meaning`, `cull`, `place` and `compile` of the deferred frame of
-examples/frames/, `cull` of nearly 16 MiB of imports and of 256 passes that read and change each of 256 buffers, `place`, `bound`, `auto`, `compile`
-and `run` of a frame of 256 passes none of which is culled (the other program makes it, by its word `gen`, and each pass is given a side
-effect; one that has no such word is left out), the summary of that frame as it is made, and `check` of submissions with as many nodes as there can be:
-barriers alone; fills of one buffer with a full barrier between each two; one fill and its many readers; fills of many
-buffers that share memory. Then each operation: a frame applies it again and again to images of 1920 by 1080 texels and
+examples/frames/, `run` of that frame with a rectangle in each of its draws, so that no image stays as it was cleared, `cull` of
+nearly 16 MiB of imports and of 256 passes that read and change each of 256 buffers, `place`, `bound`, `auto`, `compile` and `run`
+of a frame of 256 passes none of which is culled (the other program makes it, by its word `gen`, and each pass is given a side
+effect; one that has no such word is left out), the summary of that frame as it is made, and `check` of submissions with as many
+nodes as there can be: barriers alone; fills of one buffer with a full barrier between each two; one fill and its many readers;
+fills of many buffers that share memory. Then each operation: a frame applies it again and again to images of 1920 by 1080 texels and
 exports one texel, so that little is printed; a frame without it is timed too, and its time is taken off. Each is timed by `meaning`,
 which takes the plain way, and by `run` with one worker, whose device computes by lanes and bands; those that go by bands have
 one more line, ours in `run` beside the other's in `meaning`, which takes one thread. For each case one
@@ -119,6 +120,16 @@ def large():
     }
 
 
+def drawn(path):
+    """A frame each of whose draws has a rectangle: none of its images stays as it was cleared."""
+    made = json.loads(path.read_text())
+    for one in made["passes"]:
+        for op in one["ops"]:
+            if op["op"] == "draw" and not op["rects"]:
+                op["rects"] = [{"x": 0, "y": 0, "width": WIDTH, "height": HEIGHT // 2, "value": 9}]
+    return made
+
+
 def generated(program):
     """A frame of 256 passes that the other program makes, each with a side effect; none if it makes none."""
     done = subprocess.run([program, "gen", "--number", "7", "--passes", "256"], stdin=subprocess.DEVNULL, capture_output=True)
@@ -213,6 +224,9 @@ def commands(folder, other):
     deferred = TOP / "examples/frames/deferred.json"
     yield "run deferred, 1", ONE, deferred
     yield "run deferred, 4", FOUR, deferred
+    full = written(folder, "drawn.json", drawn(deferred))
+    yield "run drawn, 1", ONE, full
+    yield "run drawn, 4", FOUR, full
     for word in ("meaning", "cull", "place", "compile"):
         yield f"{word} deferred", [word], deferred
     made = generated(other)
