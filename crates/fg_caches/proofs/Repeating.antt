@@ -1,7 +1,8 @@
 -- Bytes that repeat.
-use Rattle.std.proofs.Common.{◌≡◌, ℕ, zero, suc, ◌+◌, ◌-◌, ◌*◌, ◌/◌, ◌%◌, ◌^◌, ◌<◌, ◌≤◌, List, length, get_or, take, drop, replicate, sym, ap, ◌∙◌, arith}
+use Rattle.std.proofs.Common.{◌≡◌, ℕ, zero, suc, ◌+◌, ◌-◌, ◌*◌, ◌/◌, ◌%◌, ◌^◌, ◌<◌, ◌≤◌, List, length, get_or, take, drop, replicate, [], ◌++◌, refl, sym, ap, ◌∙◌, ⊎_elim, arith}
 use Rattle.std.specs.Prelude.{slice_index, slice_range}
-use Rattle.std.proofs.lemmas.List.{get_or-replicate, length-replicate, get_or-take, get_or-drop}
+use Rattle.std.proofs.lemmas.Bool.{cases_lt}
+use Rattle.std.proofs.lemmas.List.{get_or-replicate, length-replicate, length-append, get_or-take, get_or-drop, get_or_append_left, get_or-append_right, nil_from_length}
 use Rattle.std.proofs.lemmas.Grind.{common_steps}
 use Rattle.std.proofs.lemmas.List.FromFn.{fill_by_all, get_or-map-range_with_len, length-map-range_with_len}
 use Rattle.fg_caches.specs.Repeats.{byte_of, repeated}
@@ -51,3 +52,27 @@ repeated_part word n first size whole within =
     ∙ get_or-drop first (repeated word n) k 0
     ∙ repeated_at word n (first + k) (omega (arith, lt, within))
     ∙ ap (λ r. word / 2 ^ (8 * r) % 256) turn))
+
+-- the first ones of them
+pub first_part : (word n size : ℕ) → size ≤ n → take size (repeated word n) ≡ repeated word size
+first_part word n size within =
+    let e : 0 + size - 0 ≡ size = omega arith in
+    ap (λ m. take m (repeated word n)) (sym e) ∙ sym (repeated_part word n 0 size refl (omega (arith, within)))
+
+pub none_repeated : (word : ℕ) → [] ≡ repeated word 0
+none_repeated word = sym (nil_from_length (repeated word 0) (length_repeated word 0))
+
+-- so many and then more, where the word begins again
+pub longer : (word m n : ℕ) → m % 4 ≡ 0 → repeated word m ++ repeated word n ≡ repeated word (m + n)
+longer word m n whole =
+    let first = repeated word m in
+    let more = repeated word n in
+    let long : length (first ++ more) ≡ m + n = length-append first more ∙ omega (arith, length_repeated word m, length_repeated word n) in
+    repeats word (m + n) (first ++ more) long (λ k lt. ⊎_elim
+    (λ (lo : k < m). get_or_append_left first more 0 k (omega (arith, lo, length_repeated word m)) ∙ repeated_at word m k lo)
+    (λ (hi : m ≤ k).
+    let turn : (k - m) % 4 ≡ k % 4 = omega (arith, whole, hi) in
+    get_or-append_right first more m k 0 (length_repeated word m) hi
+    ∙ repeated_at word n (k - m) (omega (arith, hi, lt))
+    ∙ ap (λ r. word / 2 ^ (8 * r) % 256) turn)
+    (cases_lt k m))

@@ -1,6 +1,6 @@
 //! Bytes in the form in which they are kept.
 
-ghost use Rattle.std.specs.Prelude.{◌≡◌, ◌<◌, ◌≤◌, ◌+◌, ◌^◌, ℕ, length, replicate, slice_index, slice_range, IfSome, IfOk};
+ghost use Rattle.std.specs.Prelude.{◌≡◌, ◌<◌, ◌≤◌, ◌+◌, ◌*◌, ◌^◌, ℕ, [], length, replicate, slice_index, slice_range, IfSome, IfOk, OnOk};
 ghost use Rattle.fg_caches.specs.Code.Contents.{bytes_of};
 ghost use Rattle.fg_caches.specs.Repeats.{byte_of, repeated};
 
@@ -69,12 +69,32 @@ fn repeat_all(word: u32, out: &mut [u8])
     repeat(word, 0, out);
 }
 
+// How many bytes are copied at once.
+const STRIP: usize = 1024;
+
+// Strips of those bytes, one behind the other.
+#[tactic(auto, using(crate::proofs::Repeating::longer, crate::proofs::Repeating::none_repeated))]
+fn append_strips(word: u32, strip: &[u8], count: usize, bytes: &mut Vec<u8>) -> Result<(), NoMemory>
+    requires strip { strip.now ≡ repeated word STRIP }
+    requires empty { bytes.old.items ≡ [] }
+    ensures { OnOk result (bytes.new.items ≡ repeated word (count * STRIP)) }
+{
+    for _done in 0..count {
+        bytes.extend_from_slice(strip)?;
+    }
+    Ok(())
+}
+
 // Those bytes in memory.
+#[tactic(auto, using(crate::proofs::Repeating::longer, crate::proofs::Repeating::first_part, crate::proofs::Repeating::length_repeated))]
 fn spelled(alloc: Global, word: u32, len: usize) -> Result<Bytes, NoMemory>
     ensures { IfOk result (λ bytes. bytes ≡ repeated word len) }
 {
-    let mut bytes = vec![in alloc; 0; len]?;
-    repeat_all(word, &mut bytes);
+    let mut strip = [0; STRIP];
+    repeat_all(word, &mut strip);
+    let mut bytes = Vec::with_capacity(alloc, len)?;
+    append_strips(word, &strip, len / STRIP, &mut bytes)?;
+    bytes.extend_from_slice(&strip[..len % STRIP])?;
     Ok(Bytes::from_vec(bytes)?)
 }
 
@@ -198,6 +218,15 @@ impl Contents {
         match &self.form {
             Form::Own(own) => own.len() == len,
             Form::Shared(bytes) => bytes.len() == len && bytes.is_unique(),
+            Form::Repeated { .. } => false,
+        }
+    }
+
+    /// Whether it has memory for at least so many bytes.
+    pub(crate) fn has_memory(&self, least: usize) -> bool {
+        match &self.form {
+            Form::Own(own) => own.len() >= least,
+            Form::Shared(bytes) => bytes.len() >= least,
             Form::Repeated { .. } => false,
         }
     }

@@ -8,20 +8,51 @@ use crate::contents::Contents;
 use bytes::BytesMut;
 use fg_base::NoMemory;
 
-// The least slot after slot 0 that no part names.
-fn free_slot(counts: &[u32]) -> Option<usize>
-    ensures { IfSome result (λ t. (0 < t) × (count_at counts.now t ≡ 0)) }
+// Less memory than this is had anew as quickly as it is found.
+const LEAST: usize = 4096;
+
+// How many slots that no part names keep their memory.
+const SPARES: u32 = 8;
+
+// The least slot after slot 0 that no part names and whose memory is not worth keeping.
+fn idle_slot(slots: &[Contents], counts: &[u32]) -> Option<usize>
+    requires { length counts.now ≡ length slots.now }
+    ensures { IfSome result (λ t. (0 < t) × ((t < length slots.now) × (count_at counts.now t ≡ 0))) }
 {
-    for slot in 1..counts.len() {
-        if counts[slot] == 0 {
+    for slot in 1..slots.len() {
+        if counts[slot] == 0 && !slots[slot].has_memory(LEAST) {
             return Some(slot);
         }
     }
     None
 }
 
-// Less memory than this is had anew as quickly as it is found.
-const LEAST: usize = 4096;
+// The slot after slot 0 that no part names and that comes after so many others like it.
+fn surplus_slot(counts: &[u32]) -> Option<usize>
+    ensures { IfSome result (λ t. (0 < t) × ((t < length counts.now) × (count_at counts.now t ≡ 0))) }
+{
+    let mut left = SPARES;
+    for slot in 1..counts.len() {
+        if counts[slot] == 0 {
+            if left == 0 {
+                return Some(slot);
+            }
+            left = left.saturating_sub(1);
+        }
+    }
+    None
+}
+
+// A slot that no part names: one whose memory is not worth keeping, or one more than are kept with theirs.
+fn free_slot(slots: &[Contents], counts: &[u32]) -> Option<usize>
+    requires { length counts.now ≡ length slots.now }
+    ensures { IfSome result (λ t. (0 < t) × ((t < length slots.now) × (count_at counts.now t ≡ 0))) }
+{
+    match idle_slot(slots, counts) {
+        Some(slot) => Some(slot),
+        None => surplus_slot(counts),
+    }
+}
 
 /// The least slot after slot 0 that no part names and whose memory, for just so many bytes, nobody shares, if this is worth a
 /// search.
@@ -52,7 +83,7 @@ pub(crate) fn empty_slot(slots: &mut Vec<Contents>, slot: usize) -> Option<Bytes
     old.into_spare()
 }
 
-/// Puts contents into the least slot after slot 0 that no part names, in place of what it held, or into a new one.
+/// Puts contents into a slot after slot 0 that no part names, in place of what it held, or into a new one.
 pub(crate) fn store_in(slots: &mut Vec<Contents>, counts: &mut Vec<u32>, contents: Contents) -> u32
     requires counts { length counts.old.items ≡ length slots.old.items }
     requires some { 0 < length slots.old.items }
@@ -73,7 +104,7 @@ pub(crate) fn store_in(slots: &mut Vec<Contents>, counts: &mut Vec<u32>, content
     ensures counts_len { vec_len counts.new ≤ vec_len counts.old + 1 }
     ensures counts_capacity { vec_capacity counts.new ≡ vec_capacity counts.old }
 {
-    match free_slot(counts) {
+    match free_slot(slots, counts) {
         Some(slot) => {
             slots[slot] = contents;
             slot as u32
