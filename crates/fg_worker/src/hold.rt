@@ -21,7 +21,7 @@ pub trait Hold {
         ensures ok { IfOk result (TurnsTo (told self.old) (told self.new) own_queue) }
         ensures err { OnErr result (told self.new ≡ told self.old) };
 
-    /// A hold in which a command ends.
+    /// A hold in which a command ends. It calls nobody: the worker takes its next turn at once, and rings then where it has to.
     fn land(&mut self, done: Finished)
         ensures { LandsTo (told self.old) (told self.new) done.node };
 
