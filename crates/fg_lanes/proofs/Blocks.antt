@@ -40,10 +40,6 @@ in_block : (t : Texel) (j r : ℕ) → j < block_texels t → r < texel_bytes t 
 in_block R8 j r hj hr = omega arith
 in_block R32 j r hj hr = omega arith
 
-block_start : (t : Texel) (b : ℕ) → texel_bytes t * (block_texels t * b) ≡ 32 * b
-block_start R8 b = omega arith
-block_start R32 b = omega arith
-
 place : (t : Texel) (b j r : ℕ) → texel_bytes t * (block_texels t * b + j) + r ≡ 32 * b + (texel_bytes t * j + r)
 place R8 b j r = omega arith
 place R32 b j r = omega arith

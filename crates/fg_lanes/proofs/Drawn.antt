@@ -21,10 +21,6 @@ pub drawn_alike : (g : Grid) (rects : List Rect) (f h : ℕ → ℕ → ℕ) →
 drawn_alike g [] f h same = same
 drawn_alike g (rect ∷ rects) f h same = drawn_alike g rects (under g.texel f rect) (under g.texel h rect) (under_alike g f h rect same)
 
-cut_twice : (t : Texel) (n : ℕ) → n % modulus t % modulus t ≡ n % modulus t
-cut_twice R8 n = omega arith
-cut_twice R32 n = omega arith
-
 -- the texels of what was painted in one number
 pub one_number : (g : Grid) (value : ℕ) → painted g (picture g (painted g (λ x y. value))) ≡ painted g (λ x y. value % modulus g.texel)
 one_number g value =
