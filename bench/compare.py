@@ -10,10 +10,10 @@ of a frame of 256 passes none of which is culled (the other program makes it, by
 effect; one that has no such word is left out), the summary of that frame as it is made, and `check` of submissions with as many
 nodes as there can be: barriers alone; fills of one buffer with a full barrier between each two; one fill and its many readers;
 fills of many buffers that share memory. Then each operation: a frame applies it again and again to images of 1920 by 1080 texels and
-exports one texel, so that little is printed; a frame without it is timed too, and its time is taken off. Each is timed by `meaning`,
-which takes the plain way, and by `run` with one worker, whose device computes by lanes and bands; those that go by bands have
-one more line, ours in `run` beside the other's in `meaning`, which takes one thread. For each case one
-line: the least processor time in both programs in milliseconds, of the command or of one operation, their ratio, the ratio
+exports one texel, so that little is printed; a frame that applies it a few times is timed too, and its time is taken off, so that
+memory that is met for the first time does not count. Each is timed by `meaning`, which takes the plain way, and by `run` with one
+worker, whose device computes by lanes and bands; those that go by bands have one more line, ours in `run` beside the other's in
+`meaning`, which takes one thread. For each case one line: the least processor time in both programs in milliseconds, of the command or of one operation, their ratio, the ratio
 of the least times by the clock, and that of the most memory that the programs took. (The least of many runs is what the
 programs take by themselves; a median moves with whatever else the machine does.) The texts of both have to be the same.
 """
@@ -30,7 +30,10 @@ from pathlib import Path
 TOP = Path(__file__).resolve().parent.parent
 
 WIDTH, HEIGHT = 1920, 1080
-TIMES = 12
+
+# How often an operation is applied before it is timed, and how often it is timed.
+FIRST = 3
+TIMES = 24
 
 # Operations that go by bands of rows in both programs.
 BANDED = ("convert", "box3", "halve")
@@ -244,10 +247,10 @@ def commands(folder, other):
 
 
 def operations(folder):
-    """Name, words, and the files of a frame without the operation and of one that has it many times."""
+    """Name, words, and the files of a frame that has the operation a few times and of one that has it many times more."""
     for name, texel, op, out, final in cases():
-        idle = written(folder, "idle.json", frame(texel, [], [out], final))
-        busy = written(folder, "busy.json", frame(texel, [op] * TIMES, [out], final))
+        idle = written(folder, "idle.json", frame(texel, [op] * FIRST, [out], final))
+        busy = written(folder, "busy.json", frame(texel, [op] * (FIRST + TIMES), [out], final))
         yield name, ["meaning"], idle, busy
         yield f"{name}, run", ONE, idle, busy
 
