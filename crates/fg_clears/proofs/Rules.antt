@@ -1,27 +1,29 @@
 -- Operations over images of one number.
-use Rattle.std.proofs.Common.{◌≡◌, ℕ, zero, suc, ◌+◌, ◌%◌, ◌<◌, ◌≤◌, ◌==◌, true, List, [], ◌∷◌, length, get_or, take, Option, Some, None, refl, sym, ap, ◌∙◌, subst, arith}
-use Rattle.std.specs.List.{All}
+use Rattle.std.proofs.Common.{◌≡◌, ℕ, zero, suc, ◌+◌, ◌-◌, ◌*◌, ◌%◌, ◌<◌, ◌≤◌, ◌==◌, min, true, List, [], ◌∷◌, length, get_or, take, Option, Some, None, refl, sym, ap, ◌∙◌, subst, arith}
+use Rattle.std.specs.List.{All, list_all}
+use Rattle.std.specs.Prelude.{◌&&◌}
 use Rattle.std.proofs.lemmas.List.{get_or-take, nil_from_length}
 use Rattle.std.proofs.lemmas.Nat.{and_comm, or_comm, xor_comm}
 use Rattle.std.proofs.Math.Nat.{mul_comm, min_comm, max_comm}
-use Rattle.fg_base.specs.Applied.{applied, effect}
-use Rattle.fg_base.specs.Fits.{fits}
-use Rattle.fg_base.specs.Kernels.{fun_of}
+use Rattle.fg_base.specs.Applied.{applied, begun, effect}
+use Rattle.fg_base.specs.Fits.{fits, has_drawn}
+use Rattle.fg_base.specs.Kernels.{fun_of, three, box3, halved, under, drawn}
 use Rattle.fg_base.specs.Operands.{sources_of, destination_of}
-use Rattle.fg_base.specs.Shapes.{bytes_of, is_image, same_grid, shape_at}
+use Rattle.fg_base.specs.Shapes.{bytes_of, is_image, same_grid, same_sides, same_texel, shape_at, texel_eq, twice_the_sides}
 use Rattle.fg_base.specs.Texels.{canvas_of, modulus, painted, picture}
 use Rattle.fg_base.specs.declared.grid.Grid.{Grid}
 use Rattle.fg_base.specs.declared.op.Fun.{Fun}
 use Rattle.fg_base.specs.declared.op.Fun.TheVariants as funs
 use Rattle.fg_base.specs.declared.op.Op.{Op}
-use Rattle.fg_base.specs.declared.op.Op.TheVariants.{ClearImage, Map, Combine, Draw}
+use Rattle.fg_base.specs.declared.op.Op.TheVariants.{ClearImage, Map, Combine, Convert, Box3, Halve, Draw}
 use Rattle.fg_base.specs.declared.op.Rect.{Rect}
 use Rattle.fg_base.specs.declared.shape.Shape.{Shape}
+use Rattle.fg_base.specs.declared.shape.Shape.TheVariants.{Buffer, Image}
 use Rattle.fg_base.specs.declared.shape.Texel.{Texel}
 use Rattle.fg_base.specs.declared.shape.Texel.TheVariants.{R8, R32}
 use Rattle.fg_clears.specs.Code.Words.{commutes}
 use Rattle.fg_clears.specs.Simpler.{Reads, IsSimpler}
-use Rattle.fg_pixels.proofs.Fitting.{both, number_same}
+use Rattle.fg_pixels.proofs.Fitting.{both, number_same, one_size, twice}
 use Rattle.fg_pixels.proofs.Pictures.{same_band, picture_painted}
 
 -- a texel of an image of one number
@@ -79,6 +81,10 @@ cut_twice : (t : Texel) (n : ℕ) → n % modulus t % modulus t ≡ n % modulus 
 cut_twice R8 n = omega arith
 cut_twice R32 n = omega arith
 
+uncut : (t : Texel) (n : ℕ) → n < modulus t → n % modulus t ≡ n
+uncut R8 n small = omega (arith, small)
+uncut R32 n small = omega (arith, small)
+
 one_entry : (P : ℕ → Type 0) (n : ℕ) → P n → All P (n ∷ [])
 one_entry P n p zero d lt = p
 one_entry P n p (suc k) d lt = absurd (omega (arith, lt))
@@ -121,6 +127,84 @@ maps shapes op loaded src dst fun value k is from to fit there long same = recor
     place : (n : ℕ) → Some k ≡ Some n → n < length loaded
     place n e = let same : k ≡ n = cc in omega (arith, there, same)
 
+-- AN IMAGE OF ONE NUMBER, READ BACK
+
+abbrev IsOf : Grid → List ℕ → ℕ → Type 0
+IsOf g bytes value = (x y : ℕ) → x < g.width → y < g.height → picture g bytes x y ≡ value
+
+read_back : (g : Grid) (bytes : List ℕ) (value : ℕ) → bytes ≡ painted g (λ x y. value) → value < modulus g.texel → IsOf g bytes value
+read_back g bytes value is small x y hx hy = one_at g bytes value x y is hx hy ∙ uncut g.texel value small
+
+conversion_of_one : (from to : Shape) (value : ℕ) (src : List ℕ) → same_sides from to ≡ true → IsOf (canvas_of from) src value → painted (canvas_of to) (λ x y. value) ≡ effect (Convert from to) src [] [] []
+conversion_of_one from to value src fit of =
+    let g = canvas_of to in
+    let sizes = one_size from to fit in
+    same_band g.texel g.width 0 g.height (λ x y. value) (picture (canvas_of from) src) (λ x y hx hy.
+    ap (λ (n : ℕ). n % modulus g.texel) (sym (of x (0 + y) (omega (arith, hx, sizes.width)) (omega (arith, hy, sizes.height)))))
+
+three_of_one : (n value k : ℕ) (f : ℕ → ℕ) → k < n → ((j : ℕ) → j < n → f j ≡ value) → three n f k ≡ value + value + value
+unfolding three
+three_of_one n value k f within of = rw (of (k - 1) (omega (arith, within)), of k within, of (min (k + 1) (n - 1)) (omega (arith, within))) refl
+
+box_of_one : (w h value x y : ℕ) (f : ℕ → ℕ → ℕ) → x < w → y < h → ((i j : ℕ) → i < w → j < h → f i j ≡ value) → box3 w h f x y ≡ value
+unfolding box3
+box_of_one w h value x y f hx hy of =
+    let row = λ (j : ℕ) (hj : j < h). three_of_one w value x (λ i. f i j) hx (λ i hi. of i j hi hj) in
+    let all = three_of_one h (value + value + value) y (λ j. three w (λ i. f i j) x) hy row in
+    rw all (omega arith)
+
+blur_of_one : (from to : Shape) (value : ℕ) (src : List ℕ) → canvas_of from ≡ canvas_of to → IsOf (canvas_of from) src value → painted (canvas_of to) (λ x y. value) ≡ effect (Box3 from to) src [] [] []
+blur_of_one from to value src same first =
+    let g = canvas_of to in
+    let of : IsOf g src value = subst (λ (h : Grid). IsOf h src value) same first in
+    same_band g.texel g.width 0 g.height (λ x y. value) (box3 g.width g.height (picture g src)) (λ x y hx hy.
+    ap (λ (n : ℕ). n % modulus g.texel) (sym (box_of_one g.width g.height value x (0 + y) (picture g src) hx (omega (arith, hy)) of)))
+
+halved_of_one : (value x y : ℕ) (f : ℕ → ℕ → ℕ) → ((i j : ℕ) → i < 2 * x + 2 → j < 2 * y + 2 → f i j ≡ value) → halved f x y ≡ value
+unfolding halved
+halved_of_one value x y f of =
+    rw (of (2 * x) (2 * y) (omega arith) (omega arith), of (2 * x + 1) (2 * y) (omega arith) (omega arith), of (2 * x) (2 * y + 1) (omega arith) (omega arith), of (2 * x + 1) (2 * y + 1) (omega arith) (omega arith))
+    (omega arith)
+
+halving_of_one : (from to : Shape) (value : ℕ) (src : List ℕ) → (same_texel from to && twice_the_sides from to) ≡ true → IsOf (canvas_of from) src value → painted (canvas_of to) (λ x y. value) ≡ effect (Halve from to) src [] [] []
+halving_of_one from to value src fit of =
+    let g = canvas_of to in
+    let sizes = twice from to fit in
+    same_band g.texel g.width 0 g.height (λ x y. value) (halved (picture (canvas_of from) src)) (λ x y hx hy.
+    ap (λ (n : ℕ). n % modulus g.texel) (sym (halved_of_one value x (0 + y) (picture (canvas_of from) src) (λ i j hi hj.
+    of i j (omega (arith, hx, hi, sizes.width)) (omega (arith, hy, hj, sizes.height))))))
+
+-- what fits is an image
+sides_image : (a to : Shape) → same_sides a to ≡ true → is_image to ≡ true
+sides_image (Buffer n) to e = absurd cc
+sides_image (Image w h t) (Buffer n) e = absurd cc
+sides_image (Image w h t) (Image v k s) e = refl
+
+half_image : (a to : Shape) → twice_the_sides a to ≡ true → is_image to ≡ true
+half_image a (Buffer n) e = absurd cc
+half_image a (Image w h t) e = refl
+
+one_texel : (s t : Texel) → texel_eq s t ≡ true → s ≡ t
+one_texel R8 R8 e = refl
+one_texel R8 R32 e = absurd cc
+one_texel R32 R8 e = absurd cc
+one_texel R32 R32 e = refl
+
+one_canvas : (a to : Shape) → is_image a ≡ true → is_image to ≡ true → same_grid a to ≡ true → canvas_of a ≡ canvas_of to
+one_canvas (Buffer n) to own other e = absurd cc
+one_canvas (Image w h t) (Buffer n) own other e = absurd cc
+one_canvas (Image w h t) (Image v k s) own other e =
+    let all = both (w == v && h == k) (texel_eq t s) e in
+    let sides = both (w == v) (h == k) all.0 in
+    rw (number_same w v sides.0, number_same h k sides.1, one_texel t s all.1) refl
+
+-- what a draw of one rectangle leaves
+pub whole_drawn : (g : Grid) (rect : Rect) (clear : Option ℕ) (old : List ℕ) → ((f : ℕ → ℕ → ℕ) (x y : ℕ) → x < g.width → y < g.height → under g.texel f rect x y ≡ rect.value % modulus g.texel)
+    → painted g (λ x y. rect.value) ≡ painted g (drawn g.texel (rect ∷ []) (begun g clear old))
+whole_drawn g rect clear old sets =
+    same_band g.texel g.width 0 g.height (λ x y. rect.value) (drawn g.texel (rect ∷ []) (begun g clear old)) (λ x y hx hy.
+    sym (ap (λ (n : ℕ). n % modulus g.texel) (sets (begun g clear old) x (0 + y) hx (omega (arith, hy))) ∙ cut_twice g.texel rect.value))
+
 -- what a draw of nothing leaves
 pub nothing_drawn : (shapes : List Shape) (dst value : ℕ) (loaded : List (List ℕ)) (old : List ℕ) → painted (canvas_of (shape_at shapes dst)) (λ x y. value) ≡ applied shapes (Draw dst (Some value) []) loaded old
 nothing_drawn shapes dst value loaded old =
@@ -146,6 +230,55 @@ module _ (shapes : List Shape) (op : Op ℕ) (loaded : List (List ℕ)) (R : Rea
       let D = subst (λ (o : Op ℕ). Reads shapes o loaded) same R in
       let P : Op ℕ → Type 0 = λ o. IsSimpler shapes o loaded (record { op = ClearImage dst value; source = None }) in
       subst P (sym same) (clears shapes (Draw dst (Some value) []) loaded dst value refl (D.operands 0 0 (omega arith)) (both (is_image (shape_at shapes dst)) true D.fitting).0 (λ old. nothing_drawn shapes dst value (take 0 loaded) old))
+
+  -- a draw of one rectangle that sets each texel
+  pub draws_whole : (dst : ℕ) (clear : Option ℕ) (rects : List Rect) (rect : Rect) (g : Grid) → op ≡ Draw dst clear rects → rects ≡ rect ∷ [] → g ≡ canvas_of (shape_at shapes dst)
+      → ((f : ℕ → ℕ → ℕ) (x y : ℕ) → x < g.width → y < g.height → under g.texel f rect x y ≡ rect.value % modulus g.texel)
+      → IsSimpler shapes op loaded (record { op = ClearImage dst rect.value; source = None })
+  draws_whole dst clear rects rect g is one to sets =
+      let same : op ≡ Draw dst clear (rect ∷ []) = is ∙ ap (λ (l : List Rect). Draw dst clear l) one in
+      let D = subst (λ (o : Op ℕ). Reads shapes o loaded) same R in
+      let P : Op ℕ → Type 0 = λ o. IsSimpler shapes o loaded (record { op = ClearImage dst rect.value; source = None }) in
+      let Q : Grid → Type 0 = λ h. (f : ℕ → ℕ → ℕ) (x y : ℕ) → x < h.width → y < h.height → under h.texel f rect x y ≡ rect.value % modulus h.texel in
+      subst P (sym same) (clears shapes (Draw dst clear (rect ∷ [])) loaded dst rect.value refl (D.operands 0 0 (omega arith)) (both (is_image (shape_at shapes dst)) (list_all (has_drawn (shape_at shapes dst)) (rect ∷ [])) D.fitting).0
+      (λ old. whole_drawn (canvas_of (shape_at shapes dst)) rect clear old (subst Q to sets)))
+
+  -- the sources were loaded
+  pub its_sources : (made : Op ℕ) → op ≡ made → length (sources_of made) ≤ length loaded
+  its_sources made is = (subst (λ (o : Op ℕ). Reads shapes o loaded) is R).sources
+
+  -- an operation whose one source is of one number, which it keeps
+  module _ (src dst value : ℕ) (from : Shape) (from_is : from ≡ shape_at shapes src) (bytes : List ℕ) (bytes_is : bytes ≡ get_or loaded 0 []) (is : bytes ≡ painted (canvas_of from) (λ x y. value)) (small : value < modulus (canvas_of from).texel) where
+    taken : IsOf (canvas_of (shape_at shapes src)) (get_or (take 1 loaded) 0 []) value
+    taken =
+        subst (λ (l : List ℕ). IsOf (canvas_of (shape_at shapes src)) l value) (bytes_is ∙ sym (get_or-take 1 loaded 0 [] (omega arith)))
+        (subst (λ (s : Shape). IsOf (canvas_of s) bytes value) from_is (read_back (canvas_of from) bytes value is small))
+
+    in_place : (made : Op ℕ) → op ≡ made → IsSimpler shapes made loaded (record { op = ClearImage dst value; source = None }) → IsSimpler shapes op loaded (record { op = ClearImage dst value; source = None })
+    in_place made is simpler = subst (λ (o : Op ℕ). IsSimpler shapes o loaded (record { op = ClearImage dst value; source = None })) (sym is) simpler
+
+    pub converts_one : op ≡ Convert src dst → IsSimpler shapes op loaded (record { op = ClearImage dst value; source = None })
+    converts_one made =
+        let D = subst (λ (o : Op ℕ). Reads shapes o loaded) made R in
+        let a = shape_at shapes src in
+        let to = shape_at shapes dst in
+        in_place (Convert src dst) made (clears shapes (Convert src dst) loaded dst value refl (D.operands 1 0 (omega arith)) (sides_image a to D.fitting) (λ old. conversion_of_one a to value (get_or (take 1 loaded) 0 []) D.fitting taken))
+
+    pub blurs_one : op ≡ Box3 src dst → IsSimpler shapes op loaded (record { op = ClearImage dst value; source = None })
+    blurs_one made =
+        let D = subst (λ (o : Op ℕ). Reads shapes o loaded) made R in
+        let a = shape_at shapes src in
+        let to = shape_at shapes dst in
+        let fit = both (is_image a && is_image to) (same_grid a to) D.fitting in
+        let images = both (is_image a) (is_image to) fit.0 in
+        in_place (Box3 src dst) made (clears shapes (Box3 src dst) loaded dst value refl (D.operands 1 0 (omega arith)) images.1 (λ old. blur_of_one a to value (get_or (take 1 loaded) 0 []) (one_canvas a to images.0 images.1 fit.1) taken))
+
+    pub halves_one : op ≡ Halve src dst → IsSimpler shapes op loaded (record { op = ClearImage dst value; source = None })
+    halves_one made =
+        let D = subst (λ (o : Op ℕ). Reads shapes o loaded) made R in
+        let a = shape_at shapes src in
+        let to = shape_at shapes dst in
+        in_place (Halve src dst) made (clears shapes (Halve src dst) loaded dst value refl (D.operands 1 0 (omega arith)) (half_image a to (both (same_texel a to) (twice_the_sides a to) D.fitting).1) (λ old. halving_of_one a to value (get_or (take 1 loaded) 0 []) D.fitting taken))
 
   -- a combination has two sources
   pub two_loaded : (a b dst : ℕ) (fun : Fun) → op ≡ Combine a b dst fun → 2 ≤ length loaded
@@ -188,3 +321,8 @@ module _ (shapes : List Shape) (op : Op ℕ) (loaded : List (List ℕ)) (R : Rea
 
 pub no_entries : (rects : List Rect) → (length rects == 0) ≡ true → rects ≡ []
 no_entries rects e = nil_from_length rects (number_same (length rects) 0 e)
+
+pub only_entry : (rects : List Rect) (d : Rect) → 1 ≤ length rects → length rects < 2 → rects ≡ get_or rects 0 d ∷ []
+only_entry [] d some few = absurd (omega (arith, some))
+only_entry (r ∷ []) d some few = refl
+only_entry (r ∷ s ∷ others) d some few = absurd (omega (arith, few))

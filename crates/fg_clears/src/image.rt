@@ -1,8 +1,8 @@
 //! Images that are cleared to one number.
 
-ghost use Rattle.std.specs.Prelude.{◌≡◌, true, length, IfSome};
+ghost use Rattle.std.specs.Prelude.{◌≡◌, ◌<◌, true, length, IfSome};
 ghost use Rattle.fg_base.specs.Shapes.{bytes_of, is_image};
-ghost use Rattle.fg_base.specs.Texels.{canvas_of, painted};
+ghost use Rattle.fg_base.specs.Texels.{canvas_of, modulus, painted};
 ghost use Rattle.fg_caches.specs.Repeats.{repeated};
 ghost use Rattle.fg_clears.specs.Code.Words.{word_of};
 
@@ -28,6 +28,7 @@ pub(crate) fn value_of(shape: Shape, contents: &Contents) -> Option<u32>
     requires { length contents.now ≡ bytes_of shape }
     ensures image { IfSome result (λ value. is_image shape ≡ true) }
     ensures bytes { IfSome result (λ value. contents.now ≡ painted (canvas_of shape) (λ x y. value)) }
+    ensures small { IfSome result (λ value. value < modulus (canvas_of shape).texel) }
 {
     if !shape.is_image() {
         return None;

@@ -1,4 +1,5 @@
-//! What is left to compute where images are cleared: an operation over them is one over single numbers.
+//! What is left to compute where images are cleared: an operation over them is one over single numbers, and a draw
+//! that leaves one number everywhere is a clear.
 #![tactic(auto)]
 
 mod image;

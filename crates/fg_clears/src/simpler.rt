@@ -1,16 +1,16 @@
 //! An operation over cleared images, and one over single numbers that leaves the same.
 
-ghost use Rattle.std.specs.Prelude.{◌≡◌, ◌%◌, ◌<◌, ℕ, List, true, [], length, IfSome};
+ghost use Rattle.std.specs.Prelude.{◌≡◌, ◌%◌, ◌<◌, ℕ, List, true, [], ◌∷◌, length, IfSome};
 ghost use Rattle.fg_base.specs.Applied.{effect};
 ghost use Rattle.fg_base.specs.Fits.{fits};
-ghost use Rattle.fg_base.specs.Kernels.{fun_of};
+ghost use Rattle.fg_base.specs.Kernels.{fun_of, under};
 ghost use Rattle.fg_base.specs.Shapes.{bytes_of, is_image, same_grid};
 ghost use Rattle.fg_base.specs.Texels.{canvas_of, modulus, painted};
 ghost use Rattle.fg_clears.specs.Code.Words.{commutes};
 ghost use Rattle.fg_clears.specs.Simpler.{Reads, IsSimpler};
 
 use crate::image::value_of;
-use fg_base::{Fun, Op, Shape, Texel, shape_at};
+use fg_base::{Fun, Grid, Mix, Op, Rect, Shape, Texel, shape_at};
 use fg_caches::Contents;
 use fg_pixels::{canvas, cut, fun_at};
 
@@ -107,6 +107,102 @@ fn draw_nothing(op: &Op<u32>, shapes: &[Shape], loaded: &[Contents]) -> Option<S
         return None;
     }
     let value = (*clear)?;
+    Some(Simpler {
+        op: Op::ClearImage { dst: *dst, value },
+        source: None,
+    })
+}
+
+// The rectangle, where there is only one.
+#[tactic(auto, using(crate::proofs::Rules::only_entry))]
+fn only(rects: &[Rect]) -> Option<Rect>
+    ensures { IfSome result (λ rect. rects.now ≡ rect ∷ []) }
+{
+    match rects {
+        [rect] => Some(*rect),
+        _ => None,
+    }
+}
+
+// Whether a rectangle gives its value to each texel of a grid.
+fn sets_all(rect: Rect, grid: Grid) -> bool
+    ensures { result ≡ true → (f : ℕ → ℕ → ℕ) (x y : ℕ) → x < grid.width → y < grid.height → under grid.texel f rect x y ≡ rect.value % modulus grid.texel }
+{
+    let whole = rect.width == grid.width && rect.height == grid.height;
+    rect.mix == Mix::Set && rect.x == 0 && rect.y == 0 && whole
+}
+
+// A draw of one rectangle that sets each texel.
+fn draw_whole(op: &Op<u32>, shapes: &[Shape], loaded: &[Contents]) -> Option<Simpler>
+    requires { Reads shapes.now op.now loaded.now }
+    ensures { IfSome result (IsSimpler shapes.now op.now loaded.now) }
+{
+    let Op::Draw { dst, rects, .. } = op else {
+        return None;
+    };
+    let rect = only(rects)?;
+    if !sets_all(rect, canvas(shape_at(shapes, *dst))) {
+        return None;
+    }
+    Some(Simpler {
+        op: Op::ClearImage {
+            dst: *dst,
+            value: rect.value,
+        },
+        source: None,
+    })
+}
+
+// A draw that leaves a clear.
+fn draw_simpler(op: &Op<u32>, shapes: &[Shape], loaded: &[Contents]) -> Option<Simpler>
+    requires { Reads shapes.now op.now loaded.now }
+    ensures { IfSome result (IsSimpler shapes.now op.now loaded.now) }
+{
+    if let Some(simpler) = draw_nothing(op, shapes, loaded) {
+        return Some(simpler);
+    }
+    draw_whole(op, shapes, loaded)
+}
+
+// A conversion of a cleared image.
+fn convert_cleared(op: &Op<u32>, shapes: &[Shape], loaded: &[Contents]) -> Option<Simpler>
+    requires { Reads shapes.now op.now loaded.now }
+    ensures { IfSome result (IsSimpler shapes.now op.now loaded.now) }
+{
+    let Op::Convert { src, dst } = op else {
+        return None;
+    };
+    let value = value_of(shape_at(shapes, *src), &loaded[0])?;
+    Some(Simpler {
+        op: Op::ClearImage { dst: *dst, value },
+        source: None,
+    })
+}
+
+// A blur of a cleared image.
+fn box3_cleared(op: &Op<u32>, shapes: &[Shape], loaded: &[Contents]) -> Option<Simpler>
+    requires { Reads shapes.now op.now loaded.now }
+    ensures { IfSome result (IsSimpler shapes.now op.now loaded.now) }
+{
+    let Op::Box3 { src, dst } = op else {
+        return None;
+    };
+    let value = value_of(shape_at(shapes, *src), &loaded[0])?;
+    Some(Simpler {
+        op: Op::ClearImage { dst: *dst, value },
+        source: None,
+    })
+}
+
+// A halving of a cleared image.
+fn halve_cleared(op: &Op<u32>, shapes: &[Shape], loaded: &[Contents]) -> Option<Simpler>
+    requires { Reads shapes.now op.now loaded.now }
+    ensures { IfSome result (IsSimpler shapes.now op.now loaded.now) }
+{
+    let Op::Halve { src, dst } = op else {
+        return None;
+    };
+    let value = value_of(shape_at(shapes, *src), &loaded[0])?;
     Some(Simpler {
         op: Op::ClearImage { dst: *dst, value },
         source: None,
@@ -215,7 +311,10 @@ pub fn simplified(op: &Op<u32>, shapes: &[Shape], loaded: &[Contents]) -> Option
     ensures { IfSome result (IsSimpler shapes.now op.now loaded.now) }
 {
     match op {
-        Op::Draw { .. } => draw_nothing(op, shapes, loaded),
+        Op::Draw { .. } => draw_simpler(op, shapes, loaded),
+        Op::Convert { .. } => convert_cleared(op, shapes, loaded),
+        Op::Box3 { .. } => box3_cleared(op, shapes, loaded),
+        Op::Halve { .. } => halve_cleared(op, shapes, loaded),
         Op::Map { .. } => map_cleared(op, shapes, loaded),
         Op::Combine { .. } => combine_simpler(op, shapes, loaded),
         _ => None,

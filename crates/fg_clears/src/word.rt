@@ -1,6 +1,7 @@
 //! Texels of one number as a word again and again.
 
-ghost use Rattle.std.specs.Prelude.{◌≡◌, IfSome};
+ghost use Rattle.std.specs.Prelude.{◌≡◌, ◌<◌, IfSome};
+ghost use Rattle.fg_base.specs.Texels.{modulus};
 ghost use Rattle.fg_clears.specs.Code.Words.{word_of};
 
 use fg_base::Texel;
@@ -17,7 +18,8 @@ pub(crate) fn word_of(texel: Texel, value: u32) -> u32
 
 /// The number of texels that are the bytes of a word, where they are alike.
 pub(crate) fn number_in(texel: Texel, word: u32) -> Option<u32>
-    ensures { IfSome result (λ value. word ≡ word_of texel value) }
+    ensures same { IfSome result (λ value. word ≡ word_of texel value) }
+    ensures small { IfSome result (λ value. value < modulus texel) }
 {
     let value = match texel {
         Texel::R8 => word % 256,

@@ -70,6 +70,12 @@ const FRAMES: [(&str, &str, &str); 11] = [
         "export both 4\nfcfcfcfc\nexport second 4\n02040608\nexport first 4\n09121b24\nexport turned 4\n08070605\nexport mapped 4\n7e7e7e7e\nexport blurred 4\n7e7e7e7e\nexport drawn 4\n03070307\n",
         "kept 1 culled 0\n",
     ),
+    // What a clear becomes in other texels, blurred and halved; one rectangle that sets all, one that mixes and one that sets half.
+    (
+        r#"{"format":1,"queues":[{"name":"g","family":"graphics"}],"resources":[{"name":"a","image":[4,2],"texel":"r32"},{"name":"low","image":[4,2],"texel":"r8"},{"name":"wide","image":[4,2],"texel":"r32"},{"name":"blurred","image":[4,2],"texel":"r32"},{"name":"half","image":[2,1],"texel":"r32"},{"name":"mixed","image":[2,1],"texel":"r32"},{"name":"most","image":[2,1],"texel":"r32"}],"passes":[{"name":"p","queue":"g","writes":[{"new":"a"},{"new":"low"},{"new":"wide"},{"new":"blurred"},{"new":"half"},{"new":"mixed"},{"new":"most"}],"ops":[{"op":"draw","dst":"a","clear":9,"rects":[{"x":0,"y":0,"width":4,"height":2,"value":773}]},{"op":"convert","src":"a","dst":"low"},{"op":"convert","src":"low","dst":"wide"},{"op":"box3","src":"a","dst":"blurred"},{"op":"halve","src":"blurred","dst":"half"},{"op":"draw","dst":"mixed","clear":6,"rects":[{"x":0,"y":0,"width":2,"height":1,"mix":"xor","value":3}]},{"op":"draw","dst":"most","clear":6,"rects":[{"x":0,"y":0,"width":1,"height":1,"value":4294967295}]}]}],"exports":["low","wide","half","mixed","most"]}"#,
+        "export low 8\n0505050505050505\nexport wide 32\n0500000005000000050000000500000005000000050000000500000005000000\nexport half 8\n0503000005030000\nexport mixed 8\n0500000005000000\nexport most 8\nffffffff06000000\n",
+        "kept 1 culled 0\n",
+    ),
     // Digits of both cases.
     (
         r#"{"format":1,"queues":[{"name":"g","family":"graphics"},{"name":"c","family":"compute"}],"resources":[{"name":"b","buffer":1,"import":"aF"}],"passes":[],"exports":["b"]}"#,
