@@ -145,8 +145,8 @@ impl Device {
         })
     }
 
-    /// Commands that are on their way start no more threads than so many, all together. Until it is called nothing but the number
-    /// of processors bounds what each of them starts.
+    /// Commands that are on their way are computed in so many threads, those of their callers among them, and start no thread beyond
+    /// these. Until it is called nothing but the number of processors bounds what each of them starts.
     pub fn lend_threads(&mut self, threads: usize)
         ensures { self.new ≡ self.old }
     {

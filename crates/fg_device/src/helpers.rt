@@ -1,6 +1,6 @@
-//! Threads that commands may start.
+//! Threads that compute commands.
 
-/// How many threads commands may start beside those that compute them, and how many of these are free.
+/// How many threads may compute commands at once, those of workers among them, and how many of these are free.
 #[derive(Clone, Copy, Debug, Drop)]
 pub(crate) struct Helpers {
     lent: usize,
@@ -12,9 +12,9 @@ impl Helpers {
         Helpers { lent, free: lent }
     }
 
-    /// Takes so many, or as many as are free.
-    pub fn take(&mut self, wanted: usize) -> usize {
-        let taken = self.free.min(wanted);
+    /// Takes the thread of who computes a command and so many that help it, or as many as are free.
+    pub fn take(&mut self, helping: usize) -> usize {
+        let taken = self.free.min(helping.saturating_add(1));
         self.free = self.free.saturating_sub(taken);
         taken
     }

@@ -34,8 +34,8 @@ pub struct Job {
     room: Room,
     // Of the device that began it.
     program: Arc<Shaped, Global>,
-    // The threads that it may start.
-    helpers: usize,
+    // Those that compute it, the caller's own among them, where not all were taken.
+    threads: usize,
 }
 
 impl Model for Job {
@@ -54,8 +54,7 @@ pub struct Finished {
     command: Command,
     stored: Contents,
     program: Arc<Shaped, Global>,
-    // Those that it might start.
-    helpers: usize,
+    threads: usize,
 }
 
 impl Model for Finished {
@@ -89,11 +88,11 @@ impl Job {
             work,
             room,
             program,
-            helpers: 0,
+            threads: 0,
         }
     }
 
-    /// The same, which may start some of these threads.
+    /// The same, which may be computed in some of these threads.
     pub(crate) fn helped(self, helpers: &mut Helpers) -> Job
         ensures { result ≡ self }
     {
@@ -102,15 +101,15 @@ impl Job {
             work,
             room,
             program,
-            helpers: _,
+            threads: _,
         } = self;
-        let helpers = helpers.take(room.helpers(work.op(&command.op)));
+        let threads = helpers.take(room.helpers(work.op(&command.op)));
         Job {
             command,
             work,
             room,
             program,
-            helpers,
+            threads,
         }
     }
 
@@ -130,11 +129,11 @@ impl Job {
             work,
             room,
             program,
-            helpers,
+            threads,
         } = self;
         let stored = stored_fast(
             rt,
-            helpers,
+            threads.saturating_sub(1),
             work.op(&command.op),
             &command.shapes,
             &work.bytes,
@@ -144,7 +143,7 @@ impl Job {
             command,
             stored,
             program,
-            helpers,
+            threads,
         }
     }
 }
@@ -164,9 +163,9 @@ impl Finished {
         &self.stored
     }
 
-    /// The threads that it might start, which others may start now.
-    pub(crate) fn helpers(&self) -> usize {
-        self.helpers
+    /// The threads that were taken for it, which others may take now.
+    pub(crate) fn threads(&self) -> usize {
+        self.threads
     }
 
     /// The command, its bytes, and the program of the device that began it.
@@ -179,7 +178,7 @@ impl Finished {
             command,
             stored,
             program,
-            helpers: _,
+            threads: _,
         } = self;
         (command, stored, program)
     }

@@ -41,7 +41,7 @@ impl Run {
     ) -> Result<Run, NoMemory> {
         let moves = if tend.is_some() { MOVES } else { 0 };
         let mut device = Device::new(alloc, program, 0, moves)?;
-        device.lend_threads(current_num_threads(rt).saturating_sub(1));
+        device.lend_threads(current_num_threads(rt));
         let plain = program.shaped().program();
         Ok(Run {
             device: Mutex::new(device),

@@ -152,15 +152,15 @@ impl Device {
         ensures landed { MatchLanded result (is_begun ((state_of self.old).phase done.node) ≡ true) (is_begun ((state_of self.old).phase done.node) ≡ false) }
         ensures event { MatchLanded result (self.new ≡ did self.old (events.End done.node)) (self.new ≡ self.old) }
     {
-        self.take_back(done.helpers());
+        self.take_back(done.threads());
         self.end_alone(done)
     }
 
     // Threads that a command is done with.
-    fn take_back(&mut self, helpers: usize)
+    fn take_back(&mut self, threads: usize)
         ensures { self.new ≡ self.old }
     {
-        self.helpers.give_back(helpers);
+        self.helpers.give_back(threads);
     }
 
     // The same of a command whose threads were given back.
