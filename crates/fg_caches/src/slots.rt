@@ -11,8 +11,8 @@ use fg_base::NoMemory;
 // Less memory than this is had anew as quickly as it is found.
 const LEAST: usize = 4096;
 
-// How many slots that no part names keep their memory.
-const SPARES: u32 = 8;
+// How much memory the slots that no part names keep.
+const SPARE: usize = 1 << 26;
 
 // The least slot after slot 0 that no part names and whose memory is not worth keeping.
 fn idle_slot(slots: &[Contents], counts: &[u32]) -> Option<usize>
@@ -27,30 +27,31 @@ fn idle_slot(slots: &[Contents], counts: &[u32]) -> Option<usize>
     None
 }
 
-// The slot after slot 0 that no part names and that comes after so many others like it.
-fn surplus_slot(counts: &[u32]) -> Option<usize>
-    ensures { IfSome result (λ t. (0 < t) × ((t < length counts.now) × (count_at counts.now t ≡ 0))) }
+// The least slot after slot 0 that no part names and whose memory is more than those before it left to keep.
+fn surplus_slot(slots: &[Contents], counts: &[u32]) -> Option<usize>
+    requires { length counts.now ≡ length slots.now }
+    ensures { IfSome result (λ t. (0 < t) × ((t < length slots.now) × (count_at counts.now t ≡ 0))) }
 {
-    let mut left = SPARES;
-    for slot in 1..counts.len() {
+    let mut left = SPARE;
+    for slot in 1..slots.len() {
         if counts[slot] == 0 {
-            if left == 0 {
-                return Some(slot);
+            match left.checked_sub(slots[slot].len()) {
+                Some(less) => left = less,
+                None => return Some(slot),
             }
-            left = left.saturating_sub(1);
         }
     }
     None
 }
 
-// A slot that no part names: one whose memory is not worth keeping, or one more than are kept with theirs.
+// A slot that no part names: one whose memory is not worth keeping, or is more than is kept.
 fn free_slot(slots: &[Contents], counts: &[u32]) -> Option<usize>
     requires { length counts.now ≡ length slots.now }
     ensures { IfSome result (λ t. (0 < t) × ((t < length slots.now) × (count_at counts.now t ≡ 0))) }
 {
     match idle_slot(slots, counts) {
         Some(slot) => Some(slot),
-        None => surplus_slot(counts),
+        None => surplus_slot(slots, counts),
     }
 }
 
