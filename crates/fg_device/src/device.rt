@@ -145,8 +145,9 @@ impl Device {
         })
     }
 
-    /// Commands that are on their way are computed in so many threads, those of their callers among them, and start no thread beyond
-    /// these. Until it is called nothing but the number of processors bounds what each of them starts.
+    /// Commands that are on their way take no more than so many threads, all together: each one for its caller, and the rest for
+    /// those that it starts. One that finds none left is computed by its caller alone, who is then one more. To be called before the
+    /// first `begin`; until it is called nothing but the number of processors bounds what each command starts.
     pub fn lend_threads(&mut self, threads: usize)
         ensures { self.new ≡ self.old }
     {

@@ -1,6 +1,6 @@
-//! Threads that compute commands.
+//! Threads that commands may take.
 
-/// How many threads may compute commands at once, those of workers among them, and how many of these are free.
+/// How many threads commands may take, one for the caller of each among them, and how many of these are free.
 #[derive(Clone, Copy, Debug, Drop)]
 pub(crate) struct Helpers {
     lent: usize,

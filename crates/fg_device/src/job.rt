@@ -34,7 +34,7 @@ pub struct Job {
     room: Room,
     // Of the device that began it.
     program: Arc<Shaped, Global>,
-    // Those that compute it, the caller's own among them, where not all were taken.
+    // How many it took: one for its caller, and those that it may start. None where none was left.
     threads: usize,
 }
 
@@ -92,7 +92,7 @@ impl Job {
         }
     }
 
-    /// The same, which may be computed in some of these threads.
+    /// The same, with threads that it takes of these.
     pub(crate) fn helped(self, helpers: &mut Helpers) -> Job
         ensures { result ≡ self }
     {
@@ -120,7 +120,8 @@ impl Job {
         &self.command
     }
 
-    /// Runs the operation, or a simpler one that leaves the same, by lanes and by bands, in as many threads as the device had left for it. It has no part in the device.
+    /// Runs the operation, or a simpler one that leaves the same, by lanes and by bands, in as many threads as the device had left for it.
+    /// It has no part in the device.
     pub fn compute<R: Threads + Sync>(self, rt: &R) -> Finished
         ensures { result ≡ self }
     {

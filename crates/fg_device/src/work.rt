@@ -106,8 +106,8 @@ impl Work {
     }
 
     /// Whether it is a clear, which takes no memory.
-    pub fn is_clear(&self) -> bool {
-        matches!(self.other, Some(Op::ClearImage { .. }))
+    pub fn is_clear(&self, own: &Op<u32>) -> bool {
+        matches!(self.op(own), Op::ClearImage { .. })
     }
 
     /// The same once more; its bytes are shared.

@@ -97,7 +97,7 @@ impl Device {
         Ok(self.helped(job))
     }
 
-    // The job with threads that it may start.
+    // The job with the threads that it takes.
     fn helped(&mut self, job: Job) -> Job
         ensures job { result ≡ job }
         ensures same { self.new ≡ self.old }
@@ -134,11 +134,20 @@ impl Device {
         requires node { node < length (view_in self.old).nodes }
         ensures { self.new ≡ self.old }
     {
-        if work.is_clear() {
+        if self.clears(node, work) {
             return None;
         }
         let len = self.store_len(node);
         self.table.take_spare(len as usize)
+    }
+
+    // Whether what is run is a clear.
+    fn clears(&self, node: u32, work: &Work) -> bool
+        requires command { is_command (kind_at (view_in self.now) node) ≡ true }
+        requires node { node < length (view_in self.now).nodes }
+    {
+        let op = op_of(&self.program, node);
+        work.is_clear(op)
     }
 
     // The same without that.
