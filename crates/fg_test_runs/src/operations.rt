@@ -9,7 +9,7 @@ use std::test::Fail;
 use std::thread::Threads;
 
 // A frame, the text of its exports, and what `run` prints before them.
-const FRAMES: [(&str, &str, &str); 11] = [
+const FRAMES: [(&str, &str, &str); 12] = [
     // An import, and no passes.
     (
         r#"{"format":1,"queues":[{"name":"g","family":"graphics"},{"name":"c","family":"compute"}],"resources":[{"name":"in","buffer":4,"import":"01020304"}],"passes":[],"exports":["in"]}"#,
