@@ -1,5 +1,5 @@
 #!/usr/bin/env python3
-"""Runs random frames most of whose images are of one number, which the device keeps as that number.
+"""Runs random frames half of whose images are of one number, which the device keeps as that number.
 
     bench/clears.py [OTHER] [--program PROGRAM] [--frames 500] [--seed 1]
 
@@ -17,7 +17,9 @@ from makers import FUNS
 from runs import BUILT, Runner, run_head
 
 SIDES = [(6, 4), (3, 2), (12, 8)]
+SCALES = [1, 1, 1, 1, 16]
 TEXELS = ["r8", "r32"]
+KINDS = "clear clear draw draw over map combine select convert box3 halve copy histogram ramp".split()
 
 
 def whole(rng, sides):
@@ -41,6 +43,8 @@ class Cleared:
     def __init__(self, rng):
         self.rng = rng
         self.queues = [{"name": f"q{k}", "family": "graphics"} for k in range(rng.choice([1, 2, 3]))]
+        scale = rng.choice(SCALES)
+        self.sides = [(scale * width, scale * height) for width, height in SIDES]
         self.images, self.buffers, self.passes = [], [], []
         for _ in range(rng.randint(3, 24)):
             self.add()
@@ -55,8 +59,8 @@ class Cleared:
 
     def add(self):
         rng = self.rng
-        kind = rng.choice(["clear", "clear", "draw", "draw", "over", "map", "combine", "select", "convert", "box3", "halve", "copy", "histogram", "ramp"])
-        sides, texel = rng.choice(SIDES), rng.choice(TEXELS)
+        kind = rng.choice(KINDS)
+        sides, texel = rng.choice(self.sides), rng.choice(TEXELS)
         if kind == "over":
             return self.draw_over()
         if kind == "histogram":

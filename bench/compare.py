@@ -4,7 +4,7 @@
     bench/compare.py OTHER [--ours PROGRAM] [--runs 15] [--case NAME ..]
 
 First whole commands: `run`, with one worker and with four, `meaning`, `cull`, `place` and `compile` of the deferred frame of
-examples/frames/, `run` of that frame with a rectangle in each of its draws, so that no image stays as it was cleared, `cull` of
+examples/frames/, `run` of that frame with one more rectangle in each of its draws, so that no image is of one number, `cull` of
 nearly 16 MiB of imports and of 256 passes that read and change each of 256 buffers, `place`, `bound`, `auto`, `compile` and `run`
 of a frame of 256 passes none of which is culled (the other program makes it, by its word `gen`, and each pass is given a side
 effect; one that has no such word is left out), the summary of that frame as it is made, and `check` of submissions with as many
@@ -13,9 +13,10 @@ fills of many buffers that share memory. Then each operation: a frame applies it
 exports one texel, so that little is printed; a frame that applies it a few times is timed too, and its time is taken off, so that
 memory that is met for the first time does not count. Each is timed by `meaning`, which takes the plain way, and by `run` with one
 worker, whose device computes by lanes and bands; those that go by bands have one more line, ours in `run` beside the other's in
-`meaning`, which takes one thread. For each case one line: the least processor time in both programs in milliseconds, of the command or of one operation, their ratio, the ratio
-of the least times by the clock, and that of the most memory that the programs took. (The least of many runs is what the
-programs take by themselves; a median moves with whatever else the machine does.) The texts of both have to be the same.
+`meaning`, which takes one thread. For each case one line: the least processor time in both programs in milliseconds, of the command
+or of one operation, their ratio, the ratio of the least times by the clock, and that of the most memory that the programs took. (The
+least of many runs is what the programs take by themselves; a median moves with whatever else the machine does.) The texts of both
+have to be the same.
 """
 
 import argparse
@@ -124,12 +125,12 @@ def large():
 
 
 def drawn(path):
-    """A frame each of whose draws has a rectangle: none of its images stays as it was cleared."""
+    """A frame each of whose draws has one more rectangle, over half of it: no image is of one number."""
     made = json.loads(path.read_text())
     for one in made["passes"]:
         for op in one["ops"]:
-            if op["op"] == "draw" and not op["rects"]:
-                op["rects"] = [{"x": 0, "y": 0, "width": WIDTH, "height": HEIGHT // 2, "value": 9}]
+            if op["op"] == "draw":
+                op["rects"].append({"x": 0, "y": 0, "width": WIDTH, "height": HEIGHT // 2, "value": 9})
     return made
 
 

@@ -1,4 +1,4 @@
-//! An operation over cleared images, and one over single numbers that leaves the same.
+//! An operation over cleared images, or a draw that leaves one number, and one over single numbers that leaves the same.
 
 ghost use Rattle.std.specs.Prelude.{◌≡◌, ◌%◌, ◌<◌, ℕ, List, true, [], ◌∷◌, length, IfSome};
 ghost use Rattle.fg_base.specs.Applied.{effect};
