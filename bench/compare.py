@@ -34,7 +34,7 @@ WIDTH, HEIGHT = 1920, 1080
 
 # How often an operation is applied before it is timed, and how often it is timed.
 FIRST = 3
-TIMES = 24
+TIMES = 60
 
 # Operations that go by bands of rows in both programs.
 BANDED = ("convert", "box3", "halve")
