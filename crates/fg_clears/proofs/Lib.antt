@@ -1,2 +1,3 @@
 pub mod Clears
-pub mod Rules
+pub mod Effects
+pub mod Simplifying

@@ -1,2 +1,3 @@
 -- Definitions that serve the code alone: no public clause reaches them.
+pub mod Keeps
 pub mod Words

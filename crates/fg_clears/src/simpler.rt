@@ -7,6 +7,7 @@ ghost use Rattle.fg_base.specs.Kernels.{fun_of, under};
 ghost use Rattle.fg_base.specs.Shapes.{bytes_of, is_image, same_grid};
 ghost use Rattle.fg_base.specs.Texels.{canvas_of, modulus, painted};
 ghost use Rattle.fg_clears.specs.Code.Words.{commutes};
+ghost use Rattle.fg_clears.specs.Code.Keeps.{Keeps};
 ghost use Rattle.fg_clears.specs.Simpler.{Reads, IsSimpler};
 
 use crate::image::value_of;
@@ -51,7 +52,7 @@ fn cleared_source(from: Shape, to: Shape, src: &Contents) -> Option<u32>
 }
 
 // What a map leaves in each texel, where its source is cleared.
-#[tactic(auto, using(crate::proofs::Rules::map_of_one))]
+#[tactic(auto, using(crate::proofs::Effects::map_of_one))]
 fn mapped(from: Shape, to: Shape, fun: Fun, value: u32, src: &Contents) -> Option<u32>
     requires { length src.now ≡ bytes_of from }
     ensures image { IfSome result (λ number. is_image to ≡ true) }
@@ -75,7 +76,7 @@ fn combined(from: (Shape, Shape), to: Shape, fun: Fun, a: &Contents, b: &Content
 }
 
 // The number with which a map of the first source leaves what a combination does, where the second is cleared.
-#[tactic(auto, using(crate::proofs::Rules::combination_with_one))]
+#[tactic(auto, using(crate::proofs::Effects::combination_with_one))]
 fn mapped_by_second(from: (Shape, Shape), to: Shape, fun: Fun, b: &Contents) -> Option<u32>
     requires b { length b.now ≡ bytes_of from.1 }
     ensures { IfSome result (λ value. (a : List ℕ) → effect (Op.Map from.0 to fun value) a [] [] [] ≡ effect (Op.Combine from.0 from.1 to fun) a b.now [] []) }
@@ -84,7 +85,7 @@ fn mapped_by_second(from: (Shape, Shape), to: Shape, fun: Fun, b: &Contents) -> 
 }
 
 // The same of the second source, where the first is cleared and the function commutes.
-#[tactic(auto, using(crate::proofs::Rules::combination_after_one))]
+#[tactic(auto, using(crate::proofs::Effects::combination_after_one))]
 fn mapped_by_first(from: (Shape, Shape), to: Shape, fun: Fun, a: &Contents) -> Option<u32>
     requires a { length a.now ≡ bytes_of from.0 }
     ensures { IfSome result (λ value. (b : List ℕ) → effect (Op.Map from.1 to fun value) b [] [] [] ≡ effect (Op.Combine from.0 from.1 to fun) a.now b [] []) }
@@ -114,7 +115,7 @@ fn draw_nothing(op: &Op<u32>, shapes: &[Shape], loaded: &[Contents]) -> Option<S
 }
 
 // The rectangle, where there is only one.
-#[tactic(auto, using(crate::proofs::Rules::only_entry))]
+#[tactic(auto, using(crate::proofs::Simplifying::only_entry))]
 fn only(rects: &[Rect]) -> Option<Rect>
     ensures { IfSome result (λ rect. rects.now ≡ rect ∷ []) }
 {
@@ -164,47 +165,27 @@ fn draw_simpler(op: &Op<u32>, shapes: &[Shape], loaded: &[Contents]) -> Option<S
     draw_whole(op, shapes, loaded)
 }
 
-// A conversion of a cleared image.
-fn convert_cleared(op: &Op<u32>, shapes: &[Shape], loaded: &[Contents]) -> Option<Simpler>
-    requires { Reads shapes.now op.now loaded.now }
-    ensures { IfSome result (IsSimpler shapes.now op.now loaded.now) }
+// The source and the destination of an operation that leaves the number of a cleared image as it is.
+fn keeping(op: &Op<u32>) -> Option<(u32, u32)>
+    ensures { IfSome result (λ at. Keeps op.now at.0 at.1) }
 {
-    let Op::Convert { src, dst } = op else {
-        return None;
-    };
-    let value = value_of(shape_at(shapes, *src), &loaded[0])?;
-    Some(Simpler {
-        op: Op::ClearImage { dst: *dst, value },
-        source: None,
-    })
+    match op {
+        Op::Convert { src, dst } | Op::Box3 { src, dst } | Op::Halve { src, dst } => Some((
+            *src, *dst,
+        )),
+        _ => None,
+    }
 }
 
-// A blur of a cleared image.
-fn box3_cleared(op: &Op<u32>, shapes: &[Shape], loaded: &[Contents]) -> Option<Simpler>
+// A conversion, a blur or a halving of a cleared image.
+fn kept(op: &Op<u32>, shapes: &[Shape], loaded: &[Contents]) -> Option<Simpler>
     requires { Reads shapes.now op.now loaded.now }
     ensures { IfSome result (IsSimpler shapes.now op.now loaded.now) }
 {
-    let Op::Box3 { src, dst } = op else {
-        return None;
-    };
-    let value = value_of(shape_at(shapes, *src), &loaded[0])?;
+    let (src, dst) = keeping(op)?;
+    let value = value_of(shape_at(shapes, src), &loaded[0])?;
     Some(Simpler {
-        op: Op::ClearImage { dst: *dst, value },
-        source: None,
-    })
-}
-
-// A halving of a cleared image.
-fn halve_cleared(op: &Op<u32>, shapes: &[Shape], loaded: &[Contents]) -> Option<Simpler>
-    requires { Reads shapes.now op.now loaded.now }
-    ensures { IfSome result (IsSimpler shapes.now op.now loaded.now) }
-{
-    let Op::Halve { src, dst } = op else {
-        return None;
-    };
-    let value = value_of(shape_at(shapes, *src), &loaded[0])?;
-    Some(Simpler {
-        op: Op::ClearImage { dst: *dst, value },
+        op: Op::ClearImage { dst, value },
         source: None,
     })
 }
@@ -312,9 +293,7 @@ pub fn simplified(op: &Op<u32>, shapes: &[Shape], loaded: &[Contents]) -> Option
 {
     match op {
         Op::Draw { .. } => draw_simpler(op, shapes, loaded),
-        Op::Convert { .. } => convert_cleared(op, shapes, loaded),
-        Op::Box3 { .. } => box3_cleared(op, shapes, loaded),
-        Op::Halve { .. } => halve_cleared(op, shapes, loaded),
+        Op::Convert { .. } | Op::Box3 { .. } | Op::Halve { .. } => kept(op, shapes, loaded),
         Op::Map { .. } => map_cleared(op, shapes, loaded),
         Op::Combine { .. } => combine_simpler(op, shapes, loaded),
         _ => None,

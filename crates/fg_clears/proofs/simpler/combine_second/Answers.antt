@@ -1,6 +1,6 @@
 use Rattle.std.proofs.Common.{[], arith}
 use Rattle.std.proofs.lemmas.List.{get_or_read}
-use Rattle.fg_clears.proofs.Rules.{two_loaded, by_second}
+use Rattle.fg_clears.proofs.Simplifying.{two_loaded, by_second}
 use Rattle.fg_clears.proofs.simpler.combine_second.Goals as goal
 
 pub returns : goal.returns

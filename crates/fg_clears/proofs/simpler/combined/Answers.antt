@@ -2,7 +2,7 @@ use Rattle.std.proofs.Common.{◌≡◌, ◌%◌, subst}
 use Rattle.fg_base.specs.Kernels.{fun_of}
 use Rattle.fg_base.specs.Texels.{modulus}
 use Rattle.fg_base.specs.declared.grid.Grid.{Grid}
-use Rattle.fg_clears.proofs.Rules.{combination_of_two}
+use Rattle.fg_clears.proofs.Effects.{combination_of_two}
 use Rattle.fg_clears.proofs.simpler.combined.Goals as goal
 
 pub returns-clause-same : goal.returns-clause-same

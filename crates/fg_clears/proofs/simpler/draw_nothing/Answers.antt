@@ -1,5 +1,5 @@
 use Rattle.std.proofs.Common.{◌∙◌, sym}
-use Rattle.fg_clears.proofs.Rules.{draws_nothing, no_entries}
+use Rattle.fg_clears.proofs.Simplifying.{draws_nothing, no_entries}
 use Rattle.fg_clears.proofs.simpler.draw_nothing.Goals as goal
 
 pub returns : goal.returns

@@ -1,6 +1,6 @@
 use Rattle.std.proofs.Common.{◌∙◌, sym, ap}
 use Rattle.fg_base.specs.Texels.{canvas_of}
-use Rattle.fg_clears.proofs.Rules.{draws_whole}
+use Rattle.fg_clears.proofs.Simplifying.{draws_whole}
 use Rattle.fg_clears.proofs.simpler.draw_whole.Goals as goal
 
 pub returns : goal.returns

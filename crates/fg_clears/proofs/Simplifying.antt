@@ -1,19 +1,16 @@
--- Operations over images of one number.
-use Rattle.std.proofs.Common.{◌≡◌, ℕ, zero, suc, ◌+◌, ◌-◌, ◌*◌, ◌%◌, ◌<◌, ◌≤◌, ◌==◌, min, true, List, [], ◌∷◌, length, get_or, take, Option, Some, None, refl, sym, ap, ◌∙◌, subst, arith}
+-- Operations in the place of others, over the shapes and what was loaded.
+use Rattle.std.proofs.Common.{◌≡◌, ℕ, zero, suc, ◌%◌, ◌<◌, ◌≤◌, ◌==◌, true, List, [], ◌∷◌, length, get_or, take, Option, Some, None, inl, inr, refl, sym, ap, ◌∙◌, subst, arith}
 use Rattle.std.specs.List.{All, list_all}
 use Rattle.std.specs.Prelude.{◌&&◌}
 use Rattle.std.proofs.lemmas.List.{get_or-take, nil_from_length}
-use Rattle.std.proofs.lemmas.Nat.{and_comm, or_comm, xor_comm}
-use Rattle.std.proofs.Math.Nat.{mul_comm, min_comm, max_comm}
-use Rattle.fg_base.specs.Applied.{applied, begun, effect}
+use Rattle.fg_base.specs.Applied.{applied, effect}
 use Rattle.fg_base.specs.Fits.{fits, has_drawn}
-use Rattle.fg_base.specs.Kernels.{fun_of, three, box3, halved, under, drawn}
-use Rattle.fg_base.specs.Operands.{sources_of, destination_of}
+use Rattle.fg_base.specs.Kernels.{under}
+use Rattle.fg_base.specs.Operands.{operands_of, sources_of, destination_of}
 use Rattle.fg_base.specs.Shapes.{bytes_of, is_image, same_grid, same_sides, same_texel, shape_at, texel_eq, twice_the_sides}
-use Rattle.fg_base.specs.Texels.{canvas_of, modulus, painted, picture}
+use Rattle.fg_base.specs.Texels.{canvas_of, modulus, painted}
 use Rattle.fg_base.specs.declared.grid.Grid.{Grid}
 use Rattle.fg_base.specs.declared.op.Fun.{Fun}
-use Rattle.fg_base.specs.declared.op.Fun.TheVariants as funs
 use Rattle.fg_base.specs.declared.op.Op.{Op}
 use Rattle.fg_base.specs.declared.op.Op.TheVariants.{ClearImage, Map, Combine, Convert, Box3, Halve, Draw}
 use Rattle.fg_base.specs.declared.op.Rect.{Rect}
@@ -21,69 +18,10 @@ use Rattle.fg_base.specs.declared.shape.Shape.{Shape}
 use Rattle.fg_base.specs.declared.shape.Shape.TheVariants.{Buffer, Image}
 use Rattle.fg_base.specs.declared.shape.Texel.{Texel}
 use Rattle.fg_base.specs.declared.shape.Texel.TheVariants.{R8, R32}
-use Rattle.fg_clears.specs.Code.Words.{commutes}
+use Rattle.fg_clears.proofs.Effects.{IsOf, blur_of_one, conversion_of_one, halving_of_one, nothing_drawn, read_back, whole_drawn}
+use Rattle.fg_clears.specs.Code.Keeps.{Keeps}
 use Rattle.fg_clears.specs.Simpler.{Reads, IsSimpler}
-use Rattle.fg_pixels.proofs.Fitting.{both, number_same, one_size, twice}
-use Rattle.fg_pixels.proofs.Pictures.{same_band, picture_painted}
-
--- a texel of an image of one number
-one_at : (g : Grid) (bytes : List ℕ) (value x y : ℕ) → bytes ≡ painted g (λ x y. value) → x < g.width → y < g.height → picture g bytes x y ≡ value % modulus g.texel
-one_at g bytes value x y is hx hy = ap (λ (l : List ℕ). picture g l x y) is ∙ picture_painted g (λ x y. value) x y hx hy
-
-pub map_of_one : (from to : Shape) (fun : Fun) (value own number : ℕ) (src : List ℕ) → src ≡ painted (canvas_of to) (λ x y. own)
-    → number % modulus (canvas_of to).texel ≡ fun_of (canvas_of to).texel fun (own % modulus (canvas_of to).texel) (value % modulus (canvas_of to).texel) % modulus (canvas_of to).texel
-    → painted (canvas_of to) (λ x y. number) ≡ effect (Map from to fun value) src [] [] []
-map_of_one from to fun value own number src is at =
-    let g = canvas_of to in
-    let m = modulus g.texel in
-    same_band g.texel g.width 0 g.height (λ x y. number) (λ x y. fun_of g.texel fun (picture g src x y) (value % m)) (λ x y hx hy.
-    at ∙ ap (λ (n : ℕ). fun_of g.texel fun n (value % m) % m) (sym (one_at g src own x (0 + y) is hx (omega arith))))
-
-pub combination_of_two : (one two to : Shape) (fun : Fun) (first second number : ℕ) (a b : List ℕ) → a ≡ painted (canvas_of to) (λ x y. first) → b ≡ painted (canvas_of to) (λ x y. second)
-    → number % modulus (canvas_of to).texel ≡ fun_of (canvas_of to).texel fun (first % modulus (canvas_of to).texel) (second % modulus (canvas_of to).texel) % modulus (canvas_of to).texel
-    → painted (canvas_of to) (λ x y. number) ≡ effect (Combine one two to fun) a b [] []
-combination_of_two one two to fun first second number a b is_a is_b at =
-    let g = canvas_of to in
-    let m = modulus g.texel in
-    same_band g.texel g.width 0 g.height (λ x y. number) (λ x y. fun_of g.texel fun (picture g a x y) (picture g b x y)) (λ x y hx hy.
-    at
-    ∙ ap (λ (n : ℕ). fun_of g.texel fun n (second % m) % m) (sym (one_at g a first x (0 + y) is_a hx (omega arith)))
-    ∙ ap (λ (n : ℕ). fun_of g.texel fun (picture g a x (0 + y)) n % m) (sym (one_at g b second x (0 + y) is_b hx (omega arith))))
-
-pub combination_with_one : (one two to : Shape) (fun : Fun) (value : ℕ) (a b : List ℕ) → b ≡ painted (canvas_of to) (λ x y. value) → effect (Map one to fun value) a [] [] [] ≡ effect (Combine one two to fun) a b [] []
-combination_with_one one two to fun value a b is =
-    let g = canvas_of to in
-    let m = modulus g.texel in
-    same_band g.texel g.width 0 g.height (λ x y. fun_of g.texel fun (picture g a x y) (value % m)) (λ x y. fun_of g.texel fun (picture g a x y) (picture g b x y)) (λ x y hx hy.
-    ap (λ (n : ℕ). fun_of g.texel fun (picture g a x (0 + y)) n % m) (sym (one_at g b value x (0 + y) is hx (omega arith))))
-
-swapped : (t : Texel) (fun : Fun) (a b : ℕ) → commutes fun ≡ true → fun_of t fun a b ≡ fun_of t fun b a
-swapped t funs.Add a b e = omega arith
-swapped t funs.Sub a b e = absurd cc
-swapped t funs.Mul a b e = mul_comm a b
-swapped t funs.And a b e = and_comm a b
-swapped t funs.Or a b e = or_comm a b
-swapped t funs.Xor a b e = xor_comm a b
-swapped t funs.Min a b e = min_comm a b
-swapped t funs.Max a b e = max_comm a b
-swapped t funs.Shl a b e = absurd cc
-swapped t funs.Shr a b e = absurd cc
-
-pub combination_after_one : (one two to : Shape) (fun : Fun) (value : ℕ) (a b : List ℕ) → commutes fun ≡ true → a ≡ painted (canvas_of to) (λ x y. value) → effect (Map two to fun value) b [] [] [] ≡ effect (Combine one two to fun) a b [] []
-combination_after_one one two to fun value a b both is =
-    let g = canvas_of to in
-    let m = modulus g.texel in
-    same_band g.texel g.width 0 g.height (λ x y. fun_of g.texel fun (picture g b x y) (value % m)) (λ x y. fun_of g.texel fun (picture g a x y) (picture g b x y)) (λ x y hx hy.
-    ap (λ (n : ℕ). n % m) (swapped g.texel fun (picture g b x (0 + y)) (value % m) both)
-    ∙ ap (λ (n : ℕ). fun_of g.texel fun n (picture g b x (0 + y)) % m) (sym (one_at g a value x (0 + y) is hx (omega arith))))
-
-cut_twice : (t : Texel) (n : ℕ) → n % modulus t % modulus t ≡ n % modulus t
-cut_twice R8 n = omega arith
-cut_twice R32 n = omega arith
-
-uncut : (t : Texel) (n : ℕ) → n < modulus t → n % modulus t ≡ n
-uncut R8 n small = omega (arith, small)
-uncut R32 n small = omega (arith, small)
+use Rattle.fg_pixels.proofs.Fitting.{both, number_same}
 
 one_entry : (P : ℕ → Type 0) (n : ℕ) → P n → All P (n ∷ [])
 one_entry P n p zero d lt = p
@@ -127,53 +65,6 @@ maps shapes op loaded src dst fun value k is from to fit there long same = recor
     place : (n : ℕ) → Some k ≡ Some n → n < length loaded
     place n e = let same : k ≡ n = cc in omega (arith, there, same)
 
--- AN IMAGE OF ONE NUMBER, READ BACK
-
-abbrev IsOf : Grid → List ℕ → ℕ → Type 0
-IsOf g bytes value = (x y : ℕ) → x < g.width → y < g.height → picture g bytes x y ≡ value
-
-read_back : (g : Grid) (bytes : List ℕ) (value : ℕ) → bytes ≡ painted g (λ x y. value) → value < modulus g.texel → IsOf g bytes value
-read_back g bytes value is small x y hx hy = one_at g bytes value x y is hx hy ∙ uncut g.texel value small
-
-conversion_of_one : (from to : Shape) (value : ℕ) (src : List ℕ) → same_sides from to ≡ true → IsOf (canvas_of from) src value → painted (canvas_of to) (λ x y. value) ≡ effect (Convert from to) src [] [] []
-conversion_of_one from to value src fit of =
-    let g = canvas_of to in
-    let sizes = one_size from to fit in
-    same_band g.texel g.width 0 g.height (λ x y. value) (picture (canvas_of from) src) (λ x y hx hy.
-    ap (λ (n : ℕ). n % modulus g.texel) (sym (of x (0 + y) (omega (arith, hx, sizes.width)) (omega (arith, hy, sizes.height)))))
-
-three_of_one : (n value k : ℕ) (f : ℕ → ℕ) → k < n → ((j : ℕ) → j < n → f j ≡ value) → three n f k ≡ value + value + value
-unfolding three
-three_of_one n value k f within of = rw (of (k - 1) (omega (arith, within)), of k within, of (min (k + 1) (n - 1)) (omega (arith, within))) refl
-
-box_of_one : (w h value x y : ℕ) (f : ℕ → ℕ → ℕ) → x < w → y < h → ((i j : ℕ) → i < w → j < h → f i j ≡ value) → box3 w h f x y ≡ value
-unfolding box3
-box_of_one w h value x y f hx hy of =
-    let row = λ (j : ℕ) (hj : j < h). three_of_one w value x (λ i. f i j) hx (λ i hi. of i j hi hj) in
-    let all = three_of_one h (value + value + value) y (λ j. three w (λ i. f i j) x) hy row in
-    rw all (omega arith)
-
-blur_of_one : (from to : Shape) (value : ℕ) (src : List ℕ) → canvas_of from ≡ canvas_of to → IsOf (canvas_of from) src value → painted (canvas_of to) (λ x y. value) ≡ effect (Box3 from to) src [] [] []
-blur_of_one from to value src same first =
-    let g = canvas_of to in
-    let of : IsOf g src value = subst (λ (h : Grid). IsOf h src value) same first in
-    same_band g.texel g.width 0 g.height (λ x y. value) (box3 g.width g.height (picture g src)) (λ x y hx hy.
-    ap (λ (n : ℕ). n % modulus g.texel) (sym (box_of_one g.width g.height value x (0 + y) (picture g src) hx (omega (arith, hy)) of)))
-
-halved_of_one : (value x y : ℕ) (f : ℕ → ℕ → ℕ) → ((i j : ℕ) → i < 2 * x + 2 → j < 2 * y + 2 → f i j ≡ value) → halved f x y ≡ value
-unfolding halved
-halved_of_one value x y f of =
-    rw (of (2 * x) (2 * y) (omega arith) (omega arith), of (2 * x + 1) (2 * y) (omega arith) (omega arith), of (2 * x) (2 * y + 1) (omega arith) (omega arith), of (2 * x + 1) (2 * y + 1) (omega arith) (omega arith))
-    (omega arith)
-
-halving_of_one : (from to : Shape) (value : ℕ) (src : List ℕ) → (same_texel from to && twice_the_sides from to) ≡ true → IsOf (canvas_of from) src value → painted (canvas_of to) (λ x y. value) ≡ effect (Halve from to) src [] [] []
-halving_of_one from to value src fit of =
-    let g = canvas_of to in
-    let sizes = twice from to fit in
-    same_band g.texel g.width 0 g.height (λ x y. value) (halved (picture (canvas_of from) src)) (λ x y hx hy.
-    ap (λ (n : ℕ). n % modulus g.texel) (sym (halved_of_one value x (0 + y) (picture (canvas_of from) src) (λ i j hi hj.
-    of i j (omega (arith, hx, hi, sizes.width)) (omega (arith, hy, hj, sizes.height))))))
-
 -- what fits is an image
 sides_image : (a to : Shape) → same_sides a to ≡ true → is_image to ≡ true
 sides_image (Buffer n) to e = absurd cc
@@ -197,19 +88,6 @@ one_canvas (Image w h t) (Image v k s) own other e =
     let all = both (w == v && h == k) (texel_eq t s) e in
     let sides = both (w == v) (h == k) all.0 in
     rw (number_same w v sides.0, number_same h k sides.1, one_texel t s all.1) refl
-
--- what a draw of one rectangle leaves
-pub whole_drawn : (g : Grid) (rect : Rect) (clear : Option ℕ) (old : List ℕ) → ((f : ℕ → ℕ → ℕ) (x y : ℕ) → x < g.width → y < g.height → under g.texel f rect x y ≡ rect.value % modulus g.texel)
-    → painted g (λ x y. rect.value) ≡ painted g (drawn g.texel (rect ∷ []) (begun g clear old))
-whole_drawn g rect clear old sets =
-    same_band g.texel g.width 0 g.height (λ x y. rect.value) (drawn g.texel (rect ∷ []) (begun g clear old)) (λ x y hx hy.
-    sym (ap (λ (n : ℕ). n % modulus g.texel) (sets (begun g clear old) x (0 + y) hx (omega (arith, hy))) ∙ cut_twice g.texel rect.value))
-
--- what a draw of nothing leaves
-pub nothing_drawn : (shapes : List Shape) (dst value : ℕ) (loaded : List (List ℕ)) (old : List ℕ) → painted (canvas_of (shape_at shapes dst)) (λ x y. value) ≡ applied shapes (Draw dst (Some value) []) loaded old
-nothing_drawn shapes dst value loaded old =
-    let g = canvas_of (shape_at shapes dst) in
-    same_band g.texel g.width 0 g.height (λ x y. value) (λ x y. value % modulus g.texel) (λ x y hx hy. sym (cut_twice g.texel value))
 
 -- what a map and a combination leave, by what was loaded
 pub map_loaded : (shapes : List Shape) (src dst : ℕ) (fun : Fun) (value : ℕ) (loaded : List (List ℕ)) (old : List ℕ) → effect (Map (shape_at shapes src) (shape_at shapes dst) fun value) (get_or loaded 0 []) [] [] [] ≡ applied shapes (Map src dst fun value) (take 1 loaded) old
@@ -243,9 +121,19 @@ module _ (shapes : List Shape) (op : Op ℕ) (loaded : List (List ℕ)) (R : Rea
       subst P (sym same) (clears shapes (Draw dst clear (rect ∷ [])) loaded dst rect.value refl (D.operands 0 0 (omega arith)) (both (is_image (shape_at shapes dst)) (list_all (has_drawn (shape_at shapes dst)) (rect ∷ [])) D.fitting).0
       (λ old. whole_drawn (canvas_of (shape_at shapes dst)) rect clear old (subst Q to sets)))
 
-  -- the sources were loaded
-  pub its_sources : (made : Op ℕ) → op ≡ made → length (sources_of made) ≤ length loaded
-  its_sources made is = (subst (λ (o : Op ℕ). Reads shapes o loaded) is R).sources
+  -- the one source of an operation that keeps its number was loaded
+  one_source : (made : Op ℕ) (src : ℕ) → op ≡ made → get_or (operands_of made) 0 0 ≡ src → 0 < length (operands_of made) → 1 ≤ length (sources_of made) → (src < length shapes) × (0 < length loaded) × (length (get_or loaded 0 []) ≡ bytes_of (shape_at shapes src))
+  one_source made src is first some has =
+      let D = subst (λ (o : Op ℕ). Reads shapes o loaded) is R in
+      let there : 0 < length loaded = let n = D.sources in omega (arith, n, has) in
+      let P : ℕ → Type 0 = λ p. p < length shapes in
+      let Q : ℕ → Type 0 = λ p. length (get_or loaded 0 []) ≡ bytes_of (shape_at shapes p) in
+      record { 0 = subst P first (D.operands 0 0 some); 1 = there; 2 = subst Q first (D.sized 0 there) }
+
+  pub kept_source : (src dst : ℕ) → Keeps op src dst → (src < length shapes) × (0 < length loaded) × (length (get_or loaded 0 []) ≡ bytes_of (shape_at shapes src))
+  kept_source src dst (inl e) = one_source (Convert src dst) src e refl (omega arith) (omega arith)
+  kept_source src dst (inr (inl e)) = one_source (Box3 src dst) src e refl (omega arith) (omega arith)
+  kept_source src dst (inr (inr e)) = one_source (Halve src dst) src e refl (omega arith) (omega arith)
 
   -- an operation whose one source is of one number, which it keeps
   module _ (src dst value : ℕ) (from : Shape) (from_is : from ≡ shape_at shapes src) (bytes : List ℕ) (bytes_is : bytes ≡ get_or loaded 0 []) (is : bytes ≡ painted (canvas_of from) (λ x y. value)) (small : value < modulus (canvas_of from).texel) where
@@ -257,14 +145,14 @@ module _ (shapes : List Shape) (op : Op ℕ) (loaded : List (List ℕ)) (R : Rea
     in_place : (made : Op ℕ) → op ≡ made → IsSimpler shapes made loaded (record { op = ClearImage dst value; source = None }) → IsSimpler shapes op loaded (record { op = ClearImage dst value; source = None })
     in_place made is simpler = subst (λ (o : Op ℕ). IsSimpler shapes o loaded (record { op = ClearImage dst value; source = None })) (sym is) simpler
 
-    pub converts_one : op ≡ Convert src dst → IsSimpler shapes op loaded (record { op = ClearImage dst value; source = None })
+    converts_one : op ≡ Convert src dst → IsSimpler shapes op loaded (record { op = ClearImage dst value; source = None })
     converts_one made =
         let D = subst (λ (o : Op ℕ). Reads shapes o loaded) made R in
         let a = shape_at shapes src in
         let to = shape_at shapes dst in
         in_place (Convert src dst) made (clears shapes (Convert src dst) loaded dst value refl (D.operands 1 0 (omega arith)) (sides_image a to D.fitting) (λ old. conversion_of_one a to value (get_or (take 1 loaded) 0 []) D.fitting taken))
 
-    pub blurs_one : op ≡ Box3 src dst → IsSimpler shapes op loaded (record { op = ClearImage dst value; source = None })
+    blurs_one : op ≡ Box3 src dst → IsSimpler shapes op loaded (record { op = ClearImage dst value; source = None })
     blurs_one made =
         let D = subst (λ (o : Op ℕ). Reads shapes o loaded) made R in
         let a = shape_at shapes src in
@@ -273,12 +161,17 @@ module _ (shapes : List Shape) (op : Op ℕ) (loaded : List (List ℕ)) (R : Rea
         let images = both (is_image a) (is_image to) fit.0 in
         in_place (Box3 src dst) made (clears shapes (Box3 src dst) loaded dst value refl (D.operands 1 0 (omega arith)) images.1 (λ old. blur_of_one a to value (get_or (take 1 loaded) 0 []) (one_canvas a to images.0 images.1 fit.1) taken))
 
-    pub halves_one : op ≡ Halve src dst → IsSimpler shapes op loaded (record { op = ClearImage dst value; source = None })
+    halves_one : op ≡ Halve src dst → IsSimpler shapes op loaded (record { op = ClearImage dst value; source = None })
     halves_one made =
         let D = subst (λ (o : Op ℕ). Reads shapes o loaded) made R in
         let a = shape_at shapes src in
         let to = shape_at shapes dst in
         in_place (Halve src dst) made (clears shapes (Halve src dst) loaded dst value refl (D.operands 1 0 (omega arith)) (half_image a to (both (same_texel a to) (twice_the_sides a to) D.fitting).1) (λ old. halving_of_one a to value (get_or (take 1 loaded) 0 []) D.fitting taken))
+
+    pub keeps_one : Keeps op src dst → IsSimpler shapes op loaded (record { op = ClearImage dst value; source = None })
+    keeps_one (inl e) = converts_one e
+    keeps_one (inr (inl e)) = blurs_one e
+    keeps_one (inr (inr e)) = halves_one e
 
   -- a combination has two sources
   pub two_loaded : (a b dst : ℕ) (fun : Fun) → op ≡ Combine a b dst fun → 2 ≤ length loaded
