@@ -4,8 +4,6 @@ use Rattle.fg_base.specs.Kernels.{under, drawn}
 use Rattle.fg_base.specs.Texels.{modulus, painted, picture}
 use Rattle.fg_base.specs.declared.grid.Grid.{Grid}
 use Rattle.fg_base.specs.declared.op.Rect.{Rect}
-use Rattle.fg_base.specs.declared.shape.Texel.{Texel}
-use Rattle.fg_base.specs.declared.shape.Texel.TheVariants.{R8, R32}
 use Rattle.fg_draw.proofs.DrawnRects.{under_painted}
 use Rattle.fg_pixels.proofs.Pictures.{same_band, picture_painted}
 

@@ -15,7 +15,7 @@ use std::marker::Sync;
 use std::thread::Threads;
 
 /// The least bytes of a destination for each thread that paints it.
-const LEAST: usize = 1 << 19;
+const LEAST: usize = 1 << 18;
 
 /// The same for kernels that take little longer than the memory that they go over.
 const LEAST_OF_LANES: usize = 1 << 20;

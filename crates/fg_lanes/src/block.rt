@@ -1,11 +1,11 @@
 //! Blocks of bytes, whose texels are computed at once.
 
-ghost use Rattle.std.specs.Prelude.{◌≡◌, ◌==◌, ℕ, ◌+◌, ◌*◌, ◌<◌, ◌≤◌, length, slice_index, if◌then◌else◌};
+ghost use Rattle.std.specs.Prelude.{◌≡◌, ◌==◌, ℕ, ◌+◌, ◌*◌, ◌<◌, length, slice_index, if◌then◌else◌};
 ghost use Rattle.fg_base.specs.Kernels.{fun_of};
 ghost use Rattle.fg_base.specs.Texels.{texel_at};
 ghost use Rattle.fg_base.specs.declared.shape.Texel.{Texel};
 ghost use Rattle.fg_base.specs.declared.shape.Texel.TheVariants.{R32};
-ghost use Rattle.fg_lanes.specs.Code.Blocks.{block_texels, AreTexels};
+ghost use Rattle.fg_lanes.specs.Code.Blocks.{block_texels, AreTexels, IsPlace};
 
 use crate::byte_lanes::{choose_bytes, fun_bytes, rising_bytes};
 use crate::word_lanes::{choose_words, fun_words, rising_words};
@@ -28,24 +28,25 @@ fn padded(bytes: &[u8]) -> u8x32
 
 // The bytes from this place on, with zeros after the last.
 #[inline(always)]
-fn bytes_from(bytes: &[u8], at: usize) -> u8x32
-    requires { at ≤ length bytes.now }
+fn bytes_from(bytes: &[u8], at: usize, is_last: bool) -> u8x32
+    requires { IsPlace at is_last (length bytes.now) }
     ensures { (k : ℕ) → k < 32 → slice_index result k ≡ slice_index bytes.now (at + k) }
 {
-    if bytes.len() - at >= BLOCK {
-        u8x32::from_slice(&bytes[at..])
-    } else {
+    if is_last {
         padded(&bytes[at..])
+    } else {
+        u8x32::from_slice(&bytes[at..])
     }
 }
 
-/// The block from this place of one on, with zeros after the last byte.
+/// The block from this place of one on, with zeros after the last byte. Whether it is the last one is told and not tested, so
+/// that a loop over the others has no branch.
 #[inline(always)]
-pub(crate) fn load(bytes: &[u8], at: usize) -> u8x32
-    requires { at ≤ length bytes.now }
+pub(crate) fn load(bytes: &[u8], at: usize, is_last: bool) -> u8x32
+    requires { IsPlace at is_last (length bytes.now) }
     ensures { (t : Texel) (b j : ℕ) → at ≡ 32 * b → j < block_texels t → texel_at t result j ≡ texel_at t bytes.now (block_texels t * b + j) }
 {
-    bytes_from(bytes, at)
+    bytes_from(bytes, at, is_last)
 }
 
 #[inline(always)]

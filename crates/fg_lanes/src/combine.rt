@@ -4,7 +4,7 @@ ghost use Rattle.std.specs.Prelude.{◌≡◌, ℕ, ◌+◌, ◌*◌, ◌/◌, �
 ghost use Rattle.fg_base.specs.Kernels.{fun_of};
 ghost use Rattle.fg_base.specs.Shapes.{texel_bytes};
 ghost use Rattle.fg_base.specs.Texels.{texel_at, picture, band};
-ghost use Rattle.fg_lanes.specs.Code.Blocks.{block_texels, AreTexels};
+ghost use Rattle.fg_lanes.specs.Code.Blocks.{block_texels, AreTexels, IsPlace};
 ghost use Rattle.fg_pixels.specs.Bands.{HasRows};
 
 use crate::block::{fun_block, load};
@@ -22,10 +22,10 @@ fn combine_by(texel: Texel, fun: Fun, a: &[u8], b: &[u8], out: &mut [u8])
 {
     lay(
         out,
-        |at: usize| -> u8x32
-            requires { (at ≤ length a.now) × (at ≤ length b.now) }
+        |at: usize, is_last: bool| -> u8x32
+            requires { IsPlace at is_last (length a.now) × IsPlace at is_last (length b.now) }
             ensures { (n : ℕ) → at ≡ 32 * n → AreTexels texel result (block_texels texel) (λ j. fun_of texel fun (texel_at texel a.entry.now (block_texels texel * n + j)) (texel_at texel b.entry.now (block_texels texel * n + j))) }
-        { fun_block(texel, fun, load(a, at), load(b, at)) },
+        { fun_block(texel, fun, load(a, at, is_last), load(b, at, is_last)) },
     );
 }
 

@@ -18,7 +18,7 @@ fn words(word: u32, out: &mut [u8])
 {
     lay(
         out,
-        |_at: usize| -> u8x32
+        |_at: usize, _is_last: bool| -> u8x32
             ensures { AreTexels R32 result 8 (λ j. word) }
         { splat_block(Texel::R32, word) },
     );

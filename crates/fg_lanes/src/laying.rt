@@ -1,26 +1,26 @@
 //! One loop over the blocks of some bytes.
 
-ghost use Rattle.std.specs.Prelude.{◌≡◌, ℕ, ◌*◌, ◌/◌, ◌≤◌, length};
+ghost use Rattle.std.specs.Prelude.{◌≡◌, ℕ, Bool, ◌*◌, ◌/◌, length};
 ghost use Rattle.fg_base.specs.Shapes.{texel_bytes};
 ghost use Rattle.fg_base.specs.declared.shape.Texel.{Texel};
-ghost use Rattle.fg_lanes.specs.Code.Blocks.{AreTexels, GivesBlocks};
+ghost use Rattle.fg_lanes.specs.Code.Blocks.{AreTexels, GivesBlocks, IsPlace};
 
 use crate::block::BLOCK;
 use std::simd::prelude::*;
 
-/// Puts the block `f(at)` at each place of one, and of the last as much as there is room for.
+/// Puts the block `f(at, false)` at each place of a whole one, and of `f(at, true)` after them as much as there is room for.
 #[inline(always)]
-pub(crate) fn lay<F: Fn(usize) -> u8x32>(out: &mut [u8], f: F)
-    requires { (b : ℕ) → 32 * b ≤ length out.old → F.pre f (32 * b) }
+pub(crate) fn lay<F: Fn(usize, bool) -> u8x32>(out: &mut [u8], f: F)
+    requires { (b : ℕ) (is_last : Bool) → IsPlace (32 * b) is_last (length out.old) → F.pre f (32 * b) is_last }
     ensures { (t : Texel) (p : ℕ → ℕ) → GivesBlocks (F.post f) t (length out.old) p → AreTexels t out.new (length out.old / texel_bytes t) p }
 {
     let count = out.len() / BLOCK;
     for block in 0..count {
         let at = BLOCK * block;
-        f(at).copy_to_slice(&mut out[at..]);
+        f(at, false).copy_to_slice(&mut out[at..]);
     }
     let start = BLOCK * count;
-    let last = f(start).to_array();
+    let last = f(start, true).to_array();
     let rest = out.len() - start;
     out[start..].copy_from_slice(&last[..rest]);
 }

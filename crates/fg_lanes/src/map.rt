@@ -4,7 +4,7 @@ ghost use Rattle.std.specs.Prelude.{◌≡◌, ℕ, ◌+◌, ◌*◌, ◌/◌, �
 ghost use Rattle.fg_base.specs.Kernels.{fun_of};
 ghost use Rattle.fg_base.specs.Shapes.{texel_bytes};
 ghost use Rattle.fg_base.specs.Texels.{modulus, texel_at, picture, band};
-ghost use Rattle.fg_lanes.specs.Code.Blocks.{block_texels, AreTexels};
+ghost use Rattle.fg_lanes.specs.Code.Blocks.{block_texels, AreTexels, IsPlace};
 ghost use Rattle.fg_pixels.specs.Bands.{HasRows};
 
 use crate::block::{fun_block, load, splat_block};
@@ -21,10 +21,17 @@ fn map_by(texel: Texel, fun: Fun, value: u32, src: &[u8], out: &mut [u8])
 {
     lay(
         out,
-        |at: usize| -> u8x32
-            requires { at ≤ length src.now }
+        |at: usize, is_last: bool| -> u8x32
+            requires { IsPlace at is_last (length src.now) }
             ensures { (n : ℕ) → at ≡ 32 * n → AreTexels texel result (block_texels texel) (λ j. fun_of texel fun (texel_at texel src.entry.now (block_texels texel * n + j)) (value % modulus texel)) }
-        { fun_block(texel, fun, load(src, at), splat_block(texel, value)) },
+        {
+            fun_block(
+                texel,
+                fun,
+                load(src, at, is_last),
+                splat_block(texel, value),
+            )
+        },
     );
 }
 

@@ -21,7 +21,7 @@ fn ramp_row(texel: Texel, width: u32, base: u32, dx: u32, dy: u32, y: u32, row: 
     let left = base.wrapping_add(y.wrapping_mul(dy));
     lay(
         row,
-        |at: usize| -> u8x32
+        |at: usize, _is_last: bool| -> u8x32
             requires { at < texel_bytes texel * 2 ^ 32 }
             ensures { (n : ℕ) → at ≡ 32 * n → AreTexels texel result (block_texels texel) (λ j. left + (block_texels texel * n + j) * dx) }
         {

@@ -3,7 +3,7 @@
 ghost use Rattle.std.specs.Prelude.{◌≡◌, ◌==◌, ℕ, ◌+◌, ◌*◌, ◌/◌, ◌≤◌, length, if◌then◌else◌};
 ghost use Rattle.fg_base.specs.Shapes.{texel_bytes};
 ghost use Rattle.fg_base.specs.Texels.{texel_at, picture, band};
-ghost use Rattle.fg_lanes.specs.Code.Blocks.{block_texels, AreTexels};
+ghost use Rattle.fg_lanes.specs.Code.Blocks.{block_texels, AreTexels, IsPlace};
 ghost use Rattle.fg_pixels.specs.Bands.{HasRows};
 
 use crate::block::{choose_block, load};
@@ -22,10 +22,17 @@ fn select_by(texel: Texel, mask: &[u8], a: &[u8], b: &[u8], out: &mut [u8])
 {
     lay(
         out,
-        |at: usize| -> u8x32
-            requires { (at ≤ length mask.now) × (at ≤ length a.now) × (at ≤ length b.now) }
+        |at: usize, is_last: bool| -> u8x32
+            requires { IsPlace at is_last (length mask.now) × IsPlace at is_last (length a.now) × IsPlace at is_last (length b.now) }
             ensures { (n : ℕ) → at ≡ 32 * n → AreTexels texel result (block_texels texel) (λ j. if texel_at texel mask.entry.now (block_texels texel * n + j) == 0 then texel_at texel b.entry.now (block_texels texel * n + j) else texel_at texel a.entry.now (block_texels texel * n + j)) }
-        { choose_block(texel, load(mask, at), load(a, at), load(b, at)) },
+        {
+            choose_block(
+                texel,
+                load(mask, at, is_last),
+                load(a, at, is_last),
+                load(b, at, is_last),
+            )
+        },
     );
 }
 

@@ -1,5 +1,5 @@
 -- Blocks of 32 bytes, and the texels in them.
-use Rattle.std.specs.Prelude.{◌≡◌, ℕ, List, ◌+◌, ◌*◌, ◌%◌, ◌<◌, ◌≤◌}
+use Rattle.std.specs.Prelude.{◌≡◌, ℕ, Bool, true, false, List, ◌+◌, ◌*◌, ◌%◌, ◌<◌, ◌≤◌}
 use Rattle.fg_base.specs.Texels.{modulus, texel_at}
 use Rattle.fg_base.specs.declared.shape.Texel.{Texel}
 use Rattle.fg_base.specs.declared.shape.Texel.TheVariants.{R8, R32}
@@ -13,6 +13,10 @@ block_texels R32 = 8
 abbrev pub AreTexels : Texel → List ℕ → ℕ → (ℕ → ℕ) → Type 0
 AreTexels t bytes n p = (k : ℕ) → k < n → texel_at t bytes k ≡ p k % modulus t
 
--- so are those of the block that a closure gives at each place of one, in bytes, up to the last place
-abbrev pub GivesBlocks : (ℕ → List ℕ → Type 0) → Texel → ℕ → (ℕ → ℕ) → Type 0
-GivesBlocks post t last p = (b : ℕ) (block : List ℕ) → 32 * b ≤ last → post (32 * b) block → AreTexels t block (block_texels t) (λ j. p (block_texels t * b + j))
+-- a place among so many bytes from where on there is a whole block, or else the rest of them
+abbrev pub IsPlace : ℕ → Bool → ℕ → Type 0
+IsPlace at is_last n = (at ≤ n) × (is_last ≡ false → at + 32 ≤ n) × (is_last ≡ true → n < at + 32)
+
+-- so are those of the block that a closure gives at each place of one among so many bytes
+abbrev pub GivesBlocks : (ℕ → Bool → List ℕ → Type 0) → Texel → ℕ → (ℕ → ℕ) → Type 0
+GivesBlocks post t n p = (b : ℕ) (is_last : Bool) (block : List ℕ) → IsPlace (32 * b) is_last n → post (32 * b) is_last block → AreTexels t block (block_texels t) (λ j. p (block_texels t * b + j))

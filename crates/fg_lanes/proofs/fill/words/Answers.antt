@@ -8,4 +8,4 @@ returns c =
     let n = length c.args.out.now in
     let word = c.args.word in
     rows_from R32 (n / 4) 0 1 n (λ k. word) (λ x y. word) c.lay.new.out c.type_inv.out c.lay.auto.out (omega arith)
-    (c.lay.ensures R32 (λ k. word) (λ b block le post. post)) (λ x y hx hy. refl)
+    (c.lay.ensures R32 (λ k. word) (λ b is_last block place post. post)) (λ x y hx hy. refl)

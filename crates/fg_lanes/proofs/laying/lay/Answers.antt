@@ -1,4 +1,4 @@
-use Rattle.std.proofs.Common.{◌≡◌, ℕ, List, ◌+◌, ◌-◌, ◌*◌, ◌/◌, ◌≤◌, length, get_or, rules, arith, subst, ◌∙◌, ap}
+use Rattle.std.proofs.Common.{◌≡◌, ℕ, List, ◌+◌, ◌-◌, ◌*◌, ◌/◌, ◌≤◌, length, get_or, rules, arith, subst, true, false, ◌∙◌, ap}
 use Rattle.std.specs.Simd.Lanes.{put_chunk}
 use Rattle.std.proofs.lemmas.List.{get_or-take}
 use Rattle.std.proofs.lemmas.Simd.{get_or-put_chunk_below, get_or-put_chunk_at}
@@ -20,7 +20,7 @@ loop-block-preserved g c t p gives =
     (λ i lt. get_or-put_chunk_below (32 * b) out block i 0 lt)
     (λ i lt. get_or-put_chunk_at (32 * b) out block i 0 (omega (arith, long)) (omega (arith, long)))
     (c.loop-block.invariant t p gives)
-    (gives b block (omega arith) c.f.ensures))
+    (gives b false block (record { 0 = omega arith; 1 = λ e. omega arith; 2 = λ e. absurd cc }) c.f.ensures))
 
 pub returns : goal.returns
 returns g c t p gives =
@@ -36,4 +36,4 @@ returns g c t p gives =
     (λ i lt. put_front (32 * b) rest out part i start lt)
     (λ i lt. put_back (32 * b) rest out part i start (omega (arith, long)) ∙ ap (λ (l : List ℕ). get_or l i 0) c.copy_from_slice.ensures.after ∙ get_or-take rest c.f-2.result i 0 lt)
     (subst (λ (n : ℕ). AreTexels t out (block_texels t * n) p) (omega arith) (c.loop-block.invariant t p gives))
-    (gives b c.f-2.result (omega arith) c.f-2.ensures))
+    (gives b true c.f-2.result (record { 0 = omega arith; 1 = λ e. absurd cc; 2 = λ e. omega arith }) c.f-2.ensures))

@@ -12,5 +12,5 @@ returns c =
     let y = c.args.y in
     let left = (base + y * dy % 2 ^ 32) % 2 ^ 32 in
     rows_from t w y 1 (length c.args.row.now) (λ k. left + k * dx) (λ x y. base + x * dx + y * dy) c.lay.new.out c.type_inv.row c.lay.auto.out (omega arith)
-    (c.lay.ensures t (λ k. left + k * dx) (λ b block le post. post b refl))
+    (c.lay.ensures t (λ k. left + k * dx) (λ b is_last block place post. post b refl))
     (λ x r hx hr. risen t base dx dy w x y r hr)
