@@ -13,7 +13,7 @@ fills of many buffers that share memory. Then each operation: a frame applies it
 exports one texel, so that little is printed; a frame that applies it a few times is timed too, and its time is taken off, so that
 memory that is met for the first time does not count. Each is timed by `meaning`, which takes the plain way, and by `run` with one
 worker, whose device computes by lanes and bands; those that go by bands have one more line, ours in `run` beside the other's in
-`meaning`, which takes one thread. For each case one line: the least processor time in both programs in milliseconds, of the command
+`run` on one processor, where it makes no threads. For each case one line: the least processor time in both programs in milliseconds, of the command
 or of one operation, their ratio, the ratio of the least times by the clock, and that of the most memory that the programs took. (The
 least of many runs is what the programs take by themselves; a median moves with whatever else the machine does.) The texts of both
 have to be the same.
@@ -179,11 +179,15 @@ def submissions():
     yield "check 512 shared pieces", submission(shared + [fill(0, 1), BARRIER], 512, 1)
 
 
-def once(program, words, path):
+def on_one_processor():
+    os.sched_setaffinity(0, {max(os.sched_getaffinity(0))})
+
+
+def once(program, words, path, start=None):
     """Processor time and time by the clock in milliseconds, most memory in KiB, and the text."""
     with open(path, "rb") as text:
         began = time.perf_counter()
-        child = subprocess.Popen([program, *words], stdin=text, stdout=subprocess.PIPE)
+        child = subprocess.Popen([program, *words], stdin=text, stdout=subprocess.PIPE, preexec_fn=start)
         printed = child.stdout.read()
         child.stdout.close()
         _, status, usage = os.wait4(child.pid, 0)
@@ -192,18 +196,19 @@ def once(program, words, path):
     return ((usage.ru_utime + usage.ru_stime) * 1e3, clock * 1e3), usage.ru_maxrss, (child.returncode, printed)
 
 
-def measured(programs, words, runs, path):
-    """Of each program the least processor time and the least time by the clock, and its most memory."""
-    took = [[], []]
-    most = [0, 0]
-    texts = [None, None]
+def measured(starts, words, runs, path):
+    """Of each program, and what it does before it starts, the least processor time and the least time by the clock, and its most
+    memory."""
+    took = [[] for _ in starts]
+    most = [0 for _ in starts]
+    texts = [None for _ in starts]
     for _ in range(runs):
-        for k, program in enumerate(programs):
-            times, kib, texts[k] = once(program, words, path)
+        for k, (program, start) in enumerate(starts):
+            times, kib, texts[k] = once(program, words, path, start)
             took[k].append(times)
             most[k] = max(most[k], kib)
-    if texts[0] != texts[1]:
-        sys.exit(f"{path}: the programs differ: {texts[0]!r} and {texts[1]!r}"[:400])
+    if any(text != texts[0] for text in texts):
+        sys.exit(f"{path}: the programs differ: {texts!r}"[:400])
     return [[min(ms) for ms in zip(*times)] for times in took], most
 
 
@@ -270,7 +275,7 @@ def main():
     parser.add_argument("--runs", type=int, default=15)
     parser.add_argument("--case", nargs="*", default=[])
     options = parser.parse_args()
-    programs = [options.ours or built(), options.other]
+    programs = [(options.ours or built(), None), (options.other, None)]
 
     def wanted(name):
         return not options.case or any(name.startswith(word) for word in options.case)
@@ -281,17 +286,16 @@ def main():
             if wanted(name):
                 (own, other), most = measured(programs, words, options.runs, path)
                 row(name, own, other, most)
-        alone = None
         for name, words, idle_path, busy_path in operations(folder):
             if wanted(name):
-                idle, _ = measured(programs, words, options.runs, idle_path)
-                busy, most = measured(programs, words, options.runs, busy_path)
-                own, other = [[max(b - i, 0.001) / TIMES for b, i in zip(*times)] for times in zip(busy, idle)]
-                row(name, own, other, most)
-                if words == ["meaning"]:
-                    alone = other
-                elif name.startswith(BANDED):
-                    row(f"{name}, one thread", own, alone, most)
+                banded = words == ONE and name.startswith(BANDED)
+                starts = [*programs, (options.other, on_one_processor)] if banded else programs
+                idle, _ = measured(starts, words, options.runs, idle_path)
+                busy, most = measured(starts, words, options.runs, busy_path)
+                own, *others = [[max(b - i, 0.001) / TIMES for b, i in zip(*times)] for times in zip(busy, idle)]
+                row(name, own, others[0], most)
+                if banded:
+                    row(f"{name}, on one", own, others[1], [most[0], most[2]])
 
 
 if __name__ == "__main__":
