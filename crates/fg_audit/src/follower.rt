@@ -13,6 +13,7 @@ use fg_base::{Event, NoMemory};
 use fg_checker::Checked;
 use fg_device::{Device, Finished};
 use fg_steps::event_laws;
+use rayon::current_num_threads;
 use std::alloc::Global;
 use std::marker::Model;
 use std::thread::Threads;
@@ -41,9 +42,25 @@ fn place_of(begun: &[Finished], node: u32) -> Option<usize>
     begun.iter().position(|done| done.command().node == node)
 }
 
+// A device on which nothing has happened, which lends as many threads as there are processors.
+fn opened<R: Threads>(
+    rt: &R,
+    alloc: Global,
+    program: &Checked,
+    moves: u32,
+    places: &[(u32, u32)],
+) -> Result<Device, NoMemory>
+    ensures { IfOk result (λ device. device ≡ fresh program.now.program 0 moves) }
+{
+    let mut device = Device::with_places(alloc, program, 0, moves, places)?;
+    device.lend_threads(current_num_threads(rt));
+    Ok(device)
+}
+
 impl Follower {
     /// A device on which nothing has happened, with room for so many cache moves, which begin and end at these places.
-    pub fn new(
+    pub fn new<R: Threads>(
+        rt: &R,
         alloc: Global,
         program: &Checked,
         moves: u32,
@@ -52,7 +69,7 @@ impl Follower {
         ensures { IfOk result (λ follower. follower ≡ fresh program.now.program 0 moves) }
     {
         event_laws();
-        let device = Device::with_places(alloc, program, 0, moves, places)?;
+        let device = opened(rt, alloc, program, moves, places)?;
         Ok(Follower {
             device,
             begun: Vec::new(alloc),

@@ -47,7 +47,7 @@ fn judged<R: Threads + Sync>(
     ensures { IfOk result (Says program.now.program events.now) }
 {
     let places = places_of(alloc, events)?;
-    let mut follower = Follower::new(alloc, program, count_moves(events), &places)?;
+    let mut follower = Follower::new(rt, alloc, program, count_moves(events), &places)?;
     let stray = follow_all(rt, alloc, &mut follower, events);
     let device = follower.into_device();
     match stray? {

@@ -127,7 +127,7 @@ impl Device {
             reads,
             history,
         } = lists;
-        let helpers = Helpers::new(usize::MAX);
+        let helpers = Helpers::new(0);
         let weight = weight_of(&program.program().memories, count);
         Ok(Device {
             program,
@@ -147,7 +147,7 @@ impl Device {
 
     /// Commands that are on their way take no more than so many threads, all together: each one for its caller, and the rest for
     /// those that it starts. One that finds none left is computed by its caller alone, who is then one more. To be called before the
-    /// first `begin`; until it is called nothing but the number of processors bounds what each command starts.
+    /// first `begin`; until it is called no command starts a thread.
     pub fn lend_threads(&mut self, threads: usize)
         ensures { self.new ≡ self.old }
     {

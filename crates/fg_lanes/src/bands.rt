@@ -10,7 +10,7 @@ use crate::strips::paint_strips;
 use crate::target::{Memory, Target};
 use bytes::BytesMut;
 use fg_base::{Op, Texel};
-use rayon::{current_num_threads, join_mut};
+use rayon::join_mut;
 use std::marker::Sync;
 use std::thread::Threads;
 
@@ -40,14 +40,9 @@ pub fn helpers_for(op: &Op<u32>, out: &Target) -> usize {
     }
 }
 
-// How many bands are painted side by side: no more than there are processors.
-fn band_count(rt: &impl Threads, helpers: usize, bytes: usize) -> usize {
-    let wanted = helpers_in(bytes, LEAST).min(helpers);
-    if wanted == 0 {
-        1
-    } else {
-        current_num_threads(rt).min(wanted.saturating_add(1))
-    }
+// How many bands are painted side by side. How many processors there are is not asked: the system reads a file to tell it.
+fn band_count(helpers: usize, bytes: usize) -> usize {
+    helpers_in(bytes, LEAST).min(helpers).saturating_add(1)
 }
 
 // One band.
@@ -153,7 +148,7 @@ fn shared<R: Threads + Sync, F: Fn(u32, u32, &mut [u8]) + Sync>(
     ensures bytes { ArePainted (F.post f.now) texel width 0 height result.items }
     ensures long { length result.items ≡ length bytes.items }
 {
-    let bands = band_count(rt, helpers, bytes.len());
+    let bands = band_count(helpers, bytes.len());
     share_out(rt, f, texel, width, bands, 0, height, bytes.as_mut_slice());
     bytes
 }
