@@ -6,7 +6,7 @@ use Rattle.std.proofs.lemmas.List.{get_or-take, nil_from_length}
 use Rattle.fg_base.specs.Applied.{applied, effect}
 use Rattle.fg_base.specs.Fits.{fits, has_drawn}
 use Rattle.fg_base.specs.Kernels.{under}
-use Rattle.fg_base.specs.Operands.{operands_of, sources_of, destination_of}
+use Rattle.fg_base.specs.Operands.{sources_of, destination_of}
 use Rattle.fg_base.specs.Shapes.{bytes_of, is_image, same_grid, same_sides, same_texel, shape_at, texel_eq, twice_the_sides}
 use Rattle.fg_base.specs.Texels.{canvas_of, modulus, painted}
 use Rattle.fg_base.specs.declared.grid.Grid.{Grid}
@@ -33,7 +33,7 @@ two_entries P m n p q (suc zero) d lt = q
 two_entries P m n p q (suc (suc k)) d lt = absurd (omega (arith, lt))
 
 -- a clear in the place of an operation
-pub clears : (shapes : List Shape) (op : Op ℕ) (loaded : List (List ℕ)) (dst value : ℕ) → destination_of op ≡ dst → dst < length shapes → is_image (shape_at shapes dst) ≡ true
+clears : (shapes : List Shape) (op : Op ℕ) (loaded : List (List ℕ)) (dst value : ℕ) → destination_of op ≡ dst → dst < length shapes → is_image (shape_at shapes dst) ≡ true
     → ((old : List ℕ) → painted (canvas_of (shape_at shapes dst)) (λ x y. value) ≡ applied shapes op (take (length (sources_of op)) loaded) old)
     → IsSimpler shapes op loaded (record { op = ClearImage dst value; source = None })
 clears shapes op loaded dst value is within image same = record {
@@ -45,7 +45,7 @@ clears shapes op loaded dst value is within image same = record {
 }
 
 -- a map of one of the sources in the place of an operation
-pub maps : (shapes : List Shape) (op : Op ℕ) (loaded : List (List ℕ)) (src dst : ℕ) (fun : Fun) (value k : ℕ) → destination_of op ≡ dst → src < length shapes → dst < length shapes
+maps : (shapes : List Shape) (op : Op ℕ) (loaded : List (List ℕ)) (src dst : ℕ) (fun : Fun) (value k : ℕ) → destination_of op ≡ dst → src < length shapes → dst < length shapes
     → fits (Map (shape_at shapes src) (shape_at shapes dst) fun value) ≡ true
     → k < length loaded → length (get_or loaded k []) ≡ bytes_of (shape_at shapes src)
     → ((old : List ℕ) → effect (Map (shape_at shapes src) (shape_at shapes dst) fun value) (get_or loaded k []) [] [] [] ≡ applied shapes op (take (length (sources_of op)) loaded) old)
@@ -89,12 +89,8 @@ one_canvas (Image w h t) (Image v k s) own other e =
     let sides = both (w == v) (h == k) all.0 in
     rw (number_same w v sides.0, number_same h k sides.1, one_texel t s all.1) refl
 
--- what a map and a combination leave, by what was loaded
-pub map_loaded : (shapes : List Shape) (src dst : ℕ) (fun : Fun) (value : ℕ) (loaded : List (List ℕ)) (old : List ℕ) → effect (Map (shape_at shapes src) (shape_at shapes dst) fun value) (get_or loaded 0 []) [] [] [] ≡ applied shapes (Map src dst fun value) (take 1 loaded) old
-map_loaded shapes src dst fun value loaded old =
-    ap (λ (l : List ℕ). effect (Map (shape_at shapes src) (shape_at shapes dst) fun value) l [] [] []) (sym (get_or-take 1 loaded 0 [] (omega arith)))
-
-pub combine_loaded : (shapes : List Shape) (a b dst : ℕ) (fun : Fun) (loaded : List (List ℕ)) (old : List ℕ) → effect (Combine (shape_at shapes a) (shape_at shapes b) (shape_at shapes dst) fun) (get_or loaded 0 []) (get_or loaded 1 []) [] [] ≡ applied shapes (Combine a b dst fun) (take 2 loaded) old
+-- what a combination leaves, by what was loaded
+combine_loaded : (shapes : List Shape) (a b dst : ℕ) (fun : Fun) (loaded : List (List ℕ)) (old : List ℕ) → effect (Combine (shape_at shapes a) (shape_at shapes b) (shape_at shapes dst) fun) (get_or loaded 0 []) (get_or loaded 1 []) [] [] ≡ applied shapes (Combine a b dst fun) (take 2 loaded) old
 combine_loaded shapes a b dst fun loaded old =
     let op = Combine (shape_at shapes a) (shape_at shapes b) (shape_at shapes dst) fun in
     ap (λ (l : List ℕ). effect op l (get_or loaded 1 []) [] []) (sym (get_or-take 2 loaded 0 [] (omega arith)))
@@ -122,18 +118,10 @@ module _ (shapes : List Shape) (op : Op ℕ) (loaded : List (List ℕ)) (R : Rea
       (λ old. whole_drawn (canvas_of (shape_at shapes dst)) rect clear old (subst Q to sets)))
 
   -- the one source of an operation that keeps its number was loaded
-  one_source : (made : Op ℕ) (src : ℕ) → op ≡ made → get_or (operands_of made) 0 0 ≡ src → 0 < length (operands_of made) → 1 ≤ length (sources_of made) → (src < length shapes) × (0 < length loaded) × (length (get_or loaded 0 []) ≡ bytes_of (shape_at shapes src))
-  one_source made src is first some has =
-      let D = subst (λ (o : Op ℕ). Reads shapes o loaded) is R in
-      let there : 0 < length loaded = let n = D.sources in omega (arith, n, has) in
-      let P : ℕ → Type 0 = λ p. p < length shapes in
-      let Q : ℕ → Type 0 = λ p. length (get_or loaded 0 []) ≡ bytes_of (shape_at shapes p) in
-      record { 0 = subst P first (D.operands 0 0 some); 1 = there; 2 = subst Q first (D.sized 0 there) }
-
-  pub kept_source : (src dst : ℕ) → Keeps op src dst → (src < length shapes) × (0 < length loaded) × (length (get_or loaded 0 []) ≡ bytes_of (shape_at shapes src))
-  kept_source src dst (inl e) = one_source (Convert src dst) src e refl (omega arith) (omega arith)
-  kept_source src dst (inr (inl e)) = one_source (Box3 src dst) src e refl (omega arith) (omega arith)
-  kept_source src dst (inr (inr e)) = one_source (Halve src dst) src e refl (omega arith) (omega arith)
+  pub kept_loaded : (src dst : ℕ) → Keeps op src dst → 1 ≤ length loaded
+  kept_loaded src dst (inl e) = (subst (λ (o : Op ℕ). Reads shapes o loaded) e R).sources
+  kept_loaded src dst (inr (inl e)) = (subst (λ (o : Op ℕ). Reads shapes o loaded) e R).sources
+  kept_loaded src dst (inr (inr e)) = (subst (λ (o : Op ℕ). Reads shapes o loaded) e R).sources
 
   -- an operation whose one source is of one number, which it keeps
   module _ (src dst value : ℕ) (from : Shape) (from_is : from ≡ shape_at shapes src) (bytes : List ℕ) (bytes_is : bytes ≡ get_or loaded 0 []) (is : bytes ≡ painted (canvas_of from) (λ x y. value)) (small : value < modulus (canvas_of from).texel) where

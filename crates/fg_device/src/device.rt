@@ -66,7 +66,8 @@ impl Model for Device {
 }
 
 impl Device {
-    /// A device that has done nothing, with room for so many cache moves. Only this and `begin` take memory.
+    /// A device that has done nothing, with room for so many cache moves. It lends no threads (`lend_threads`). Only this and `begin`
+    /// take memory.
     pub fn new(alloc: Global, program: &Checked, fill: u8, moves: u32) -> Result<Device, NoMemory>
         ensures fresh { IfOk result (λ device. device ≡ fresh program.now.program fill moves) }
         ensures sound { IfOk result (λ device. IsSound device.program) }

@@ -40,7 +40,7 @@ pub fn helpers_for(op: &Op<u32>, out: &Target) -> usize {
     }
 }
 
-// How many bands are painted side by side. How many processors there are is not asked: the system reads a file to tell it.
+// How many bands are painted side by side. Processors are not counted here: that opens files of the system.
 fn band_count(helpers: usize, bytes: usize) -> usize {
     helpers_in(bytes, LEAST).min(helpers).saturating_add(1)
 }

@@ -15,7 +15,7 @@ use std::simd::prelude::*;
 /// The bytes of a block.
 pub(crate) const BLOCK: usize = 32;
 
-// Fewer bytes than a block has, and zeros after them. It is called once a kernel.
+// Fewer bytes than a block has, and zeros after them. It is called once for each source, after a kernel's loop.
 #[inline(never)]
 fn padded(bytes: &[u8]) -> u8x32
     requires { length bytes.now < 32 }

@@ -8,7 +8,7 @@ ghost use Rattle.fg_lanes.specs.Code.Blocks.{AreTexels, GivesBlocks, IsPlace};
 use crate::block::BLOCK;
 use std::simd::prelude::*;
 
-/// Puts the block `f(at, false)` at each place of a whole one, and of `f(at, true)` after them as much as there is room for.
+/// Puts `f(at, false)` at the place of each whole block, and of `f(at, true)` behind them as many bytes as are left, if any.
 #[inline(always)]
 pub(crate) fn lay<F: Fn(usize, bool) -> u8x32>(out: &mut [u8], f: F)
     requires { (b : ℕ) (is_last : Bool) → IsPlace (32 * b) is_last (length out.old) → F.pre f (32 * b) is_last }

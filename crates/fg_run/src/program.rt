@@ -55,7 +55,7 @@ fn moves_of(tend: Option<u64>) -> u32
     }
 }
 
-// A device that is driven by itself.
+// A device that is driven by itself, each command computed by this thread alone.
 fn driven<R: Threads + Sync>(
     rt: &R,
     alloc: Global,

@@ -9,14 +9,14 @@ abbrev pub block_texels : Texel → ℕ
 block_texels R8 = 32
 block_texels R32 = 8
 
+-- a place among n bytes from which on there is a whole block, or at the last one fewer bytes, if any
+abbrev pub IsPlace : ℕ → Bool → ℕ → Type 0
+IsPlace at is_last n = (at ≤ n) × (is_last ≡ false → at + 32 ≤ n) × (is_last ≡ true → n < at + 32)
+
 -- the first n texels are the numbers of p, cut
 abbrev pub AreTexels : Texel → List ℕ → ℕ → (ℕ → ℕ) → Type 0
 AreTexels t bytes n p = (k : ℕ) → k < n → texel_at t bytes k ≡ p k % modulus t
 
--- a place among so many bytes from where on there is a whole block, or else the rest of them
-abbrev pub IsPlace : ℕ → Bool → ℕ → Type 0
-IsPlace at is_last n = (at ≤ n) × (is_last ≡ false → at + 32 ≤ n) × (is_last ≡ true → n < at + 32)
-
--- so are those of the block that a closure gives at each place of one among so many bytes
+-- so are those of the block that a closure gives at each place among n bytes
 abbrev pub GivesBlocks : (ℕ → Bool → List ℕ → Type 0) → Texel → ℕ → (ℕ → ℕ) → Type 0
 GivesBlocks post t n p = (b : ℕ) (is_last : Bool) (block : List ℕ) → IsPlace (32 * b) is_last n → post (32 * b) is_last block → AreTexels t block (block_texels t) (λ j. p (block_texels t * b + j))
