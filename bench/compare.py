@@ -12,11 +12,11 @@ nodes as there can be: barriers alone; fills of one buffer with a full barrier b
 fills of many buffers that share memory. Then each operation: a frame applies it again and again to images of 1920 by 1080 texels and
 exports one texel, so that little is printed; a frame that applies it a few times is timed too, and its time is taken off, so that
 memory that is met for the first time does not count. Each is timed by `meaning`, which takes the plain way, and by `run` with one
-worker, whose device computes by lanes and bands; those that go by bands have one more line, ours in `run` beside the other's in
-`run` on one processor, where it makes no threads. For each case one line: the least processor time in both programs in milliseconds, of the command
-or of one operation, their ratio, the ratio of the least times by the clock, and that of the most memory that the programs took. (The
-least of many runs is what the programs take by themselves; a median moves with whatever else the machine does.) The texts of both
-have to be the same.
+worker, whose device computes by lanes and bands; those that go by bands in the other program have one more line, ours in `run`
+beside the other's in `run` on one processor, where it has no second one for a band. For each case one line: the least processor
+time in both programs in milliseconds, of the command or of one operation, their ratio, the ratio of the least times by the clock,
+and that of the most memory that the programs took. (The least of many runs is what the programs take by themselves; a median moves
+with whatever else the machine does.) The texts of both have to be the same.
 """
 
 import argparse
@@ -36,7 +36,7 @@ WIDTH, HEIGHT = 1920, 1080
 FIRST = 3
 TIMES = 60
 
-# Operations that go by bands of rows in both programs.
+# Operations that go by bands of rows in the other program.
 BANDED = ("convert", "box3", "halve")
 
 
@@ -197,8 +197,7 @@ def once(program, words, path, start=None):
 
 
 def measured(starts, words, runs, path):
-    """Of each program, and what it does before it starts, the least processor time and the least time by the clock, and its most
-    memory."""
+    """Of each program, started after what stands beside it, the least processor time, the least time by the clock, and its most memory."""
     took = [[] for _ in starts]
     most = [0 for _ in starts]
     texts = [None for _ in starts]
@@ -215,7 +214,7 @@ def measured(starts, words, runs, path):
 def row(name, own, other, most):
     (cpu, clock), (other_cpu, other_clock) = own, other
     ratios = f"{cpu / other_cpu:6.2f} {clock / other_clock:6.2f} {most[0] / most[1]:6.2f}"
-    print(f"{name:24} {cpu:8.2f} {other_cpu:8.2f} {ratios}", flush=True)
+    print(f"{name:32} {cpu:8.2f} {other_cpu:8.2f} {ratios}", flush=True)
 
 
 def written(folder, name, value):
@@ -280,7 +279,7 @@ def main():
     def wanted(name):
         return not options.case or any(name.startswith(word) for word in options.case)
 
-    print(f"{'case':24} {'ms':>8} {'other':>8} {'ratio':>6} {'clock':>6} {'memory':>6}")
+    print(f"{'case':32} {'ms':>8} {'other':>8} {'ratio':>6} {'clock':>6} {'memory':>6}")
     with tempfile.TemporaryDirectory() as folder:
         for name, words, path in commands(folder, options.other):
             if wanted(name):
