@@ -6,7 +6,7 @@ use Rattle.fg_device.specs.declared.job.Command.{Command}
 use Rattle.fg_steps.specs.Devices.{opening, state_of}
 
 pub invariant_of-result : goal.invariant_of-result
-invariant_of-result c =
+invariant_of-result g c =
     let d = c.in_ok-device.device in
     let program = c.args.program.now.program in
     subst (λ (l : List Command). Holds d l) (sym c.new.ensures.items) (none_yet d (opening program 0) (ap state_of c.in_ok-device.ensures ∙ c.event_laws.ensures.opens program 0 c.args.moves))
