@@ -37,10 +37,6 @@ module _ (program : Program) (events : List Event) where
     pub goes_here : goes (at_place program events k) event ≡ is_enabled_at program 0 events k
     goes_here = ap (λ s. is_enabled program s event) (state_at k) ∙ sym (ap (λ e. option_map_or (is_enabled program (left_by program 0 (take k events))) e false) got)
 
-    -- room for a cache move
-    pub some_left : is_move event ≡ true → 0 < (at_place program events k).moves
-    some_left move = subst (λ m. 0 < m) (sym (ap (λ l. length (moves_in l)) rest ∙ ap (λ (b : Bool). length (if b then event ∷ moves_in (drop (k + 1) events) else moves_in (drop (k + 1) events))) move)) (omega arith)
-
     counted : (b : Bool) (moves : List Event) (d : Device) → (if b then record d { history = d.history ++ event ∷ []; moves = length (if b then event ∷ moves else moves) - 1 } else record d { history = d.history ++ event ∷ []; moves = length (if b then event ∷ moves else moves) }) ≡ record d { history = d.history ++ event ∷ []; moves = length moves }
     counted true moves d = ap (λ m. record d { history = d.history ++ event ∷ []; moves = m }) (omega arith)
     counted false moves d = refl

@@ -5,7 +5,7 @@ use Rattle.std.proofs.lemmas.Bool.{cases_eq, false≢true, eq-eqb, eqb-true, ltb
 use Rattle.std.proofs.lemmas.List.Quantifiers.{position-Some}
 use Rattle.std.proofs.lemmas.List.Sums.{sum_by-append, sum_by-cons, sum_by-swap_remove}
 use Rattle.fg_base.proofs.Absence.{position-none}
-use Rattle.fg_audit.specs.Code.Following.{one_if, held_of, Holds, Lands, Quiet}
+use Rattle.fg_audit.specs.Code.Following.{one_if, held_of, Holds, Lands}
 use Rattle.fg_device.specs.declared.job.Command.{Command}
 use Rattle.fg_steps.specs.Devices.{Device, state_of, view_in}
 use Rattle.fg_steps.specs.States.{is_begun, put}
@@ -74,10 +74,6 @@ module _ (d e : Device) (same : view_in e ≡ view_in d) (commands : List Comman
       within : (m : ℕ) → 0 < held_of m (commands ++ c ∷ []) → (m ≡ n) ⊎ (m ≡ n → ⊥) → m < length (view_in e).nodes
       within m some (inl own) = inside m (subst (λ k. k < length (view_in d).nodes) (sym own) there)
       within m some (inr other) = inside m (holds.within m (omega (arith, some, held_more m commands c, one_other c.node m (λ same. other (sym same ∙ is)))))
-
--- on which no other node is begun
-pub holds_on : (d e : Device) (commands : List Command) → Quiet d e → Holds d commands → Holds e commands
-holds_on d e commands quiet holds = record { has = λ m b. holds.has m (quiet.less m b); within = λ m some. inside d e quiet.same commands holds m (holds.within m some) }
 
 -- on which a node is not begun any more
 pub holds_less : (d e : Device) (commands : List Command) (n i : ℕ) (c : Command) → Lands d e n → Holds d commands → i < length commands → ((x : Command) → (get_or commands i x).node ≡ n) → Holds e (swap_remove commands i c)

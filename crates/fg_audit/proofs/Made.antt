@@ -36,10 +36,6 @@ module _ (d e : Device) (n : ℕ) (goes : GoesOnBy d n) where
       let parts = and_parts (is_host (kind_at (view_in d) n)) (is_ready d n) may in
       quiet_end (ap view_in is) (ap (λ (x : Device). (state_of x).phase) is ∙ ap (λ s. s.phase) (goes.reads parts.0 parts.1))
 
-  -- it was begun
-  pub follows_end : is_begun ((state_of d).phase n) ≡ true → e ≡ did d (End n) → Follows d e (End n) true
-  follows_end begun is = record { enabled = sym begun; effect = is }
-
   pub lands : is_begun ((state_of d).phase n) ≡ true → e ≡ did d (End n) → Lands d e n
   lands begun is = record {
     same = ap view_in is;

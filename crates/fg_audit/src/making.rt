@@ -75,7 +75,7 @@ fn fill(device: &mut Device, agent: u32, memory: u32, start: u32, len: u32) -> b
     if !may_move(device, agent, memory, start, len) {
         return false;
     }
-    let _filled = device.fill(agent, memory, start, len);
+    device.fill(agent, memory, start, len);
     true
 }
 

@@ -4,7 +4,8 @@ use crate::lines::Range;
 use fg_base::{Event, NoMemory};
 use std::alloc::Global;
 
-fn range_of(event: &Event) -> Option<Range> {
+// The range of a cache move.
+fn moved_range(event: &Event) -> Option<Range> {
     match *event {
         Event::WriteBack {
             agent,
@@ -37,7 +38,7 @@ fn range_of(event: &Event) -> Option<Range> {
 pub(crate) fn places_of(alloc: Global, events: &[Event]) -> Result<Vec<(u32, u32)>, NoMemory> {
     let mut places = Vec::new(alloc);
     for event in events {
-        if let Some(range) = range_of(event) {
+        if let Some(range) = moved_range(event) {
             places.push((range.memory, range.start))?;
             places.push((range.memory, range.start.saturating_add(range.len)))?;
         }

@@ -30,7 +30,7 @@ use Rattle.fg_steps.specs.States.{is_begun}
 use Rattle.fg_steps.specs.Steps.{store_of, made}
 use Rattle.fg_steps.specs.declared.phase.Phase.TheVariants.{Begun}
 use Rattle.fg_subs.specs.Rules.{shapes_of}
-use Rattle.fg_view.specs.ShapedView.{ShapedView, Has}
+use Rattle.fg_view.specs.ShapedView.{Has}
 use Rattle.fg_view.specs.Views.{View, view_of}
 
 module _ (i : Inside) (K : IsKept i) (n : ℕ) (begun : is_begun (phase_of i.control n) ≡ true) where
@@ -86,9 +86,6 @@ module _ (i : Inside) (K : IsKept i) (n : ℕ) (begun : is_begun (phase_of i.con
     module _ (v : View) (view : v ≡ i.control.view) where
       has : Has (view_of (arc_value i.program)) n (store_of (view_of (arc_value i.program)) n)
       has = stores_there (arc_value i.program) K.faultless K.small n node_there held_is.command
-
-      pub store_node : ShapedView v → n < length v.effects
-      store_node shaped = omega (arith, shaped.effects, ap (λ (v : View). length v.nodes) (view ∙ K.view), node_there)
 
       pub store_piece : (store_of v n).piece < length v.pieces
       store_piece = subst (λ (v : View). (store_of v n).piece < length v.pieces) (sym (view ∙ K.view)) (piece_known (arc_value i.program) K.faultless K.small n (store_of (view_of (arc_value i.program)) n) has)

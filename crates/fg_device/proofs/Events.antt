@@ -1,6 +1,7 @@
 -- What each event leaves of what the fields keep.
 use Rattle.std.proofs.Common.{◌≡◌, ◌≢◌, ℕ, ◌+◌, ◌-◌, ◌<◌, ◌≤◌, false, List, length, map, slice_get, slice_set, Option, Some, None, refl, sym, ap, ◌∙◌, subst, ⊎_elim, arith}
 use Rattle.std.proofs.lemmas.Bool.{false≢true, cases_eq}
+use Rattle.fg_base.proofs.Absence.{some_same}
 use Rattle.fg_base.specs.Shapes.{bytes_of}
 use Rattle.fg_caches.specs.Effects as effects
 use Rattle.fg_caches.specs.Tables.{Table, caches_of}
@@ -24,9 +25,6 @@ use Rattle.fg_steps.specs.Steps.{store_of, taken, begun, ended, synced, host_tak
 use Rattle.fg_steps.specs.declared.phase.Phase.TheVariants.{Idle, Begun, Done}
 use Rattle.fg_subs.specs.declared.program.Program.{Program}
 use Rattle.fg_view.specs.Views.{view_of, accesses_of, loads_of, piece_at}
-
-some_same : {X : Type 0} {a b : X} → Some a ≡ Some b → a ≡ b
-some_same e = cc
 
 -- a node that is no host read is the node of no read-back
 pub no_read : (program : Program) (n : ℕ) → is_host (kind_at (view_of program) n) ≡ false → (k p : ℕ) → slice_get program.readbacks k ≡ Some p → read_node program k ≢ n

@@ -4,6 +4,7 @@ use Rattle.std.specs.Prelude.{slice_get, slice_index_or}
 use Rattle.std.proofs.lemmas.List.{length-map}
 use Rattle.std.proofs.lemmas.Option.{get_or_from_slice_get}
 use Rattle.std.proofs.Math.Seq.{get_or-append_seam}
+use Rattle.fg_base.proofs.Operands.{destination_long}
 use Rattle.fg_base.specs.Applied.{applied}
 use Rattle.fg_base.specs.Operands.{sources_of, destination_of, operands_of, mapped}
 use Rattle.fg_base.specs.Shapes.{bytes_of, shape_at}
@@ -12,7 +13,7 @@ use Rattle.fg_base.specs.Wholes.{is_whole}
 use Rattle.fg_base.specs.declared.op.Op.{Op}
 use Rattle.fg_base.specs.declared.shape.Shape.{Shape}
 use Rattle.fg_base.specs.declared.touch.Touch.{Touch}
-use Rattle.fg_device.proofs.Sources.{one_more, out_long, destination_long}
+use Rattle.fg_device.proofs.Sources.{one_more, out_long}
 use Rattle.fg_device.specs.Code.Loads.{IsRunnable, LeadsOn}
 use Rattle.fg_pixels.specs.Anew.{IgnoresOld}
 use Rattle.fg_steps.specs.Outputs.{no_old}

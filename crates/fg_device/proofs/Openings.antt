@@ -37,12 +37,6 @@ module _ (program : Program) (S : IsSmall program) (O : (rule : Rule) → Obeys 
       let l = lies program O p lt in
       subst (λ (piece : Piece). piece_end piece < 2 ^ 32) (get_or_default program.pieces p no_piece d lt) (omega (arith, l.1, size_small (piece_in program.pieces p).memory l.0))
 
-  pub lengths_small : All (λ piece. bytes_of piece.shape < 2 ^ 32) program.pieces
-  lengths_small p d lt = subst (λ (piece : Piece). bytes_of piece.shape < 2 ^ 32) (get_or_default program.pieces p no_piece d lt) (sizes_small program S p lt)
-
-  pub reads_known : All (λ p. p < length program.pieces) program.readbacks
-  reads_known k d lt = within_shapes program (get_or program.readbacks k d) ((O rules.Known).readbacks k d lt)
-
   module _ (opening : List (List ℕ)) (is : opening ≡ map (opened_memory fill) program.memories) where
     pub few_memories : length opening ≤ max_memories
     few_memories = omega (arith, ap length is, length-map program.memories (opened_memory fill), S.memories)

@@ -3,6 +3,7 @@ use Rattle.std.proofs.Common.{◌≡◌, ℕ, ◌^◌, ◌<◌, List, [], ◌∷
 use Rattle.std.specs.Arc.{arc_value}
 use Rattle.std.specs.List.{All}
 use Rattle.std.specs.Prelude.{replicate}
+use Rattle.fg_base.proofs.Absence.{some_same}
 use Rattle.fg_base.specs.Shapes.{bytes_of}
 use Rattle.fg_base.specs.declared.op.Op.{Op}
 use Rattle.fg_base.specs.declared.shape.Shape.{Shape}
@@ -12,7 +13,7 @@ use Rattle.fg_caches.specs.Tables.{InMemory, caches_of}
 use Rattle.fg_checker.specs.Apart.{op_at}
 use Rattle.fg_control.specs.Controls.{Agrees}
 use Rattle.fg_device.proofs.Facts.{piece_small}
-use Rattle.fg_device.proofs.Runnable.{loads_run, room_is, some_same}
+use Rattle.fg_device.proofs.Runnable.{loads_run, room_is}
 use Rattle.fg_device.proofs.Sights.{takes}
 use Rattle.fg_device.proofs.Touching.{formed, agent_known, agent_small, piece_known, stores_there}
 use Rattle.fg_device.specs.Code.Kept.{device_in, IsKept}

@@ -6,6 +6,7 @@ use Rattle.fg_caches.specs.Lines.{seen}
 use Rattle.std.proofs.lemmas.List.{get_or-map, get_or_append_left, length-map, length-append}
 use Rattle.std.proofs.lemmas.List.FromFn.{length-map-range_with_len}
 use Rattle.std.proofs.Math.Seq.{get_or-append_seam}
+use Rattle.fg_base.proofs.Absence.{some_same}
 use Rattle.fg_base.specs.Operands.{sources_of, destination_of, operands_of, mapped}
 use Rattle.fg_base.specs.Shapes.{bytes_of, shape_at}
 use Rattle.fg_base.specs.Wholes.{is_whole}
@@ -37,9 +38,6 @@ use Rattle.fg_view.specs.Views.{View, view_of, accesses_of, loads_of, no_piece, 
 use Rattle.fg_view.specs.declared.access.Access.{Access}
 use Rattle.fg_view.specs.declared.access.AccessKind.TheVariants.{Load}
 use Rattle.fg_view.specs.declared.access.Agent.TheVariants.{Host}
-
-pub some_same : {X : Type 0} {a b : X} → Some a ≡ Some b → a ≡ b
-some_same e = cc
 
 -- each load is as long as its piece
 pub taken_long : (V : View) (s : State) (n : ℕ) (junk : List ℕ) (a : Access) → length (taken V s n junk a) ≡ bytes_of (piece_at V a.piece).shape
@@ -90,9 +88,6 @@ module _ (program : Program) (obeys : (rule : Rule) → All (EntryObeys rule pro
     alike = λ k low. let inside : k < length (sources_of op) = omega (arith, low, length-append (sources_of op) []) in get_or_append_left (sources_of op) [] 0 k inside ∙ sym (get_or_append_left (sources_of op) (destination_of op ∷ []) 0 k inside);
   }
   olds_are false = record { few = omega arith; alike = λ k low. refl }
-
-  abbrev is_loaded : List (List ℕ) → Type 0
-  is_loaded loaded = (k : ℕ) → k < length loaded → length (get_or loaded k []) ≡ bytes_of (shape_at (shapes_of program) (get_or (operands_of op) k 0))
 
   -- it runs on what it takes
   pub loads_run : (s : State) (junk : List ℕ) → IsRunnable (shapes_of program) op (map (taken (view_of program) s n junk) (loads_of (view_of program) n))

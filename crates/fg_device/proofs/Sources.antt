@@ -1,10 +1,10 @@
 -- The sources of an operation among the bytes that were loaded.
-use Rattle.std.proofs.Common.{◌≡◌, ℕ, ◌+◌, ◌<◌, ◌≤◌, ◌++◌, List, [], ◌∷◌, length, map, take, get_or, sym, ap, ◌∙◌, subst, ⊎_elim, arith}
+use Rattle.std.proofs.Common.{◌≡◌, ℕ, ◌+◌, ◌<◌, ◌≤◌, List, [], ◌∷◌, length, map, take, get_or, sym, ap, ◌∙◌, subst, ⊎_elim, arith}
 use Rattle.std.specs.Prelude.{slice_index, slice_index_or}
 use Rattle.std.proofs.lemmas.Bool.{cases_lt}
 use Rattle.std.proofs.lemmas.List.{get_or-map, get_or-take, get_or_past, get_or_default, get_or_append_left, length-append, length-map, length-replicate, length-take-le}
-use Rattle.std.proofs.Math.Seq.{get_or-append_seam, take-append_seam}
-use Rattle.fg_base.proofs.Operands.{sources_mapped, destination_mapped}
+use Rattle.std.proofs.Math.Seq.{get_or-append_seam}
+use Rattle.fg_base.proofs.Operands.{sources_mapped}
 use Rattle.fg_base.specs.Operands.{sources_of, destination_of, operands_of, mapped}
 use Rattle.fg_base.specs.Shapes.{bytes_of, shape_at}
 use Rattle.fg_base.specs.declared.op.Op.{Op}
@@ -13,10 +13,6 @@ use Rattle.fg_base.specs.declared.shape.Shape.TheVariants.{Buffer}
 use Rattle.fg_device.specs.Code.Loads.{IsRunnable}
 use Rattle.fg_pixels.specs.Sources.{source_bytes}
 use Rattle.fg_steps.specs.Outputs.{no_old}
-
--- what a vector holds when its slice was written
-pub written_back : (count : ℕ) (new more : List ℕ) → length new ≡ count → take count (new ++ more) ≡ new
-written_back count new more is = subst (λ n. take n (new ++ more) ≡ new) is (take-append_seam new more)
 
 pub one_more : (op : Op ℕ) → length (operands_of op) ≡ length (sources_of op) + 1
 one_more op = length-append (sources_of op) (destination_of op ∷ [])
@@ -58,6 +54,3 @@ module _ (shapes : List Shape) (op : Op ℕ) (loaded : List (List ℕ)) (R : IsR
       (λ (lt : n < length loaded). ap length (is ∙ get_or_default loaded n (no_old shapes op) [] lt) ∙ old_long lt)
       (λ (ge : length loaded ≤ n). ap length (is ∙ get_or_past loaded n (no_old shapes op) ge) ∙ length-replicate {A = ℕ} (bytes_of (shape_at shapes (destination_of op))) 0)
       (cases_lt n (length loaded))
-
-pub destination_long : (shapes : List Shape) (op : Op ℕ) (n : ℕ) → n ≡ bytes_of (shape_at shapes (destination_of op)) → n ≡ bytes_of (destination_of (mapped (shape_at shapes) op))
-destination_long shapes op n is = is ∙ ap bytes_of (sym (destination_mapped (shape_at shapes) op))

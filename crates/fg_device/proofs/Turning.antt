@@ -19,9 +19,6 @@ module _ (V : View) (s : State) (n : ℕ) (junk : List ℕ) (list : List Access)
       let off : drop i list ≡ a ∷ drop (i + 1) list = drop-cons list i d lt ∙ ap (λ k. a ∷ drop k list) (sym (add-one i)) in
       ap (junked V s n junk (drop (i + 1) list)) (is ∙ ap (λ (j : List ℕ). if junks V s n a then overwrite (piece_range V a.piece) j old else old) same) ∙ sym (ap (λ l. junked V s n junk l old) off) ∙ inv
 
-  pub junked_all : (c : Caches) → length list ≤ i → junked V s n junk (drop i list) c ≡ last → c ≡ last
-  junked_all c end inv = ap (λ l. junked V s n junk l c) (sym (drop_of_length-le list end)) ∙ inv
-
 -- loads one after another
 pub loads_all : (f : Access → List ℕ) (list : List Access) (i : ℕ) (loaded : List (List ℕ)) → length list ≤ i → loaded ++ map f (filter (λ a. loads a.kind) (drop i list)) ≡ map f (filter (λ a. loads a.kind) list) → loaded ≡ map f (filter (λ a. loads a.kind) list)
 loads_all f list i loaded end inv = sym (append-nil loaded) ∙ ap (λ l. loaded ++ map f (filter (λ a. loads a.kind) l)) (sym (drop_of_length-le list end)) ∙ inv

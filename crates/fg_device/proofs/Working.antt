@@ -1,10 +1,9 @@
 -- What is computed for a command.
-use Rattle.std.proofs.Common.{◌≡◌, ℕ, List, [], ◌∷◌, length, replicate, Some, None, refl, sym, ap, ◌∙◌, subst, arith}
+use Rattle.std.proofs.Common.{◌≡◌, ℕ, List, [], ◌∷◌, length, Some, None, refl, sym, ap, ◌∙◌, subst, arith}
 use Rattle.std.specs.Prelude.{slice_index_or}
 use Rattle.std.proofs.lemmas.List.{length-append, take_all}
 use Rattle.fg_base.specs.Applied.{applied}
 use Rattle.fg_base.specs.Operands.{sources_of, destination_of}
-use Rattle.fg_base.specs.Shapes.{bytes_of, shape_at}
 use Rattle.fg_base.specs.declared.op.Op.{Op}
 use Rattle.fg_base.specs.declared.shape.Shape.{Shape}
 use Rattle.fg_clears.specs.Simpler.{Reads, IsSimpler, left_of}
@@ -41,10 +40,3 @@ works_simpler shapes op loaded simpler work S is =
           ∙ S.same (slice_index_or loaded (length (sources_of op)) (no_old shapes op)) (slice_index_or left (length (sources_of other)) (no_old shapes other));
       destination = S.destination;
     })
-
--- the room of the one is that of the other
-pub same_room : (shapes : List Shape) (op other : Op ℕ) → destination_of other ≡ destination_of op → no_old shapes other ≡ no_old shapes op
-same_room shapes op other is = ap (λ (d : ℕ). replicate (bytes_of (shape_at shapes d)) 0) is
-
-pub same_size : (shapes : List Shape) (op other : Op ℕ) → destination_of other ≡ destination_of op → bytes_of (shape_at shapes (destination_of other)) ≡ bytes_of (shape_at shapes (destination_of op))
-same_size shapes op other is = ap (λ (d : ℕ). bytes_of (shape_at shapes d)) is

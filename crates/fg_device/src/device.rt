@@ -19,7 +19,7 @@ use crate::held::Held;
 use crate::helpers::Helpers;
 use crate::nodes::read_node;
 use crate::opening::{Lists, Stored, lists_of, stored_of};
-use crate::origin::weight_of;
+use crate::weight::weight_of;
 use fg_base::{Event, List, NoMemory, Shape};
 use fg_caches::Segments;
 use fg_checker::Checked;
@@ -66,8 +66,8 @@ impl Model for Device {
 }
 
 impl Device {
-    /// A device that has done nothing, with room for so many cache moves. It lends no threads (`lend_threads`). Only this and `begin`
-    /// take memory.
+    /// A device that has done nothing, with room for so many cache moves. It lends no threads (`lend_threads`). Only the
+    /// calls that make a device, and `begin`, take memory.
     pub fn new(alloc: Global, program: &Checked, fill: u8, moves: u32) -> Result<Device, NoMemory>
         ensures fresh { IfOk result (λ device. device ≡ fresh program.now.program fill moves) }
         ensures sound { IfOk result (λ device. IsSound device.program) }

@@ -11,10 +11,10 @@ mod helpers;
 mod job;
 mod nodes;
 mod opening;
-mod origin;
 mod room;
 mod running;
 mod syncing;
+mod weight;
 mod work;
 
 pub use device::Device;

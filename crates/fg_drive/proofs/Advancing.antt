@@ -1,5 +1,5 @@
 -- A run goes on, event by event.
-use Rattle.std.proofs.Common.{◌≡◌, ℕ, suc, ◌-◌, ◌<◌, ◌^◌, Bool, true, false, [], ◌∷◌, ◌++◌, length, Option, if◌then◌else◌, refl, sym, ap, ◌∙◌, subst, append_assoc, arith}
+use Rattle.std.proofs.Common.{◌≡◌, ℕ, ◌<◌, ◌^◌, Bool, false, [], ◌∷◌, ◌++◌, length, Option, if◌then◌else◌, refl, sym, ap, ◌∙◌, subst, append_assoc}
 use Rattle.std.proofs.lemmas.List.{append-nil}
 use Rattle.std.proofs.lemmas.List.Elements.{filter-append}
 use Rattle.fg_base.specs.declared.event.Event.{Event}
@@ -8,8 +8,8 @@ use Rattle.fg_drive.specs.Code.Keepers.{to_come, Keeps, AsksAlike, Advanced}
 use Rattle.fg_drive.specs.Tended.{agents_of, sizes_of, tended_moves, Grew, Tended}
 use Rattle.fg_drive.specs.declared.keeper.Keeper.{Keeper}
 use Rattle.fg_steps.specs.Devices.{Device, did}
-use Rattle.fg_steps.specs.Histories.{is_move, moves_in, moved}
-use Rattle.fg_steps.proofs.Histories.{went_nowhere, went_node, went_move, joins}
+use Rattle.fg_steps.specs.Histories.{is_move, moves_in}
+use Rattle.fg_steps.proofs.Histories.{went_nowhere, went_node, joins}
 
 pub stayed : (d : Device) (k l : Keeper) → AsksAlike k l → to_come l d.moves ≡ to_come k d.moves → Advanced d d k l
 stayed d k l alike same = record { events = []; went = went_nowhere d; moves = same; asks = alike }
@@ -38,17 +38,6 @@ with_node a b k l event node so_far = joined a b (did b event) k l l so_far (rec
   asks = record { agents = refl; sizes = refl };
 })
 
--- a cache move
-pub with_move : (d : Device) (k l : Keeper) (event : Event) → is_move event ≡ true → 0 < d.moves → ((left : ℕ) → to_come k (suc left) ≡ event ∷ to_come l left) → AsksAlike k l → Advanced d (moved d event) k l
-with_move d k l event move some next alike =
-    let one : suc (d.moves - 1) ≡ d.moves = omega (arith, some) in
-    record {
-      events = event ∷ [];
-      went = went_move d d [] event (went_nowhere d) move some;
-      moves = ap (λ (is : Bool). (if is then event ∷ [] else []) ++ to_come l (d.moves - 1)) move ∙ sym (next (d.moves - 1)) ∙ ap (to_come k) one;
-      asks = alike;
-    }
-
 -- a command begins and, after some more moves, ends
 pub with_command : (a b d : Device) (k l m : Keeper) (n : ℕ) → Advanced a b k l → Advanced (did b (Begin n)) d l m → Advanced a (did d (End n)) k m
 with_command a b d k l m n before between =
@@ -66,9 +55,6 @@ keeps_on a b k l so_far keeps = record {
 
 pub grew : (a b : Device) (k l : Keeper) → Advanced a b k l → Grew a b
 grew a b k l so_far = record { events = so_far.events; went = so_far.went }
-
-pub grew_nowhere : (d : Device) → Grew d d
-grew_nowhere d = record { events = []; went = went_nowhere d }
 
 -- where no move is still to come, all have been made
 pub all_tended : (a b : Device) (k l : Keeper) (tend : Option ℕ) → Advanced a b k l → to_come l b.moves ≡ [] → to_come k a.moves ≡ tended_moves a.program tend a.moves → Tended a b tend

@@ -1,13 +1,13 @@
 -- What cache moves leave as it is, and rounds of nodes with moves between their events.
-use Rattle.std.proofs.Common.{◌≡◌, ℕ, ◌+◌, ◌<◌, Bool, true, length, refl, sym, ap, ◌∙◌, subst}
+use Rattle.std.proofs.Common.{◌≡◌, ℕ, ◌+◌, Bool, true, length, refl, sym, ap, ◌∙◌}
 use Rattle.fg_base.specs.declared.event.Event.TheVariants.{Begin, End, Sync, Host}
 use Rattle.fg_drive.specs.Code.Keepers.{Calm}
 use Rattle.fg_hb.specs.Edges.{is_sync, is_host}
 use Rattle.fg_hb.specs.declared.kind.Kind.{Kind}
-use Rattle.fg_steps.specs.Devices.{Device, state_of, view_in, fresh, did, is_ready, NoneBegun, IsComplete}
+use Rattle.fg_steps.specs.Devices.{Device, state_of, view_in, fresh, did, is_ready, NoneBegun}
 use Rattle.fg_steps.specs.Ready.{is_command, kind_at, may_go}
 use Rattle.fg_steps.specs.Rounds.{left, to_do, Round, MayGo}
-use Rattle.fg_steps.specs.States.{is_begun, is_done, put}
+use Rattle.fg_steps.specs.States.{is_begun, put}
 use Rattle.fg_steps.specs.declared.phase.Phase.TheVariants.{Begun, Done}
 use Rattle.fg_steps.proofs.Control.{put_at}
 use Rattle.fg_steps.proofs.Rounds.{is_round}
@@ -46,9 +46,6 @@ module _ (a b : Device) (same : Calm a b) where
 
   pub still_begun : (n : ℕ) → is_begun ((state_of a).phase n) ≡ true → is_begun ((state_of b).phase n) ≡ true
   still_begun n begun = ap (λ phase. is_begun (phase n)) same.phase ∙ begun
-
-  pub still_complete : IsComplete a → IsComplete b
-  still_complete all n lt = ap (λ phase. is_done (phase n)) same.phase ∙ all n (subst (λ program. n < length (view_of program).nodes) same.program lt)
 
   -- an End leaves the same of both
   ends_alike : (n : ℕ) → is_begun ((state_of a).phase n) ≡ true → Calm (did a (End n)) (did b (End n))

@@ -5,35 +5,18 @@ use Rattle.std.proofs.lemmas.List.{get_or-map, length-map}
 use Rattle.std.proofs.lemmas.Option.{slice_get-get_or}
 use Rattle.fg_checker.specs.Sound.{IsSound}
 use Rattle.fg_drive.specs.Firsts.{IsFirst, NothingReady}
+use Rattle.fg_hb.proofs.HostReads.{no_item, item_queue}
 use Rattle.fg_hb.specs.Edges.{node_at, is_host}
-use Rattle.fg_hb.specs.Nodes.{entry_node, item_node, no_node}
+use Rattle.fg_hb.specs.Nodes.{entry_node, no_node}
 use Rattle.fg_steps.specs.Devices.{Device, IsNext, NoneReady, IsComplete, NoneBegun, NeverStands}
 use Rattle.fg_steps.specs.Ready.{kind_at, read_node}
 use Rattle.fg_subs.specs.Entries.{Entry, OfWait, OfItem, OfSignal, OfHost, entries_of, queue_of, first_node, ByQueue}
-use Rattle.fg_subs.specs.declared.program.Item.{Item}
-use Rattle.fg_subs.specs.declared.program.Item.TheVariants.{Command, Global, BufferBarrier, ImageBarrier, Release, Acquire}
 use Rattle.fg_subs.specs.declared.program.Program.{Program}
 use Rattle.fg_view.specs.Views.{view_of}
 
-item_queue : (q : ℕ) (item : Item) → (item_node q item).queue ≡ q
-item_queue q (Command op) = refl
-item_queue q (Global masks) = refl
-item_queue q (BufferBarrier piece masks) = refl
-item_queue q (ImageBarrier piece layouts masks) = refl
-item_queue q (Release transfer) = refl
-item_queue q (Acquire transfer) = refl
-
-not_host : (q : ℕ) (item : Item) → is_host (item_node q item).kind ≡ true → ⊥
-not_host q (Command op) h = false≢true h
-not_host q (Global masks) h = false≢true h
-not_host q (BufferBarrier piece masks) h = false≢true h
-not_host q (ImageBarrier piece layouts masks) h = false≢true h
-not_host q (Release transfer) h = false≢true h
-not_host q (Acquire transfer) h = false≢true h
-
 host_queue : (queues : ℕ) (entry : Entry) → is_host (entry_node queues entry).kind ≡ true → queue_of entry ≡ None
 host_queue queues (OfWait q wait) h = absurd (false≢true h)
-host_queue queues (OfItem q item) h = absurd (not_host q item h)
+host_queue queues (OfItem q item) h = absurd (no_item q item h)
 host_queue queues (OfSignal q signal) h = absurd (false≢true h)
 host_queue queues (OfHost piece) h = refl
 

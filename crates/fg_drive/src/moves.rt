@@ -73,9 +73,7 @@ pub fn make_move(device: &mut Device, event: Event)
             memory,
             start,
             len,
-        } => {
-            let _ = device.fill(agent, memory, start, len);
-        }
+        } => device.fill(agent, memory, start, len),
         Event::DropLine {
             agent,
             memory,

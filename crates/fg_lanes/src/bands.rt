@@ -34,7 +34,7 @@ pub fn helpers_for(op: &Op<u32>, out: &Target) -> usize {
         | Op::Map { .. }
         | Op::Combine { .. }
         | Op::Select { .. }
-        | Op::Draw { .. }
+        | Op::Draw { clear: Some(_), .. }
             if !out.is_new() => { helpers_in(out.len(), LEAST_OF_LANES) }
         _ => 0,
     }

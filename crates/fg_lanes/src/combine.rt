@@ -29,7 +29,7 @@ fn combine_by(texel: Texel, fun: Fun, a: &[u8], b: &[u8], out: &mut [u8])
     );
 }
 
-// Numbers of `combine`, one texel after another.
+// Texels of `combine`, all of them, by blocks.
 fn combine_all(texel: Texel, fun: Fun, a: &[u8], b: &[u8], out: &mut [u8])
     requires a { length a.now ≡ length out.old }
     requires b { length b.now ≡ length out.old }

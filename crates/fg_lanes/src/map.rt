@@ -35,7 +35,7 @@ fn map_by(texel: Texel, fun: Fun, value: u32, src: &[u8], out: &mut [u8])
     );
 }
 
-// Numbers of `map`, one texel after another.
+// Texels of `map`, all of them, by blocks.
 fn map_all(texel: Texel, fun: Fun, value: u32, src: &[u8], out: &mut [u8])
     requires { length src.now ≡ length out.old }
     ensures { AreTexels texel out.new (length out.old / texel_bytes texel) (λ k. fun_of texel fun (texel_at texel src.now k) (value % modulus texel)) }

@@ -36,7 +36,7 @@ fn select_by(texel: Texel, mask: &[u8], a: &[u8], b: &[u8], out: &mut [u8])
     );
 }
 
-// Numbers of `select`, one texel after another.
+// Texels of `select`, all of them, by blocks.
 fn select_all(texel: Texel, mask: &[u8], a: &[u8], b: &[u8], out: &mut [u8])
     requires mask { length mask.now ≡ length out.old }
     requires a { length a.now ≡ length out.old }

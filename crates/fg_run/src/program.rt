@@ -1,18 +1,17 @@
 //! A sound program runs on a device.
 
-ghost use Rattle.std.specs.Prelude.{◌≡◌, ◌≤◌, ℕ, Some, IfOk, IsTrue};
+ghost use Rattle.std.specs.Prelude.{◌≡◌, ◌≤◌, IfOk, IsTrue};
 ghost use Rattle.fg_steps.specs.Devices.{Device};
 ghost use Rattle.fg_steps.specs.Runs.{Runs};
 ghost use Rattle.fg_run.specs.Runs.{HasRun};
 
 use fg_base::{Gate, NoMemory};
-use fg_caches::MOVES;
 use fg_checker::Checked;
 use fg_device::Device;
 use fg_drive::{drive, tended};
 use fg_steps::{device_laws, event_laws};
 use fg_words::Options;
-use fg_worker::run_workers;
+use fg_worker::{moves_of, run_workers};
 use std::alloc::Global;
 use std::sync::Wait;
 use std::thread::Threads;
@@ -43,16 +42,6 @@ fn has_run(
     run_laws(program);
     let _came = device.history();
     tended(alloc, program, device, tend)
-}
-
-// How many cache moves are made.
-fn moves_of(tend: Option<u64>) -> u32
-    ensures { (seed : ℕ) → tend ≡ Some seed → result ≡ 256 }
-{
-    match tend {
-        Some(_) => MOVES,
-        None => 0,
-    }
 }
 
 // A device that is driven by itself, each command computed by this thread alone.

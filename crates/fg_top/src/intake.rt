@@ -7,18 +7,23 @@ ghost use Rattle.fg_top.specs.Outcomes.{TakesAtMost};
 use fg_base::{NoMemory, Source, Taken};
 use std::alloc::Global;
 
+// How many bytes are asked for at once.
 const BUFFER: usize = 65536;
 
 /// What was read.
 #[derive(Drop)]
 pub enum Intake {
+    /// All bytes that were left.
     Whole(Vec<u8>),
     /// More bytes than the limit were there.
     Over,
+    /// A read failed.
     Fault,
+    /// There was no memory for them.
     NoMemory,
 }
 
+// How one read ended.
 #[derive(Clone, Copy)]
 enum Step {
     More,
@@ -27,7 +32,8 @@ enum Step {
     NoMemory,
 }
 
-/// Reads with a buffer of 65,536 bytes.
+/// Reads to the end, or one byte over the limit, which is in bytes; or to the first read that fails, or for which there is no
+/// memory.
 pub fn read_input<I: Source>(alloc: Global, input: &mut I, limit: usize) -> Intake
     requires { limit < 2 ^ 32 }
     ensures intake { IsIntake limit (I.left input.old) (I.left input.new) (I.faults input.old) (I.faults input.new) result }

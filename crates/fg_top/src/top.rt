@@ -22,7 +22,7 @@ use std::thread::Threads;
 /// submission. Where a read fails or memory runs out, nothing is written. Where no read and no write fails, the status
 /// is that of the answer and its whole text is written, unless memory runs out. Where a device ran, the taps are told what it
 /// did, one tap after another, before the text is written: each until it is finished, and then it is moved to the end of
-/// `spent`. Only `run`, `exec`, `gen --summary`, `flight` and `audit` start threads, and of these `audit` alone does not call
+/// the answer's `spent`, and its place among the taps to that of `places`. Only `run`, `exec`, `gen --summary`, `flight` and `audit` start threads, and of these `audit` alone does not call
 /// the gate.
 pub fn framec<R: Threads + Wait + Sync, I: Source, O: Sink, G: Gate + Sync>(
     rt: &R,

@@ -9,6 +9,6 @@ mod worker;
 
 pub use hold::{Alone, Hold, Shared};
 pub use run::run_workers;
-pub use tending::{tend_once, tend_through};
+pub use tending::{moves_of, tend_once, tend_through};
 pub use turn::{Turn, take_turn};
 pub use worker::{work, work_through};

@@ -3,10 +3,9 @@
 ghost use Rattle.std.specs.Prelude.{◌≤◌, ◌<◌, ◌^◌, ◌*◌, length};
 
 use crate::hold::Shared;
-use crate::tending::tend_through;
+use crate::tending::{moves_of, tend_through};
 use crate::worker::work;
 use fg_base::{Gate, List, NoMemory};
-use fg_caches::MOVES;
 use fg_checker::Checked;
 use fg_device::Device;
 use fg_drive::sizes_of;
@@ -39,8 +38,7 @@ impl Run {
         workers: u32,
         tend: Option<u64>,
     ) -> Result<Run, NoMemory> {
-        let moves = if tend.is_some() { MOVES } else { 0 };
-        let mut device = Device::new(alloc, program, 0, moves)?;
+        let mut device = Device::new(alloc, program, 0, moves_of(tend))?;
         device.lend_threads(current_num_threads(rt));
         let plain = program.shaped().program();
         Ok(Run {
@@ -78,7 +76,8 @@ impl Run {
 /// queues. With a seed a tender beside them makes the first `MOVES` cache moves of the seed, also after all nodes are done.
 /// What the commands of all workers start beside them are fewer threads than there are processors. Where no thread can be made
 /// its part is run in its turn by the one that calls: a worker by itself takes every queue, and the tender comes last. Memory
-/// has run out only where the device could not be made, or is not complete and a part found none.
+/// has run out where the device could not be made, or the list of sizes or of how the parts ended, or where the device is not
+/// complete and a part found none.
 pub fn run_workers<R: Threads + Wait + Sync, G: Gate + Sync>(
     rt: &R,
     alloc: Global,

@@ -1,6 +1,6 @@
 //! The tender beside the workers.
 
-ghost use Rattle.std.specs.Prelude.{◌<◌, ◌^◌, length};
+ghost use Rattle.std.specs.Prelude.{◌≡◌, ◌<◌, ◌^◌, ℕ, Some, None, length};
 ghost use Rattle.fg_worker.specs.Holds.{Tends, TendsAll};
 
 use crate::hold::Hold;
@@ -21,7 +21,19 @@ pub fn tend_once(device: &mut Device, event: Event) -> bool
     true
 }
 
-/// Makes the first `MOVES` moves of the seed's tender, one in each hold, or none where it gives none.
+/// How many cache moves a run makes: `MOVES` with a seed, and else none.
+pub fn moves_of(tend: Option<u64>) -> u32
+    ensures seeded { (seed : ℕ) → tend ≡ Some seed → result ≡ 256 }
+    ensures none { tend ≡ None → result ≡ 0 }
+{
+    match tend {
+        Some(_) => MOVES,
+        None => 0,
+    }
+}
+
+/// Makes the first `MOVES` moves of the seed's tender, one in each hold, or none where it gives none. It stops at the first move
+/// that the hold does not make.
 pub fn tend_through<H: Hold>(hold: &mut H, seed: u64, agents: u32, sizes: &[u32])
     requires few { length sizes.now < 2 ^ 32 }
     ensures { TendsAll (H.told hold.old) (H.told hold.new) seed agents sizes.now }

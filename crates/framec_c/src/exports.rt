@@ -1,4 +1,5 @@
-//! The functions that C calls. `include/framec.h` declares them.
+//! The functions that C calls. `include/framec.h` declares them. Each answers the status with which the program would end, and
+//! tells in `wanted` how many bytes its text has; a text that is longer than `output` leaves it as it was.
 
 ghost use Rattle.std.specs.Prelude.{false};
 ghost use Rattle.fg_words.specs.declared.command.Command.{Command};

@@ -150,7 +150,7 @@ impl Device {
         work.is_clear(op)
     }
 
-    // The same without that.
+    // Begins a command with what it loads; memory that is to be used again is handed in.
     fn begun(
         &mut self,
         alloc: Global,

@@ -1,13 +1,13 @@
 //! Lines of caches move.
 
-ghost use Rattle.std.specs.Prelude.{◌≡◌, ◌<◌, true, IsOk};
+ghost use Rattle.std.specs.Prelude.{◌≡◌, ◌<◌, true};
 ghost use Rattle.fg_base.specs.declared.event.Event.TheVariants as events;
 ghost use Rattle.fg_caches.specs.Lines.{range};
 ghost use Rattle.fg_steps.specs.Histories.{moved};
 ghost use Rattle.fg_steps.specs.Steps.{may_move};
 
 use super::Device;
-use fg_base::{Event, NoMemory};
+use fg_base::Event;
 use fg_steps::event_laws;
 
 impl Device {
@@ -45,12 +45,11 @@ impl Device {
         });
     }
 
-    /// The event Fill. It takes no memory and always succeeds.
-    pub fn fill(&mut self, agent: u32, memory: u32, start: u32, len: u32) -> Result<(), NoMemory>
+    /// The event Fill. It takes no memory.
+    pub fn fill(&mut self, agent: u32, memory: u32, start: u32, len: u32)
         requires moves { 0 < self.old.moves }
         requires may { may_move self.old.program agent (range memory start len) ≡ true }
-        ensures ok { IsOk result }
-        ensures event { self.new ≡ moved self.old (events.Fill agent memory start len) }
+        ensures { self.new ≡ moved self.old (events.Fill agent memory start len) }
     {
         event_laws();
         self.table.fill(agent, memory, start, len);
@@ -61,6 +60,5 @@ impl Device {
             start,
             len,
         });
-        Ok(())
     }
 }

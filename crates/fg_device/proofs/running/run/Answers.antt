@@ -1,4 +1,5 @@
-use Rattle.fg_device.proofs.Sources.{source_long, destination_long}
+use Rattle.fg_base.proofs.Operands.{destination_long}
+use Rattle.fg_device.proofs.Sources.{source_long}
 use Rattle.fg_device.proofs.running.run.Goals as goal
 use Rattle.fg_pixels.proofs.Draws.{not_draw}
 

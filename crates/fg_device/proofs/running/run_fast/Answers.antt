@@ -1,4 +1,5 @@
-use Rattle.fg_device.proofs.Sources.{source_long, destination_long}
+use Rattle.fg_base.proofs.Operands.{destination_long}
+use Rattle.fg_device.proofs.Sources.{source_long}
 use Rattle.fg_device.proofs.running.run_fast.Goals as goal
 
 pub apply_fast-requires-clause-operands : goal.apply_fast-requires-clause-operands

@@ -7,4 +7,4 @@ drive-requires-clause-idle g c κs lives n =
 
 pub returns : goal.returns
 returns g c =
-    driven c.args.program.now.program c.args.tend c.moves_of.result c.in_ok-device.device c.drive.new.device c.run_laws.ensures c.in_ok-device.ensures.fresh c.moves_of.ensures c.history-came.ensures.came c.in_ok-drive.ensures.complete c.in_ok-drive.ensures.tended
+    driven c.args.program.now.program c.args.tend c.moves_of.result c.in_ok-device.device c.drive.new.device c.run_laws.ensures c.in_ok-device.ensures.fresh c.moves_of.ensures.seeded c.history-came.ensures.came c.in_ok-drive.ensures.complete c.in_ok-drive.ensures.tended

@@ -1,4 +1,4 @@
-//! How much there is to compare where a command comes back.
+//! How many bytes are compared where a command comes back.
 
 use fg_caches::Contents;
 use fg_subs::Memory;
