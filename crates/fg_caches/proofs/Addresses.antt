@@ -3,12 +3,12 @@ use Rattle.std.proofs.Common.{◌≡◌, ℕ, ◌+◌, ◌<◌, ◌≤◌, true,
 use Rattle.std.specs.Prelude.{nat_le, nat_lt, ◌==◌}
 use Rattle.std.proofs.lemmas.Bool.{cases_lt, cases_order, lt-ltb, ltb-true, le-leb, leb-true, eq-eqb, eqb-true, and_parts, and_from}
 use Rattle.std.proofs.lemmas.List.{get_or_past}
+use Rattle.std.specs.Cmp.{both_ways}
 use Rattle.fg_caches.specs.declared.memory.Memory.{Memory}
 use Rattle.fg_caches.specs.Lines.{is_in, range}
 use Rattle.fg_caches.specs.Code.Segments.{within}
 use Rattle.fg_caches.specs.Tables.{Table, memory_of, size_of, address, InMemory}
 use Rattle.fg_caches.specs.Code.Kept.{AreApart}
-use Rattle.fg_caches.proofs.Placing.{same_Bool}
 
 pub memory_there : (t : Table) (m i : ℕ) → i < size_of t m → m < length t.memories
 unfolding size_of
@@ -29,7 +29,7 @@ same_memory t m n i j A li lj low high = ⊎_elim (λ e. e) (λ o. ⊎_elim
 -- a byte is in the range exactly where its address is
 pub range_addresses : (t : Table) (memory start size m i : ℕ) → AreApart t.total t.memories → InMemory t memory start size → i < size_of t m → within (address t memory start) (address t memory start + size) (address t m i) ≡ is_in (range memory start size) m i
 unfolding address size_of
-range_addresses t memory start size m i A R lt = same_Bool (within from (from + size) x) (is_in (range memory start size) m i)
+range_addresses t memory start size m i A R lt = both_ways (within from (from + size) x) (is_in (range memory start size) m i)
     (λ h.
     let p = and_parts (leb from x) (ltb x (from + size)) h in
     let low = leb-true from x p.0 in

@@ -1,12 +1,13 @@
 -- The segments of a range are changed.
 use Rattle.std.proofs.Common.{◌≡◌, ℕ, ◌<◌, Bool, true, false, List, length, refl, sym, ap, ◌∙◌, ⊎_elim, arith}
 use Rattle.std.specs.Prelude.{if◌then◌else◌}
+use Rattle.std.specs.Cmp.{both_ways}
 use Rattle.fg_caches.specs.declared.segment.Segment.{Segment}
 use Rattle.fg_caches.specs.declared.change.Change.{Change}
 use Rattle.fg_caches.specs.Code.Rows.{changed}
 use Rattle.fg_caches.specs.Places.{segment_at, place, row_at, cut_in}
 use Rattle.fg_caches.specs.Code.Segments.{covers, Ascending, within, changed_in}
-use Rattle.fg_caches.proofs.Placing.{same_place, in_cuts, same_Bool, cut_cases, cut_zero, cut_end}
+use Rattle.fg_caches.proofs.Placing.{same_place, in_cuts, cut_cases, cut_zero, cut_end}
 
 pub changed_not : (first last g : ℕ) (change : Change) (k : ℕ) (s : Segment) → within first last k ≡ false → changed_in first last g change k s ≡ s
 changed_not first last g change k s e = rw e refl
@@ -42,7 +43,7 @@ module _ (old new : List Segment) (same_length : length new ≡ length old) (fir
   }
 
   pub changed_cuts : (x : ℕ) → cut_in new x ≡ cut_in old x
-  changed_cuts x = same_Bool (cut_in new x) (cut_in old x)
+  changed_cuts x = both_ways (cut_in new x) (cut_in old x)
       (λ h. ⊎_elim (λ z. cut_zero old x z) (λ t. cut_end old t.0 x (omega (arith, t.1, same_length)) (sym (same_end t.0 (omega (arith, t.1, same_length))) ∙ t.2)) (cut_cases new x h))
       (λ h. ⊎_elim (λ z. cut_zero new x z) (λ t. cut_end new t.0 x (omega (arith, t.1, same_length)) (same_end t.0 t.1 ∙ t.2)) (cut_cases old x h))
 

@@ -4,11 +4,12 @@ use Rattle.std.specs.List.{insert}
 use Rattle.std.proofs.lemmas.Bool.{cases_eq, cases_lt, lt-ltb, ltb-true}
 use Rattle.std.proofs.lemmas.List.{get_or_read}
 use Rattle.std.proofs.lemmas.List.Edits.{length-insert, get_or-insert_below, get_or-insert_at, get_or-insert_above}
+use Rattle.std.specs.Cmp.{both_ways}
 use Rattle.fg_caches.specs.declared.segment.Segment.{Segment}
 use Rattle.fg_caches.specs.declared.row.Row.{Row}
 use Rattle.fg_caches.specs.Places.{nowhere, segment_at, place, row_at, cut_in}
 use Rattle.fg_caches.specs.Code.Segments.{covers, Ascending}
-use Rattle.fg_caches.proofs.Placing.{same_Bool, place_le, place_is, place_bound, before_place, at_place, cut_cases, cut_zero, cut_end}
+use Rattle.fg_caches.proofs.Placing.{place_le, place_is, place_bound, before_place, at_place, cut_cases, cut_zero, cut_end}
 
 module _ (segments : List Segment) (at k : ℕ) (is : k ≡ place segments at) (inside : k < length segments) where
   -- the part before the address goes in front of the segment that has it
@@ -94,7 +95,7 @@ module _ (segments : List Segment) (at k : ℕ) (is : k ≡ place segments at) (
       high le = rw (high_place x le) (ap (λ (s : Segment). s.row) (above_cut (place segments x) (⊎_elim (λ less. absurd (omega (arith, le, end_below (place segments x) less, at_place segments x (omega (arith, less, inside))))) (λ h. h) (cases_lt (place segments x) k))))
 
   pub cut_covers : (x : ℕ) → covers cut x ≡ covers segments x
-  cut_covers x = same_Bool (covers cut x) (covers segments x)
+  cut_covers x = both_ways (covers cut x) (covers segments x)
       (λ h. lt-ltb (place segments x) (length segments) (⊎_elim
       (λ (lt : x < at). omega (arith, inside, place_le segments k x inside (omega (arith, lt, behind))))
       (λ ge. let p = high_place x ge in let less = ltb-true (place cut x) (length cut) h in omega (arith, p, less, length_cut))

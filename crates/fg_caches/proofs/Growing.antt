@@ -5,6 +5,7 @@ use Rattle.std.proofs.lemmas.Bool.{cases_lt, cases_Bool, lt-ltb, ltb-true, ltb-f
 use Rattle.std.proofs.lemmas.List.{get_or_append_left, get_or_push, length_push, length-replicate, get_or-replicate, get_or-drop, length-drop}
 use Rattle.std.specs.List.{sum_by}
 use Rattle.std.proofs.lemmas.List.Sums.{sum_by_more, sum_by_more_le}
+use Rattle.std.specs.Cmp.{both_ways}
 use Rattle.fg_caches.specs.declared.cell.Cell.{Cell}
 use Rattle.fg_caches.specs.declared.cell.Cell.TheVariants as cells
 use Rattle.fg_caches.specs.declared.row.Row.{Row}
@@ -15,7 +16,7 @@ use Rattle.fg_caches.specs.Code.Segments.{covers, Ascending}
 use Rattle.fg_caches.specs.Tables.{memory_in, slot_at}
 use Rattle.fg_caches.specs.Code.Kept.{CellFits, RowFits, IsTiled}
 use Rattle.fg_caches.specs.Code.Opened.{open_row, open_segment, IsOpened}
-use Rattle.fg_caches.proofs.Placing.{same_Bool, place_le, place_is, place_bound, before_place, at_place, cut_cases, cut_zero, cut_end}
+use Rattle.fg_caches.proofs.Placing.{place_le, place_is, place_bound, before_place, at_place, cut_cases, cut_zero, cut_end}
 
 module _ (total : ℕ) (slots : List (List ℕ)) (segments : List Segment) (T : IsTiled total slots segments) where
   inside : (x : ℕ) → x < total → place segments x < length segments
@@ -66,7 +67,7 @@ module _ (total : ℕ) (slots : List (List ℕ)) (segments : List Segment) (T : 
     cuts_longer x h = ⊎_elim (λ e. cut_zero longer x e) (λ t. cut_end longer t.0 x (omega (arith, t.1, len_longer)) (ap (λ (s : Segment). s.end) (at_old t.0 t.1) ∙ t.2)) (cut_cases segments x h)
 
     covers_longer : (x : ℕ) → covers longer x ≡ nat_lt x (total + len)
-    covers_longer x = same_Bool (covers longer x) (nat_lt x (total + len))
+    covers_longer x = both_ways (covers longer x) (nat_lt x (total + len))
         (λ h. lt-ltb x (total + len) (⊎_elim (λ lt. lt) (λ ge. absurd (let p = ltb-true (place longer x) (length longer) h in omega (arith, p, place_past x ge, len_longer))) (cases_lt x (total + len))))
         (λ h. let high = ltb-true x (total + len) h in lt-ltb (place longer x) (length longer) (⊎_elim (λ (lt : x < total). let p = place_old x lt in omega (arith, p, inside x lt, len_longer)) (λ ge. let p = place_new x ge high in omega (arith, p, len_longer)) (cases_lt x total)))
 

@@ -1,9 +1,10 @@
 -- Which segment has an address.
-use Rattle.std.proofs.Common.{◌≡◌, ◌⊎◌, inl, inr, ℕ, zero, suc, ◌+◌, ◌<◌, ◌≤◌, Bool, true, false, ltb, leb, List, [], ◌∷◌, length, refl, sym, ⊎_elim, subst, arith}
+use Rattle.std.proofs.Common.{◌≡◌, ◌⊎◌, inl, inr, ℕ, zero, suc, ◌+◌, ◌<◌, ◌≤◌, Bool, true, ltb, leb, List, [], ◌∷◌, length, sym, ⊎_elim, subst, arith}
 use Rattle.std.specs.Prelude.{if◌then◌else◌, ◌==◌}
 use Rattle.std.specs.List.{list_any}
 use Rattle.std.proofs.lemmas.Bool.{lt-ltb, ltb-true, ltb-false, cases_lt, cases_Bool, cond_both, or_cases, or_left, or_right, eq-eqb, eqb-true, and_parts, and_from, leb-true, le-leb}
 use Rattle.std.proofs.lemmas.List.Folds.{list_any_at}
+use Rattle.std.specs.Cmp.{both_ways}
 use Rattle.fg_caches.specs.declared.segment.Segment.{Segment}
 use Rattle.fg_caches.proofs.Anyone.{any_at}
 use Rattle.fg_caches.specs.Places.{nowhere, segment_at, place, cut_in}
@@ -68,11 +69,6 @@ pub cut_end : (segments : List Segment) (j x : ℕ) → j < length segments → 
 unfolding cut_in
 cut_end segments j x lt e = or_right (x == 0) (list_any (λ s. s.end == x) segments) (list_any_at (λ (s : Segment). s.end == x) segments j nowhere lt (eq-eqb (segment_at segments j).end x e))
 
-pub same_Bool : (a b : Bool) → (a ≡ true → b ≡ true) → (b ≡ true → a ≡ true) → a ≡ b
-same_Bool true b f g = sym (f refl)
-same_Bool false true f g = g refl
-same_Bool false false f g = refl
-
 -- the ends that rise, also where the two may be one
 pub end_le : (segments : List Segment) → Ascending segments → (j k : ℕ) → j ≤ k → k < length segments → (segment_at segments j).end ≤ (segment_at segments k).end
 end_le segments A j k le lt = ⊎_elim (λ less. let r = A.rising j k less lt in omega (arith, r)) (λ (ge : k ≤ j). let e : j ≡ k = omega (arith, le, ge) in rw e (omega arith)) (cases_lt j k)
@@ -82,12 +78,12 @@ pub end_before : (segments : List Segment) → Ascending segments → (j x : ℕ
 end_before segments A j x lt e = ⊎_elim (λ h. h) (λ ge. absurd (omega (arith, at_place segments x (omega (arith, ge, lt)), end_le segments A (place segments x) j ge lt, e))) (cases_lt j (place segments x))
 
 pub edge_first : (segments : List Segment) (x : ℕ) → Ascending segments → place segments x ≡ 0 → (x == 0) ≡ cut_in segments x
-edge_first segments x A none = same_Bool (x == 0) (cut_in segments x)
+edge_first segments x A none = both_ways (x == 0) (cut_in segments x)
     (λ h. cut_zero segments x (eqb-true x 0 h))
     (λ h. ⊎_elim (λ e. eq-eqb x 0 e) (λ t. absurd (omega (arith, none, end_before segments A t.0 x t.1 t.2))) (cut_cases segments x h))
 
 pub edge_later : (segments : List Segment) (x k : ℕ) → Ascending segments → k < place segments x → place segments x ≤ k + 1 → ((segment_at segments k).end == x) ≡ cut_in segments x
-edge_later segments x k A lt le = same_Bool ((segment_at segments k).end == x) (cut_in segments x)
+edge_later segments x k A lt le = both_ways ((segment_at segments k).end == x) (cut_in segments x)
     (λ h. cut_end segments k x inside (eqb-true (segment_at segments k).end x h))
     (λ h. eq-eqb (segment_at segments k).end x (⊎_elim
     (λ e. absurd (omega (arith, A.some k inside, before_place segments k x lt, e)))
@@ -103,7 +99,7 @@ before_cut segments A a x cut lt = ⊎_elim (λ e. absurd (omega (arith, lt, e))
 
 -- an address is in a range between two cuts exactly where its segment is one of the range's
 pub in_cuts : (segments : List Segment) → Ascending segments → (from to x : ℕ) → cut_in segments from ≡ true → cut_in segments to ≡ true → within from to x ≡ within (place segments from) (place segments to) (place segments x)
-in_cuts segments A from to x f t = same_Bool (within from to x) (within (place segments from) (place segments to) (place segments x))
+in_cuts segments A from to x f t = both_ways (within from to x) (within (place segments from) (place segments to) (place segments x))
     (λ h. let p = and_parts (leb from x) (ltb x to) h in and_from (leb (place segments from) (place segments x)) (ltb (place segments x) (place segments to)) (le-leb (place segments from) (place segments x) (place_mono segments from x (leb-true from x p.0))) (lt-ltb (place segments x) (place segments to) (before_cut segments A to x t (ltb-true x to p.1))))
     (λ h. let p = and_parts (leb (place segments from) (place segments x)) (ltb (place segments x) (place segments to)) h in and_from (leb from x) (ltb x to)
     (le-leb from x (⊎_elim (λ less. absurd (omega (arith, before_cut segments A from x f less, leb-true (place segments from) (place segments x) p.0))) (λ h. h) (cases_lt x from)))

@@ -1,11 +1,10 @@
 -- The addresses of one segment have one row.
-use Rattle.std.proofs.Common.{◌≡◌, ℕ, ◌+◌, ◌-◌, ◌<◌, ◌≤◌, List, ◌++◌, length, take, drop, get_or, zero-add, Option, Some, None, refl, sym, ap, ◌∙◌, ⊎_elim, arith}
+use Rattle.std.proofs.Common.{◌≡◌, ℕ, ◌+◌, ◌-◌, ◌<◌, ◌≤◌, List, length, get_or, zero-add, Option, Some, None, refl, sym, ap, ◌∙◌, ⊎_elim, arith}
 use Rattle.std.proofs.lemmas.Bool.{cases_lt}
 use Rattle.std.specs.Prelude.{map}
 use Rattle.std.specs.List.{range_with_len}
 use Rattle.std.proofs.lemmas.List.FromFn.{get_or-range_with_len, length-range_with_len}
-use Rattle.std.proofs.lemmas.List.{ext_get_or, length-map, get_or-map, get_or-take, get_or_append_left, get_or-append_right, length-take-le}
-use borrow.Rule.Slice.PartMut.{put_mid}
+use Rattle.std.proofs.lemmas.List.{ext_get_or, length-map, get_or-map}
 use Rattle.fg_caches.specs.declared.part.Part.{Part}
 use Rattle.fg_caches.specs.declared.cell.Cell.{Cell}
 use Rattle.fg_caches.specs.declared.cell.Cell.TheVariants as cells
@@ -45,15 +44,6 @@ module _ (segments : List Segment) (k at : ℕ) (is : k ≡ place segments at) (
 
   pub next_place : Ascending segments → place segments (segment_at segments k).end ≡ k + 1
   next_place A = place_is segments (k + 1) (segment_at segments k).end (omega (arith, inside)) (λ j lt. ⊎_elim (λ less. let r = A.rising j k less inside in omega (arith, r)) (λ (ge : k ≤ j). let e : j ≡ k = omega (arith, ge, lt) in rw e (omega arith)) (cases_lt j k)) (λ lt. A.rising k (k + 1) (omega arith) lt)
-
--- after a write to a part of a list
-pub mid_below : (a n : ℕ) (xs ys : List ℕ) (k : ℕ) → a ≤ length xs → k < a → get_or (put_mid a n xs ys) k 0 ≡ get_or xs k 0
-mid_below a n xs ys k le lt = get_or_append_left (take a xs) (ys ++ drop n (drop a xs)) 0 k (omega (arith, le, lt, length-take-le a xs le)) ∙ get_or-take a xs k 0 lt
-
-pub mid_at : (a n : ℕ) (xs ys : List ℕ) (j : ℕ) → a ≤ length xs → j < length ys → get_or (put_mid a n xs ys) (a + j) 0 ≡ get_or ys j 0
-mid_at a n xs ys j le lt =
-    let same : a + j - a ≡ j = omega arith in
-    get_or-append_right (take a xs) (ys ++ drop n (drop a xs)) a (a + j) 0 (length-take-le a xs le) (omega arith) ∙ ap (λ m. get_or (ys ++ drop n (drop a xs)) m 0) same ∙ get_or_append_left ys (drop n (drop a xs)) 0 j lt
 
 seen_byte : (slots : List (List ℕ)) (main : Part) (cell : Cell) (x : ℕ) → byte_in slots (part_or main cell) x ≡ seen (line_in slots cell x) (byte_in slots main x)
 seen_byte slots main cells.Empty x = refl

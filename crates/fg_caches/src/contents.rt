@@ -192,7 +192,7 @@ impl Contents {
         }
     }
 
-    /// The bytes in memory. They are copied only where nobody shares them.
+    /// The bytes in memory. They are copied only where nobody shares them, and those of a word are written out.
     pub fn to_bytes(&self, alloc: Global) -> Result<Bytes, NoMemory>
         ensures { IfOk result (λ bytes. bytes ≡ self.now) }
     {

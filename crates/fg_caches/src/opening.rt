@@ -2,6 +2,7 @@
 
 ghost use Rattle.std.specs.Prelude.{◌≡◌, ◌<◌, ◌≤◌, ◌+◌, ◌-◌, ◌==◌, ◌++◌, ◌∷◌, [], if◌then◌else◌, IfOk, ℕ, length, drop, replicate, vec_len, vec_capacity};
 ghost use Rattle.std.specs.List.{sum_by};
+ghost use Rattle.fg_base.specs.Maxima.{max_memories, max_memory_bytes};
 ghost use Rattle.fg_caches.specs.Code.Opened.{IsOpened, open_segment};
 ghost use Rattle.fg_caches.specs.Code.Uses.{uses};
 
@@ -9,13 +10,10 @@ use crate::cell::Cell;
 use crate::contents::Contents;
 use crate::memory::Memory;
 use crate::part::Part;
-use crate::row::Row;
+use crate::row::{AGENTS, Row};
 use crate::segment::Segment;
 use fg_base::{List, NoMemory};
 use std::alloc::Global;
-
-/// As many bytes as all memories may have together.
-pub(crate) const BYTES: u32 = 805_306_368;
 
 // A memory behind the others, with the bytes of its slot. The answer is the first address past it.
 fn add_memory(
@@ -25,7 +23,7 @@ fn add_memory(
     len: u32,
     total: u32,
 ) -> u32
-    requires total { total + len ≤ BYTES }
+    requires total { total + len ≤ max_memory_bytes }
     requires memories { vec_len memories.old < vec_capacity memories.old }
     requires segments { vec_len segments.old < vec_capacity segments.old }
     ensures total { result ≡ total + len }
@@ -48,14 +46,14 @@ fn add_memory(
 
 // The segment of a memory: its bytes are those of its slot, and no agent has a line.
 fn open_segment(slot: u32, start: u32, len: u32) -> Segment
-    requires { start + len ≤ BYTES }
+    requires { start + len ≤ max_memory_bytes }
     ensures { result ≡ open_segment slot start len }
 {
     Segment {
         end: start + len,
         row: Row {
             main: Part { slot, start },
-            lines: [Cell::Empty; 32],
+            lines: [Cell::Empty; AGENTS],
         },
     }
 }
@@ -68,14 +66,14 @@ pub(crate) fn lay_out(
     segments: &mut Vec<Segment>,
 ) -> u32
     requires junk { 0 < length slots.now }
-    requires few { length slots.now ≤ 513 }
-    requires small { sum_by length (drop 1 slots.now) ≤ BYTES }
+    requires few { length slots.now ≤ max_memories + 1 }
+    requires small { sum_by length (drop 1 slots.now) ≤ max_memory_bytes }
     requires memories { memories.old.items ≡ [] }
     requires segments { segments.old.items ≡ [] }
     requires memories_room { length slots.now ≤ vec_capacity memories.old + 1 }
     requires segments_room { length slots.now ≤ vec_capacity segments.old + 1 }
     ensures opened { IsOpened slots.now (length slots.now - 1) result memories.new.items segments.new.items }
-    ensures small { result ≤ BYTES }
+    ensures small { result ≤ max_memory_bytes }
     ensures uses { (slot : ℕ) → uses slot segments.new.items ≤ 1 }
     ensures len { vec_len segments.new + 1 ≤ length slots.now }
     ensures capacity { vec_capacity segments.new ≡ vec_capacity segments.old }

@@ -14,7 +14,7 @@ pub(crate) const AGENTS: usize = 32;
 #[derive(Clone, Copy, Debug)]
 pub(crate) struct Row {
     pub main: Part,
-    pub lines: [Cell; 32],
+    pub lines: [Cell; AGENTS],
 }
 
 impl Row {

@@ -2,9 +2,9 @@ use Rattle.std.proofs.Common.{◌≡◌, ◌≢◌, ◌∙◌, ℕ, ◌+◌, ◌
 use Rattle.std.specs.Prelude.{if◌then◌else◌, ◌==◌}
 use Rattle.std.proofs.lemmas.Bool.{cases_eq}
 use Rattle.std.proofs.lemmas.List.{get_or_read}
+use Rattle.fg_base.specs.Maxima.{max_memory_bytes}
 use Rattle.fg_caches.specs.declared.memory.Memory.{Memory}
 use Rattle.fg_caches.specs.declared.segment.Segment.{Segment}
-use Rattle.fg_caches.specs.declared.opening.TheConstants.{BYTES}
 use Rattle.fg_caches.specs.Tables.{slot_at}
 use Rattle.fg_caches.specs.Code.Opened.{IsOpened, open_segment}
 use Rattle.fg_caches.specs.Code.Uses.{uses}
@@ -29,7 +29,7 @@ loop-memory-init c =
       capacity = refl;
     }
 
-within : (c : goal.After-add_memory-arg-in-loop-memory-1) → c.loop-memory.total + c.len-len.result ≤ BYTES
+within : (c : goal.After-add_memory-arg-in-loop-memory-1) → c.loop-memory.total + c.len-len.result ≤ max_memory_bytes
 within c =
     let slots = c.args.slots.now in
     let n = c.loop-memory.memory in

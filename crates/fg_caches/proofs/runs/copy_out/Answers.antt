@@ -1,12 +1,13 @@
 use Rattle.std.proofs.Common.{◌≡◌, ◌∙◌, ◌+◌, ◌-◌, ◌<◌, ◌≤◌, length, take, drop, get_or, sym, ap, subst, ⊎_elim, arith}
 use Rattle.std.proofs.lemmas.Bool.{cases_lt}
 use Rattle.std.proofs.lemmas.List.{length-take, length-drop}
+use Rattle.fg_base.proofs.Lists.{mid_below, mid_at}
 use borrow.Rule.Slice.PartMut.{put_mid}
 use Rattle.fg_caches.specs.declared.part.Part.{Part}
 use Rattle.fg_caches.specs.Places.{row_at}
 use Rattle.fg_caches.specs.Tables.{byte_in}
 use Rattle.fg_caches.specs.Code.Kept.{PartFits}
-use Rattle.fg_caches.proofs.Running.{seen_fits, mid_below, mid_at}
+use Rattle.fg_caches.proofs.Running.{seen_fits}
 use Rattle.fg_caches.proofs.runs.copy_out.Goals as goal
 
 pub copy_part-requires-clause-to : goal.copy_part-requires-clause-to

@@ -1,5 +1,6 @@
 use Rattle.std.proofs.Common.{◌≡◌, ◌∙◌, ℕ, ◌+◌, ◌<◌, Bool, sym, ap, subst, arith}
 use Rattle.std.specs.Prelude.{if◌then◌else◌}
+use Rattle.fg_base.proofs.Booleans.{kept_false}
 use Rattle.fg_caches.specs.declared.row.Row.{Row}
 use Rattle.fg_caches.specs.Lines.{is_in, range}
 use Rattle.fg_caches.specs.Code.Rows.{changed}
@@ -8,7 +9,7 @@ use Rattle.fg_caches.specs.Code.Segments.{within}
 use Rattle.fg_caches.specs.Tables.{Table, address}
 use Rattle.fg_caches.specs.Code.Kept.{AreApart, IsTiled}
 use Rattle.fg_caches.proofs.Addresses.{address_inside, range_addresses}
-use Rattle.fg_caches.proofs.Rooms.{toll_false, toll_kept, toll_kept_false, missing_is}
+use Rattle.fg_caches.proofs.Rooms.{toll_false, toll_kept, missing_is}
 use Rattle.fg_caches.proofs.table.Segments.change.Goals as goal
 
 pub overflow_add-to : goal.overflow_add-to
@@ -25,7 +26,7 @@ pub cut-requires-2-clause-room : goal.cut-requires-2-clause-room
 cut-requires-2-clause-room c none =
     let from = c.first_address-from.result in
     let to = from + c.args.len in
-    let before = toll_kept_false (cut_in c.args.self.now.segments to) (cut_in c.cut.new.self.segments to) (c.cut.ensures.kept to) none in
+    let before = kept_false (cut_in c.args.self.now.segments to) (cut_in c.cut.new.self.segments to) (c.cut.ensures.kept to) none in
     omega (arith, c.requires.room, missing_is c.args.self.now c.args.memory c.args.start c.args.len from c.first_address-from.ensures.is, toll_false (cut_in c.args.self.now.segments to) before, c.cut.ensures.left)
 
 pub change_between-requires-clause-within : goal.change_between-requires-clause-within
