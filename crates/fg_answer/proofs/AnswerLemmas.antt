@@ -54,12 +54,6 @@ module _ (command : Command) (bytes : List ℕ) (Over : File → Type 0) (Within
     within = λ all. is;
   }
 
-  pub over_file : (file : File) → file_of command ≡ Some file → limit_of file < length bytes → Over file → ByLimit command bytes Over Within
-  over_file file reads_it more is = record {
-    over = λ other at lt. subst Over (same_Some file other (sym reads_it ∙ at)) is;
-    within = λ all. let few : length bytes ≤ limit_of file = all file reads_it in absurd (omega (arith, few, more));
-  }
-
   pub without_file : file_of command ≡ None → Within → ByLimit command bytes Over Within
   without_file none is = record {
     over = λ file at. absurd (no_file file (sym none ∙ at));

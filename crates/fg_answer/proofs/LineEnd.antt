@@ -7,6 +7,7 @@ use Rattle.std.proofs.lemmas.Str.{IsUtf8-append, IsUtf8-from_ascii, IsUtf8-from_
 use Rattle.std.specs.Char.{is_ascii_digit, is_digit, digit_value}
 use Rattle.std.specs.List.{prefix_len, starts_with}
 use Rattle.std.specs.Str.{is_utf8, IsAscii}
+use Rattle.std.proofs.Math.Bool.{and-false}
 use Rattle.json.specs.Lex.{Lexeme, token, Class, quote, backslash, operator, space, other, class, Mode, between, in_word, in_string, in_escape, lex_byte, lex, operator_lexeme, string_token, punctuate, fresh}
 use Rattle.json.specs.Text.{Within, plain, after_backslash, after_u, after_high, content, code_unit, short_escape}
 use Rattle.json.specs.Token.{Token, bad, number, boolean, null}
@@ -130,17 +131,13 @@ word_line x xs = chosen_line x (x ∷ xs)
 
 -- STRINGS
 
-and_false : (b : Bool) → (b && false) ≡ false
-and_false true = refl
-and_false false = refl
-
 neither : (b : Bool) → ◌≡◌ {A = Option (List ℕ)} (cond b None None) None
 neither true = refl
 neither false = refl
 
 no_unit : (a b c : ℕ) → code_unit a b c 10 ≡ None
 unfolding code_unit
-no_unit a b c = ap (λ (t : Bool). cond t (Some (digit_value a * 4096 + digit_value b * 256 + digit_value c * 16 + digit_value 10)) None) (and_false (is_digit a 16 && is_digit b 16 && is_digit c 16))
+no_unit a b c = ap (λ (t : Bool). cond t (Some (digit_value a * 4096 + digit_value b * 256 + digit_value c * 16 + digit_value 10)) None) (and-false (is_digit a 16 && is_digit b 16 && is_digit c 16))
 
 and_then_alike : {X Y : Type 0} (f g : X → Option Y) (o : Option X) → ((x : X) → f x ≡ g x) → option_and_then f o ≡ option_and_then g o
 and_then_alike f g None alike = refl

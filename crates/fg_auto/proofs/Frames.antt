@@ -21,7 +21,7 @@ use Rattle.fg_frame.specs.FirstFault.{first_fault, name_broken}
 use Rattle.fg_frame.specs.Good.{IsGood}
 use Rattle.fg_frame.specs.Limits.{exported, layers_allowed, limit_broken, op_count, over, rects_over, size_broken}
 use Rattle.fg_frame.specs.Numbered.{numbered, numbered_pass}
-use Rattle.fg_frame.specs.Places.{first_over, room_after}
+use Rattle.fg_base.specs.Rooms.{first_over, room_after}
 use Rattle.fg_frame.specs.Repeats.{first_repeat, repeated, repeats_in}
 use Rattle.fg_frame.specs.Units.{Numbering, numbering}
 use Rattle.fg_frame.specs.Unknowns.{has_queue, is_known, queue_at, unknown, unknown_in, unknown_operand}

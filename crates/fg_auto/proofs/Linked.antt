@@ -4,6 +4,8 @@ use Rattle.std.specs.List.{All, Any, list_any, range_with_len}
 use Rattle.std.proofs.lemmas.Bool.{and_from, and_parts}
 use Rattle.std.proofs.lemmas.List.Elements.{All-head, All-tail}
 use Rattle.std.proofs.lemmas.List.Folds.{Any-from_list_any, list_any_at}
+use Rattle.std.specs.Cmp.{both_ways}
+use Rattle.fg_base.proofs.Lists.{any_mapped}
 use Rattle.fg_groups.specs.Laws.{OfOne}
 use Rattle.fg_groups.specs.Needs.{has_command, has_unit, needs, one_unit}
 use Rattle.fg_groups.specs.declared.grouping.Grouping.{Grouping}
@@ -21,13 +23,6 @@ abbrev pub linked_in : ℕ → ℕ → List (List Use) → Bool
 linked_in c d [] = false
 linked_in c d (A ∷ []) = false
 linked_in c d (A ∷ (B ∷ groups)) = linked c d A B || linked_in c d (B ∷ groups)
-
--- TRUTH VALUES
-
-pub same_truth : (a b : Bool) → (a ≡ true → b ≡ true) → (b ≡ true → a ≡ true) → a ≡ b
-same_truth true b to from = sym (to refl)
-same_truth false true to from = from refl
-same_truth false false to from = refl
 
 -- ONE PAIR OF GROUPS
 
@@ -82,7 +77,7 @@ module _ (c d : ℕ) (A B : List Use) (first : OfOne A) (second : OfOne B) where
       (and_from (has_command c A) (has_command d B) (any_by (λ w. list_any (meets c d w) B) (λ w. w.command == c) A u by.0) (any_by (meets c d u.it) (λ w. w.command == d) B v by.1))
 
   one_pair : side_by_side c d A B ≡ linked c d A B
-  one_pair = same_truth (side_by_side c d A B) (linked c d A B) to_pair from_pair
+  one_pair = both_ways (side_by_side c d A B) (linked c d A B) to_pair from_pair
 
 -- ALL PAIRS
 
@@ -116,10 +111,6 @@ pub needs_are : (G : Grouping) (c d : ℕ) → All OfOne G.groups → needs G c 
 needs_are G c d one = all_pairs c d G.groups one
 
 -- QUEUES ARE NOT LOOKED AT
-
-pub any_mapped : {X Y : Type 0} (p : Y → Bool) (f : X → Y) (xs : List X) → list_any p (map f xs) ≡ list_any (λ x. p (f x)) xs
-any_mapped p f [] = refl
-any_mapped p f (x ∷ xs) = ap (λ b. p (f x) || b) (any_mapped p f xs)
 
 module _ (f : Use → Use) (units : (u : Use) → (f u).unit ≡ u.unit) (commands : (u : Use) → (f u).command ≡ u.command) (c d : ℕ) where
   same_meets : (u v : Use) → meets c d (f u) (f v) ≡ meets c d u v

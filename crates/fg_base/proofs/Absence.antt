@@ -1,5 +1,5 @@
 -- Where nothing was found.
-use Rattle.std.proofs.Common.{subst, ◌≡◌, ℕ, zero, suc, ◌+◌, ◌<◌, ◌≤◌, List, [], ◌∷◌, length, get_or, slice_get, nat_lt, not, Bool, true, false, Option, None, Some, if◌then◌else◌, refl, cond, arith}
+use Rattle.std.proofs.Common.{subst, ◌≡◌, ℕ, zero, suc, ◌+◌, ◌<◌, ◌≤◌, List, [], ◌∷◌, length, get_or, slice_get, nat_lt, not, Bool, true, false, Option, None, Some, is_some, if◌then◌else◌, refl, cond, arith}
 use Rattle.std.specs.List.{position, position_or_len, All}
 use Rattle.std.specs.Option.{option_or, option_map}
 use Rattle.std.proofs.lemmas.Bool.{ltb-false}
@@ -61,3 +61,23 @@ none_at rule i (y ∷ ys) none (suc k) x is =
 -- from the first place on
 pub none_from : {X Y : Type 0} (rule : ℕ → X → Option Y) (xs : List X) → first_in rule 0 xs ≡ None → (k : ℕ) (x : X) → slice_get xs k ≡ Some x → rule k x ≡ None
 none_from rule xs none k x is = let same : 0 + k ≡ k = omega arith in subst (λ n. rule n x ≡ None) same (none_at rule 0 xs none k x is)
+
+-- a test that gives an entry, and one that gives none
+pub out : {X : Type 0} (b : Bool) (x : X) → (if b then Some x else None) ≡ None → b ≡ false
+out true x e = absurd cc
+out false x e = refl
+
+pub stays_out : {X : Type 0} (b : Bool) (x : X) → b ≡ false → (if b then Some x else None) ≡ None
+stays_out true x e = absurd cc
+stays_out false x e = refl
+
+pub passes_test : {X : Type 0} (b : Bool) (x : X) → b ≡ true → (if b then None else Some x) ≡ None
+passes_test true x e = refl
+passes_test false x e = absurd cc
+
+pub is_there : {X : Type 0} (b : Bool) (x : X) → is_some (if b then Some x else None) ≡ b
+is_there true x = refl
+is_there false x = refl
+
+pub some_same : {X : Type 0} {a b : X} → Some a ≡ Some b → a ≡ b
+some_same e = cc

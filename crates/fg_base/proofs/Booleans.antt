@@ -1,5 +1,5 @@
 -- Small facts on Booleans.
-use Rattle.std.proofs.Common.{◌≡◌, Bool, true, false, refl}
+use Rattle.std.proofs.Common.{◌≡◌, Bool, true, false, refl, sym, ◌∙◌}
 use Rattle.std.specs.Prelude.{◌&&◌, ◌||◌}
 
 pub clash : false ≡ true → ⊥
@@ -22,3 +22,8 @@ or_true false = refl
 pub or_assoc : (a b c : Bool) → ((a || b) || c) ≡ (a || (b || c))
 or_assoc true b c = refl
 or_assoc false b c = refl
+
+-- what is told of whatever passes does not pass where that does not
+pub kept_false : (b c : Bool) → (b ≡ true → c ≡ true) → c ≡ false → b ≡ false
+kept_false true c to fails = absurd (clash (sym fails ∙ to refl))
+kept_false false c to fails = refl

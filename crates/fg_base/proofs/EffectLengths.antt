@@ -92,7 +92,7 @@ table_canvas (Image w h t) e = absurd cc
 
 -- PARTS OF BUFFERS
 
-has_room : (s : Shape) (offset size : ℕ) → has_bytes s offset size ≡ true → offset + size ≤ bytes_of s
+pub has_room : (s : Shape) (offset size : ℕ) → has_bytes s offset size ≡ true → offset + size ≤ bytes_of s
 has_room (Buffer n) offset size e = grind (arith, nat_tests)
 has_room (Image w h t) offset size e = absurd cc
 

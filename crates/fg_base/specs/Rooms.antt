@@ -21,13 +21,15 @@ not_lasting (Err place) = Some place
 abbrev pub LeavesAs : {Room X Y : Type 0} → (Room → ℕ → Bor X → Y → Type 0) → List X → (Room → ℕ → X → Y) → Type 0
 LeavesAs post xs rule = (room : _) (i : ℕ) (x : Bor _) (left : _) → StandsAt xs i x.now → post room i x left → left ≡ rule room i x.now
 
--- what an entry leaves of a room, or its place where it is larger
-abbrev pub take_size : {X : Type 0} → (X → ℕ) → ℕ → ℕ → X → Result ℕ ℕ
-take_size size room i x = if nat_lt room (size x) then Err i else Ok (room - size x)
+-- the first entry, the positions beginning at i, with which the sizes together are more than the room
+abbrev pub first_over : {X : Type 0} → (X → ℕ) → ℕ → ℕ → List X → Option ℕ
+first_over size room i [] = None
+first_over size room i (x ∷ xs) = if nat_lt room (size x) then Some i else first_over size (room - size x) (suc i) xs
 
--- the first entry with which the sizes together are more than the room
-abbrev pub first_over : {X : Type 0} → (X → ℕ) → ℕ → List X → Option ℕ
-first_over size room xs = not_lasting (spend_in (take_size size) room 0 xs)
+-- the room that the sizes leave
+abbrev pub room_after : {X : Type 0} → (X → ℕ) → ℕ → List X → ℕ
+room_after size room [] = room
+room_after size room (x ∷ xs) = room_after size (room - size x) xs
 
 -- the size of an entry that a call may give is this one
 abbrev pub SizesAs : {X : Type 0} → (Bor X → ℕ → Type 0) → (X → ℕ) → Type 0

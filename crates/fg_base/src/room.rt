@@ -27,7 +27,7 @@ pub fn spend_in<T, R: Copy, Y: Copy, F: Fn(R, usize, &T) -> Result<R, Y>>(
 /// The first entry with which the sizes together are more than the room.
 pub fn first_over<T, F: Fn(&T) -> u128>(entries: &[T], room: u128, size: F) -> Option<usize>
     requires { F.IsAlwaysCallable size }
-    ensures { (says : T → ℕ) → SizesAs (F.post size) says → result ≡ first_over says room entries.now }
+    ensures { (says : T → ℕ) → SizesAs (F.post size) says → result ≡ first_over says room 0 entries.now }
 {
     let mut left = room;
     for (i, entry) in entries.iter().enumerate() {

@@ -1,9 +1,11 @@
 -- What each role of an operand asks: one table of seven rows.
 use Rattle.std.specs.Prelude.{ℕ, Bool, Option, Some, None, if◌then◌else◌}
+use Rattle.fg_base.specs.Shapes.{is_image}
 use Rattle.fg_base.specs.Touches.{destination_role}
 use Rattle.fg_base.specs.declared.op.Op.{Op}
 use Rattle.fg_base.specs.declared.role.Role.{Role}
 use Rattle.fg_base.specs.declared.role.Role.TheVariants.{CopyRead, CopyWrite, ClearWrite, Sampled, StorageRead, StorageWrite, Attachment}
+use Rattle.fg_base.specs.declared.shape.Shape.{Shape}
 use Rattle.fg_bits.specs.Accesses.{transfer_read, transfer_write, shader_sampled_read, shader_storage_read, shader_storage_write, color_attachment_read, color_attachment_write}
 use Rattle.fg_bits.specs.Stages.{color_attachment_output, compute_shader, copy, clear}
 use Rattle.fg_bits.specs.declared.layout.Layout.{Layout}
@@ -47,6 +49,10 @@ store_access role = (role_row role).store
 
 abbrev pub role_layout : Role → Layout
 role_layout role = (role_row role).layout
+
+-- an image has to be in the layout of the role, a buffer has none
+abbrev pub layout_wanted : Shape → Role → Option Layout
+layout_wanted shape role = if is_image shape then Some (role_layout role) else None
 
 -- an operation runs in one stage, that of its destination
 abbrev pub op_stage : {R : Type 0} → Op R → ℕ

@@ -17,7 +17,7 @@ pub use agent::{HOST_AGENT, agents};
 pub use families::{family_number, on_family};
 pub use layout::{Layout, Layouts};
 pub use masks::Masks;
-pub use role::{load_access, op_stage, role_layout, role_stage, store_access};
+pub use role::{layout_wanted, load_access, op_stage, role_layout, role_stage, store_access};
 pub use sharing::Sharing;
 pub use stages::Stages;
 pub use support::supports;

@@ -2,10 +2,10 @@
 
 ghost use Rattle.std.specs.Prelude.{◌≡◌};
 ghost use Rattle.std.specs.Option.{option_map};
-ghost use Rattle.fg_bits.specs.Roles.{role_stage, load_access, store_access, role_layout, op_stage};
+ghost use Rattle.fg_bits.specs.Roles.{role_stage, load_access, store_access, role_layout, layout_wanted, op_stage};
 
 use crate::{Accesses, Layout, Stages};
-use fg_base::{Op, Role};
+use fg_base::{Op, Role, Shape};
 
 /// The stage in which an operation touches the operand.
 pub fn role_stage(role: Role) -> Stages
@@ -57,6 +57,17 @@ pub fn role_layout(role: Role) -> Layout
         Role::Sampled => Layout::ShaderReadOnly,
         Role::StorageRead | Role::StorageWrite => Layout::General,
         Role::Attachment { .. } => Layout::ColorAttachment,
+    }
+}
+
+/// The layout that an operand of this shape has to be in: that of the role for an image, none for a buffer.
+pub fn layout_wanted(shape: Shape, role: Role) -> Option<Layout>
+    ensures { result ≡ layout_wanted shape role }
+{
+    if shape.is_image() {
+        Some(role_layout(role))
+    } else {
+        None
     }
 }
 

@@ -1,19 +1,17 @@
 -- What is found in accesses in the least order is found of the program.
 use Rattle.std.proofs.Common.{◌≡◌, ℕ, List, Some, None, sym, subst}
 use Rattle.fg_checker.specs.Code.Decided.{Clean, Decides, IsFound}
-use Rattle.fg_checker.specs.Code.Hazards.{of_flaw, of_untied, of_misstatement, of_unfed}
-use Rattle.fg_checker.specs.Hazards.{AllTied, HazardIn, IsHazard, FirstOfStated, FirstOfFed}
+use Rattle.fg_checker.specs.Code.Hazards.{of_flaw, of_untied}
+use Rattle.fg_checker.specs.Hazards.{HazardIn, IsHazard}
 use Rattle.fg_checker.specs.Sound.{Sound}
 use Rattle.fg_checker.specs.Verdicts.{Unsound}
 use Rattle.fg_checker.specs.declared.hazard.Hazard.{Hazard}
 use Rattle.fg_checker.specs.declared.hazard.Hazard.TheVariants.{Stuck}
 use Rattle.fg_checker.proofs.Least.{one_least}
 use Rattle.fg_hb.specs.Orders.{IsLeast}
-use Rattle.fg_stated.specs.Fed.{Fed, FirstUnfed}
-use Rattle.fg_stated.specs.Stated.{Stated, FirstMisstated}
-use Rattle.fg_stated.specs.declared.misstatement.Misstatement.{Misstatement}
+use Rattle.fg_stated.specs.Fed.{Fed}
+use Rattle.fg_stated.specs.Stated.{Stated}
 use Rattle.fg_stated.specs.declared.misstatement.Misstatement.TheVariants as misstatements
-use Rattle.fg_stated.specs.declared.unfed.Unfed.{Unfed}
 use Rattle.fg_stated.specs.declared.unfed.Unfed.TheVariants as unfeds
 use Rattle.fg_subs.specs.declared.program.Program.{Program}
 use Rattle.fg_ties.specs.First.{DecidesTied, IsFirst}
@@ -30,24 +28,9 @@ pair_hazard V accesses flaws.Unordered n m p = p
 pair_hazard V accesses flaws.NotAvailable n m p = p
 pair_hazard V accesses flaws.NotVisible n m p = p
 
-pub stated_hazard : (V : View) (accesses : List NodeAccess) (misstatement : Misstatement) → FirstOfStated V accesses misstatement → HazardIn V accesses (of_misstatement misstatement)
-stated_hazard V accesses (misstatements.BadLayout n p found wanted) h = h
-stated_hazard V accesses (misstatements.BadOwner n p found wanted) h = h
-stated_hazard V accesses (misstatements.Unmatched n) h = h
-
-pub fed_hazard : (V : View) (accesses : List NodeAccess) (unfed : Unfed) → FirstOfFed V accesses unfed → HazardIn V accesses (of_unfed unfed)
-fed_hazard V accesses (unfeds.Undefined n p) h = h
-fed_hazard V accesses (unfeds.Aliased n p other) h = h
-
 module _ (V : View) (accesses : List NodeAccess) where
   pub untied_found : (untied : Untied) → IsFirst V accesses untied.flaw untied.first untied.second → DecidesTied V accesses (Some untied) → Decides V accesses (Some (of_untied untied))
   untied_found untied first decides = λ order O is. record { hazard_is = pair_hazard V accesses untied.flaw untied.first untied.second first; refutes = λ clean. decides order O is clean.tied }
-
-  pub misstatement_found : (misstatement : Misstatement) → AllTied V accesses → FirstMisstated V accesses misstatement → (Stated V accesses → ⊥) → Decides V accesses (Some (of_misstatement misstatement))
-  misstatement_found misstatement tied first refutes = λ order O is. record { hazard_is = stated_hazard V accesses misstatement (record { tied = tied; first = first }); refutes = λ clean. refutes clean.stated }
-
-  pub unfed_found : (unfed : Unfed) → AllTied V accesses → Stated V accesses → FirstUnfed V accesses unfed → (Fed V accesses → ⊥) → Decides V accesses (Some (of_unfed unfed))
-  unfed_found unfed tied stated first refutes = λ order O is. record { hazard_is = fed_hazard V accesses unfed (record { tied = tied; stated = stated; first = first }); refutes = λ clean. refutes clean.fed }
 
   pub none_found : DecidesTied V accesses None → Stated V accesses → Fed V accesses → Decides V accesses None
   none_found decides stated fed = λ order O is. record { tied = decides order O is; stated = stated; fed = fed }

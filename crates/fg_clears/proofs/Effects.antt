@@ -17,6 +17,7 @@ use Rattle.fg_base.specs.declared.shape.Texel.{Texel}
 use Rattle.fg_base.specs.declared.shape.Texel.TheVariants.{R8, R32}
 use Rattle.fg_clears.specs.Code.Words.{commutes}
 use Rattle.fg_pixels.proofs.Fitting.{one_size, twice}
+use Rattle.fg_pixels.proofs.Moduli.{cut_twice}
 use Rattle.fg_pixels.proofs.Pictures.{same_band, picture_painted}
 
 -- a texel of an image of one number
@@ -69,10 +70,6 @@ combination_after_one one two to fun value a b both is =
     same_band g.texel g.width 0 g.height (λ x y. fun_of g.texel fun (picture g b x y) (value % m)) (λ x y. fun_of g.texel fun (picture g a x y) (picture g b x y)) (λ x y hx hy.
     ap (λ (n : ℕ). n % m) (swapped g.texel fun (picture g b x (0 + y)) (value % m) both)
     ∙ ap (λ (n : ℕ). fun_of g.texel fun n (picture g b x (0 + y)) % m) (sym (one_at g a value x (0 + y) is hx (omega arith))))
-
-cut_twice : (t : Texel) (n : ℕ) → n % modulus t % modulus t ≡ n % modulus t
-cut_twice R8 n = omega arith
-cut_twice R32 n = omega arith
 
 uncut : (t : Texel) (n : ℕ) → n < modulus t → n % modulus t ≡ n
 uncut R8 n small = omega (arith, small)

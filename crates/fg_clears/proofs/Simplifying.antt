@@ -3,11 +3,12 @@ use Rattle.std.proofs.Common.{◌≡◌, ℕ, zero, suc, ◌%◌, ◌<◌, ◌�
 use Rattle.std.specs.List.{All, list_all}
 use Rattle.std.specs.Prelude.{◌&&◌}
 use Rattle.std.proofs.lemmas.List.{get_or-take, nil_from_length}
+use Rattle.fg_base.proofs.Booleans.{both}
 use Rattle.fg_base.specs.Applied.{applied, effect}
 use Rattle.fg_base.specs.Fits.{fits, has_drawn}
 use Rattle.fg_base.specs.Kernels.{under}
 use Rattle.fg_base.specs.Operands.{sources_of, destination_of}
-use Rattle.fg_base.specs.Shapes.{bytes_of, is_image, same_grid, same_sides, same_texel, shape_at, texel_eq, twice_the_sides}
+use Rattle.fg_base.specs.Shapes.{bytes_of, is_image, same_grid, same_sides, same_texel, shape_at, twice_the_sides}
 use Rattle.fg_base.specs.Texels.{canvas_of, modulus, painted}
 use Rattle.fg_base.specs.declared.grid.Grid.{Grid}
 use Rattle.fg_base.specs.declared.op.Fun.{Fun}
@@ -16,12 +17,10 @@ use Rattle.fg_base.specs.declared.op.Op.TheVariants.{ClearImage, Map, Combine, C
 use Rattle.fg_base.specs.declared.op.Rect.{Rect}
 use Rattle.fg_base.specs.declared.shape.Shape.{Shape}
 use Rattle.fg_base.specs.declared.shape.Shape.TheVariants.{Buffer, Image}
-use Rattle.fg_base.specs.declared.shape.Texel.{Texel}
-use Rattle.fg_base.specs.declared.shape.Texel.TheVariants.{R8, R32}
 use Rattle.fg_clears.proofs.Effects.{IsOf, blur_of_one, conversion_of_one, halving_of_one, nothing_drawn, read_back, whole_drawn}
 use Rattle.fg_clears.specs.Code.Keeps.{Keeps}
 use Rattle.fg_clears.specs.Simpler.{Reads, IsSimpler}
-use Rattle.fg_pixels.proofs.Fitting.{both, number_same}
+use Rattle.fg_pixels.proofs.Fitting.{number_same, same_canvas}
 
 one_entry : (P : ℕ → Type 0) (n : ℕ) → P n → All P (n ∷ [])
 one_entry P n p zero d lt = p
@@ -74,20 +73,6 @@ sides_image (Image w h t) (Image v k s) e = refl
 half_image : (a to : Shape) → twice_the_sides a to ≡ true → is_image to ≡ true
 half_image a (Buffer n) e = absurd cc
 half_image a (Image w h t) e = refl
-
-one_texel : (s t : Texel) → texel_eq s t ≡ true → s ≡ t
-one_texel R8 R8 e = refl
-one_texel R8 R32 e = absurd cc
-one_texel R32 R8 e = absurd cc
-one_texel R32 R32 e = refl
-
-one_canvas : (a to : Shape) → is_image a ≡ true → is_image to ≡ true → same_grid a to ≡ true → canvas_of a ≡ canvas_of to
-one_canvas (Buffer n) to own other e = absurd cc
-one_canvas (Image w h t) (Buffer n) own other e = absurd cc
-one_canvas (Image w h t) (Image v k s) own other e =
-    let all = both (w == v && h == k) (texel_eq t s) e in
-    let sides = both (w == v) (h == k) all.0 in
-    rw (number_same w v sides.0, number_same h k sides.1, one_texel t s all.1) refl
 
 -- what a combination leaves, by what was loaded
 combine_loaded : (shapes : List Shape) (a b dst : ℕ) (fun : Fun) (loaded : List (List ℕ)) (old : List ℕ) → effect (Combine (shape_at shapes a) (shape_at shapes b) (shape_at shapes dst) fun) (get_or loaded 0 []) (get_or loaded 1 []) [] [] ≡ applied shapes (Combine a b dst fun) (take 2 loaded) old
@@ -147,7 +132,7 @@ module _ (shapes : List Shape) (op : Op ℕ) (loaded : List (List ℕ)) (R : Rea
         let to = shape_at shapes dst in
         let fit = both (is_image a && is_image to) (same_grid a to) D.fitting in
         let images = both (is_image a) (is_image to) fit.0 in
-        in_place (Box3 src dst) made (clears shapes (Box3 src dst) loaded dst value refl (D.operands 1 0 (omega arith)) images.1 (λ old. blur_of_one a to value (get_or (take 1 loaded) 0 []) (one_canvas a to images.0 images.1 fit.1) taken))
+        in_place (Box3 src dst) made (clears shapes (Box3 src dst) loaded dst value refl (D.operands 1 0 (omega arith)) images.1 (λ old. blur_of_one a to value (get_or (take 1 loaded) 0 []) (same_canvas a to fit.1).0 taken))
 
     halves_one : op ≡ Halve src dst → IsSimpler shapes op loaded (record { op = ClearImage dst value; source = None })
     halves_one made =

@@ -4,7 +4,7 @@ use Rattle.std.specs.List.{Contains, range_with_len}
 use Rattle.std.proofs.lemmas.Bool.{cases_lt, cases_order, false≢true}
 use Rattle.fg_bits.specs.declared.masks.Masks.{Masks}
 use Rattle.fg_compiled.proofs.Barriers.{IsBarrierOf, IsTaken}
-use Rattle.fg_compiled.proofs.Contained.{contains_filter, contains_number, contains_part}
+use Rattle.fg_compiled.proofs.Contained.{contains_number}
 use Rattle.fg_compiled.proofs.Grouped.{Over, over_parts}
 use Rattle.fg_compiled.proofs.Groups.{goes, is_own, of_unit, units_rise}
 use Rattle.fg_compiled.proofs.Items.{barrier_stands, item_stands}
@@ -28,6 +28,7 @@ use Rattle.fg_groups.specs.Needs.{group_at, goes_on, is_of}
 use Rattle.fg_groups.specs.Placed.{placed, unit_at}
 use Rattle.fg_groups.specs.declared.grouping.Grouping.{Grouping}
 use Rattle.fg_groups.specs.declared.unit_use.Use.{Use}
+use Rattle.fg_recorder.proofs.Contained.{contains_filter, contains_part}
 use Rattle.fg_recorder.specs.Pieces.{piece_of}
 use Rattle.fg_recorder.specs.Standing.{item_by, step, turn_item}
 use Rattle.fg_recorder.specs.Wanted.{is_there}

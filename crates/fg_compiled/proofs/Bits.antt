@@ -25,8 +25,6 @@ has_more a b bits h e = eq-eqb (bit_and b bits) bits (same_from_bits (bit_and b 
     let same : bit_at (bit_and a bits) i ≡ bit_at bits i = ap (λ n. bit_at n i) (eqb-true (bit_and a bits) bits e) in
     omega (arith, same, h i, bit_at_and a bits i, bit_at_and b bits i)))
 
--- UNIONS OVER ROWS
-
 -- STAGES AND ACCESSES
 
 -- what a row adds where its bit is in the set

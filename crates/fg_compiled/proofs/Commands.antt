@@ -1,5 +1,5 @@
 -- The commands of a frame: operations of passes on units, and for each export one copy of it.
-use Rattle.std.proofs.Common.{◌≡◌, ⊎_elim, ℕ, ◌+◌, ◌<◌, ◌≤◌, ◌==◌, ◌||◌, Bool, true, false, List, [], ◌∷◌, length, map, get_or, slice_get, Option, Some, None, refl, sym, ap, ◌∙◌, subst, ne_eqb, ap₂, eq-eqb, arith}
+use Rattle.std.proofs.Common.{◌≡◌, ⊎_elim, ℕ, ◌+◌, ◌<◌, ◌≤◌, ◌==◌, ◌||◌, Bool, true, false, List, length, map, get_or, slice_get, Option, Some, None, refl, sym, ap, ◌∙◌, subst, ne_eqb, ap₂, eq-eqb, arith}
 use Rattle.std.specs.List.{All}
 use Rattle.std.specs.Prelude.{is_some}
 use Rattle.std.proofs.lemmas.Bool.{cases_lt, false≢true}
@@ -8,7 +8,7 @@ use Rattle.std.proofs.lemmas.List.Elements.{All-append}
 use Rattle.std.proofs.lemmas.Option.{get_or_from_slice_get}
 use Rattle.fg_base.proofs.Lists.{entry_of}
 use Rattle.fg_base.specs.InPlace.{in_place}
-use Rattle.fg_base.specs.Operands.{sources_of, destination_of, operands_of, mapped}
+use Rattle.fg_base.specs.Operands.{operands_of, mapped}
 use Rattle.fg_base.specs.Shapes.{bytes_of, is_image, shape_at}
 use Rattle.fg_base.specs.Wholes.{is_whole}
 use Rattle.fg_base.specs.declared.shape.Shape.{Shape}
@@ -45,14 +45,6 @@ copy_apart (Image width height texel) src dst e = ap (λ b. b || false) e
 pub not_in_place : (G : Grouping) (command : Command) → Sort G command → in_place command.op ≡ false
 not_in_place G command (a_pass none operands apart) = apart
 not_in_place G command (a_copy k unit shape below lt is op from to) = ap in_place op ∙ copy_apart shape unit (length G.imports + k) (ne_eqb unit (length G.imports + k) (λ e. omega (arith, e, lt)))
-
-pub copy_destination : (shape : Shape) (src dst : ℕ) → destination_of (copy_out shape src dst) ≡ dst
-copy_destination (Buffer size) src dst = refl
-copy_destination (Image width height texel) src dst = refl
-
-pub copy_sources : (shape : Shape) (src dst : ℕ) → sources_of (copy_out shape src dst) ≡ src ∷ []
-copy_sources (Buffer size) src dst = refl
-copy_sources (Image width height texel) src dst = refl
 
 -- a copy stores all of the buffer
 copy_whole : (shapes : ℕ → Shape) (shape : Shape) (src dst : ℕ) → shapes src ≡ shape → shapes dst ≡ Buffer (bytes_of shape) → is_whole (mapped shapes (copy_out shape src dst)) ≡ true

@@ -1,39 +1,21 @@
 -- What lists contain, and the uses of a group on one queue.
-use Rattle.std.proofs.Common.{◌≡◌, ⊎_elim, ℕ, zero, suc, ◌+◌, ◌-◌, ◌<◌, ◌≤◌, ◌==◌, Bool, true, false, List, [], ◌∷◌, length, map, get_or, if◌then◌else◌, refl, sym, ap, ◌∙◌, subst, eq-eqb, eqb-true, arith}
-use Rattle.std.specs.List.{All, AllPairs, Contains, filter, flat_map, range_with_len}
+use Rattle.std.proofs.Common.{◌≡◌, ⊎_elim, ℕ, zero, suc, ◌+◌, ◌-◌, ◌<◌, ◌≤◌, ◌==◌, List, [], ◌∷◌, length, get_or, refl, sym, ap, ◌∙◌, subst, eq-eqb, eqb-true, arith}
+use Rattle.std.specs.List.{All, AllPairs, Contains, flat_map, range_with_len}
 use Rattle.std.proofs.lemmas.Bool.{cases_lt}
 use Rattle.std.proofs.lemmas.List.{length-append}
-use Rattle.std.proofs.lemmas.List.Elements.{All-filter, Contains-append_left, Contains-append_right, filter_passes}
+use Rattle.std.proofs.lemmas.List.Elements.{All-filter, filter_passes}
 use Rattle.std.proofs.lemmas.List.FromFn.{get_or-range_with_len, length-range_with_len}
 use Rattle.std.proofs.lemmas.List.Kept.{AllPairs-filter}
 use Rattle.fg_groups.specs.Uses.{no_use}
 use Rattle.fg_groups.specs.declared.unit_use.Use.{Use}
+use Rattle.fg_recorder.proofs.Contained.{contains_tail, contains_filter}
 use Rattle.fg_turns.specs.Turns.{first, last}
 use Rattle.fg_turns.specs.Unions.{on}
 
-module _ {X : Type 0} where
-  contains_tail : (y : X) (xs : List X) (x : X) → Contains xs x → Contains (y ∷ xs) x
-  contains_tail y xs x h = let l = h.1 in (suc h.0, omega (arith, l), h.2)
-
-  pub contains_some : (xs : List X) (x : X) → Contains xs x → 0 < length xs
-  contains_some xs x h = let l = h.1 in omega (arith, l)
-
-  pub contains_at : (xs : List X) (k : ℕ) (d : X) → k < length xs → Contains xs (get_or xs k d)
-  contains_at [] k d lt = absurd (omega (arith, lt))
-  contains_at (x ∷ xs) zero d lt = (0, omega arith, refl)
-  contains_at (x ∷ xs) (suc k) d lt = contains_tail x xs (get_or xs k d) (contains_at xs k d (omega (arith, lt)))
-
-  pub contains_filter : (p : X → Bool) (xs : List X) (x : X) → Contains xs x → p x ≡ true → Contains (filter p xs) x
-  contains_filter p xs x h passes = go xs h.0 h.1 h.2
-    where
-      more : (b : Bool) (y : X) (ys : List X) → Contains ys x → Contains (if b then y ∷ ys else ys) x
-      more true y ys c = contains_tail y ys x c
-      more false y ys c = c
-
-      go : (ys : List X) (k : ℕ) → k < length ys → get_or ys k x ≡ x → Contains (filter p ys) x
-      go [] k lt e = absurd (omega (arith, lt))
-      go (y ∷ ys) zero lt e = subst (λ b. Contains (if b then y ∷ filter p ys else filter p ys) x) (sym (subst (λ z. p z ≡ true) (sym e) passes)) (0, omega arith, e)
-      go (y ∷ ys) (suc k) lt e = more (p y) y (filter p ys) (go ys k (omega (arith, lt)) e)
+pub contains_at : {X : Type 0} (xs : List X) (k : ℕ) (d : X) → k < length xs → Contains xs (get_or xs k d)
+contains_at [] k d lt = absurd (omega (arith, lt))
+contains_at (x ∷ xs) zero d lt = (0, omega arith, refl)
+contains_at (x ∷ xs) (suc k) d lt = contains_tail x xs (get_or xs k d) (contains_at xs k d (omega (arith, lt)))
 
 -- the joined list is not empty where one part is not
 pub some_part : {X Y : Type 0} (f : X → List Y) (xs : List X) (x : X) → Contains xs x → 0 < length (f x) → 0 < length (flat_map f xs)
@@ -49,22 +31,6 @@ contains_number n k lt =
     let count = length-range_with_len 0 n in
     let zero_more : 0 + k ≡ k = omega arith in
     (k, omega (arith, count, lt), get_or-range_with_len 0 n k k lt ∙ zero_more)
-
-pub contains_map : {X Y : Type 0} (f : X → Y) (xs : List X) (x : X) → Contains xs x → Contains (map f xs) (f x)
-contains_map {X} {Y} f xs x h = go xs h.0 h.1 h.2
-  where
-    go : (ys : List X) (k : ℕ) → k < length ys → get_or ys k x ≡ x → Contains (map f ys) (f x)
-    go [] k lt e = absurd (omega (arith, lt))
-    go (y ∷ ys) zero lt e = (0, omega arith, ap f e)
-    go (y ∷ ys) (suc k) lt e = let rest = go ys k (omega (arith, lt)) e in let l = rest.1 in (suc rest.0, omega (arith, l), rest.2)
-
-pub contains_part : {X Y : Type 0} (f : X → List Y) (xs : List X) (x : X) (y : Y) → Contains xs x → Contains (f x) y → Contains (flat_map f xs) y
-contains_part {X} {Y} f xs x y h c = go xs h.0 h.1 h.2
-  where
-    go : (ys : List X) (k : ℕ) → k < length ys → get_or ys k x ≡ x → Contains (flat_map f ys) y
-    go [] k lt e = absurd (omega (arith, lt))
-    go (z ∷ ys) zero lt e = Contains-append_left (f z) (flat_map f ys) y (subst (λ w. Contains (f w) y) (sym e) c)
-    go (z ∷ ys) (suc k) lt e = Contains-append_right (f z) (flat_map f ys) y (go ys k (omega (arith, lt)) e)
 
 -- USES ON A QUEUE
 

@@ -6,10 +6,9 @@ use Rattle.std.proofs.lemmas.Bool.{cases_lt, false≢true}
 use Rattle.std.proofs.lemmas.List.{length-append}
 use Rattle.std.proofs.lemmas.List.Elements.{All-nil, All-cons, Contains-append_left, Contains-append_right}
 use Rattle.std.proofs.lemmas.Option.{slice_get-get_or}
-use Rattle.fg_base.proofs.Lists.{each_of, entry_of, one}
+use Rattle.fg_base.proofs.Lists.{each_of, entry_of, one, got_back}
 use Rattle.fg_base.specs.Operands.{mapped}
 use Rattle.fg_base.specs.declared.shape.Shape.{Shape}
-use Rattle.fg_compiled.proofs.Contained.{contains_filter, contains_map, contains_part}
 use Rattle.fg_compiled.proofs.Entries.{contains_entry, entry_left}
 use Rattle.fg_compiled.proofs.Groups.{some_use}
 use Rattle.fg_groups.specs.Laws.{IsGrouped, IsSourced}
@@ -19,6 +18,7 @@ use Rattle.fg_groups.specs.declared.command.Command as commands
 use Rattle.fg_groups.specs.declared.grouping.Grouping.{Grouping}
 use Rattle.fg_groups.specs.declared.unit_use.Use.{Use}
 use Rattle.fg_groups.specs.declared.unit_use.UseAt.{UseAt}
+use Rattle.fg_recorder.proofs.Contained.{contains_filter, contains_map, contains_part}
 use Rattle.fg_recorder.specs.Items.{does_turn, init, items_of}
 use Rattle.fg_recorder.specs.Script.{block, blocks, does_command, groups_used, host_barrier, is_command, script, use_needs, use_releases, use_turns}
 use Rattle.fg_recorder.specs.Standing.{IsKnown, by_alias, by_copy, by_mark, IsRecorded, IsStanding, StandsAt, item_by, step, turn_item}
@@ -30,7 +30,6 @@ use Rattle.fg_recorder.specs.declared.mark.Marked.TheVariants.{Does, Needs}
 use Rattle.fg_recorder.specs.Pieces.{piece_of}
 use Rattle.fg_subs.specs.declared.program.Item.{Item}
 use Rattle.fg_subs.specs.declared.program.Item.TheVariants as item
-use Rattle.fg_timeline.proofs.Below.{there_right}
 use Rattle.fg_turns.specs.Turns.{earlier, first, turn_of}
 use Rattle.fg_turns.specs.Under.{Heap}
 use Rattle.fg_turns.specs.declared.turn.Turn.{Turn}
@@ -152,7 +151,7 @@ module _ (G : Grouping) (heap : Heap) where
           let l = length-append (needed ++ turned) own in
           let m = length-append ((needed ++ turned) ++ own) host in
           ap (λ z. slice_get z (length within.before + k)) within.is
-          ∙ there_right within.before (block G heap c command ++ within.after) k
+          ∙ got_back within.before (block G heap c command ++ within.after) k
           ∙ entry_left (((needed ++ turned) ++ own) ++ host) within.after k (omega (arith, some, l, m, lt))
           ∙ entry_left ((needed ++ turned) ++ own) host k (omega (arith, some, l, lt))
 
@@ -160,14 +159,14 @@ module _ (G : Grouping) (heap : Heap) where
       command_place =
           let z : length (needed ++ turned) ≡ length (needed ++ turned) + 0 = omega arith in
           mark_step (length within.before + length (needed ++ turned)) command.queue (Command c) (item.Command (mapped (piece_of G) command.op))
-          (front (length (needed ++ turned)) (omega arith) ∙ ap (slice_get ((needed ++ turned) ++ own)) z ∙ there_right (needed ++ turned) own 0)
+          (front (length (needed ++ turned)) (omega arith) ∙ ap (slice_get ((needed ++ turned) ++ own)) z ∙ got_back (needed ++ turned) own 0)
 
       turn_place : (t : ℕ) → t < length turned → slice_get (script G heap) (length within.before + (length needed + t)) ≡ slice_get turned t
       turn_place t lt =
           let l = length-append needed turned in
           front (length needed + t) (omega (arith, l, lt))
           ∙ entry_left (needed ++ turned) own (length needed + t) (omega (arith, l, lt))
-          ∙ there_right needed turned t
+          ∙ got_back needed turned t
 
       -- no need stands among the turns
       none_needed : (t q : ℕ) (mark : Mark) → slice_get turned t ≡ Some (Needs q mark) → ⊥

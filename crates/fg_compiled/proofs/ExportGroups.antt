@@ -53,13 +53,6 @@ module _ (G : Grouping) where
   pub copy_parts : (g : ℕ) → is_copy G g ≡ true → IsExport G g (export_at G g)
   copy_parts g e = export_parts g (and_parts (is_of_export G g) ((g - length G.groups) % 2 == 0) e).0
 
-  pub copy_number : (g : ℕ) → is_copy G g ≡ true → g ≡ copy_group G (export_at G g)
-  copy_number g e =
-      let X = copy_parts g e in
-      let past = X.past in
-      let even = eqb-true ((g - length G.groups) % 2) 0 (and_parts (is_of_export G g) ((g - length G.groups) % 2 == 0) e).1 in
-      omega (arith, past, even)
-
   pub read_parts : (g : ℕ) → is_read G g ≡ true → IsExport G g (export_at G g)
   read_parts g e = export_parts g (and_parts (is_of_export G g) ((g - length G.groups) % 2 == 1) e).0
 

@@ -8,7 +8,7 @@ use Rattle.std.proofs.lemmas.List.{length-append, length-map}
 use Rattle.std.proofs.lemmas.List.Elements.{All-nil, All-append, All-map}
 use Rattle.std.proofs.lemmas.List.Sums.{fails_before_first, passes_at_first}
 use Rattle.std.proofs.lemmas.Option.{get_or_from_slice_get, slice_get-get_or, slice_get_within}
-use Rattle.fg_base.proofs.Lists.{entry_of}
+use Rattle.fg_base.proofs.Lists.{entry_of, got_back}
 use Rattle.fg_compiled.proofs.Entries.{entry_cases}
 use Rattle.fg_compiled.specs.Nodes.{copy_of}
 use Rattle.fg_compiled.specs.Plan.{export_count, exports, is_copy_of}
@@ -20,7 +20,6 @@ use Rattle.fg_groups.specs.Commands.{export_command, export_commands, kept_comma
 use Rattle.fg_groups.specs.Groups.{grouping}
 use Rattle.fg_groups.specs.declared.command.Command.{Command}
 use Rattle.fg_groups.specs.declared.grouping.Grouping.{Grouping}
-use Rattle.fg_timeline.proofs.Below.{there_right}
 
 -- command c copies export k
 pub record Copies (G : Grouping) (k c : ℕ) : Type 0 where
@@ -108,7 +107,7 @@ module _ (frame : NumberedFrame) where
         let count = count_is in
         let e = export_there frame.exports 0 k (omega (arith, count, lt)) in
         let z : 0 + k ≡ k = omega arith in
-        record { command = e.0; there = there_right own (export_commands frame 0 frame.exports) k ∙ e.1; export = export_number frame.exports 0 k e.0 e.1 ∙ ap (λ n. Some n) z }
+        record { command = e.0; there = got_back own (export_commands frame 0 frame.exports) k ∙ e.1; export = export_number frame.exports 0 k e.0 e.1 ∙ ap (λ n. Some n) z }
 
     -- the first one is a copy, so the only one
     first_copy : (k c : ℕ) → Copies G k c → Copies G k (copy_of G k)

@@ -1,5 +1,5 @@
 -- Groups by their numbers: of which unit they are, and which uses they have.
-use Rattle.std.proofs.Common.{◌≡◌, ⊎_elim, ℕ, zero, suc, ◌-◌, ◌<◌, ◌≤◌, ◌==◌, true, false, List, [], ◌∷◌, length, get_or, refl, sym, ap, ◌∙◌, subst, eq-eqb, eqb-true, arith}
+use Rattle.std.proofs.Common.{◌≡◌, ⊎_elim, ℕ, zero, suc, ◌<◌, ◌≤◌, ◌==◌, true, false, List, [], ◌∷◌, length, get_or, refl, sym, ap, ◌∙◌, subst, eq-eqb, eqb-true, arith}
 use Rattle.std.specs.List.{All, Contains}
 use Rattle.std.specs.Option.{option_map_or}
 use Rattle.std.proofs.lemmas.Bool.{cases_lt, false≢true, or_right}
@@ -14,7 +14,7 @@ use Rattle.fg_groups.specs.declared.command.Command.{Command}
 use Rattle.fg_groups.specs.declared.grouping.Grouping.{Grouping}
 use Rattle.fg_groups.specs.declared.unit_use.Use.{Use}
 use Rattle.fg_recorder.specs.Pieces.{has_piece, is_readback}
-use Rattle.fg_turns.specs.Turns.{first, last}
+use Rattle.fg_turns.specs.Turns.{first}
 
 -- a use of command c in group g
 pub record Member (G : Grouping) (c g : ℕ) : Type 0 where
@@ -121,9 +121,3 @@ module _ (G : Grouping) (L : IsGrouped G) where
 module _ (G : Grouping) (L : IsGrouped G) (K : IsKnown G) where
   pub unit_known : (g : ℕ) → g < length G.groups → unit_of G g < length G.imports
   unit_known g lt = (K.members g [] lt 0 no_use (some_use G L g lt)).0
-
-  pub turn_queue_known : (g : ℕ) → g < length G.groups → (first (group_at G g)).queue < length G.families
-  turn_queue_known g lt = (K.members g [] lt 0 no_use (some_use G L g lt)).1
-
-  pub release_queue_known : (g : ℕ) → g < length G.groups → (last (group_at G g)).queue < length G.families
-  release_queue_known g lt = let some = some_use G L g lt in (K.members g [] lt (length (group_at G g) - 1) no_use (omega (arith, some))).1

@@ -7,7 +7,7 @@ use Rattle.std.proofs.lemmas.Option.{slice_get_cases}
 use Rattle.std.proofs.lemmas.List.Folds.{Any-from_list_any, list_any_at}
 use Rattle.std.proofs.lemmas.List.FromFn.{get_or-range_with_len, length-range_with_len}
 use Rattle.fg_compiled.proofs.Aliased.{alias_at, alias_item}
-use Rattle.fg_compiled.proofs.Contained.{contains_on, contains_some, from_first, on_rising}
+use Rattle.fg_compiled.proofs.Contained.{contains_on, from_first, on_rising}
 use Rattle.fg_compiled.proofs.Early.{IsEarly}
 use Rattle.fg_compiled.proofs.Grouped.{over_parts, resource_unit}
 use Rattle.fg_compiled.proofs.Groups.{Member, commands_rise, first_in, member_of, member_queue, next_unit, next_within, is_own, some_use, use_queue}
@@ -30,6 +30,7 @@ use Rattle.fg_hb.specs.Nodes.{program_nodes}
 use Rattle.fg_lifetimes.specs.Ordered.{IsOrdered}
 use Rattle.fg_place.specs.Placing.{number_at, overlap}
 use Rattle.fg_reach.specs.Paths.{Path, one, then_on}
+use Rattle.fg_recorder.proofs.Contained.{contains_some}
 use Rattle.fg_recorder.specs.Items.{transfer}
 use Rattle.fg_recorder.specs.Pieces.{piece_of}
 use Rattle.fg_recorder.specs.Script.{does_command, is_released, script}

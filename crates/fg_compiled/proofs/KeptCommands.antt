@@ -5,12 +5,12 @@ use Rattle.std.specs.Prelude.{slice_get}
 use Rattle.std.proofs.lemmas.Bool.{false≢true}
 use Rattle.std.proofs.lemmas.List.{length-append, length-map}
 use Rattle.std.proofs.lemmas.Option.{slice_get-map, slice_get_within}
+use Rattle.fg_base.proofs.Lists.{got_back}
 use Rattle.fg_base.specs.declared.op.Op.{Op}
 use Rattle.fg_compiled.proofs.Entries.{entry_cases, entry_left}
 use Rattle.fg_frame.specs.declared.numbered.NumberedPass.{NumberedPass}
 use Rattle.fg_groups.specs.Commands.{kept_commands, on_queue, pass_commands}
 use Rattle.fg_groups.specs.declared.command.Command.{Command}
-use Rattle.fg_timeline.proofs.Below.{there_right}
 use Rattle.fg_versions.specs.Versions.{no_pass}
 
 -- how many commands stand before those of pass p
@@ -87,7 +87,7 @@ there_at (pass ∷ passes) (keep ∷ kept) (suc p) i op lt k e =
     let rest = there_at passes kept p i op (omega (arith, lt)) k e in
     let more = start_more keep pass passes kept p in
     let number : start (pass ∷ passes) (keep ∷ kept) (suc p) + i ≡ length (front keep pass) + (start passes kept p + i) = omega (arith, more) in
-    (rest.0, ap (slice_get (kept_commands (pass ∷ passes) (keep ∷ kept))) number ∙ there_right (front keep pass) (kept_commands passes kept) (start passes kept p + i) ∙ rest.1, rest.2)
+    (rest.0, ap (slice_get (kept_commands (pass ∷ passes) (keep ∷ kept))) number ∙ got_back (front keep pass) (kept_commands passes kept) (start passes kept p + i) ∙ rest.1, rest.2)
 
 -- operations of earlier passes stand before those of later ones
 pub starts_rise : (passes : List NumberedPass) (kept : List Bool) (p q i : ℕ) (op : Op ℕ) → p < q → p < length passes → get_or kept p false ≡ true → slice_get (ops_at passes p) i ≡ Some op → start passes kept p + i < start passes kept q

@@ -13,7 +13,7 @@ use Rattle.fg_base.specs.declared.role.Role.{Role}
 use Rattle.fg_base.specs.declared.shape.Shape.{Shape}
 use Rattle.fg_base.specs.declared.shape.Shape.TheVariants.{Buffer, Image}
 use Rattle.fg_bits.specs.Layouts.{is_undefined, layout_number}
-use Rattle.fg_bits.specs.Roles.{role_layout}
+use Rattle.fg_bits.specs.Roles.{role_layout, layout_wanted}
 use Rattle.fg_bits.specs.declared.layout.Layout.{Layout}
 use Rattle.fg_bits.specs.declared.layout.Layout.TheVariants.{Undefined, General, ColorAttachment, ShaderReadOnly, TransferSrc, TransferDst}
 use Rattle.fg_bits.specs.declared.masks.Masks.{Masks}
@@ -22,7 +22,7 @@ use Rattle.fg_compiled.proofs.Uses.{sourced_use}
 use Rattle.fg_compiled.specs.Plan.{unit_of}
 use Rattle.fg_groups.specs.Laws.{IsGrouped}
 use Rattle.fg_groups.specs.Needs.{group_at}
-use Rattle.fg_groups.specs.Uses.{no_use, layout_for}
+use Rattle.fg_groups.specs.Uses.{no_use}
 use Rattle.fg_groups.specs.declared.grouping.Grouping.{Grouping}
 use Rattle.fg_groups.specs.declared.unit_use.Use.{Use}
 use Rattle.fg_recorder.specs.Items.{barrier, both, transfer}
@@ -63,7 +63,7 @@ pub record IsKnownFor (shape : Shape) (layout : Option Layout) : Type 0 where
   pub image : is_some layout ≡ is_image shape
   pub known : (l : Layout) → layout ≡ Some l → is_undefined l ≡ false
 
-for_role : (shape : Shape) (role : Role) → IsKnownFor shape (layout_for shape role)
+for_role : (shape : Shape) (role : Role) → IsKnownFor shape (layout_wanted shape role)
 for_role (Buffer size) role = record { image = refl; known = λ l e. absurd (none_some l e) }
   where
     none_some : (l : Layout) → None ≡ Some l → ⊥

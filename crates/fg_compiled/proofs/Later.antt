@@ -6,7 +6,6 @@ use Rattle.fg_crossing.specs.Crossings.{Sooner, Crossed, Later, IsFull, wait_sta
 use Rattle.fg_hb.proofs.Bridge.{wait_sync}
 use Rattle.fg_hb.specs.Edges.{edge, holds_back, is_at, is_signal, is_sync, is_wait, meeting, node_at, signalled}
 use Rattle.fg_hb.specs.Nodes.{program_nodes}
-use Rattle.fg_hb.specs.declared.kind.Kind.TheVariants as node_kinds
 use Rattle.fg_hb.specs.declared.node.Node.{Node}
 use Rattle.fg_reach.specs.Paths.{one, then_on}
 use Rattle.fg_subs.specs.declared.program.Program.{Program}

@@ -9,7 +9,7 @@ use Rattle.std.proofs.lemmas.List.Elements.{All-nil, All-cons, All-append, Conta
 use Rattle.std.proofs.lemmas.List.Folds.{Any-from_list_any}
 use Rattle.fg_base.specs.Operands.{touches}
 use Rattle.fg_base.specs.declared.op.Op.{Op}
-use Rattle.fg_compiled.proofs.Contained.{contains_filter, contains_map}
+use Rattle.fg_recorder.proofs.Contained.{contains_filter, contains_map}
 use Rattle.fg_compiled.proofs.KeptCommands.{ops_at}
 use Rattle.fg_frame.specs.Good.{IsGood, IsGoodPass, has_contents, is_import, renews, shapes_in}
 use Rattle.fg_frame.specs.Numbered.{NumberedFrame}

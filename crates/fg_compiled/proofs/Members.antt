@@ -11,7 +11,7 @@ use Rattle.fg_base.specs.Shapes.{shape_at}
 use Rattle.fg_base.specs.Touches.{touches_of}
 use Rattle.fg_base.specs.declared.shape.Shape.{Shape}
 use Rattle.fg_base.specs.declared.touch.Touch.{Touch}
-use Rattle.fg_bits.specs.Roles.{role_stage, op_stage}
+use Rattle.fg_bits.specs.Roles.{role_stage, op_stage, layout_wanted}
 use Rattle.fg_compiled.proofs.Commands.{Sort, not_in_place}
 use Rattle.fg_compiled.proofs.Counting.{count_same}
 use Rattle.fg_compiled.proofs.Groups.{Member, member_queue, sourced, unit_each, unit_piece}
@@ -43,7 +43,7 @@ use Rattle.fg_subs.specs.declared.program.Program.{Program}
 use Rattle.fg_turns.specs.Under.{Heap}
 use Rattle.fg_valid.proofs.Bits.{Inside}
 use Rattle.fg_view.specs.AccessKinds.{wanted}
-use Rattle.fg_view.specs.Effects.{command_accesses, layout_wanted}
+use Rattle.fg_view.specs.Effects.{command_accesses}
 use Rattle.fg_view.specs.ShapedView.{Has}
 use Rattle.fg_view.specs.Views.{view_of}
 use Rattle.fg_view.specs.declared.access.Access.{Access}

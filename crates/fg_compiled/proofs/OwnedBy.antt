@@ -34,8 +34,8 @@ use Rattle.fg_groups.specs.Needs.{group_at, queue_of}
 use Rattle.fg_groups.specs.Uses.{no_use}
 use Rattle.fg_groups.specs.declared.grouping.Grouping.{Grouping}
 use Rattle.fg_groups.specs.declared.unit_use.Use.{Use}
+use Rattle.fg_hb.proofs.HostReads.{item_queue}
 use Rattle.fg_hb.specs.Edges.{is_host, node_at}
-use Rattle.fg_hb.specs.Nodes.{item_node}
 use Rattle.fg_recorder.specs.Pieces.{piece, piece_of}
 use Rattle.fg_recorder.specs.Standing.{turn_item}
 use Rattle.fg_subs.specs.Entries.{OfItem}
@@ -73,14 +73,6 @@ same_slice families p q lp lq e =
 not_shared : (s f : Bool) → s ≡ false → (s || f) ≡ true → f ≡ true
 not_shared false f e h = h
 not_shared true f e h = absurd cc
-
-item_queue : (q : ℕ) (it : Item) → (item_node q it).queue ≡ q
-item_queue q (item.Command op) = refl
-item_queue q (item.Global masks) = refl
-item_queue q (item.BufferBarrier p masks) = refl
-item_queue q (item.ImageBarrier p layouts masks) = refl
-item_queue q (item.Release t) = refl
-item_queue q (item.Acquire t) = refl
 
 module _ (G : Grouping) (heap : Heap) (P : Program) (S : IsSet G heap P) where
   abbrev F : Plan

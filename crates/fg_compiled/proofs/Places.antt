@@ -7,7 +7,7 @@ use Rattle.std.proofs.lemmas.Bool.{and_parts, cases_eq, cases_lt, cases_order, f
 use Rattle.std.proofs.lemmas.List.Elements.{All-contains}
 use Rattle.std.proofs.lemmas.Option.{slice_get_cases, slice_get_within}
 use Rattle.fg_base.specs.Operands.{mapped}
-use Rattle.fg_compiled.proofs.Contained.{contains_on, contains_some, from_first, last_on, last_queue, on_rising, up_to_last}
+use Rattle.fg_compiled.proofs.Contained.{contains_on, from_first, last_on, last_queue, on_rising, up_to_last}
 use Rattle.fg_compiled.proofs.Exports.{AreCopied, Copies, copies_from}
 use Rattle.fg_compiled.proofs.Grouped.{AreNext, of_unit, of_export, next, over_parts}
 use Rattle.fg_compiled.proofs.Groups.{Member, commands_rise, first_in, member_of, member_queue, next_unit, next_within, sourced, use_queue}
@@ -26,6 +26,7 @@ use Rattle.fg_groups.specs.declared.command.Command as commands
 use Rattle.fg_groups.specs.declared.grouping.Grouping.{Grouping}
 use Rattle.fg_groups.specs.declared.unit_use.Use.{Use}
 use Rattle.fg_hb.specs.Nodes.{program_nodes}
+use Rattle.fg_recorder.proofs.Contained.{contains_some}
 use Rattle.fg_recorder.specs.Items.{transfer}
 use Rattle.fg_recorder.specs.Pieces.{piece_of}
 use Rattle.fg_recorder.specs.Script.{is_released}

@@ -15,7 +15,7 @@ use Rattle.fg_bits.specs.Roles.{role_stage}
 use Rattle.fg_bits.specs.Stages.{copy}
 use Rattle.fg_bits.specs.declared.masks.Masks.{Masks}
 use Rattle.fg_compiled.proofs.Barriers.{IsBarrierOf, IsTaken, IsGiven, takes, gives}
-use Rattle.fg_compiled.proofs.Commands.{Sort, a_pass, a_copy, copy_destination, not_in_place}
+use Rattle.fg_compiled.proofs.Commands.{Sort, a_pass, a_copy, not_in_place}
 use Rattle.fg_compiled.proofs.Counting.{count_same}
 use Rattle.fg_compiled.proofs.ExportGroups.{IsExport, copy_parts, not_both}
 use Rattle.fg_compiled.proofs.Exports.{Copies, copies_from}
@@ -38,6 +38,7 @@ use Rattle.fg_crossing.specs.Nodes.{Nodes}
 use Rattle.fg_crossing.specs.Plans.{Plan}
 use Rattle.fg_crossing.specs.Spots.{OfMember}
 use Rattle.fg_cut.specs.Standing.{StandsFor}
+use Rattle.fg_groups.proofs.Operands.{copy_destination}
 use Rattle.fg_groups.specs.Commands.{copy_out}
 use Rattle.fg_groups.specs.Needs.{group_at, goes_on, is_touched, queue_of}
 use Rattle.fg_groups.specs.Uses.{role_writes, use_of}

@@ -53,6 +53,7 @@ use Rattle.fg_subs.specs.declared.program.Program.{Program}
 use Rattle.fg_turns.specs.Masks.{release_masks}
 use Rattle.fg_turns.specs.Turns.{earlier, turn_of}
 use Rattle.fg_turns.specs.Under.{Heap}
+use Rattle.fg_view.proofs.Endings.{nothing_there}
 use Rattle.fg_view.specs.Effects.{access, entry_effect, handover_of, item_effect, no_effect}
 use Rattle.fg_view.specs.ShapedView.{Has}
 use Rattle.fg_view.specs.Views.{View, accesses_of, view_of}
@@ -79,10 +80,6 @@ record IsLeaving (p : ℕ) (a : Access) : Type 0 where
 record IsReading (p : ℕ) (a : Access) : Type 0 where
   plain : is_plain a.kind ≡ true
   piece : a.piece ≡ p
-
--- no access is one of none
-pub no_access : (i : ℕ) (a : Access) → slice_get [] i ≡ Some a → ⊥
-no_access i a e = cc
 
 some_item : (q r : ℕ) (x y : Option Mark) (a b : Item) → Some (Does q x a) ≡ Some (Does r y b) → (q ≡ r) × (a ≡ b)
 some_item q r x y a b e = (cc, cc)
@@ -267,7 +264,7 @@ module _ (G : Grouping) (heap : Heap) (P : Program) (S : IsSet G heap P) where
 
   -- an alias barrier and the barrier after a copy have none
   none_of : (n q : ℕ) (it : Item) (a : Access) → StandsFor P n (OfItem q it) → (item_effect shapes q it).accesses ≡ [] → Has V n a → ⊥
-  none_of n q it a T none (i, e) = no_access i a (sym (ap (λ l. slice_get l i) none) ∙ sym (ap (λ x. slice_get x.accesses i) T.effect) ∙ e)
+  none_of n q it a T none (i, e) = nothing_there i a (sym (ap (λ l. slice_get l i) none) ∙ sym (ap (λ x. slice_get x.accesses i) T.effect) ∙ e)
 
   item_spot : (i q : ℕ) (it : Item) (a : Access) → (M : IsMarkedAt G heap i q it) → IsKnown G heap i q M.of it → Has V (item_at G heap q i) a → (g : ℕ) × Spot F V N (item_at G heap q i) a g
   item_spot i q it a M (by_mark mark is r e) h = mark_spot i q M.of it a mark M.at r e h
@@ -275,11 +272,11 @@ module _ (G : Grouping) (heap : Heap) (P : Program) (S : IsSet G heap P) where
   item_spot i q it a M (by_copy c k command none at export e queue is) h = absurd (none_of (item_at G heap q i) q it a (item_stands G heap P S.stand S.script i q M.of it M.at) (ap (λ x. (item_effect shapes q x).accesses) is) h)
 
   node_spot : (x : ℕ) (a : Access) → IsOneOf P (steps G heap) (length G.families) x → Has V x a → (g : ℕ) × Spot F V N x a g
-  node_spot x a (as_wait q i p lq lp there waits e) (j, h) = absurd (no_access j a (sym (ap (λ z. slice_get z.accesses j) (S.stand.wait q i p lq lp there waits).effect) ∙ sym (ap (λ n. slice_get (accesses_of V n) j) e) ∙ h))
+  node_spot x a (as_wait q i p lq lp there waits e) (j, h) = absurd (nothing_there j a (sym (ap (λ z. slice_get z.accesses j) (S.stand.wait q i p lq lp there waits).effect) ∙ sym (ap (λ n. slice_get (accesses_of V n) j) e) ∙ h))
   node_spot x a (as_item q i it lq there e) h =
       let M = item_marked G heap i q it there in
       moved_spot x (item_at G heap q i) a e h (item_spot i q it a M (S.standing.only i q M.of it M.at))
-  node_spot x a (as_signal q i lq there e) (j, h) = absurd (no_access j a (sym (ap (λ z. slice_get z.accesses j) (S.stand.signal q i lq there).effect) ∙ sym (ap (λ n. slice_get (accesses_of V n) j) e) ∙ h))
+  node_spot x a (as_signal q i lq there e) (j, h) = absurd (nothing_there j a (sym (ap (λ z. slice_get z.accesses j) (S.stand.signal q i lq there).effect) ∙ sym (ap (λ n. slice_get (accesses_of V n) j) e) ∙ h))
   node_spot x a (as_read k piece there e) h = moved_spot x (read_number (steps G heap) (length G.families) k) a e h (read_access k piece a there)
 
   pub all_spots : (x : ℕ) (a : Access) → Has V x a → (g : ℕ) × Spot F V N x a g
@@ -289,4 +286,4 @@ module _ (G : Grouping) (heap : Heap) (P : Program) (S : IsSet G heap P) where
       past le (j, e) =
           let nodes = length-map (entries_of P) (entry_node (length P.queues)) in
           let effects = length-map (entries_of P) (entry_effect shapes) in
-          no_access j a (sym (ap (λ z. slice_get z.accesses j) (get_or_past V.effects x no_effect (omega (arith, le, nodes, effects)))) ∙ e)
+          nothing_there j a (sym (ap (λ z. slice_get z.accesses j) (get_or_past V.effects x no_effect (omega (arith, le, nodes, effects)))) ∙ e)

@@ -12,7 +12,7 @@ use Rattle.fg_base.specs.declared.role.Role.TheVariants.{CopyRead, CopyWrite, Cl
 use Rattle.fg_base.specs.declared.shape.Shape.{Shape}
 use Rattle.fg_base.specs.declared.touch.Touch.{Touch}
 use Rattle.fg_bits.specs.Accesses.{transfer_write, shader_storage_write, color_attachment_write}
-use Rattle.fg_bits.specs.Roles.{store_access}
+use Rattle.fg_bits.specs.Roles.{store_access, layout_wanted}
 use Rattle.fg_compiled.proofs.Commands.{Sort}
 use Rattle.fg_compiled.proofs.ExportGroups.{copy_parts}
 use Rattle.fg_compiled.proofs.Exports.{Copies}
@@ -40,7 +40,7 @@ use Rattle.fg_subs.specs.Rules.{shapes_of}
 use Rattle.fg_subs.specs.declared.program.Program.{Program}
 use Rattle.fg_turns.specs.Under.{Heap}
 use Rattle.fg_view.specs.AccessKinds.{changes}
-use Rattle.fg_view.specs.Effects.{access, command_accesses, layout_wanted, role_agent}
+use Rattle.fg_view.specs.Effects.{access, command_accesses, role_agent}
 use Rattle.fg_view.specs.ShapedView.{Has}
 use Rattle.fg_view.specs.Views.{View, view_of}
 use Rattle.fg_view.specs.declared.access.Access.{Access}

@@ -21,10 +21,10 @@ use Rattle.fg_base.specs.declared.shape.Shape.{Shape}
 use Rattle.fg_base.specs.declared.shape.Shape.TheVariants.{Buffer, Image}
 use Rattle.fg_base.specs.declared.touch.Touch.{Touch}
 use Rattle.fg_bits.specs.Accesses.{transfer_read, transfer_write, shader_sampled_read, shader_storage_read, shader_storage_write, color_attachment_write}
-use Rattle.fg_bits.specs.Roles.{role_stage, op_stage, load_access, store_access}
-use Rattle.fg_compiled.proofs.Contained.{contains_map, contains_part}
+use Rattle.fg_bits.specs.Roles.{role_stage, op_stage, load_access, store_access, layout_wanted}
+use Rattle.fg_recorder.proofs.Contained.{contains_map, contains_part}
 use Rattle.fg_cut.proofs.Full.{if_some}
-use Rattle.fg_view.specs.Effects.{access, role_agent, layout_wanted, touch_load, touch_store, touch_accesses, command_accesses}
+use Rattle.fg_view.specs.Effects.{access, role_agent, touch_load, touch_store, touch_accesses, command_accesses}
 use Rattle.fg_view.specs.declared.access.Access.{Access}
 use Rattle.fg_view.specs.declared.access.AccessKind.TheVariants.{Load, Store}
 

@@ -9,7 +9,7 @@ use Rattle.fg_base.proofs.Lists.{entry_of}
 use Rattle.fg_compiled.proofs.ExportGroups.{read_parts}
 use Rattle.fg_compiled.proofs.Served.{copied_stands}
 use Rattle.fg_compiled.proofs.Setting.{IsSet}
-use Rattle.fg_compiled.proofs.Spots.{no_access, turn_access, turn_is, turn_late, turn_stands, turned_is, turned_late}
+use Rattle.fg_compiled.proofs.Spots.{turn_access, turn_is, turn_late, turn_stands, turned_is, turned_late}
 use Rattle.fg_compiled.specs.Nodes.{copied_node, copy_of, nodes_of, turn_node, turn_queue}
 use Rattle.fg_compiled.specs.Plan.{export_at, is_of_unit, plan_of}
 use Rattle.fg_crossing.specs.Nodes.{Nodes}
@@ -28,6 +28,7 @@ use Rattle.fg_turns.specs.Turns.{earlier, first, first_kind, has_uses, next_kind
 use Rattle.fg_turns.specs.Under.{Heap, place_of, uses_under}
 use Rattle.fg_turns.specs.declared.turn.TurnKind.{TurnKind}
 use Rattle.fg_turns.specs.declared.turn.TurnKind.TheVariants as kinds
+use Rattle.fg_view.proofs.Endings.{nothing_there}
 use Rattle.fg_view.specs.Effects.{item_effect}
 use Rattle.fg_view.specs.ShapedView.{Has}
 use Rattle.fg_view.specs.Views.{View, accesses_of, view_of}
@@ -105,7 +106,7 @@ module _ (G : Grouping) (heap : Heap) (P : Program) (S : IsSet G heap P) where
       none le (i, e) =
           let X = read_parts G h (sym (turned_late G heap P S h le) ∙ O.turned) in
           let C = S.copied.each (export_at G h) X.known in
-          no_access i a (sym (ap (λ x. slice_get x.accesses i) (copied_stands G heap P S (export_at G h) (copy_of G (export_at G h)) C).effect) ∙ e)
+          nothing_there i a (sym (ap (λ x. slice_get x.accesses i) (copied_stands G heap P S (export_at G h) (copy_of G (export_at G h)) C).effect) ∙ e)
 
   -- what holds of all accesses of its item
   pub turn_all : (Q : Access → Type 0) (h : ℕ) (a : Access) → OfTurn F V N h a → All Q (item_effect (shapes_of P) (turn_queue G h) (turn_item G heap h)).accesses → Q a

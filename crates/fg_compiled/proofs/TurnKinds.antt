@@ -5,7 +5,7 @@ use Rattle.std.specs.Prelude.{is_some}
 use Rattle.std.proofs.lemmas.Bool.{and_from, and_parts, cases_eq, cases_order, false≢true, not-true}
 use Rattle.std.proofs.lemmas.List.Elements.{filter_passes}
 use Rattle.std.proofs.lemmas.List.Sums.{passes_at_first}
-use Rattle.fg_compiled.proofs.Contained.{contains_filter, contains_number, some_part}
+use Rattle.fg_compiled.proofs.Contained.{contains_number, some_part}
 use Rattle.fg_compiled.proofs.Grouped.{Over, over_parts}
 use Rattle.fg_compiled.proofs.Groups.{is_own, next_within, some_use}
 use Rattle.fg_compiled.specs.Plan.{is_first, is_over, unit_of}
@@ -15,6 +15,7 @@ use Rattle.fg_groups.specs.Needs.{group_at, goes_on, is_of, is_touched}
 use Rattle.fg_groups.specs.Placed.{is_import, placed, unit_at}
 use Rattle.fg_groups.specs.declared.grouping.Grouping.{Grouping}
 use Rattle.fg_groups.specs.declared.unit_use.Use.{Use}
+use Rattle.fg_recorder.proofs.Contained.{contains_filter}
 use Rattle.fg_recorder.specs.Script.{is_released}
 use Rattle.fg_recorder.specs.Wanted.{is_there}
 use Rattle.fg_turns.specs.Turns.{earlier, first, first_kind, has_uses, is_transfer, next_kind, turn_of}

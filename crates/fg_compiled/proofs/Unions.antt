@@ -2,8 +2,8 @@
 use Rattle.std.proofs.Common.{◌≡◌, ℕ, ◌==◌, List, if◌then◌else◌, bit_or, eq-eqb}
 use Rattle.std.specs.List.{Contains}
 use Rattle.std.proofs.lemmas.List.Elements.{All-contains}
+use Rattle.fg_recorder.proofs.Contained.{contains_filter}
 use Rattle.fg_compiled.proofs.Barriers.{IsTaken, IsGiven}
-use Rattle.fg_compiled.proofs.Contained.{contains_filter}
 use Rattle.fg_groups.specs.declared.unit_use.Use.{Use}
 use Rattle.fg_turns.specs.Masks.{barrier_masks, release_masks, entry_masks}
 use Rattle.fg_turns.specs.Unions.{on, stages_on, accesses_on, writes_on, is_elsewhere}

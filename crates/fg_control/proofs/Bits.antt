@@ -3,15 +3,8 @@ use Rattle.std.proofs.Common.{◌≡◌, ℕ, Bool, true, false, ◌||◌, ◌==
 use Rattle.std.proofs.lemmas.Bool.{cases_Bool, false≢true}
 use Rattle.std.proofs.lemmas.Nat.{and_comm, and_assoc, and_or_self, and_or_apart}
 use Rattle.std.specs.Int.Bits.{and_zero_r}
+use Rattle.fg_base.proofs.Booleans.{or_false, or_true}
 use Rattle.fg_bits.specs.Sets.{meets}
-
-or_false : (a : Bool) → (a || false) ≡ a
-or_false true = refl
-or_false false = refl
-
-or_true : (a : Bool) → (a || true) ≡ true
-or_true true = refl
-or_true false = refl
 
 -- a union meets what one of the two sets meets
 pub meets_either : (a b s : ℕ) → meets (bit_or a b) s ≡ (meets a s || meets b s)

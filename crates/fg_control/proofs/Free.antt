@@ -6,13 +6,14 @@ use Rattle.std.proofs.lemmas.List.Quantifiers.{position-Some}
 use Rattle.std.proofs.lemmas.Option.{slice_get_within}
 use Rattle.std.specs.List.{list_all}
 use Rattle.std.specs.Prelude.{if◌then◌else◌}
+use Rattle.std.specs.Cmp.{both_ways}
 use Rattle.fg_bits.specs.Sets.{meets}
-use Rattle.fg_caches.proofs.Placing.{same_Bool}
 use Rattle.fg_control.proofs.Below.{some_at, some_one, last_at, last_is, IsLast}
 use Rattle.fg_control.proofs.Ranges.{every_node, at_node, all_items, item_all}
 use Rattle.fg_control.proofs.Signals.{next_some, next_none, next_is, next_is_none}
 use Rattle.fg_control.specs.Code.Held.{is_open, holds_all, holds_by_sync, signal_below, Gathers, is_held, AreLast, is_free}
 use Rattle.fg_control.specs.declared.held.Held.{Held}
+use Rattle.fg_hb.proofs.Bridge.{is_same}
 use Rattle.fg_hb.specs.Edges.{is_signal, is_sync, is_host, is_at, signals, reaches, holds_back, next_signal, meeting, goes_to, signalled, node_at, edge}
 use Rattle.fg_hb.specs.Nodes.{no_node}
 use Rattle.fg_hb.specs.declared.kind.Kind.{Kind}
@@ -32,10 +33,6 @@ met_within nodes Command x e = absurd cc
 met_within nodes Barrier x e = absurd cc
 met_within nodes (Signal value) x e = absurd cc
 met_within nodes Host x e = absurd cc
-
-same_place : (o : Option ℕ) (x : ℕ) → is_at o x ≡ true → o ≡ Some x
-same_place None x e = absurd (false≢true e)
-same_place (Some y) x e = ap (λ z. Some z) (eqb-true y x e)
 
 pub signal_not_host : (kind : Kind) → is_signal kind ≡ true → is_host kind ≡ false
 signal_not_host (Signal value) h = refl
@@ -166,7 +163,7 @@ module _ (V : View) (S : ShapedView V) (phase : ℕ → Phase) (n : ℕ) (lt : n
         (λ a. let p = and_parts (nat_lt x n) (holds_back (at x) (at n)) a in by_line x (ltb-true x n p.0) p.1)
         (λ a. ⊎_elim
         (λ b. let p = and_parts (is_signal (at x).kind) (goes_to V.nodes n (next_signal V.nodes x)) b in by_signal x (next_signal V.nodes x) refl p.0 p.1)
-        (λ b. by_met x (same_place met x b))
+        (λ b. by_met x (is_same met x b))
         (or_cases (signalled V.nodes x n) (is_at met x) a))
         (or_cases (nat_lt x n && holds_back (at x) (at n)) (signalled V.nodes x n || is_at met x) e)
 
@@ -225,4 +222,4 @@ module _ (V : View) (S : ShapedView V) (phase : ℕ → Phase) (n : ℕ) (lt : n
         (and_from (not (is_open phase met)) (not (is_host (kind_at V n)) || list_all done_last lasts) (ap not (met_done met refl)) (lasts_done (is_host (at n).kind) refl))
 
   pub free_edges : is_free V phase lasts held n ≡ each_node V goes
-  free_edges = same_Bool (is_free V phase lasts held n) (each_node V goes) free_each each_free
+  free_edges = both_ways (is_free V phase lasts held n) (each_node V goes) free_each each_free

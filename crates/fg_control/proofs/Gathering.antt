@@ -2,6 +2,7 @@
 use Rattle.std.proofs.Common.{◌≡◌, ℕ, ◌+◌, ◌<◌, Bool, true, false, not, ◌&&◌, ◌||◌, ◌==◌, Option, Some, None, bit_or, refl, sym, ap, ◌∙◌, ⊎_elim, eq-eqb, eqb-true, if◌then◌else◌}
 use Rattle.std.proofs.lemmas.Bool.{cases_Bool, and_parts}
 use Rattle.std.specs.Int.Bits.{and_zero_l}
+use Rattle.std.proofs.Math.Bool.{and-false}
 use Rattle.fg_bits.specs.Sets.{meets}
 use Rattle.fg_control.proofs.Below.{none_below, some_more, last_at, last_more}
 use Rattle.fg_control.proofs.Bits.{meets_either}
@@ -19,10 +20,6 @@ or_turned true true = refl
 or_turned true false = refl
 or_turned false true = refl
 or_turned false false = refl
-
-and_none : (a : Bool) → (a && false) ≡ false
-and_none true = refl
-and_none false = refl
 
 more_bits : (old dst s new : ℕ) (t rest : Bool) → new ≡ (if t then bit_or old dst else old) → meets old s ≡ rest → meets new s ≡ ((t && meets dst s) || rest)
 more_bits old dst s new true rest e h = ap (λ z. meets z s) e ∙ meets_either old dst s ∙ or_turned (meets old s) (meets dst s) ∙ ap (λ z. meets dst s || z) h
@@ -45,7 +42,7 @@ off_all : (b d m : Bool) → b ≡ false → ((b && not d) && m) ≡ false
 off_all b d m e = ap (λ z. (z && not d) && m) e
 
 off_sync : (s b d m : Bool) → b ≡ false → (s && ((b && not d) && m)) ≡ false
-off_sync s b d m e = ap (λ z. s && ((z && not d) && m)) e ∙ and_none s
+off_sync s b d m e = ap (λ z. s && ((z && not d) && m)) e ∙ and-false s
 
 module _ (V : View) (phase : ℕ → Phase) (q n : ℕ) (held : Held) (G : Gathers V phase q n held) where
   abbrev at : Node
@@ -100,7 +97,7 @@ module _ (V : View) (phase : ℕ → Phase) (q n : ℕ) (held : Held) (G : Gathe
 module _ (V : View) (phase : ℕ → Phase) (q n : ℕ) (done : (x : ℕ) → x < n → queue_at V x ≡ q → is_done (phase x) ≡ true) where
   none_open : (x : ℕ) → x < n → ((queue_at V x == q) && not (is_done (phase x))) ≡ false
   none_open x lt = ⊎_elim
-      (λ e. ap (λ z. (queue_at V x == q) && not z) (done x lt (eqb-true (queue_at V x) q e)) ∙ and_none (queue_at V x == q))
+      (λ e. ap (λ z. (queue_at V x == q) && not z) (done x lt (eqb-true (queue_at V x) q e)) ∙ and-false (queue_at V x == q))
       (λ e. ap (λ z. z && not (is_done (phase x))) e)
       (cases_Bool (queue_at V x == q))
 
@@ -113,7 +110,7 @@ module _ (V : View) (phase : ℕ → Phase) (q n : ℕ) (done : (x : ℕ) → x 
 
   pub nothing_held : (held : Held) → held.by_syncs.0 ≡ 0 → held.by_all.0 ≡ 0 → held.signal ≡ false → Gathers V phase q n held
   nothing_held held syncs all signal = record {
-    by_syncs = λ s. ap (λ z. meets z s) syncs ∙ ap (λ z. not (z == 0)) (and_zero_l s) ∙ sym (none_below (holds_by_sync V phase q s) n (λ x lt. ap (λ z. is_sync (kind_at V x) && (z && meets (node_at V.nodes x).dst_stages.0 s)) (none_open x lt) ∙ and_none (is_sync (kind_at V x))));
+    by_syncs = λ s. ap (λ z. meets z s) syncs ∙ ap (λ z. not (z == 0)) (and_zero_l s) ∙ sym (none_below (holds_by_sync V phase q s) n (λ x lt. ap (λ z. is_sync (kind_at V x) && (z && meets (node_at V.nodes x).dst_stages.0 s)) (none_open x lt) ∙ and-false (is_sync (kind_at V x))));
     by_all = λ s. ap (λ z. meets z s) all ∙ ap (λ z. not (z == 0)) (and_zero_l s) ∙ sym (none_below (holds_all V phase q s) n (λ x lt. ap (λ z. z && meets (node_at V.nodes x).dst_stages.0 s) (none_open x lt)));
     signal = signal ∙ last_done (signal_below V q n) refl;
   }

@@ -2,7 +2,7 @@
 use Rattle.std.proofs.Common.{◌≡◌, ◌⊎◌, inl, inr, ℕ, ◌+◌, ◌-◌, ◌<◌, ◌≤◌, Bool, true, false, ◌&&◌, ◌||◌, ◌==◌, length, get_or, slice_set, refl, sym, ap, ◌∙◌, subst, ⊎_elim, eq-eqb, eqb-true, if◌then◌else◌, arith}
 use Rattle.std.proofs.lemmas.Bool.{cases_lt, cases_eq, false≢true, ne_eqb, and_parts, and_from}
 use Rattle.std.proofs.lemmas.List.{get_or-set_same, get_or-set_other, length-set}
-use Rattle.fg_caches.proofs.Placing.{same_Bool}
+use Rattle.std.specs.Cmp.{both_ways}
 use Rattle.fg_control.proofs.Below.{some_at, some_one, none_below, some_more, some_same}
 use Rattle.fg_control.proofs.Pigeons.{Differ, pigeons}
 use Rattle.fg_control.proofs.Ranges.{node_is, one_node}
@@ -17,13 +17,6 @@ use Rattle.fg_view.specs.Views.{View}
 
 abbrev nth : Running → ℕ → ℕ
 nth r i = get_or r.nodes i 0
-
-pub none_run : (nodes : ℕ) (phase : ℕ → Phase) (r : Running) → length r.nodes ≡ nodes → r.count ≡ 0 → ((n : ℕ) → is_begun (phase n) ≡ false) → Runs nodes phase r
-none_run nodes phase r room none h = record {
-  of_nodes = record { room = room; fits = omega (arith, none); below = λ i lt. absurd (omega (arith, lt, none)) };
-  each = λ x. h x ∙ sym (ap (λ c. is_among r.nodes c x) none);
-  once = λ i k a b e. absurd (omega (arith, a, none));
-}
 
 module _ (nodes : ℕ) (phase : ℕ → Phase) (old : Running) (R : Runs nodes phase old) where
   among_of : (i : ℕ) → i < old.count → is_begun (phase (nth old i)) ≡ true
@@ -173,13 +166,13 @@ module _ (nodes : ℕ) (phase : ℕ → Phase) (old : Running) (R : Runs nodes p
         each : (x : ℕ) → is_begun (put phase n Done x) ≡ is_among new.nodes new.count x
         each x = ⊎_elim
             (λ (e : x ≡ n). ap is_begun (put_at phase n x Done e) ∙ sym (none_below (λ k. nth new k == x) new.count (λ k l. ne_eqb (nth new k) x (λ s. gone k l (s ∙ e)))))
-            (λ (e : x ≡ n → ⊥). ap is_begun (put_other phase n x Done e) ∙ R.each x ∙ same_Bool (is_among old.nodes old.count x) (is_among new.nodes new.count x) (kept x e) (was x))
+            (λ (e : x ≡ n → ⊥). ap is_begun (put_other phase n x Done e) ∙ R.each x ∙ both_ways (is_among old.nodes old.count x) (is_among new.nodes new.count x) (kept x e) (was x))
             (cases_eq x n)
 
 -- some begun command passes
 module _ (V : View) (phase : ℕ → Phase) (r : Running) (R : Runs (length V.nodes) phase r) where
   pub any_begun : (f : ℕ → Bool) → any_of r f ≡ some_node V (λ x. is_begun (phase x) && f x)
-  any_begun f = same_Bool (any_of r f) (some_node V (λ x. is_begun (phase x) && f x))
+  any_begun f = both_ways (any_of r f) (some_node V (λ x. is_begun (phase x) && f x))
       (λ h. let q = some_one (λ i. f (nth r i)) r.count h in node_is V (λ x. is_begun (phase x) && f x) (nth r q.0) (R.of_nodes.below q.0 q.1) (and_from (is_begun (phase (nth r q.0))) (f (nth r q.0)) (among_of (length V.nodes) phase r R q.0 q.1) q.2))
       (λ h.
       let q = one_node V (λ x. is_begun (phase x) && f x) h in

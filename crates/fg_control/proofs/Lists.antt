@@ -1,6 +1,5 @@
 -- Lists at every place, past their ends too.
-use Rattle.std.proofs.Common.{◌≡◌, ℕ, zero, suc, ◌+◌, ◌<◌, ◌≤◌, Bool, false, ◌==◌, ◌||◌, List, ◌∷◌, length, get_or, slice_set, replicate, drop, drop_of_length-le, refl, sym, ap, ◌∙◌, ⊎_elim, eq-eqb, add-one, if◌then◌else◌, drop-cons}
-use Rattle.std.specs.List.{list_any}
+use Rattle.std.proofs.Common.{◌≡◌, ℕ, zero, suc, ◌<◌, ◌==◌, List, length, get_or, slice_set, replicate, refl, sym, ap, ◌∙◌, ⊎_elim, eq-eqb, if◌then◌else◌}
 use Rattle.std.proofs.lemmas.Bool.{cases_eq, ne_eqb}
 use Rattle.std.proofs.lemmas.List.{get_or_default, get_or-set_same, get_or-set_other}
 use Rattle.fg_steps.proofs.Control.{put_at, put_other}
@@ -30,13 +29,3 @@ set_by xs i f v d lt e p = ⊎_elim
 -- what is read at a place
 pub read_at : {X : Type 0} (xs : List X) (i : ℕ) (x d : X) → i < length xs → x ≡ get_or xs i x → get_or xs i d ≡ x
 read_at xs i x d lt e = get_or_default xs i d x lt ∙ sym e
-
-pub one_off : {X : Type 0} (xs : List X) (i : ℕ) (x : X) → i < length xs → x ≡ get_or xs i x → drop i xs ≡ x ∷ drop (i + 1) xs
-one_off xs i x lt e = drop-cons xs i x lt ∙ ap (λ z. z ∷ drop (suc i) xs) (sym e) ∙ ap (λ k. x ∷ drop k xs) (sym (add-one i))
-
--- what some item from the i-th on passes
-pub any_off : {X : Type 0} (f : X → Bool) (xs : List X) (i : ℕ) (x : X) → i < length xs → x ≡ get_or xs i x → list_any f (drop i xs) ≡ (f x || list_any f (drop (i + 1) xs))
-any_off f xs i x lt e = ap (list_any f) (one_off xs i x lt e)
-
-pub any_past : {X : Type 0} (f : X → Bool) (xs : List X) (i : ℕ) → length xs ≤ i → list_any f (drop i xs) ≡ false
-any_past f xs i le = ap (list_any f) (drop_of_length-le xs le)

@@ -1,29 +1,16 @@
 -- Marks of begun commands, one more of them.
 use Rattle.std.proofs.Common.{◌≡◌, ℕ, ◌+◌, ◌<◌, Bool, true, false, ◌&&◌, ◌||◌, ◌==◌, List, length, get_or, slice_set, refl, sym, ap, ◌∙◌, eqb-true, if◌then◌else◌}
+use Rattle.std.proofs.Math.Bool.{and-false}
+use Rattle.fg_base.proofs.Booleans.{or_true}
 use Rattle.fg_control.proofs.Below.{some_more}
 use Rattle.fg_control.proofs.Lists.{set_by}
 use Rattle.fg_control.specs.Code.Running.{is_among}
 use Rattle.fg_steps.specs.Ready.{hits}
 use Rattle.fg_view.specs.Views.{View}
 
-or_true : (a : Bool) → (a || true) ≡ true
-or_true true = refl
-or_true false = refl
-
-and_false : (a : Bool) → (a && false) ≡ false
-and_false true = refl
-and_false false = refl
-
 -- the commands among the first i numbers that clash with node n are marked
 abbrev pub MarkedUntil : View → ℕ → List ℕ → ℕ → List Bool → List Bool → Type 0
 MarkedUntil V n numbers i first marked = (x : ℕ) → get_or marked x false ≡ (get_or first x false || (is_among numbers i x && hits V x n))
-
-pub none_marked : (V : View) (n : ℕ) (numbers : List ℕ) (first : List Bool) → MarkedUntil V n numbers 0 first first
-none_marked V n numbers first x = sym (or_false (get_or first x false))
-  where
-    or_false : (a : Bool) → (a || false) ≡ a
-    or_false true = refl
-    or_false false = refl
 
 -- one command more
 pub mark_more : (V : View) (n : ℕ) (numbers : List ℕ) (i y : ℕ) (first old new : List Bool) → get_or numbers i 0 ≡ y → MarkedUntil V n numbers i first old
@@ -62,7 +49,7 @@ marked_set marked x h lt e k = set_by marked x (λ z. true) true false lt refl k
         or_none false = refl
 
 pub marked_kept : (marked : List Bool) (x : ℕ) (h : Bool) → h ≡ false → (k : ℕ) → get_or marked k false ≡ (get_or marked k false || ((x == k) && h))
-marked_kept marked x h e k = sym (ap (λ z. get_or marked k false || z) (ap (λ z. (x == k) && z) e ∙ and_false (x == k)) ∙ or_none (get_or marked k false))
+marked_kept marked x h e k = sym (ap (λ z. get_or marked k false || z) (ap (λ z. (x == k) && z) e ∙ and-false (x == k)) ∙ or_none (get_or marked k false))
   where
     or_none : (a : Bool) → (a || false) ≡ a
     or_none true = refl

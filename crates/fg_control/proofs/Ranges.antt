@@ -52,5 +52,3 @@ pub item_all : {X : Type 0} (f : X → Bool) (xs : List X) (d : X) → list_all 
 item_all f [] d h k lt = absurd (omega (arith, lt))
 item_all f (x ∷ xs) d h zero lt = (and_parts (f x) (list_all f xs) h).0
 item_all f (x ∷ xs) d h (suc k) lt = item_all f xs d (and_parts (f x) (list_all f xs) h).1 k (omega (arith, lt))
-
--- BOOLEANS

@@ -7,6 +7,7 @@ use Rattle.std.proofs.lemmas.List.Sums.{fails_before_first}
 use Rattle.std.specs.List.{position, position_or_len}
 use Rattle.std.specs.Option.{option_map}
 use Rattle.std.specs.Prelude.{nat_lt, if◌then◌else◌}
+use Rattle.fg_base.proofs.Absence.{some_same}
 use Rattle.fg_control.proofs.Below.{IsLast, last_more}
 use Rattle.fg_control.proofs.Lists.{set_by}
 use Rattle.fg_control.specs.Code.Held.{signal_below}
@@ -18,9 +19,6 @@ use Rattle.fg_view.specs.Views.{View, queue_at}
 
 abbrev of_queue : List Node → ℕ → ℕ → Bool
 of_queue nodes q k = signals q (node_at nodes k)
-
-some_eq : {a b : ℕ} → Some a ≡ Some b → a ≡ b
-some_eq e = cc
 
 -- n is the first signal of queue q after x
 pub record IsFirstAfter (nodes : List Node) (q x n : ℕ) : Type 0 where
@@ -36,7 +34,7 @@ found : (nodes : List Node) (q x n : ℕ) (o : Option ℕ) → position (signals
 found nodes q x n None e f = absurd cc
 found nodes q x n (Some k) e f =
     let p = position-Some (signals q) (drop (x + 1) nodes) k no_node e in
-    let same : x + 1 + k ≡ n = some_eq f in
+    let same : x + 1 + k ≡ n = some_same f in
     let l = length-drop (x + 1) nodes in
     record {
       after = omega (arith, same);

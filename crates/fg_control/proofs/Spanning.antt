@@ -1,8 +1,7 @@
 -- Spans of queues as nodes are done.
-use Rattle.std.proofs.Common.{◌≡◌, ℕ, ◌+◌, ◌<◌, ◌≤◌, true, List, length, get_or, slice_set, replicate, sym, ap, ◌∙◌, subst, ⊎_elim, arith}
+use Rattle.std.proofs.Common.{◌≡◌, ℕ, ◌+◌, ◌<◌, ◌≤◌, true, List, length, get_or, slice_set, sym, ap, ◌∙◌, subst, ⊎_elim, arith}
 use Rattle.std.proofs.lemmas.Bool.{cases_lt, cases_eq}
-use Rattle.std.proofs.lemmas.List.{get_or-set_same, get_or-set_other, get_or_past, get_or-replicate, length-replicate}
-use Rattle.fg_control.proofs.Lists.{copies}
+use Rattle.std.proofs.lemmas.List.{get_or-set_same, get_or-set_other, get_or_past}
 use Rattle.fg_control.specs.Code.Spans.{from_of, Ends, Spanned}
 use Rattle.fg_control.specs.declared.spans.Spans.{Spans}
 use Rattle.fg_steps.proofs.Control.{put_at, put_other}
@@ -13,15 +12,6 @@ use Rattle.fg_view.specs.Views.{View, queue_at}
 module _ (V : View) where
   abbrev count : ℕ
   count = length V.nodes
-
-  pub no_ends : (queues : ℕ) (ends : List ℕ) → ends ≡ replicate queues 0 → Ends V 0 ends
-  no_ends queues ends e = record {
-    few = λ q. subst (λ l. get_or l q count ≤ count) (sym e) (⊎_elim
-        (λ lt. let r = get_or-replicate queues q 0 count lt in omega (arith, r))
-        (λ ge. let r = get_or_past (replicate queues 0) q count (let l = length-replicate {A = ℕ} queues 0 in omega (arith, l, ge)) in omega (arith, r))
-        (cases_lt q queues));
-    above = λ n lt. absurd (omega (arith, lt));
-  }
 
   module _ (n : ℕ) (lt : n < count) (ends : List ℕ) (E : Ends V n ends) where
     pub ends_set : (new : List ℕ) → queue_at V n < length ends → new ≡ slice_set ends (queue_at V n) (n + 1) → Ends V (n + 1) new
@@ -44,12 +34,6 @@ module _ (V : View) where
           (λ s. let same : k ≡ n = omega (arith, s, l) in let r : get_or ends (queue_at V k) count ≡ count = ap (λ z. get_or ends (queue_at V z) count) same ∙ get_or_past ends (queue_at V n) count past in omega (arith, r, same, lt))
           (cases_lt k n);
     }
-
-  pub all_spanned : (phase : ℕ → Phase) (spans : Spans) (queues : ℕ) → spans.from ≡ replicate queues 0 → Ends V count spans.to → Spanned V phase spans
-  all_spanned phase spans queues e E = record {
-    ends = E;
-    done = λ n lt. absurd (let r : from_of spans (queue_at V n) ≡ 0 = ap (λ l. get_or l (queue_at V n) 0) e ∙ copies queues 0 (queue_at V n) in omega (arith, r, lt));
-  }
 
   module _ (phase : ℕ → Phase) (old : Spans) (S : Spanned V phase old) where
     pub spanned_set : (q first : ℕ) (new : Spans) → q < length old.from → new.from ≡ slice_set old.from q first → new.to ≡ old.to

@@ -1,5 +1,5 @@
 -- Layouts and owners, one access after another.
-use Rattle.std.proofs.Common.{◌≡◌, ℕ, ◌+◌, ◌<◌, ◌≤◌, List, ◌∷◌, length, get_or, slice_get, slice_set, drop, sym, ap, ◌∙◌, subst, Some, drop_of_length-le, drop-cons, add-one, Option}
+use Rattle.std.proofs.Common.{◌≡◌, ℕ, ◌+◌, ◌<◌, List, ◌∷◌, length, get_or, slice_get, slice_set, drop, sym, ap, ◌∙◌, subst, Some, drop-cons, add-one, Option}
 use Rattle.std.proofs.lemmas.Option.{slice_get-get_or}
 use Rattle.fg_base.specs.declared.shape.Family.{Family}
 use Rattle.fg_bits.specs.declared.layout.Layout.{Layout}
@@ -43,9 +43,3 @@ module _ (accesses : List Access) (i : ℕ) (d : Access) (lt : i < length access
       ap (λ l. owned_after V n (drop (i + 1) accesses) p (get_or l p Unused)) is
       ∙ ap (owned_after V n (drop (i + 1) accesses) p) (set_by old a.piece (owner_by a.kind (family_at V n)) v Unused there (e ∙ ap (λ z. owner_by a.kind z x) f ∙ ap (owner_by a.kind (family_at V n)) (sym (read_at old a.piece x Unused there was))) p)
       ∙ sym (ap (λ l. owned_after V n l p (get_or old p Unused)) off) ∙ O p
-
-pub laid_all : (accesses : List Access) (i : ℕ) (first layouts : List Layout) → length accesses ≤ i → LaidFrom accesses i first layouts → (p : ℕ) → get_or layouts p Undefined ≡ laid_after accesses p (get_or first p Undefined)
-laid_all accesses i first layouts end L p = ap (λ l. laid_after l p (get_or layouts p Undefined)) (sym (drop_of_length-le accesses end)) ∙ L p
-
-pub owned_all : (V : View) (n : ℕ) (accesses : List Access) (i : ℕ) (first owners : List Owner) → length accesses ≤ i → OwnedFrom V n accesses i first owners → (p : ℕ) → get_or owners p Unused ≡ owned_after V n accesses p (get_or first p Unused)
-owned_all V n accesses i first owners end O p = ap (λ l. owned_after V n l p (get_or owners p Unused)) (sym (drop_of_length-le accesses end)) ∙ O p

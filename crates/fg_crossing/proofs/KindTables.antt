@@ -4,22 +4,10 @@ use Rattle.std.proofs.lemmas.Bool.{false≢true}
 use Rattle.fg_base.specs.declared.shape.Family.{Family}
 use Rattle.fg_bits.specs.declared.layout.Layout.{Layout}
 use Rattle.fg_crossing.specs.Kinds.{is_plain, is_entry, is_release}
-use Rattle.fg_hb.specs.Edges.{is_host, is_sync}
-use Rattle.fg_hb.specs.declared.kind.Kind.{Kind}
-use Rattle.fg_hb.specs.declared.kind.Kind.TheVariants.{Command, Barrier, Wait, Signal, Host}
 use Rattle.fg_stated.specs.PieceStates.{owner_after}
-use Rattle.fg_view.specs.AccessKinds.{changes, is_discard, loads, sets_layout, sets_owner, stores, transfers, wanted}
+use Rattle.fg_view.specs.AccessKinds.{changes, is_discard, sets_layout, sets_owner, stores, transfers, wanted}
 use Rattle.fg_view.specs.declared.access.AccessKind.{AccessKind}
 use Rattle.fg_view.specs.declared.access.AccessKind.TheVariants.{Load, Store, Transition, Discard, Release, Acquire}
-
--- NODES
-
-pub sync_queued : (k : Kind) → is_sync k ≡ true → is_host k ≡ false
-sync_queued Command h = refl
-sync_queued Barrier h = refl
-sync_queued (Wait queue value) h = refl
-sync_queued (Signal value) h = refl
-sync_queued Host h = absurd (false≢true h)
 
 -- WHOSE AN ACCESS IS
 
@@ -89,14 +77,6 @@ entry_owner (Discard layout) family h = refl
 entry_owner (Release handover) family h = absurd (false≢true h)
 entry_owner (Acquire handover) family h = refl
 
-pub layout_changes : (d : AccessKind) → sets_layout d ≡ true → changes d ≡ true
-layout_changes (Load agent layout) h = absurd (false≢true h)
-layout_changes (Store agent layout) h = absurd (false≢true h)
-layout_changes (Transition layouts) h = refl
-layout_changes (Discard layout) h = refl
-layout_changes (Release handover) h = absurd (false≢true h)
-layout_changes (Acquire handover) h = absurd (false≢true h)
-
 pub owner_moves : (d : AccessKind) → sets_owner d ≡ true → (changes d || transfers d) ≡ true
 owner_moves (Load agent layout) h = absurd (false≢true h)
 owner_moves (Store agent layout) h = absurd (false≢true h)
@@ -112,22 +92,6 @@ transfer_sets_owner (Transition layouts) h = absurd (false≢true h)
 transfer_sets_owner (Discard layout) h = absurd (false≢true h)
 transfer_sets_owner (Release handover) h = refl
 transfer_sets_owner (Acquire handover) h = refl
-
-pub load_keeps : (d : AccessKind) → loads d ≡ true → transfers d ≡ false
-load_keeps (Load agent layout) h = refl
-load_keeps (Store agent layout) h = absurd (false≢true h)
-load_keeps (Transition layouts) h = refl
-load_keeps (Discard layout) h = absurd (false≢true h)
-load_keeps (Release handover) h = absurd (false≢true h)
-load_keeps (Acquire handover) h = absurd (false≢true h)
-
-pub wanting_keeps : (d : AccessKind) (layout : Layout) → wanted d ≡ Some layout → transfers d ≡ false
-wanting_keeps (Load agent at) layout h = refl
-wanting_keeps (Store agent at) layout h = refl
-wanting_keeps (Transition layouts) layout h = refl
-wanting_keeps (Discard to) layout h = absurd cc
-wanting_keeps (Release handover) layout h = absurd cc
-wanting_keeps (Acquire handover) layout h = absurd cc
 
 pub release_wants_none : (d : AccessKind) (layout : Layout) → is_release d ≡ true → wanted d ≡ Some layout → ⊥
 release_wants_none (Load agent at) layout h k = false≢true h

@@ -5,7 +5,7 @@ use Rattle.std.proofs.lemmas.Bool.{cases_Bool, or_left, or_right}
 use Rattle.fg_bits.specs.declared.layout.Layout.{Layout}
 use Rattle.fg_bits.specs.declared.layout.Layout.TheVariants.{Undefined}
 use Rattle.fg_crossing.proofs.Clashes.{itself, piece_clash}
-use Rattle.fg_crossing.proofs.KindTables.{layout_changes, plain_sets_none, release_changes_none, release_wants_none, wanting_keeps}
+use Rattle.fg_crossing.proofs.KindTables.{plain_sets_none, release_changes_none, release_wants_none}
 use Rattle.fg_crossing.proofs.Knit.{Acyclic}
 use Rattle.fg_crossing.proofs.Lasts.{LastOf, LastAt, NoneAt, SortAt, last_or_none, last_of, sort_at, sorted_on}
 use Rattle.fg_crossing.proofs.Listed.{Finds, finds_change, last_listed}
@@ -24,6 +24,7 @@ use Rattle.fg_stated.specs.PieceStates.{last_on, layout_after, on_piece}
 use Rattle.fg_stated.specs.Stated.{LayoutAt}
 use Rattle.fg_ties.proofs.Ordered.{listed_of}
 use Rattle.fg_ties.specs.Tied.{Tied}
+use Rattle.fg_view.proofs.KindFacts.{layout_changes, wanting_keeps}
 use Rattle.fg_view.specs.AccessKinds.{changes, sets_layout, sets_owner, transfers, wanted}
 use Rattle.fg_view.specs.ShapedView.{Has, NodeAccessAt, ShapedView}
 use Rattle.fg_view.specs.Views.{View, node_accesses_of}

@@ -2,10 +2,11 @@
 use Rattle.std.proofs.Common.{◌≡◌, ◌⊎◌, inl, inr, ℕ, zero, suc, ◌<◌, ◌≤◌, Bool, true, false, ◌&&◌, ◌||◌, ◌==◌, nat_lt, Option, Some, None, is_none, List, [], ◌∷◌, length, if◌then◌else◌, refl, sym, ap, ◌∙◌, subst, ⊎_elim, eq-eqb, eqb-true, arith}
 use Rattle.std.proofs.lemmas.Bool.{cases_lt, cases_Bool, false≢true, and_parts, and_from, or_cases, or_left, or_right, lt-ltb, ltb-true}
 use Rattle.fg_crossing.specs.Laws.{HasLeast}
-use Rattle.fg_hb.proofs.Bridge.{meets_edge, to_walk}
+use Rattle.fg_hb.proofs.Bridge.{meets_edge, to_walk, never_false}
+use Rattle.fg_hb.proofs.Places.{among_before}
 use Rattle.fg_hb.proofs.Steps.{Needs, Available, Greedy, WholeWalk, LeastWalk, Whole, add, nothing, placed-in, placed-split, greedy-whole, stuck-walk, walk-earlier, walk-met, walk-once, walk-small}
 use Rattle.fg_hb.specs.Edges.{edge, is_wait, meeting, node_at}
-use Rattle.fg_hb.specs.Orders.{Among, before_in, Earlier, Order, is_queued}
+use Rattle.fg_hb.specs.Orders.{Among, Earlier, Order, is_queued}
 use Rattle.fg_hb.specs.declared.node.Node.{Node}
 
 -- THE LEAST NUMBER
@@ -170,19 +171,6 @@ is_met false met e f = absurd (false≢true f)
 is_met true None e f = absurd (false≢true (sym e))
 is_met true (Some x) e f = (x, refl)
 
-never_unmet : (waits : Bool) (met : Option ℕ) → (waits ≡ true → (x : ℕ) × (met ≡ Some x)) → (waits && is_none met) ≡ false
-never_unmet false met f = refl
-never_unmet true met f = let t = f refl in ap (λ o. is_none o) t.1
-
-among_before : (list : List ℕ) (x n : ℕ) → Among x (before_in list n) → Among x list
-among_before [] x n none = none
-among_before (y ∷ rest) x n a = go (y == n) a (among_before rest x n)
-  where
-    go : (b : Bool) → Among x (if b then [] else y ∷ before_in rest n) → (Among x (before_in rest n) → Among x rest) → Among x (y ∷ rest)
-    go true none next = absurd none
-    go false (inl e) next = inl e
-    go false (inr r) next = inr (next r)
-
 module _ (nodes : List Node) where
   abbrev N : Needs
   N = needs_of_nodes nodes
@@ -222,7 +210,7 @@ module _ (nodes : List Node) where
 
     walked : WholeWalk N list
     walked = record {
-      walk = to_walk N list O.once (λ n a. (O.only n a, never_unmet (is_wait (node_at nodes n).kind) (meeting nodes (node_at nodes n).kind) (λ k. let m = O.turns.met n a k in (m.0, m.1)))) earlier;
+      walk = to_walk N list O.once (λ n a. (O.only n a, never_false (is_wait (node_at nodes n).kind) (meeting nodes (node_at nodes n).kind) (λ k. let m = O.turns.met n a k in (m.0, m.1)))) earlier;
       whole = λ n lt. placed-in list nothing n (O.all n lt);
     }
 

@@ -1,9 +1,10 @@
 -- Nodes sorted by levels that no edge lowers are in order.
-use Rattle.std.proofs.Common.{◌≡◌, ◌≢◌, ◌⊎◌, inl, inr, ℕ, zero, suc, ◌<◌, ◌≤◌, nat_le, if◌then◌else◌, Bool, true, false, List, [], ◌∷◌, length, refl, sym, ap, ◌∙◌, subst, ne_eqb, arith}
+use Rattle.std.proofs.Common.{◌≡◌, ◌⊎◌, inl, inr, ℕ, zero, suc, ◌<◌, ◌≤◌, nat_le, if◌then◌else◌, Bool, true, false, List, [], ◌∷◌, length, refl, sym, ◌∙◌, subst, arith}
 use Rattle.std.proofs.lemmas.Bool.{cases_eq, cases_lt}
 use Rattle.fg_crossing.specs.Laws.{LowerFirst}
 use Rattle.fg_crossing.specs.Levels.{Under, Leveled, placed, by_level}
-use Rattle.fg_hb.specs.Orders.{Among, before_in, Distinct, Earlier, Order, IsStuck}
+use Rattle.fg_hb.proofs.InOrder.{past}
+use Rattle.fg_hb.specs.Orders.{Among, Distinct, Earlier, Order, IsStuck}
 use Rattle.fg_hb.specs.declared.node.Node.{Node}
 
 abbrev IsSorted : (ℕ → ℕ) → List ℕ → Type 0
@@ -109,9 +110,6 @@ by_level_sorted level (suc k) = placed_sorted level k (by_level level k) (below 
 distinct : (level : ℕ → ℕ) (xs : List ℕ) → IsSorted level xs → Distinct xs
 distinct level [] S = tt
 distinct level (x ∷ rest) S = (λ a. not_itself level x (S.0 x a), distinct level rest S.1)
-
-past : (z n : ℕ) (rest : List ℕ) → z ≢ n → before_in (z ∷ rest) n ≡ z ∷ before_in rest n
-past z n rest ne = ap (λ b. if b then [] else z ∷ before_in rest n) (ne_eqb z n ne)
 
 earlier : (level : ℕ → ℕ) (xs : List ℕ) → IsSorted level xs → (x n : ℕ) → Among x xs → Among n xs → Under level x n → Earlier xs x n
 earlier level [] S x n ax an u = ax

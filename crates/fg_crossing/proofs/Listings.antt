@@ -1,11 +1,12 @@
 -- The accesses that an order lists.
-use Rattle.std.proofs.Common.{◌≡◌, ◌⊎◌, inl, inr, ℕ, zero, suc, ◌+◌, ◌<◌, ◌++◌, if◌then◌else◌, List, [], ◌∷◌, length, map, slice_get, Option, Some, None, sym, ap, ◌∙◌, subst, ⊎_elim, ne_eqb, arith}
+use Rattle.std.proofs.Common.{◌≡◌, ◌⊎◌, inl, inr, ℕ, zero, suc, ◌+◌, ◌<◌, ◌++◌, if◌then◌else◌, List, [], ◌∷◌, length, map, slice_get, Some, None, sym, ap, ◌∙◌, subst, ⊎_elim, ne_eqb, arith}
 use Rattle.std.specs.Option.{option_map}
 use Rattle.std.proofs.lemmas.Bool.{cases_lt}
 use Rattle.std.proofs.lemmas.List.{get_or_past}
 use Rattle.std.proofs.lemmas.Option.{slice_get-map, slice_get_within}
 use Rattle.fg_hb.specs.Orders.{Among, before_in, Distinct, Earlier}
 use Rattle.fg_ties.proofs.Ordered.{listed_of}
+use Rattle.fg_view.proofs.Listing.{made_of}
 use Rattle.fg_view.specs.Effects.{no_effect}
 use Rattle.fg_view.specs.ShapedView.{Has, NodeAccessAt, Precedes, ShapedView}
 use Rattle.fg_view.specs.Views.{View, accesses_of, node_access, node_accesses_of}
@@ -29,12 +30,6 @@ in_second [] ys i a e = (i, e)
 in_second (x ∷ xs) ys i a e = let t = in_second xs ys i a e in (suc t.0, t.1)
 
 -- THE ACCESSES OF ONE NODE
-
-made_of : (n : ℕ) (o : Option Access) (a : NodeAccess) → option_map (node_access n) o ≡ Some a → (a.node ≡ n) × (o ≡ Some a.access)
-made_of n None a e = absurd cc
-made_of n (Some x) a e =
-    let same : node_access n x ≡ a = cc in
-    (ap (λ b. b.node) (sym same), ap (λ b. Some b.access) same)
 
 of_node : (V : View) (n i : ℕ) (a : NodeAccess) → NodeAccessAt (map (node_access n) (accesses_of V n)) i a → (a.node ≡ n) × (slice_get (accesses_of V n) i ≡ Some a.access)
 of_node V n i a e = made_of n (slice_get (accesses_of V n) i) a (sym (slice_get-map (node_access n) (accesses_of V n) i) ∙ e)

@@ -2,7 +2,7 @@
 use Rattle.std.proofs.Common.{◌≡◌, ◌⊎◌, inl, inr, ℕ, ◌<◌, ◌≤◌, true, false, List, refl, sym, ◌∙◌, subst, arith}
 use Rattle.std.proofs.lemmas.Bool.{cases_Bool, cases_eq, cases_lt, and_from, and_parts, false≢true}
 use Rattle.fg_crossing.proofs.Clashes.{change_clash, itself}
-use Rattle.fg_crossing.proofs.KindTables.{change_stores, discard_entry, load_keeps}
+use Rattle.fg_crossing.proofs.KindTables.{change_stores, discard_entry}
 use Rattle.fg_crossing.proofs.Knit.{Acyclic, ties_chain}
 use Rattle.fg_crossing.proofs.Lasts.{LastOf, NoneOf, LastAt, NoneAt, SortAt, last_or_none, sort_at}
 use Rattle.fg_crossing.proofs.Listed.{Finds, finds_change, last_listed, none_listed}
@@ -25,6 +25,7 @@ use Rattle.fg_stated.specs.PieceStates.{changes_bytes, last_change}
 use Rattle.fg_ties.proofs.Ordered.{listed_of}
 use Rattle.fg_ties.specs.Passing.{Before}
 use Rattle.fg_ties.specs.Tied.{Tied}
+use Rattle.fg_view.proofs.KindFacts.{load_keeps}
 use Rattle.fg_view.specs.AccessKinds.{changes, is_discard, loads, stores}
 use Rattle.fg_view.specs.ShapedView.{Has, NodeAccessAt, ShapedView}
 use Rattle.fg_view.specs.Views.{View, imported_at, node_access, node_accesses_of, overlap}

@@ -3,7 +3,7 @@ use Rattle.std.proofs.Common.{◌≡◌, ◌⊎◌, inl, inr, ℕ, ◌+◌, ◌<
 use Rattle.std.proofs.lemmas.Bool.{cases_Bool, cases_lt, or_right, false≢true}
 use Rattle.std.proofs.lemmas.Map.Keys.{any_passes_from_place}
 use Rattle.fg_crossing.proofs.Clashes.{itself}
-use Rattle.fg_crossing.proofs.KindTables.{entry_owner, owner_moves, plain_sets_none, release_sets_owner, sync_queued, transfer_sets_owner}
+use Rattle.fg_crossing.proofs.KindTables.{entry_owner, owner_moves, plain_sets_none, release_sets_owner, transfer_sets_owner}
 use Rattle.fg_crossing.proofs.Knit.{Acyclic}
 use Rattle.fg_crossing.proofs.Lasts.{LastOf, NoneOf, LastAt, NoneAt, SortAt, last_or_none, last_of, none_of, sort_at}
 use Rattle.fg_crossing.proofs.Ranks.{rank, phase, At, at_low, at_of, at_piece}
@@ -15,6 +15,7 @@ use Rattle.fg_crossing.specs.Nodes.{Nodes}
 use Rattle.fg_crossing.specs.Plans.{Plan, First}
 use Rattle.fg_crossing.specs.Spots.{Spot, at_turn, at_member, at_release, at_reader, OfTurn, OfRelease}
 use Rattle.fg_crossing.specs.States.{Owned, Handed}
+use Rattle.fg_hb.proofs.Lines.{sync_no_host}
 use Rattle.fg_hb.specs.Edges.{is_host, node_at}
 use Rattle.fg_stated.specs.PieceStates.{on_piece, owner_after}
 use Rattle.fg_stated.specs.Stated.{acquires}
@@ -39,8 +40,8 @@ module _ (F : Plan) (V : View) (N : Nodes) (X : Local F V N) (Y : Owned F V N) (
 
   -- so its node is of a queue
   pub owner_queued : (x g : ℕ) (a : Access) → Spot F V N x a g → sets_owner a.kind ≡ true → is_host (node_at V.nodes x).kind ≡ false
-  owner_queued x g a (at_turn e t) so = subst (λ z. is_host (node_at V.nodes z).kind ≡ false) (sym e) (sync_queued (node_at V.nodes (N.turn g)).kind (X.roles.turns g t.turned).sync)
-  owner_queued x g a (at_release e r) so = subst (λ z. is_host (node_at V.nodes z).kind ≡ false) (sym e) (sync_queued (node_at V.nodes (N.release g)).kind (X.roles.releases g r.released).sync)
+  owner_queued x g a (at_turn e t) so = subst (λ z. is_host (node_at V.nodes z).kind ≡ false) (sym e) (sync_no_host (node_at V.nodes (N.turn g)).kind (X.roles.turns g t.turned).sync)
+  owner_queued x g a (at_release e r) so = subst (λ z. is_host (node_at V.nodes z).kind ≡ false) (sym e) (sync_no_host (node_at V.nodes (N.release g)).kind (X.roles.releases g r.released).sync)
   owner_queued x g a (at_member e m) so = absurd (plain_sets_none a.kind m.plain (or_right (sets_layout a.kind) (sets_owner a.kind) so))
   owner_queued x g a (at_reader e r) so = absurd (plain_sets_none a.kind r.plain (or_right (sets_layout a.kind) (sets_owner a.kind) so))
 

@@ -3,7 +3,7 @@ use Rattle.std.proofs.Common.{◌≡◌, ℕ, zero, suc, ◌<◌, ◌==◌, ◌|
 use Rattle.std.specs.List.{find}
 use Rattle.std.specs.Option.{option_map_or}
 use Rattle.std.specs.Prelude.{unwrap_or}
-use Rattle.std.proofs.lemmas.Bool.{and_from, and_parts, false≢true}
+use Rattle.std.proofs.lemmas.Bool.{and_from, and_parts, false≢true, not-true}
 use Rattle.fg_crossing.proofs.Clashes.{itself, piece_clash}
 use Rattle.fg_crossing.proofs.KindTables.{owner_moves}
 use Rattle.fg_crossing.proofs.Lasts.{NoneAt, sorted_on}
@@ -59,10 +59,6 @@ none_of_four false true c d e = absurd (false≢true e)
 none_of_four false false true d e = absurd (false≢true e)
 none_of_four false false false true e = absurd (false≢true e)
 
-not_so : (b : Bool) → not b ≡ true → b ≡ false
-not_so false e = refl
-not_so true e = absurd (false≢true e)
-
 module _ (F : Plan) (V : View) (N : Nodes) (D : IsFull V) (X : Local F V N) (S : ShapedView V) (Y : Owned F V N) (H : Handed F V N) (T : Tied V) (order : List ℕ) (O : Order V.nodes order) (I : IsIrreflexive V.nodes) (A : IsAsymmetric V.nodes) where
   -- before the first access of a piece by a queue nothing decides its owner
   none_first : (p : ℕ) (B : FirstThat (on_queue V p) (node_accesses_of V order)) (q : ℕ) → At F V N B.found.node B.found.access q → B.found.access.piece ≡ p → NoneAt F V N sets_owner B.found.access.piece q
@@ -91,7 +87,7 @@ module _ (F : Plan) (V : View) (N : Nodes) (D : IsFull V) (X : Local F V N) (S :
       pb = eqb-true B.found.access.piece b.access.piece is.0
 
       by : (q : ℕ) × At F V N B.found.node B.found.access q → family_at V B.found.node ≡ Y.family i
-      by (q, W) = sym (runs_first F V N X Y H B.found.node q B.found.access W (subst (λ z. shared_at V z ≡ false) (sym pb) shared) (not_so (is_host (node_at V.nodes B.found.node).kind) is.1) (none_first b.access.piece B q W pb) i (record { same = one.same ∙ sym same; least = λ h e. one.least h (e ∙ same) }))
+      by (q, W) = sym (runs_first F V N X Y H B.found.node q B.found.access W (subst (λ z. shared_at V z ≡ false) (sym pb) shared) (not-true (is_host (node_at V.nodes B.found.node).kind) is.1) (none_first b.access.piece B q W pb) i (record { same = one.same ∙ sym same; least = λ h e. one.least h (e ∙ same) }))
         where
           same : F.piece W.group ≡ F.piece g
           same = sym (at_piece F V N B.found.node B.found.access q W) ∙ pb ∙ sym pg

@@ -1,7 +1,6 @@
 -- The accesses of one piece stand in ranks: the turn of a group, its members, its release, and then the next group.
 use Rattle.std.proofs.Common.{◌≡◌, ◌⊎◌, inl, inr, ℕ, ◌+◌, ◌<◌, ◌≤◌, Bool, true, false, refl, sym, ap, ◌∙◌, subst, arith}
 use Rattle.std.proofs.lemmas.Bool.{cases_eq, cases_lt, false≢true}
-use Rattle.fg_crossing.proofs.KindTables.{sync_queued}
 use Rattle.fg_crossing.proofs.Knit.{Acyclic, ties_chain}
 use Rattle.fg_crossing.proofs.Runs.{run_either}
 use Rattle.fg_crossing.proofs.Tying.{spot_piece, spot_has, spot_leaves, member_release, turn_release, one_member, local_knit}
@@ -11,6 +10,7 @@ use Rattle.fg_crossing.specs.Masks.{Leaves}
 use Rattle.fg_crossing.specs.Nodes.{Nodes}
 use Rattle.fg_crossing.specs.Plans.{Plan, leads}
 use Rattle.fg_crossing.specs.Spots.{Spot, at_turn, at_member, at_release, at_reader, OfTurn, OfMember, OfRelease, OfReader}
+use Rattle.fg_hb.proofs.Lines.{sync_no_host}
 use Rattle.fg_hb.specs.Edges.{is_host, is_sync, node_at}
 use Rattle.fg_reach.specs.Paths.{Path, then_on}
 use Rattle.fg_ties.specs.Passing.{Before, UpTo}
@@ -93,7 +93,7 @@ module _ (F : Plan) (V : View) (N : Nodes) (D : IsFull V) (X : Local F V N) wher
       (spot_leaves F V N D X y b g t (at_member e m))
   turn_first y b g t (at_release e r) lt = subst (λ z. Before V (N.turn g) z) (sym e) (turn_release F V N D X g t r.released)
   turn_first y b g t (at_reader e r) lt = leaves_before (N.turn g) y b
-      (λ same. false≢true (sym (sync_queued (node_at V.nodes (N.turn g)).kind (X.roles.turns g t).sync) ∙ ap (λ n. is_host (node_at V.nodes n).kind) (same ∙ e) ∙ X.roles.readers g r.host))
+      (λ same. false≢true (sym (sync_no_host (node_at V.nodes (N.turn g)).kind (X.roles.turns g t).sync) ∙ ap (λ n. is_host (node_at V.nodes n).kind) (same ∙ e) ∙ X.roles.readers g r.host))
       (spot_leaves F V N D X y b g t (at_reader e r))
 
   inside_before : (x y : ℕ) (a b : Access) (g : ℕ) (s : Spot F V N x a g) (u : Spot F V N y b g) → phase F V N x a g s < phase F V N y b g u → Before V x y

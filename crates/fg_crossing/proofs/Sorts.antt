@@ -1,7 +1,7 @@
 -- Where layouts are set, owners decided, and bytes changed.
 use Rattle.std.proofs.Common.{◌≡◌, ◌⊎◌, inl, inr, ℕ, Bool, true, false, refl, sym, ap, ◌∙◌, ⊎_elim}
 use Rattle.std.proofs.lemmas.Bool.{cases_Bool, or_left, or_right, false≢true}
-use Rattle.fg_crossing.proofs.KindTables.{plain_sets_none, release_changes_none, release_sets_owner, layout_changes, entry_change}
+use Rattle.fg_crossing.proofs.KindTables.{plain_sets_none, release_changes_none, release_sets_owner, entry_change}
 use Rattle.fg_crossing.proofs.Lasts.{InPhase, Known, Sorted}
 use Rattle.fg_crossing.proofs.Ranks.{in_turn, in_members, in_release}
 use Rattle.fg_crossing.specs.Kinds.{is_plain, is_release}
@@ -10,6 +10,7 @@ use Rattle.fg_crossing.specs.Nodes.{Nodes}
 use Rattle.fg_crossing.specs.Plans.{Plan}
 use Rattle.fg_crossing.specs.Spots.{at_turn, at_member, at_release, OfReader}
 use Rattle.fg_crossing.specs.States.{Laid, Owned, Handed, Changed}
+use Rattle.fg_view.proofs.KindFacts.{layout_changes}
 use Rattle.fg_view.specs.AccessKinds.{changes, sets_layout, sets_owner}
 use Rattle.fg_view.specs.ShapedView.{ShapedView}
 use Rattle.fg_view.specs.Views.{View}

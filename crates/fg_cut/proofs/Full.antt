@@ -16,7 +16,7 @@ use Rattle.fg_base.specs.declared.role.Role.TheVariants.{CopyRead, CopyWrite, Cl
 use Rattle.fg_base.specs.declared.shape.Shape.{Shape}
 use Rattle.fg_base.specs.declared.touch.Touch.{Touch}
 use Rattle.fg_bits.specs.Agents.{agents}
-use Rattle.fg_bits.specs.Roles.{role_stage, load_access, store_access}
+use Rattle.fg_bits.specs.Roles.{role_stage, load_access, store_access, layout_wanted}
 use Rattle.fg_bits.specs.Sets.{meets}
 use Rattle.fg_bits.specs.Stages.{all_commands}
 use Rattle.fg_crossing.specs.Crossings.{IsFull, Flushes, Shows}
@@ -31,7 +31,7 @@ use Rattle.fg_subs.specs.Rules.{shapes_of}
 use Rattle.fg_subs.specs.declared.program.Item.TheVariants.{Command, Global, BufferBarrier, ImageBarrier, Release, Acquire}
 use Rattle.fg_subs.specs.declared.program.Program.{Program}
 use Rattle.fg_timeline.specs.declared.step.Step.{Step}
-use Rattle.fg_view.specs.Effects.{entry_effect, access, role_agent, layout_wanted, touch_load, touch_store, touch_accesses, command_accesses, all_agents, no_effect}
+use Rattle.fg_view.specs.Effects.{entry_effect, access, role_agent, touch_load, touch_store, touch_accesses, command_accesses, all_agents, no_effect}
 use Rattle.fg_view.specs.ShapedView.{Has}
 use Rattle.fg_view.specs.Views.{View, effect_at, queue_at, is_on, view_of}
 use Rattle.fg_view.specs.declared.access.Access.{Access}

@@ -1,11 +1,10 @@
 -- No edge of a program that is cut from steps goes back by steps.
-use Rattle.std.proofs.Common.{◌≡◌, ◌⊎◌, inl, inr, ℕ, ◌+◌, ◌<◌, ◌≤◌, ◌==◌, ◌&&◌, ◌||◌, nat_lt, not, Bool, true, false, List, ◌++◌, drop, length, map, get_or, Option, Some, None, refl, sym, ap, ◌∙◌, subst, eqb-true, ltb-true, arith}
+use Rattle.std.proofs.Common.{◌≡◌, ◌⊎◌, inl, inr, ℕ, ◌+◌, ◌<◌, ◌≤◌, ◌==◌, ◌&&◌, ◌||◌, nat_lt, not, Bool, true, false, List, ◌++◌, drop, length, map, Option, Some, None, refl, sym, ap, ◌∙◌, subst, eqb-true, ltb-true, arith}
 use Rattle.std.specs.List.{position}
-use Rattle.std.specs.Option.{option_map, option_map_or}
+use Rattle.std.specs.Option.{option_map_or}
 use Rattle.std.specs.Prelude.{slice_get}
 use Rattle.std.proofs.lemmas.Bool.{and_parts, cases_lt, false≢true, or_cases}
-use Rattle.std.proofs.lemmas.List.Quantifiers.{position-Some}
-use Rattle.std.proofs.lemmas.List.{get_or-drop, length-map}
+use Rattle.std.proofs.lemmas.List.{length-map}
 use Rattle.std.proofs.lemmas.Option.{slice_get_past, slice_get_within}
 use Rattle.fg_bits.specs.Sets.{meets}
 use Rattle.fg_crossing.proofs.Levels.{lifted}
@@ -15,7 +14,8 @@ use Rattle.fg_cut.proofs.Sorts.{WaitAt, is_there, wait_at}
 use Rattle.fg_cut.proofs.Standing.{Standing, a_part, a_read, nothing, standing, total, part_is_of, all_stand, are_these}
 use Rattle.fg_cut.specs.Levels.{level_of, AreSteps}
 use Rattle.fg_cut.specs.Standing.{AllStand, AreThese, read_number}
-use Rattle.fg_hb.proofs.Bridge.{met_wait}
+use Rattle.fg_hb.proofs.Bridge.{met_wait, is_same}
+use Rattle.fg_hb.proofs.Lines.{next_place}
 use Rattle.fg_hb.specs.Edges.{edge, goes_to, holds_back, is_at, is_host, is_signal, is_sync, is_wait, meeting, next_signal, node_at, signalled, signals}
 use Rattle.fg_hb.specs.Nodes.{entry_node, host_node, no_node, program_nodes}
 use Rattle.fg_hb.specs.Orders.{is_queued}
@@ -49,22 +49,8 @@ are_steps script count there = record {
 
 -- EDGES
 
-is_same : (o : Option ℕ) (n : ℕ) → is_at o n ≡ true → o ≡ Some n
-is_same None n h = absurd (false≢true h)
-is_same (Some m) n h = ap (λ z. Some z) (eqb-true m n h)
-
 hosts_apart : (count : ℕ) → holds_back (host_node count) (host_node count) ≡ true → ⊥
 hosts_apart count e = false≢true (and_parts (count == count) false e).1
-
--- the next signal of a queue stands after the node, and is of its queue
-next_place : (nodes : List Node) (x n : ℕ) (o : Option ℕ) → position (signals (node_at nodes x).queue) (drop (x + 1) nodes) ≡ o → option_map (λ k. x + 1 + k) o ≡ Some n → (x < n) × ((node_at nodes x).queue ≡ (node_at nodes n).queue)
-next_place nodes x n None e f = absurd cc
-next_place nodes x n (Some k) e f =
-    let p = position-Some (signals (node_at nodes x).queue) (drop (x + 1) nodes) k no_node e in
-    let same : x + 1 + k ≡ n = cc in
-    let there : get_or (drop (x + 1) nodes) k no_node ≡ node_at nodes n = get_or-drop (x + 1) nodes k no_node ∙ ap (λ z. node_at nodes z) same in
-    let q = and_parts ((node_at nodes n).queue == (node_at nodes x).queue) (is_signal (node_at nodes n).kind) (subst (λ z. signals (node_at nodes x).queue z ≡ true) there p.1) in
-    (omega (arith, same), sym (eqb-true (node_at nodes n).queue (node_at nodes x).queue q.0))
 
 module _ (P : Program) (script : List Step) (count : ℕ) (E : entries_of P ≡ map entry_of (places script count) ++ map OfHost P.readbacks) (size : length P.queues ≡ count) (numbered : AreNumbered script count) (there : AllThere script count) (ordered : InOrder script count) (K : IsScript script count) (for : AreFor script count) (values : AreRising script count) where
   abbrev nodes : List Node

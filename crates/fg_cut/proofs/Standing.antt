@@ -5,6 +5,7 @@ use Rattle.std.specs.Prelude.{slice_get}
 use Rattle.std.proofs.lemmas.Bool.{cases_lt, lt-ltb, le-ltb}
 use Rattle.std.proofs.lemmas.List.{length-map}
 use Rattle.std.proofs.lemmas.Option.{slice_get-map, slice_get-get_or, slice_get_within, get_or_from_slice_get}
+use Rattle.fg_base.proofs.Lists.{got_front, got_back}
 use Rattle.fg_cut.specs.Standing.{StandsFor, read_number, AllStand, IsOneOf, as_wait, as_item, as_signal, as_read, AreThese, ReadsAreLast}
 use Rattle.fg_hb.specs.Edges.{is_host, node_at}
 use Rattle.fg_hb.specs.Nodes.{item_node, entry_node, program_nodes, no_node}
@@ -15,15 +16,12 @@ use Rattle.fg_subs.specs.Rules.{shapes_of}
 use Rattle.fg_subs.specs.declared.program.Item.{Item}
 use Rattle.fg_subs.specs.declared.program.Item.TheVariants.{Command, Global, BufferBarrier, ImageBarrier, Release, Acquire}
 use Rattle.fg_subs.specs.declared.program.Program.{Program}
-use Rattle.fg_timeline.proofs.Below.{there_left, there_right}
 use Rattle.fg_timeline.specs.Laws.{Stands, a_wait, an_item, a_signal, IsNumbered, AreNumbered, AllThere}
 use Rattle.fg_timeline.specs.Parts.{Part, Waits, Does, Signals, wait_for, signal_after}
 use Rattle.fg_timeline.specs.Places.{Place, place, places, part_entry, entry_of, wait_number, item_number, signal_number}
 use Rattle.fg_timeline.specs.declared.step.Step.{Step}
 use Rattle.fg_view.specs.Effects.{entry_effect, no_effect}
 use Rattle.fg_view.specs.Views.{view_of}
-
--- TWO LISTS
 
 -- NODES OF ENTRIES
 
@@ -73,14 +71,14 @@ module _ (P : Program) (script : List Step) (count : ℕ) (E : entries_of P ≡ 
       omega (arith, a, b, c, size)
 
   pub place_stands : (n : ℕ) (at : Place) → slice_get (places script count) n ≡ Some at → StandsFor P n (entry_of at)
-  place_stands n at e = entry_stands P n (entry_of at) (ap (λ es. slice_get es n) E ∙ there_left (map entry_of (places script count)) (map OfHost P.readbacks) n (entry_of at) (slice_get-map entry_of (places script count) n ∙ ap (option_map entry_of) e))
+  place_stands n at e = entry_stands P n (entry_of at) (ap (λ es. slice_get es n) E ∙ got_front (map entry_of (places script count)) (map OfHost P.readbacks) n (entry_of at) (slice_get-map entry_of (places script count) n ∙ ap (option_map entry_of) e))
 
   pub read_stands : (k piece : ℕ) → slice_get P.readbacks k ≡ Some piece → StandsFor P (read_number script count k) (OfHost piece)
   read_stands k piece e =
       entry_stands P (read_number script count k) (OfHost piece)
       (ap (λ es. slice_get es (read_number script count k)) E
       ∙ ap (λ z. slice_get (map entry_of (places script count) ++ map OfHost P.readbacks) (z + k)) (sym size)
-      ∙ there_right (map entry_of (places script count)) (map OfHost P.readbacks) k
+      ∙ got_back (map entry_of (places script count)) (map OfHost P.readbacks) k
       ∙ slice_get-map OfHost P.readbacks k
       ∙ ap (option_map OfHost) e)
 

@@ -1,9 +1,7 @@
 -- Rectangles one after another.
 use Rattle.std.proofs.Common.{◌≡◌, ℕ, ◌+◌, ◌*◌, ◌%◌, ◌<◌, Bool, true, false, List, length, get_or, take, refl, sym, ap, ◌∙◌, arith, bit_and, bit_or, bit_xor}
 use Rattle.std.specs.Prelude.{if◌then◌else◌}
-use Rattle.std.specs.List.{list_all}
 use Rattle.std.proofs.lemmas.Bool.Decides.{nat_tests}
-use Rattle.std.proofs.lemmas.List.Folds.{list_all_at}
 use Rattle.std.proofs.lemmas.List.Sums.{fold_more}
 use Rattle.std.proofs.lemmas.Nat.{and_mod, or_mod, xor_mod}
 use Rattle.fg_base.specs.Fits.{has_drawn}
@@ -18,23 +16,19 @@ use Rattle.fg_base.specs.declared.shape.Shape.{Shape}
 use Rattle.fg_base.specs.declared.shape.Shape.TheVariants.{Buffer, Image}
 use Rattle.fg_base.specs.declared.shape.Texel.{Texel}
 use Rattle.fg_base.specs.declared.shape.Texel.TheVariants.{R8, R32}
+use Rattle.fg_pixels.proofs.Moduli.{cut_twice}
 use Rattle.fg_pixels.proofs.Pictures.{same_band, picture_painted}
 use Rattle.fg_draw.specs.Rects.{IsWithin}
 
--- what is cut off a texel does not come back
-twice_cut : (t : Texel) (n : ℕ) → n % modulus t % modulus t ≡ n % modulus t
-twice_cut R8 n = omega arith
-twice_cut R32 n = omega arith
-
 mixed_cut : (t : Texel) (mix : Mix) (n value : ℕ) → mixed mix (n % modulus t) value % modulus t ≡ mixed mix n value % modulus t
 mixed_cut t mixes.Set n value = refl
-mixed_cut t mixes.And n value = and_mod (n % modulus t) value (texel_bits t) ∙ ap (λ (k : ℕ). bit_and k (value % modulus t)) (twice_cut t n) ∙ sym (and_mod n value (texel_bits t))
-mixed_cut t mixes.Or n value = or_mod (n % modulus t) value (texel_bits t) ∙ ap (λ (k : ℕ). bit_or k (value % modulus t)) (twice_cut t n) ∙ sym (or_mod n value (texel_bits t))
-mixed_cut t mixes.Xor n value = xor_mod (n % modulus t) value (texel_bits t) ∙ ap (λ (k : ℕ). bit_xor k (value % modulus t)) (twice_cut t n) ∙ sym (xor_mod n value (texel_bits t))
+mixed_cut t mixes.And n value = and_mod (n % modulus t) value (texel_bits t) ∙ ap (λ (k : ℕ). bit_and k (value % modulus t)) (cut_twice t n) ∙ sym (and_mod n value (texel_bits t))
+mixed_cut t mixes.Or n value = or_mod (n % modulus t) value (texel_bits t) ∙ ap (λ (k : ℕ). bit_or k (value % modulus t)) (cut_twice t n) ∙ sym (or_mod n value (texel_bits t))
+mixed_cut t mixes.Xor n value = xor_mod (n % modulus t) value (texel_bits t) ∙ ap (λ (k : ℕ). bit_xor k (value % modulus t)) (cut_twice t n) ∙ sym (xor_mod n value (texel_bits t))
 
 either_cut : (t : Texel) (b : Bool) (mix : Mix) (n value : ℕ) → (if b then mixed mix (n % modulus t) value else n % modulus t) % modulus t ≡ (if b then mixed mix n value else n) % modulus t
 either_cut t true mix n value = mixed_cut t mix n value
-either_cut t false mix n value = twice_cut t n
+either_cut t false mix n value = cut_twice t n
 
 -- a rectangle on what was painted
 pub under_painted : (g : Grid) (f : ℕ → ℕ → ℕ) (rect : Rect) → painted g (under g.texel (picture g (painted g f)) rect) ≡ painted g (under g.texel f rect)
@@ -65,10 +59,3 @@ image_bytes (Image w h R32) e = omega arith
 inside : (s : Shape) (rect : Rect) → has_drawn s rect ≡ true → IsWithin (canvas_of s) rect
 inside (Buffer size) rect e = absurd cc
 inside (Image w h t) rect e = (grind (arith, nat_tests), grind (arith, nat_tests))
-
-test_at : (b : Bool) (p : Rect → Bool) (rects : List Rect) (i : ℕ) (rect : Rect) → i < length rects → list_all p rects ≡ true → p (get_or rects i rect) ≡ b → b ≡ true
-test_at true p rects i rect within all e = refl
-test_at false p rects i rect within all e = let no = list_all_at p rects i rect within e in absurd cc
-
-pub rect_inside : (s : Shape) (rects : List Rect) (i : ℕ) (rect : Rect) → list_all (has_drawn s) rects ≡ true → i < length rects → IsWithin (canvas_of s) (get_or rects i rect)
-rect_inside s rects i rect all within = inside s (get_or rects i rect) (test_at (has_drawn s (get_or rects i rect)) (has_drawn s) rects i rect within all refl)

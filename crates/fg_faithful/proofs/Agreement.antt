@@ -1,5 +1,5 @@
 -- A sound program can be run to its end, and what the host has read by then is what it reads in every order.
-use Rattle.std.proofs.Common.{◌≡◌, ◌⊎◌, ⊎_elim, ℕ, zero, suc, ◌<◌, ◌≤◌, true, length, None, refl, sym, ap, ◌∙◌, subst, arith}
+use Rattle.std.proofs.Common.{◌≡◌, ⊎_elim, ℕ, zero, suc, ◌<◌, ◌≤◌, true, length, None, refl, sym, ap, ◌∙◌, subst, arith}
 use Rattle.std.specs.Option.{option_map}
 use Rattle.std.proofs.lemmas.Bool.{cases_lt}
 use Rattle.std.proofs.lemmas.Option.{slice_get_past}
@@ -8,7 +8,6 @@ use Rattle.fg_base.specs.declared.event.Event.TheVariants.{Begin, End, Sync, Hos
 use Rattle.fg_checker.specs.Apart.{apart}
 use Rattle.fg_checker.specs.Sound.{IsSound}
 use Rattle.fg_faithful.specs.Laws.{OrdersAgree}
-use Rattle.fg_hb.specs.declared.kind.Kind.TheVariants as kinds
 use Rattle.fg_steps.proofs.Cases.{one_of_three}
 use Rattle.fg_steps.specs.Devices.{Device, opening, state_of, view_in, fresh, did, is_ready, IsComplete, NoneBegun}
 use Rattle.fg_steps.specs.Ready.{kind_at}

@@ -7,15 +7,12 @@ use Rattle.fg_base.specs.Operands.{sources_of, destination_of, operands_of, mapp
 use Rattle.fg_base.specs.Shapes.{bytes_of, shape_at}
 use Rattle.fg_base.specs.declared.shape.Shape.{Shape}
 use Rattle.fg_base.specs.declared.shape.Shape.TheVariants.{Buffer, Image}
+use Rattle.fg_groups.proofs.Operands.{copy_destination}
 use Rattle.fg_groups.specs.Commands.{copy_out}
 
 pub copy_mapped : (f : ℕ → ℕ) (s : Shape) (src dst : ℕ) → mapped f (copy_out s src dst) ≡ copy_out s (f src) (f dst)
 copy_mapped f (Buffer size) src dst = refl
 copy_mapped f (Image w h t) src dst = refl
-
-pub copy_to : (s : Shape) (src dst : ℕ) → destination_of (copy_out s src dst) ≡ dst
-copy_to (Buffer size) src dst = refl
-copy_to (Image w h t) src dst = refl
 
 pub copy_operands : (P : ℕ → Type 0) (s : Shape) (src dst : ℕ) → All P (operands_of (copy_out s src dst)) → P src × P dst
 copy_operands P (Buffer size) src dst all = (all 0 src (omega arith), all 1 src (omega arith))
@@ -43,12 +40,12 @@ module _ (shapes : List Shape) (state : List (List ℕ)) (s : Shape) (src dst : 
   copy_count = length-set state (destination_of (copy_out s src dst)) stored
 
   pub copy_other : (r : ℕ) → r ≢ dst → bytes_at (after_op shapes state (copy_out s src dst)) r ≡ bytes_at state r
-  copy_other r other = get_or-set_other state (destination_of (copy_out s src dst)) r stored [] (λ e. other (e ∙ copy_to s src dst))
+  copy_other r other = get_or-set_other state (destination_of (copy_out s src dst)) r stored [] (λ e. other (e ∙ copy_destination s src dst))
 
   pub copy_at : shape_at shapes src ≡ s → length (bytes_at state src) ≡ bytes_of s → length (bytes_at state dst) ≡ bytes_of s → dst < length state → bytes_at (after_op shapes state (copy_out s src dst)) dst ≡ bytes_at state src
   copy_at same from into room =
-      ap (bytes_at copied) (sym (copy_to s src dst))
-      ∙ get_or-set_same state (destination_of (copy_out s src dst)) stored [] (subst (λ d. d < length state) (sym (copy_to s src dst)) room)
+      ap (bytes_at copied) (sym (copy_destination s src dst))
+      ∙ get_or-set_same state (destination_of (copy_out s src dst)) stored [] (subst (λ d. d < length state) (sym (copy_destination s src dst)) room)
       ∙ moved s same from into
     where
       moved : (t : Shape) → shape_at shapes src ≡ t → length (bytes_at state src) ≡ bytes_of t → length (bytes_at state dst) ≡ bytes_of t → applied shapes (copy_out t src dst) (map (bytes_at state) (sources_of (copy_out t src dst))) (bytes_at state (destination_of (copy_out t src dst))) ≡ bytes_at state src

@@ -5,6 +5,7 @@ use Rattle.std.specs.Option.{option_map_or}
 use Rattle.std.proofs.lemmas.List.{length-map, map-append}
 use Rattle.std.proofs.lemmas.List.Elements.{All-map}
 use Rattle.std.proofs.lemmas.Option.{slice_get_within, get_or_from_slice_get}
+use Rattle.std.proofs.lemmas.Simd.{map-map}
 use Rattle.fg_base.proofs.Operands.{destination_mapped}
 use Rattle.fg_base.specs.Applied.{bytes_at, after_op}
 use Rattle.fg_base.specs.Operands.{operands_of, destination_of, mapped}
@@ -16,12 +17,11 @@ use Rattle.fg_checker.specs.Apart.{op_at, after_nodes, apart, first_bytes as pie
 use Rattle.fg_faithful.proofs.Copies.{Ready, AreExports, copies_run}
 use Rattle.fg_faithful.proofs.Exports.{kept_sized, kept_suffice}
 use Rattle.fg_faithful.proofs.Kept.{ops_of, kept_run, kept_within, all_left, all_right}
-use Rattle.fg_faithful.proofs.Lists.{map_map}
 use Rattle.fg_faithful.proofs.Mirrors.{Renumbers, Mirrors, ops_mirror}
 use Rattle.fg_faithful.proofs.Operations.{at_destination}
 use Rattle.fg_faithful.proofs.Pieces.{shape_of_unit, shape_of_readback, renumbers, begins_room, begins_alike, readback_long}
 use Rattle.fg_faithful.proofs.Readbacks.{readback_at}
-use Rattle.fg_faithful.proofs.States.{ops_joined, ops_keep, ops_count}
+use Rattle.fg_faithful.proofs.States.{ops_keep, ops_count}
 use Rattle.fg_faithful.proofs.Touched.{Has, operands_have}
 use Rattle.fg_faithful.specs.Declared.{ops_in, declared_ops}
 use Rattle.fg_faithful.specs.Kept.{kept_bytes}
@@ -33,6 +33,7 @@ use Rattle.fg_groups.specs.Groups.{imports_in}
 use Rattle.fg_groups.specs.Laws.{IsGrouped, IsKnown}
 use Rattle.fg_groups.specs.declared.command.Command.{Command}
 use Rattle.fg_groups.specs.declared.grouping.Grouping.{Grouping}
+use Rattle.fg_meaning.proofs.Remaining.{after_ops-append}
 use Rattle.fg_meaning.specs.Meaning.{first_bytes, after_ops, meaning}
 use Rattle.fg_pixels.specs.Anew.{IgnoresOld}
 use Rattle.fg_recorder.specs.Pieces.{piece_of, pieces, memories, readbacks}
@@ -135,7 +136,7 @@ module _ (ignores : (op : Op Shape) → is_whole op ≡ true → IgnoresOld op) 
 
   split : declared_ops G ≡ map (mapped (piece_of G)) (ops_of (kept_commands frame.passes kept)) ++ map (mapped (piece_of G)) (ops_of (export_commands frame 0 frame.exports))
   split =
-      sym (map_map (mapped (piece_of G)) (λ (c : Command). c.op) G.commands)
+      sym (map-map (mapped (piece_of G)) (λ (c : Command). c.op) G.commands)
       ∙ ap (λ l. map (mapped (piece_of G)) (ops_of l)) made.commands_are
       ∙ ap (map (mapped (piece_of G))) (map-append (λ (c : Command). c.op) (kept_commands frame.passes kept) (export_commands frame 0 frame.exports))
       ∙ map-append (mapped (piece_of G)) (ops_of (kept_commands frame.passes kept)) (ops_of (export_commands frame 0 frame.exports))
@@ -147,7 +148,7 @@ module _ (ignores : (op : Op Shape) → is_whole op ≡ true → IgnoresOld op) 
       let end : apart program order ≡ after_ops (shapes_of program) passed (map (mapped (piece_of G)) (ops_of (export_commands frame 0 frame.exports))) =
       nodes_run program order start
       ∙ ap (after_ops (shapes_of program) start) (declared ∙ split)
-      ∙ ops_joined (shapes_of program) (map (mapped (piece_of G)) kept_ops) (map (mapped (piece_of G)) (ops_of (export_commands frame 0 frame.exports))) start in
+      ∙ after_ops-append (shapes_of program) (map (mapped (piece_of G)) kept_ops) (map (mapped (piece_of G)) (ops_of (export_commands frame 0 frame.exports))) start in
       let none : k ≡ 0 + k = omega arith in
       let stored : bytes_at (apart program order) (piece_of G (length frame.units + k)) ≡ bytes_at (kept_bytes frame kept) unit =
       ap (λ l. bytes_at l (piece_of G (length frame.units + k))) end

@@ -3,23 +3,23 @@ use Rattle.std.proofs.Common.{◌≡◌, ℕ, ◌+◌, ◌<◌, Bool, true, fals
 use Rattle.std.specs.List.{All}
 use Rattle.std.proofs.lemmas.List.{map-append, map-id, get_or_append_left, get_or-append-add}
 use Rattle.std.proofs.lemmas.List.Elements.{All-append, All-head, All-tail, All-map, All-nil}
+use Rattle.std.proofs.lemmas.Simd.{map-map}
 use Rattle.fg_base.specs.Operands.{operands_of}
 use Rattle.fg_base.specs.declared.op.Op.{Op}
 use Rattle.fg_base.specs.declared.shape.Shape.{Shape}
-use Rattle.fg_faithful.proofs.Lists.{map_map}
-use Rattle.fg_faithful.proofs.States.{ops_joined}
 use Rattle.fg_faithful.specs.Kept.{kept_passes}
 use Rattle.fg_frame.specs.Numbered.{IsWithin}
 use Rattle.fg_frame.specs.declared.numbered.NumberedPass.{NumberedPass}
 use Rattle.fg_groups.specs.Commands.{on_queue, pass_commands, kept_commands}
 use Rattle.fg_groups.specs.declared.command.Command.{Command}
+use Rattle.fg_meaning.proofs.Remaining.{after_ops-append}
 use Rattle.fg_meaning.specs.Meaning.{after_ops, after_passes}
 
 abbrev pub ops_of : List Command → List (Op ℕ)
 ops_of commands = map (λ command. command.op) commands
 
 pass_ops : (pass : NumberedPass) → ops_of (pass_commands pass) ≡ pass.ops
-pass_ops pass = map_map (λ (c : Command). c.op) (on_queue pass.queue) pass.ops ∙ map-id pass.ops
+pass_ops pass = map-map (λ (c : Command). c.op) (on_queue pass.queue) pass.ops ∙ map-id pass.ops
 
 pub kept_run : (shapes : List Shape) (passes : List NumberedPass) (kept : List Bool) (bytes : List (List ℕ)) → after_ops shapes bytes (ops_of (kept_commands passes kept)) ≡ after_passes shapes bytes (kept_passes passes kept)
 kept_run shapes [] kept bytes = refl
@@ -29,7 +29,7 @@ kept_run shapes (pass ∷ passes) (keep ∷ kept) bytes = go keep (kept_run shap
     go : (b : Bool) → ((bytes : List (List ℕ)) → after_ops shapes bytes (ops_of (kept_commands passes kept)) ≡ after_passes shapes bytes (kept_passes passes kept)) → after_ops shapes bytes (ops_of ((if b then pass_commands pass else []) ++ kept_commands passes kept)) ≡ after_passes shapes bytes (if b then pass ∷ kept_passes passes kept else kept_passes passes kept)
     go true more =
         ap (after_ops shapes bytes) (map-append (λ (c : Command). c.op) (pass_commands pass) (kept_commands passes kept) ∙ ap (λ l. l ++ ops_of (kept_commands passes kept)) (pass_ops pass))
-        ∙ ops_joined shapes pass.ops (ops_of (kept_commands passes kept)) bytes
+        ∙ after_ops-append shapes pass.ops (ops_of (kept_commands passes kept)) bytes
         ∙ more (after_ops shapes bytes pass.ops)
     go false more = more bytes
 

@@ -5,6 +5,7 @@ use Rattle.std.specs.Prelude.{slice_index_or}
 use Rattle.std.proofs.lemmas.Bool.{cases_eq}
 use Rattle.std.proofs.lemmas.List.{length-set, get_or-set_same, get_or-set_other}
 use Rattle.std.proofs.lemmas.List.Elements.{All-head, All-tail}
+use Rattle.std.proofs.lemmas.Simd.{map-map}
 use Rattle.fg_base.proofs.Lists.{map_same}
 use Rattle.fg_base.proofs.Operands.{sources_mapped, destination_mapped}
 use Rattle.fg_base.specs.Applied.{effect, applied, bytes_at, after_op}
@@ -12,7 +13,6 @@ use Rattle.fg_base.specs.Operands.{sources_of, destination_of, operands_of, mapp
 use Rattle.fg_base.specs.Shapes.{shape_at}
 use Rattle.fg_base.specs.declared.op.Op.{Op}
 use Rattle.fg_base.specs.declared.shape.Shape.{Shape}
-use Rattle.fg_faithful.proofs.Lists.{map_map}
 use Rattle.fg_faithful.proofs.Operations.{mapped_again, at_destination, at_sources}
 use Rattle.fg_meaning.specs.Meaning.{after_ops}
 
@@ -44,7 +44,7 @@ module _ (f : ℕ → ℕ) (shapes others : List Shape) (Has : ℕ → Type 0) (
     same_sources : map (bytes_at mirror) (sources_of (mapped f op)) ≡ map (bytes_at bytes) (sources_of op)
     same_sources =
         ap (map (bytes_at mirror)) (sources_mapped f op)
-        ∙ map_map (bytes_at mirror) f (sources_of op)
+        ∙ map-map (bytes_at mirror) f (sources_of op)
         ∙ map_same (λ r. bytes_at mirror (f r)) (bytes_at bytes) (sources_of op) (λ k d lt. M.same (get_or (sources_of op) k d) (at_sources Has op of k d lt))
 
     same_old : bytes_at mirror (destination_of (mapped f op)) ≡ bytes_at bytes dst

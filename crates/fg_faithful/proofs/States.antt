@@ -1,5 +1,5 @@
 -- Operations on the bytes of all units.
-use Rattle.std.proofs.Common.{◌≡◌, ◌≢◌, ⊎_elim, ℕ, ◌<◌, true, false, List, [], ◌∷◌, ◌++◌, length, map, get_or, slice_index_or, refl, sym, ap, ap₂, ◌∙◌, subst}
+use Rattle.std.proofs.Common.{◌≡◌, ◌≢◌, ⊎_elim, ℕ, ◌<◌, true, false, List, [], ◌∷◌, length, map, get_or, slice_index_or, refl, sym, ap, ap₂, ◌∙◌, subst}
 use Rattle.std.specs.List.{All}
 use Rattle.std.proofs.lemmas.Bool.{cases_eq}
 use Rattle.std.proofs.lemmas.List.{length-set, get_or-set_same, get_or-set_other}
@@ -80,10 +80,6 @@ module _ (shapes : List Shape) (op : Op ℕ) (fit : IsFit shapes op) where
 pub ops_sized : (shapes : List Shape) (ops : List (Op ℕ)) → All (IsFit shapes) ops → (bytes : List (List ℕ)) → AreSized shapes bytes → AreSized shapes (after_ops shapes bytes ops)
 ops_sized shapes [] fit bytes S = S
 ops_sized shapes (op ∷ ops) fit bytes S = ops_sized shapes ops (All-tail (IsFit shapes) op ops fit) (after_op shapes bytes op) (still_sized shapes op (All-head (IsFit shapes) op ops fit) bytes S)
-
-pub ops_joined : (shapes : List Shape) (xs ys : List (Op ℕ)) (bytes : List (List ℕ)) → after_ops shapes bytes (xs ++ ys) ≡ after_ops shapes (after_ops shapes bytes xs) ys
-ops_joined shapes [] ys bytes = refl
-ops_joined shapes (x ∷ xs) ys bytes = ops_joined shapes xs ys (after_op shapes bytes x)
 
 -- a unit that no operation stores to
 pub ops_keep : (shapes : List Shape) (ops : List (Op ℕ)) (u : ℕ) → All (λ op. u ≢ destination_of op) ops → (bytes : List (List ℕ)) → bytes_at (after_ops shapes bytes ops) u ≡ bytes_at bytes u

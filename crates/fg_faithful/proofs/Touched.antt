@@ -1,14 +1,14 @@
 -- What a command names has a piece.
 use Rattle.std.proofs.Common.{◌≡◌, ◌⊎◌, inl, inr, ℕ, zero, suc, ◌<◌, ◌≤◌, ◌==◌, ◌||◌, not, nat_lt, Bool, true, false, List, [], ◌∷◌, ◌++◌, length, map, get_or, if◌then◌else◌, refl, sym, ap, ap₂, ◌∙◌, subst, eqb-true, lt-ltb, le-leb, arith}
 use Rattle.std.specs.List.{All, list_any}
-use Rattle.std.proofs.lemmas.Bool.{and_from, cases_lt, false≢true}
+use Rattle.std.proofs.lemmas.Bool.{and_from, cases_lt, false≢true, or_right}
 use Rattle.std.proofs.lemmas.List.Folds.{Any-from_list_any, list_any-append, list_any_at}
+use Rattle.fg_base.proofs.Lists.{any_mapped}
 use Rattle.fg_base.specs.Operands.{sources_of, destination_of, operands_of, touches}
 use Rattle.fg_base.specs.Touches.{source_touch, destination_touch, touches_of}
 use Rattle.fg_base.specs.declared.op.Op.{Op}
 use Rattle.fg_base.specs.declared.shape.Shape.{Shape}
 use Rattle.fg_base.specs.declared.touch.Touch.{Touch}
-use Rattle.fg_faithful.proofs.Lists.{any_mapped}
 use Rattle.fg_faithful.proofs.Operations.{each_touched}
 use Rattle.fg_groups.specs.Laws.{IsFound, IsGrouped, IsKnown}
 use Rattle.fg_groups.specs.Needs.{group_at, group_of, has_unit, is_touched, uses_in}
@@ -16,7 +16,6 @@ use Rattle.fg_groups.specs.Uses.{use_of, is_first_named, uses_from, command_uses
 use Rattle.fg_groups.specs.declared.command.Command.{Command}
 use Rattle.fg_groups.specs.declared.grouping.Grouping.{Grouping}
 use Rattle.fg_groups.specs.declared.unit_use.Use.{Use}
-use Rattle.fg_meaning.proofs.Exported.{further}
 use Rattle.fg_recorder.specs.Pieces.{is_readback, has_piece}
 
 -- ONE COMMAND
@@ -48,7 +47,7 @@ module _ (shapes : List Shape) (units : ℕ) (r : ℕ) (known : r < units) where
       go true h e more =
           ap (λ b. list_any (λ (u : Use). u.unit == r) (if b then use_of shapes c q k t ∷ [] else []) || has_unit r (uses_from shapes units c q (suc k) (named ++ t.what ∷ []) touches)) (first (eqb-true t.what r h))
           ∙ ap (λ b. (b || false) || has_unit r (uses_from shapes units c q (suc k) (named ++ t.what ∷ []) touches)) h
-      go false h e more = further (list_any (λ (u : Use). u.unit == r) (if is_first_named units named t.what then use_of shapes c q k t ∷ [] else [])) (has_unit r (uses_from shapes units c q (suc k) (named ++ t.what ∷ []) touches)) (more (unnamed h) e)
+      go false h e more = or_right (list_any (λ (u : Use). u.unit == r) (if is_first_named units named t.what then use_of shapes c q k t ∷ [] else [])) (has_unit r (uses_from shapes units c q (suc k) (named ++ t.what ∷ []) touches)) (more (unnamed h) e)
 
   command_used : (c : ℕ) (command : Command) → touches r command.op ≡ true → has_unit r (command_uses shapes units c command) ≡ true
   command_used c command e = touch_used c command.queue 0 [] (touches_of shapes command.op) refl (operand_touch shapes command.op r ∙ e)
@@ -60,7 +59,7 @@ module _ (shapes : List Shape) (units : ℕ) (r : ℕ) (known : r < units) where
       ∙ ap (λ b. b || has_unit r (uses_of shapes units (suc c) commands)) (command_used c command e)
   all_used c (command ∷ commands) (suc i) d lt e =
       list_any-append (λ (u : Use). u.unit == r) (command_uses shapes units c command) (uses_of shapes units (suc c) commands)
-      ∙ further (has_unit r (command_uses shapes units c command)) (has_unit r (uses_of shapes units (suc c) commands)) (all_used (suc c) commands i d (omega (arith, lt)) e)
+      ∙ or_right (has_unit r (command_uses shapes units c command)) (has_unit r (uses_of shapes units (suc c) commands)) (all_used (suc c) commands i d (omega (arith, lt)) e)
 
 -- ALL COMMANDS
 
@@ -83,5 +82,5 @@ module _ (G : Grouping) (grouped : IsGrouped G) (known : IsKnown G) where
       go : (i : ℕ) (d : Command) → i < length G.commands → (r : ℕ) → touches r (get_or G.commands i d).op ≡ true → (r < length G.imports) ⊎ (length G.imports ≤ r) → has_piece G r ≡ true
       go i d lt r touch (inl unit) =
           let count = known.sharings in
-          further (is_readback G r) (is_touched G r) (used_touched r (all_used G.shapes (length G.sharings) r (omega (arith, unit, count)) 0 G.commands i d lt touch))
+          or_right (is_readback G r) (is_touched G r) (used_touched r (all_used G.shapes (length G.sharings) r (omega (arith, unit, count)) 0 G.commands i d lt touch))
       go i d lt r touch (inr past) = ap (λ b. b || is_touched G r) (le-leb (length G.imports) r past)

@@ -11,7 +11,7 @@ use Rattle.fg_flight.proofs.Places.{place_mapped, position_mapped}
 use Rattle.fg_flight.proofs.Same.{same_exports, same_frame, same_passes}
 use Rattle.fg_flight.specs.Flights.{all_declared, held_bytes}
 use Rattle.fg_frame.specs.Limits.{all_bytes, exported, layers_allowed, limit_broken}
-use Rattle.fg_frame.specs.Places.{first_over}
+use Rattle.fg_base.specs.Rooms.{first_over}
 use Rattle.fg_frame.specs.declared.frame.Frame.{Frame}
 use Rattle.fg_frame.specs.declared.frame.QueueDecl.{QueueDecl}
 use Rattle.fg_frame.specs.declared.frame.Resource.{Resource}

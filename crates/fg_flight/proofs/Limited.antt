@@ -10,7 +10,7 @@ use Rattle.fg_base.specs.declared.limit.Limit.{Limit}
 use Rattle.fg_base.specs.declared.limit.Limit.TheVariants as limits
 use Rattle.fg_flight.specs.Refusals.{limit_in}
 use Rattle.fg_frame.specs.Limits.{all_bytes, count_broken, exported, layers_allowed, limit_broken, op_count, over, rects_over, size_broken}
-use Rattle.fg_frame.specs.Places.{first_over}
+use Rattle.fg_base.specs.Rooms.{first_over}
 use Rattle.fg_frame.specs.declared.frame.Frame.{Frame}
 use Rattle.fg_frame.specs.declared.frame.Resource.{Resource}
 use Rattle.fg_frame.specs.declared.place.Place.{Place}

@@ -1,23 +1,13 @@
 -- Names of a window are names.
-use Rattle.std.proofs.Common.{◌≡◌, ℕ, ◌+◌, ◌<◌, ◌≤◌, ◌^◌, ◌++◌, ◌&&◌, List, [], ◌∷◌, length, suc, take, true, Option, Some, None, codes, refl, ap, ap₂, ◌∙◌, if◌then◌else◌, arith}
+use Rattle.std.proofs.Common.{◌≡◌, ℕ, ◌+◌, ◌<◌, ◌≤◌, ◌^◌, ◌++◌, ◌&&◌, List, ◌∷◌, length, suc, take, true, Option, Some, None, codes, refl, ap, ap₂, ◌∙◌, if◌then◌else◌, arith}
 use Rattle.std.specs.Fmt.{decimal}
-use Rattle.std.specs.Int.{IsInRange}
 use Rattle.std.specs.List.{list_all}
-use Rattle.std.specs.Str.Parse.{AllDigits}
 use Rattle.std.proofs.Math.Seq.{take-append_seam}
 use Rattle.std.proofs.lemmas.Bool.{le-leb}
-use Rattle.std.proofs.lemmas.Bool.Decides.{nat_tests}
 use Rattle.std.proofs.lemmas.Fmt.{decimal_is_IsNumeral, length-decimal-le}
-use Rattle.std.proofs.lemmas.Str.Parse.{digit_from_value}
+use Rattle.fg_base.proofs.NameLemmas.{digit_named, digits_named}
 use Rattle.fg_base.specs.Names.{is_name, is_name_byte, name_of}
 use Rattle.fg_named.specs.Names.{join_name, numbered_name}
-
-digit_named : (c : ℕ) → IsInRange 48 57 c → is_name_byte c ≡ true
-digit_named c in_range = grind (arith, nat_tests)
-
-digits_named : (ds : List ℕ) → AllDigits 10 ds → list_all is_name_byte ds ≡ true
-digits_named [] all = refl
-digits_named (c ∷ cs) all = ap₂ (λ a b. a && b) (digit_named c (digit_from_value c all.0)) (digits_named cs all.1)
 
 dotted_name : (i : ℕ) (rest : List ℕ) → i < 10 → length rest ≤ 20 → list_all is_name_byte rest ≡ true → is_name ((48 + i) ∷ 46 ∷ rest) ≡ true
 dotted_name i rest digit short named =

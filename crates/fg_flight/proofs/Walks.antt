@@ -102,9 +102,6 @@ resources_end i holders held left rs k all far near so_far =
     let none : drop k holders ≡ [] = ap (λ n. drop n holders) e ∙ drop-length holders in
     sym (ap (λ hs. set_imports hs (imports_by (drop k held) (drop k left)) all) none) ∙ so_far ∙ sym (renamed_sets i 0 holders (imports_by held left) rs)
 
-pub item_on : {X : Type 0} (xs : List X) (i : ℕ) (x : X) (all all' total : List X) → i < length xs → x ≡ get_or xs i x → all' ≡ all ++ x ∷ [] → all ++ drop i xs ≡ total → all' ++ drop (i + 1) xs ≡ total
-item_on xs i x all all' total lt is grows so_far = rw add-one (grown all (x ∷ []) all' _ _ total grows (at_place xs i x lt is) so_far)
-
 -- COPIES
 
 module _ (i : ℕ) (rs : List Resource) (holders : List (Option ℕ)) (left : List (Option (List ℕ))) (k : ℕ) (h : Option ℕ) (l : Option (List ℕ)) (lt : k < length holders) (same : length holders ≡ length left) (h_is : h ≡ get_or holders k h) (l_is : l ≡ get_or left k l) where

@@ -1,8 +1,8 @@
 -- Reading entry by entry and member by member, as the loops do.
-use Rattle.std.proofs.Common.{◌≡◌, ℕ, Bool, true, false, List, [], ◌∷◌, ◌++◌, map, Ok, Err, Bor, String, Global, string_bytes, refl, sym, ap, ◌∙◌}
-use Rattle.std.specs.Prelude.{◌||◌}
+use Rattle.std.proofs.Common.{◌≡◌, ℕ, true, false, List, ◌∷◌, ◌++◌, map, Ok, Err, Bor, String, Global, string_bytes, refl, sym, ap, ◌∙◌}
 use Rattle.std.specs.List.{list_any}
 use Rattle.std.specs.Str.{bytes_eq}
+use Rattle.fg_base.proofs.Lists.{any_mapped}
 use Rattle.fg_base.specs.declared.path.Leg.{Leg}
 use Rattle.fg_forms.specs.Parts.{below, unknown_in}
 use Rattle.fg_forms.specs.Reading.{Reading, Refuses, Fails, ◌>>=◌}
@@ -15,20 +15,16 @@ use Rattle.serde_json.specs.declared.value.Value.{Value}
 abbrev pub with_front : {X : Type 0} → List X → Reading (List X) → Reading (List X)
 with_front front read = read >>= λ xs. Ok (front ++ xs)
 
-list_any-map : {A B : Type 0} (p : B → Bool) (f : A → B) (xs : List A) → list_any p (map f xs) ≡ list_any (λ x. p (f x)) xs
-list_any-map p f [] = refl
-list_any-map p f (x ∷ xs) = ap (λ b. p (f x) || b) (list_any-map p f xs)
-
 abbrev Entry : Type 0
 Entry = String Global × Value
 
 -- a member that is known, and one that is not
 module _ (known : List (Bor (List ℕ))) (at : List Leg) (left : List Entry) (e : Entry) (rest : List Entry) (is : left ≡ e ∷ rest) where
   pub passes_known : list_any (λ k. bytes_eq k.now (string_bytes e.0)) known ≡ true → unknown_in (map (λ k. k.now) known) at (members_view left) ≡ unknown_in (map (λ k. k.now) known) at (members_view rest)
-  passes_known h = rw (is, list_any-map (λ k. bytes_eq k (string_bytes e.0)) (λ (k : Bor (List ℕ)). k.now) known, h) refl
+  passes_known h = rw (is, any_mapped (λ k. bytes_eq k (string_bytes e.0)) (λ (k : Bor (List ℕ)). k.now) known, h) refl
 
   pub stops_at : list_any (λ k. bytes_eq k.now (string_bytes e.0)) known ≡ false → unknown_in (map (λ k. k.now) known) at (members_view left) ≡ Err (below at (string_bytes e.0))
-  stops_at h = rw (is, list_any-map (λ k. bytes_eq k (string_bytes e.0)) (λ (k : Bor (List ℕ)). k.now) known, h) refl
+  stops_at h = rw (is, any_mapped (λ k. bytes_eq k (string_bytes e.0)) (λ (k : Bor (List ℕ)). k.now) known, h) refl
 
 pub fails_at : {X : Type 0} (e : ReadEnd) (path : List Leg) (read : Reading X) → Refuses e path → read ≡ Err path → Fails e read
 fails_at ends.NoMemory path read h is = tt

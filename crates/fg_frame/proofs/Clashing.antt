@@ -7,6 +7,7 @@ use Rattle.std.proofs.Math.Seq.{take-suc}
 use Rattle.std.proofs.lemmas.List.{take-map}
 use Rattle.std.proofs.lemmas.List.Folds.{list_any-append, list_any_more}
 use Rattle.std.proofs.lemmas.Slice.Eq.{bytes_eq-Decides}
+use Rattle.std.proofs.lemmas.Bool.{or_parts}
 use Rattle.indexmap.specs.IndexSet.{insert_key}
 use Rattle.fg_base.proofs.Booleans.{or_false}
 use Rattle.fg_base.specs.Walks.{first_in}
@@ -17,9 +18,6 @@ use Rattle.fg_frame.specs.declared.frame.Spot.{Spot}
 -- how entries are equal as keys
 abbrev pub same_spot : Spot → Spot → Bool
 same_spot a b = bytes_eq a.name b.name && option_eq nat_eq a.layer b.layer
-
-abbrev is_named : List ℕ → Spot → Bool
-is_named name s = bytes_eq name s.name
 
 -- BOOLEANS
 
@@ -42,10 +40,6 @@ any_same p q same (x ∷ xs) = ap₂ (λ a b. a || b) (same x) (any_same p q sam
 any_or : {X : Type 0} (p q r : X → Bool) → ((x : X) → p x ≡ (q x || r x)) → (xs : List X) → list_any p xs ≡ (list_any q xs || list_any r xs)
 any_or p q r parts [] = refl
 any_or p q r parts (x ∷ xs) = ap₂ (λ a b. a || b) (parts x) (any_or p q r parts xs) ∙ swap_or (q x) (r x) (list_any q xs) (list_any r xs)
-
-implied : (a b : Bool) → (b ≡ true → a ≡ true) → a ≡ false → b ≡ false
-implied a false to nope = refl
-implied a true to nope = absurd (let e : true ≡ false = sym (to refl) ∙ nope in cc)
 
 any_less : {X : Type 0} (p q : X → Bool) → ((x : X) → q x ≡ (p x && q x)) → (xs : List X) → list_any p xs ≡ false → list_any q xs ≡ false
 any_less p q less [] nope = refl
@@ -123,10 +117,6 @@ named_clash : (x : Spot) (xs : List Spot) → x.layer ≡ None → list_any (byt
 named_clash x [] whole = refl
 named_clash x (y ∷ ys) whole = ap₂ (λ a b. a || b) (sym (ap (λ o. bytes_eq x.name y.name && layers_clash o y.layer) whole ∙ and_true (bytes_eq x.name y.name))) (named_clash x ys whole)
 
-neither : (a b : Bool) → (a || b) ≡ false → (a ≡ false) × (b ≡ false)
-neither true b e = absurd cc
-neither false b e = (refl, e)
-
 is_whole : (layer : Option ℕ) → is_some layer ≡ false → layer ≡ None
 is_whole None e = refl
 is_whole (Some l) e = absurd cc
@@ -134,7 +124,7 @@ is_whole (Some l) e = absurd cc
 repeats_clash : (spots : List Spot) (i : ℕ) (xs : List Spot) → list_any (λ s. is_some s.layer) xs ≡ false → first_in (repeats_at (map (λ s. s.name) spots)) i (map (λ s. s.name) xs) ≡ first_in (clashes_at spots) i xs
 repeats_clash spots i [] whole = refl
 repeats_clash spots i (x ∷ xs) whole =
-    let parts = neither (is_some x.layer) (list_any (λ s. is_some s.layer) xs) whole in
+    let parts = or_parts (is_some x.layer) (list_any (λ s. is_some s.layer) xs) whole in
     let here : list_any (bytes_eq x.name) (take i (map (λ s. s.name) spots)) ≡ list_any (clash x) (take i spots) = ap (list_any (bytes_eq x.name)) (take-map (λ s. s.name) i spots) ∙ named_clash x (take i spots) (is_whole x.layer parts.0) in
     ap₂ (λ a b. option_or a b) (ap (λ b. if b then Some i else None) here) (repeats_clash spots (suc i) xs parts.1)
 

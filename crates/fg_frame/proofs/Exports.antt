@@ -14,7 +14,7 @@ use Rattle.fg_frame.proofs.Small.{limits_none, names_good, exports_none}
 use Rattle.fg_frame.specs.FirstFault.{first_broken}
 use Rattle.fg_frame.specs.Limits.{exported}
 use Rattle.fg_frame.specs.Numbered.{numbered}
-use Rattle.fg_frame.specs.Places.{first_over}
+use Rattle.fg_base.specs.Rooms.{first_over}
 use Rattle.fg_frame.specs.Units.{stretches, numbering, stretch_of, layer_unit, units_in, no_units, span_in, units_of}
 use Rattle.fg_frame.specs.declared.frame.Frame.{Frame}
 use Rattle.fg_frame.specs.declared.frame.Resource.{Resource}

@@ -1,12 +1,12 @@
 -- A name that stands once is found where it stands.
-use Rattle.std.proofs.Common.{◌≡◌, ℕ, zero, suc, ◌+◌, ◌<◌, List, [], ◌∷◌, length, take, get_or, Bool, true, false, Some, None, if◌then◌else◌, refl, sym, ap, subst, ◌∙◌, arith}
+use Rattle.std.proofs.Common.{◌≡◌, ℕ, zero, suc, ◌+◌, ◌<◌, List, [], ◌∷◌, length, take, get_or, Bool, true, false, Some, None, refl, sym, ap, subst, ◌∙◌, arith}
 use Rattle.std.specs.List.{list_any, position}
 use Rattle.std.specs.Option.{option_map}
 use Rattle.std.specs.Str.{bytes_eq}
 use Rattle.std.proofs.lemmas.List.{get_or-take, length-take-le}
 use Rattle.std.proofs.lemmas.List.Folds.{list_any_at}
-use Rattle.std.proofs.lemmas.Slice.Eq.{bytes_eq-Decides}
-use Rattle.fg_base.proofs.Absence.{first_none}
+use Rattle.fg_base.proofs.Absence.{first_none, out}
+use Rattle.fg_base.proofs.Lists.{same_bytes, turned}
 use Rattle.fg_frame.proofs.Exports.{position_here, position_past}
 use Rattle.fg_frame.specs.Repeats.{first_repeat, repeats_at}
 
@@ -19,10 +19,6 @@ place_at test [] q d lt here before = absurd (omega arith)
 place_at test (x ∷ xs) zero d lt here before = position_here test x xs here
 place_at test (x ∷ xs) (suc q) d lt here before = position_past test x xs (before 0 (omega arith)) ∙ ap (option_map suc) (place_at test xs q d (omega arith) here (λ j less. before (suc j) (omega arith)))
 
-out : {X : Type 0} (b : Bool) (x : X) → (if b then Some x else None) ≡ None → b ≡ false
-out true x e = absurd cc
-out false x e = refl
-
 -- of names that stand once, two are different
 pub names_apart : (names : List (List ℕ)) → first_repeat names ≡ None → (i j : ℕ) → i < length names → j < i → bytes_eq (get_or names i []) (get_or names j []) ≡ false
 names_apart names none i j lt less = by_test (bytes_eq (get_or names i []) (get_or names j [])) refl
@@ -34,19 +30,9 @@ names_apart names none i j lt less = by_test (bytes_eq (get_or names i []) (get_
     by_test false e = e
     by_test true e = absurd (no_true (sym (list_any_at (bytes_eq (get_or names i [])) (take i names) j [] (subst (λ n. j < n) (sym (length-take-le i names (omega arith))) less) (ap (bytes_eq (get_or names i [])) (get_or-take i names j [] less) ∙ e)) ∙ fresh))
 
-same_name : (name : List ℕ) → bytes_eq name name ≡ true
-same_name name = (bytes_eq-Decides name name).1 refl
-
-turned : (a b : List ℕ) → bytes_eq a b ≡ false → bytes_eq b a ≡ false
-turned a b e = by_test (bytes_eq b a) refl
-  where
-    by_test : (c : Bool) → bytes_eq b a ≡ c → bytes_eq b a ≡ false
-    by_test false f = f
-    by_test true f = absurd (no_true (sym ((bytes_eq-Decides a b).1 (sym ((bytes_eq-Decides b a).0 f))) ∙ e))
-
 -- names that stand once are found by their own places, whichever way they are compared
 pub found_by : (names : List (List ℕ)) → first_repeat names ≡ None → (q : ℕ) → q < length names → position (bytes_eq (get_or names q [])) names ≡ Some q
-found_by names none q lt = place_at (bytes_eq (get_or names q [])) names q [] lt (same_name (get_or names q [])) (λ j less. names_apart names none q j lt less)
+found_by names none q lt = place_at (bytes_eq (get_or names q [])) names q [] lt (same_bytes (get_or names q [])) (λ j less. names_apart names none q j lt less)
 
 pub found_as : (names : List (List ℕ)) → first_repeat names ≡ None → (q : ℕ) → q < length names → position (λ name. bytes_eq name (get_or names q [])) names ≡ Some q
-found_as names none q lt = place_at (λ name. bytes_eq name (get_or names q [])) names q [] lt (same_name (get_or names q [])) (λ j less. turned (get_or names q []) (get_or names j []) (names_apart names none q j lt less))
+found_as names none q lt = place_at (λ name. bytes_eq name (get_or names q [])) names q [] lt (same_bytes (get_or names q [])) (λ j less. turned (get_or names q []) (get_or names j []) (names_apart names none q j lt less))

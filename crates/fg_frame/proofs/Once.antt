@@ -31,13 +31,13 @@ use Rattle.fg_frame.specs.declared.place.Place.TheVariants as at
 
 -- LISTS WHOSE ENTRIES DIFFER
 
-abbrev Apart : List ℕ → List ℕ → Type 0
+abbrev pub Apart : List ℕ → List ℕ → Type 0
 Apart xs ys = All (λ x. All (λ y. x ≢ y) ys) xs
 
-abbrev Differ : List ℕ → Type 0
+abbrev pub Differ : List ℕ → Type 0
 Differ xs = AllPairs (λ x y. x ≢ y) xs
 
-differ_both : (xs ys : List ℕ) → Differ xs → Differ ys → Apart xs ys → Differ (xs ++ ys)
+pub differ_both : (xs ys : List ℕ) → Differ xs → Differ ys → Apart xs ys → Differ (xs ++ ys)
 differ_both [] ys one two across = two
 differ_both (x ∷ xs) ys one two across =
     AllPairs-cons (λ a b. a ≢ b) x (xs ++ ys)

@@ -1,12 +1,14 @@
 -- What the limits and the rules on names leave.
-use Rattle.std.proofs.Common.{subst, zero, suc, if◌then◌else◌, map, ◌≡◌, ℕ, ◌+◌, ◌-◌, ◌^◌, ◌<◌, ◌≤◌, ◌==◌, ◌&&◌, nat_le, nat_lt, List, [], ◌∷◌, length, get_or, slice_get, not, is_some, Bool, true, false, Option, None, Some, refl, sym, ap, ap₂, ◌∙◌, arith, replicate}
-use Rattle.std.specs.List.{position, All, flat_map, range_with_len}
+use Rattle.std.proofs.Common.{subst, zero, suc, if◌then◌else◌, map, ◌≡◌, ℕ, ◌+◌, ◌-◌, ◌^◌, ◌<◌, ◌≤◌, ◌==◌, ◌&&◌, nat_le, List, [], ◌∷◌, length, get_or, slice_get, not, is_some, Bool, true, false, Option, None, Some, refl, sym, ap, ap₂, ◌∙◌, arith, replicate}
+use Rattle.std.specs.List.{position, All, flat_map, range_with_len, sum_by}
 use Rattle.std.specs.Option.{option_or, option_map}
-use Rattle.std.proofs.lemmas.Bool.{ltb-false, leb-true, eqb-true}
+use Rattle.std.proofs.lemmas.Bool.{leb-true, eqb-true}
 use Rattle.std.proofs.lemmas.List.{length-append, length-map, length-replicate}
 use Rattle.std.proofs.lemmas.List.Elements.{All-map}
 use Rattle.std.proofs.lemmas.List.FromFn.{length-map-range_with_len}
+use Rattle.std.proofs.lemmas.List.Sums.{sum_by-cons}
 use Rattle.std.proofs.lemmas.Option.{slice_get_read}
+use Rattle.fg_base.proofs.Rooms.{all_fit}
 use Rattle.fg_base.specs.Bounds.{is_between, sides_allowed, size_allowed}
 use Rattle.fg_base.specs.Broken.{of_rule}
 use Rattle.fg_base.specs.Shapes.{is_buffer}
@@ -21,7 +23,7 @@ use Rattle.fg_frame.specs.Limits.{over, layers_allowed, all_bytes, op_count, rec
 use Rattle.fg_frame.specs.Numbered.{IsWithin, numbered, numbered_pass, uses_of, all_uses, export_units}
 use Rattle.fg_frame.specs.Parts.{parts_of}
 use Rattle.fg_frame.specs.Paths.{told}
-use Rattle.fg_frame.specs.Places.{first_over}
+use Rattle.fg_base.specs.Rooms.{first_over}
 use Rattle.fg_frame.specs.Repeats.{repeated}
 use Rattle.fg_frame.specs.Units.{Numbering, numbering, span_of, layers_of, units, units_from, unit_from, owners, spots_of, layer_spot, unit_spots}
 use Rattle.fg_frame.specs.Unknowns.{unknown}
@@ -44,13 +46,9 @@ use Rattle.fg_frame.specs.declared.rule.Rule.TheVariants as rules
 no_fault : {A : Type 0} (x : A) → ◌≡◌ {A = Option A} (Some x) None → ⊥
 no_fault x e = cc
 
-over_none : (rs : List Resource) (room i : ℕ) → first_over (λ r. r.layers) room i rs ≡ None → layers_of rs ≤ room
-over_none [] room i none = omega arith
-over_none (r ∷ rs) room i none = by_test (nat_lt room r.layers) refl none (λ left. over_none rs (room - r.layers) (suc i) left)
-  where
-    by_test : (b : Bool) → nat_lt room r.layers ≡ b → (if b then Some i else first_over (λ r. r.layers) (room - r.layers) (suc i) rs) ≡ None → (first_over (λ r. r.layers) (room - r.layers) (suc i) rs ≡ None → layers_of rs ≤ room - r.layers) → r.layers + layers_of rs ≤ room
-    by_test true e none more = absurd (no_fault i none)
-    by_test false e none more = let fits : r.layers ≤ room = ltb-false room r.layers e in let rest = more none in omega arith
+layers_sum : (rs : List Resource) → sum_by (λ r. r.layers) rs ≡ layers_of rs
+layers_sum [] = refl
+layers_sum (r ∷ rs) = sum_by-cons (λ r. r.layers) r rs ∙ ap (λ n. r.layers + n) (layers_sum rs)
 
 -- the limits one after another
 module _ (frame : Frame) (none : limit_broken frame ≡ None) where
@@ -133,7 +131,10 @@ module _ (frame : Frame) (none : limit_broken frame ≡ None) where
   sizes_allowed = all_pass (λ r. size_allowed r.shape) frame.resources (map_none (λ i. over limits.Size (at.Resource i)) (position (λ r. not (size_allowed r.shape)) frame.resources) (or_first sizes total (or_second sides (option_or sizes total) (or_second (count_broken frame) (size_broken frame.resources) none))))
 
   pub few_units : layers_of frame.resources ≤ 256
-  few_units = over_none frame.resources 256 0 (map_none (λ i. over limits.Resources at.Resources) (first_over (λ r. r.layers) 256 0 frame.resources) resources_none)
+  few_units =
+      let fits = all_fit (λ r. r.layers) frame.resources 256 0 (map_none (λ i. over limits.Resources at.Resources) (first_over (λ r. r.layers) 256 0 frame.resources) resources_none) in
+      let same = layers_sum frame.resources in
+      omega (arith, same, fits)
 
   pub queues_few : length frame.queues ≤ 4
   queues_few = leb-true (length frame.queues) 4 (right (nat_le 1 (length frame.queues)) (nat_le (length frame.queues) 4) (has_it (is_between 1 4 (length frame.queues)) (over limits.Queues at.Queues) queues_none))

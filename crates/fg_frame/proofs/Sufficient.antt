@@ -1,11 +1,12 @@
 -- A frame breaks no rule where its limits and names break none and its numbered frame is good.
-use Rattle.std.proofs.Common.{subst, zero, suc, map, take, replicate, ◌≡◌, ℕ, ◌+◌, ◌<◌, ◌≤◌, ◌&&◌, ◌||◌, ◌++◌, nat_lt, List, [], ◌∷◌, length, get_or, slice_get, not, Bool, true, false, Option, None, Some, if◌then◌else◌, refl, sym, ap, ap₂, ◌∙◌, arith, ⊎_elim}
+use Rattle.std.proofs.Common.{subst, zero, suc, map, take, replicate, ◌≡◌, ℕ, ◌+◌, ◌<◌, ◌≤◌, ◌&&◌, ◌||◌, ◌++◌, nat_lt, List, [], ◌∷◌, length, get_or, slice_get, not, Bool, true, false, Option, None, Some, refl, sym, ap, ap₂, ◌∙◌, arith, ⊎_elim}
 use Rattle.std.specs.List.{position, All, flat_map, list_any}
 use Rattle.std.specs.Option.{option_or, option_map, option_map_or}
-use Rattle.std.proofs.lemmas.Bool.{cases_Bool, lt-ltb, ltb-false, ltb-true}
+use Rattle.std.proofs.lemmas.Bool.{cases_Bool, lt-ltb, ltb-false, ltb-true, not_from_true, or_left}
 use Rattle.std.proofs.lemmas.List.{get_or-map, get_or_append_left, get_or-append-add, length-append, length-map}
 use Rattle.std.proofs.lemmas.List.Elements.{All-cons, All-head, All-nil, All-tail}
 use Rattle.std.proofs.lemmas.List.Folds.{list_any_none}
+use Rattle.fg_base.proofs.Absence.{stays_out, passes_test}
 use Rattle.fg_base.specs.Broken.{of_rule}
 use Rattle.fg_base.specs.Fits.{fits}
 use Rattle.fg_base.specs.InPlace.{in_place}
@@ -77,22 +78,10 @@ flat_each : {X Y : Type 0} (P : Y → Type 0) (f : X → List Y) (xs : List X) �
 flat_each P f [] all = All-nil (λ x. All P (f x))
 flat_each P f (x ∷ xs) all = All-cons (λ y. All P (f y)) x xs (all_front P (f x) (flat_map f xs) all) (flat_each P f xs (all_back P (f x) (flat_map f xs) all))
 
-not_false : (b : Bool) → b ≡ true → not b ≡ false
-not_false true e = refl
-not_false false e = absurd cc
-
-passes_test : {X : Type 0} (b : Bool) (x : X) → b ≡ true → (if b then None else Some x) ≡ None
-passes_test true x e = refl
-passes_test false x e = absurd cc
-
-stays_out : {X : Type 0} (b : Bool) (x : X) → b ≡ false → (if b then Some x else None) ≡ None
-stays_out true x e = absurd cc
-stays_out false x e = refl
-
 -- ENTRIES AND THEIR UNITS
 
 spots_there : (there : ℕ → Bool) (n : Numbering) (spots : List Spot) → All (λ u. there u ≡ true) (flat_map (units_of n) spots) → position (is_missing there) (map (span_of n) spots) ≡ None
-spots_there there n spots all = none_mapped (is_missing there) (span_of n) spots (λ k d lt. list_any_none (λ u. not (there u)) (units_of n (get_or spots k d)) (λ j e less. not_false (there (get_or (units_of n (get_or spots k d)) j e)) (flat_each (λ u. there u ≡ true) (units_of n) spots all k d lt j e less)))
+spots_there there n spots all = none_mapped (is_missing there) (span_of n) spots (λ k d lt. list_any_none (λ u. not (there u)) (units_of n (get_or spots k d)) (λ j e less. not_from_true (there (get_or (units_of n (get_or spots k d)) j e)) (flat_each (λ u. there u ≡ true) (units_of n) spots all k d lt j e less)))
 
 -- what holds of all numbered writes holds of the units of each entry
 each_write : (n : Numbering) (P : Bool → ℕ → Type 0) (writes : List (Write Spot)) → All (λ w. P w.fresh w.what) (flat_map (writes_of n) writes) → All (λ w. All (λ u. P w.fresh u) (units_of n w.what)) writes
@@ -120,10 +109,6 @@ or_true : (a b c : Bool) → (a || c) ≡ true → b ≡ true → (a || (b && c)
 or_true true b c e f = refl
 or_true false true c e f = e
 or_true false false c e f = absurd cc
-
-or_left : (a b : Bool) → a ≡ true → (a || b) ≡ true
-or_left true b e = refl
-or_left false b e = absurd cc
 
 module _ (pass : NumberedPass) (p k : ℕ) (op : Op ℕ) (sources : All (λ unit. (writes_it pass unit || reads_it pass unit) ≡ true) (sources_of op)) (destination : writes_it pass (destination_of op) ≡ true) where
   count : length (operands_of op) ≡ length (sources_of op) + 1
@@ -185,13 +170,13 @@ module _ (frame : Frame) (named : name_broken frame ≡ None) (G : IsGood (numbe
     there = is_there (imports_of frame) (take p uses)
 
     runs_all : use_at rules.Runs frame shapes p (uses_of frame n pass) ≡ None
-    runs_all = ap (option_map (λ k. at.Op p k)) (none_found (λ op. not (runs op (family_of frame here.queue))) here.ops (λ k e less. not_false (runs (get_or here.ops k e) (family_of frame here.queue)) ((good.ops_good k e less).on_queue (family_of frame here.queue) (family_got frame.queues here.queue (queue_there p d lt)))))
+    runs_all = ap (option_map (λ k. at.Op p k)) (none_found (λ op. not (runs op (family_of frame here.queue))) here.ops (λ k e less. not_from_true (runs (get_or here.ops k e) (family_of frame here.queue)) ((good.ops_good k e less).on_queue (family_of frame here.queue) (family_got frame.queues here.queue (queue_there p d lt)))))
 
     declared_all : use_at rules.Declared frame shapes p (uses_of frame n pass) ≡ None
     declared_all = none_in (undeclared_operand here p) here.ops (λ k e less. all_declared here p k (get_or here.ops k e) (good.ops_good k e less).declared_sources (good.ops_good k e less).declared_destination)
 
     whole_all : use_at rules.Whole frame shapes p (uses_of frame n pass) ≡ None
-    whole_all = none_over (not_whole_at shapes here.ops p) (stored_of n) pass.writes (λ k e less. stays_out ((get_or pass.writes k e).fresh && is_partial shapes here.ops (span_of n (get_or pass.writes k e).what)) (at.Write p k) (fresh_none (get_or pass.writes k e).fresh (λ u. not (starts_whole shapes here.ops u)) (units_of n (get_or pass.writes k e).what) (λ j f small. λ new. not_false (starts_whole shapes here.ops (get_or (units_of n (get_or pass.writes k e).what) j f)) (each_write n (λ fresh u. fresh ≡ true → starts_whole shapes here.ops u ≡ true) pass.writes good.new_whole k e less j f small new))))
+    whole_all = none_over (not_whole_at shapes here.ops p) (stored_of n) pass.writes (λ k e less. stays_out ((get_or pass.writes k e).fresh && is_partial shapes here.ops (span_of n (get_or pass.writes k e).what)) (at.Write p k) (fresh_none (get_or pass.writes k e).fresh (λ u. not (starts_whole shapes here.ops u)) (units_of n (get_or pass.writes k e).what) (λ j f small. λ new. not_from_true (starts_whole shapes here.ops (get_or (units_of n (get_or pass.writes k e).what) j f)) (each_write n (λ fresh u. fresh ≡ true → starts_whole shapes here.ops u ≡ true) pass.writes good.new_whole k e less j f small new))))
 
     fits_all : use_at rules.Fits frame shapes p (uses_of frame n pass) ≡ None
     fits_all = none_in (misfit_at shapes p) here.ops (λ k e less. passes_test (fits (mapped (shape_at shapes) (get_or here.ops k e))) (at.Op p k) (good.ops_good k e less).fitting)
@@ -207,10 +192,10 @@ module _ (frame : Frame) (named : name_broken frame ≡ None) (G : IsGood (numbe
         (ap (option_map (λ k. at.Read p k)) (spots_there there n pass.reads (λ k e less. there_before frame p (get_or here.reads k e) ∙ good.reads_there k e less)))
         (ap (option_map (λ j. at.Write p j)) (none_mapped (λ w. not w.fresh && is_missing there w.units) (stored_of n) pass.writes (λ k e less. stale_none (get_or pass.writes k e).fresh (λ u. not (there u)) (units_of n (get_or pass.writes k e).what) (λ j f small. λ stale.
         let unit = get_or (units_of n (get_or pass.writes k e).what) j f in
-        not_false (there unit) (there_before frame p unit ∙ each_write n (λ fresh u. fresh ≡ false → has_contents (units frame) (take p (numbered frame).passes) u ≡ true) pass.writes good.changes_there k e less j f small stale)))))
+        not_from_true (there unit) (there_before frame p unit ∙ each_write n (λ fresh u. fresh ≡ false → has_contents (units frame) (take p (numbered frame).passes) u ≡ true) pass.writes good.changes_there k e less j f small stale)))))
 
   imports_all : misfit_import frame.resources ≡ None
-  imports_all = ap (option_map (λ i. at.Import i)) (none_found (λ r. not (import_fits r.shape r.import)) frame.resources (λ k d lt. not_false (import_fits (get_or frame.resources k d).shape (get_or frame.resources k d).import) (first_unit (get_or frame.resources k d) (some_layers frame (limits_none frame named) k d lt) (flat_each (λ u. import_fits u.shape u.imported ≡ true) units_from frame.resources G.imports_fit k d lt))))
+  imports_all = ap (option_map (λ i. at.Import i)) (none_found (λ r. not (import_fits r.shape r.import)) frame.resources (λ k d lt. not_from_true (import_fits (get_or frame.resources k d).shape (get_or frame.resources k d).import) (first_unit (get_or frame.resources k d) (some_layers frame (limits_none frame named) k d lt) (flat_each (λ u. import_fits u.shape u.imported ≡ true) units_from frame.resources G.imports_fit k d lt))))
     where
       first_of : (r : Resource) (m : ℕ) → 0 < m → All (λ u. import_fits u.shape u.imported ≡ true) (replicate m (unit_from r)) → import_fits r.shape r.import ≡ true
       first_of r zero some all = absurd (omega arith)

@@ -1,13 +1,13 @@
 -- The totals that the limits leave.
-use Rattle.std.proofs.Common.{subst, suc, if◌then◌else◌, map, ◌≡◌, ℕ, ◌+◌, ◌-◌, ◌≤◌, nat_lt, List, [], ◌∷◌, length, Bool, true, false, None, Some, refl, sym, ap, ap₂, ◌∙◌, arith}
+use Rattle.std.proofs.Common.{subst, suc, map, ◌≡◌, ℕ, ◌+◌, ◌-◌, ◌≤◌, List, [], ◌∷◌, length, None, refl, sym, ap₂, ◌∙◌, arith}
 use Rattle.std.specs.List.{flat_map, sum_by}
 use Rattle.std.specs.Option.{option_map}
-use Rattle.std.proofs.lemmas.Bool.{ltb-false}
 use Rattle.std.proofs.lemmas.List.{length-map}
 use Rattle.std.proofs.lemmas.List.Folds.{sum_by-replicate}
 use Rattle.std.proofs.lemmas.List.Sums.{sum_by-append, sum_by-cons}
 use Rattle.fg_base.proofs.Absence.{or_first, or_second, map_none}
 use Rattle.fg_base.proofs.Operands.{rects_mapped}
+use Rattle.fg_base.proofs.Rooms.{all_fit, left_over}
 use Rattle.fg_base.specs.Operands.{mapped, rect_count}
 use Rattle.fg_base.specs.Shapes.{bytes_of}
 use Rattle.fg_base.specs.declared.op.Op.{Op}
@@ -15,25 +15,13 @@ use Rattle.fg_frame.proofs.Small.{limits_none, names_good, ops_none, rects_none,
 use Rattle.fg_frame.specs.FirstFault.{first_broken}
 use Rattle.fg_frame.specs.Limits.{all_bytes, op_count, rects_over}
 use Rattle.fg_frame.specs.Numbered.{numbered, numbered_pass}
-use Rattle.fg_frame.specs.Places.{first_over, room_after}
+use Rattle.fg_base.specs.Rooms.{first_over, room_after}
 use Rattle.fg_frame.specs.Units.{Numbering, numbering, unit_of, units, units_from, unit_from}
 use Rattle.fg_frame.specs.declared.frame.Frame.{Frame}
 use Rattle.fg_frame.specs.declared.frame.Pass.{Pass}
 use Rattle.fg_frame.specs.declared.frame.Resource.{Resource}
 use Rattle.fg_frame.specs.declared.frame.Spot.{Spot}
 use Rattle.fg_frame.specs.declared.place.Place.TheVariants as at
-
--- what is left of a room, and what its entries take
-left_over : {X : Type 0} (size : X → ℕ) (xs : List X) (room i : ℕ) → first_over size room i xs ≡ None → room_after size room xs + sum_by size xs ≡ room
-left_over size [] room i none = omega arith
-left_over size (x ∷ xs) room i none = ap (λ taken. room_after size (room - size x) xs + taken) (sum_by-cons size x xs) ∙ by_test (nat_lt room (size x)) refl none (λ left. left_over size xs (room - size x) (suc i) left)
-  where
-    by_test : (b : Bool) → nat_lt room (size x) ≡ b → (if b then Some i else first_over size (room - size x) (suc i) xs) ≡ None → (first_over size (room - size x) (suc i) xs ≡ None → room_after size (room - size x) xs + sum_by size xs ≡ room - size x) → room_after size (room - size x) xs + (size x + sum_by size xs) ≡ room
-    by_test true e none more = absurd cc
-    by_test false e none more = let fits : size x ≤ room = ltb-false room (size x) e in let rest = more none in omega arith
-
-pub all_fit : {X : Type 0} (size : X → ℕ) (xs : List X) (room : ℕ) → first_over size room 0 xs ≡ None → sum_by size xs ≤ room
-all_fit size xs room none = let e = left_over size xs room 0 none in omega arith
 
 -- OPERATIONS
 
@@ -42,7 +30,7 @@ ops_same frame n [] = refl
 ops_same frame n (pass ∷ passes) = sum_by-cons (λ pass. length pass.ops) (numbered_pass frame n pass) (map (numbered_pass frame n) passes) ∙ ap₂ (λ a b. a + b) (length-map pass.ops (mapped (unit_of n))) (ops_same frame n passes) ∙ sym (sum_by-cons op_count pass passes)
 
 pub few_ops : (frame : Frame) → first_broken frame ≡ None → sum_by (λ pass. length pass.ops) (numbered frame).passes ≤ 256
-few_ops frame none = subst (λ m. m ≤ 256) (sym (ops_same frame (numbering frame) frame.passes)) (all_fit op_count frame.passes 256 (ops_none frame (limits_none frame (names_good frame none))))
+few_ops frame none = subst (λ m. m ≤ 256) (sym (ops_same frame (numbering frame) frame.passes)) (all_fit op_count frame.passes 256 0 (ops_none frame (limits_none frame (names_good frame none))))
 
 -- RECTANGLES
 
@@ -74,4 +62,4 @@ bytes_same [] = refl
 bytes_same (r ∷ rs) = sum_by-append (λ u. bytes_of u.shape) (units_from r) (flat_map units_from rs) ∙ ap₂ (λ a b. a + b) (sum_by-replicate (λ u. bytes_of u.shape) r.layers (unit_from r)) (bytes_same rs) ∙ sym (sum_by-cons all_bytes r rs)
 
 pub few_bytes : (frame : Frame) → first_broken frame ≡ None → sum_by (λ u. bytes_of u.shape) (units frame) ≤ 268435456
-few_bytes frame none = subst (λ m. m ≤ 268435456) (sym (bytes_same frame.resources)) (all_fit all_bytes frame.resources 268435456 (total_none frame (limits_none frame (names_good frame none))))
+few_bytes frame none = subst (λ m. m ≤ 268435456) (sym (bytes_same frame.resources)) (all_fit all_bytes frame.resources 268435456 0 (total_none frame (limits_none frame (names_good frame none))))

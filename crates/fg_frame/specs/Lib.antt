@@ -7,7 +7,6 @@ pub mod Members
 pub mod Numbered
 pub mod Parts
 pub mod Paths
-pub mod Places
 pub mod Repeats
 pub mod Units
 pub mod Unknowns

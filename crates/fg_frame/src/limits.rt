@@ -7,14 +7,14 @@ ghost use Rattle.fg_base.specs.Bounds.{sides_allowed, size_allowed};
 ghost use Rattle.fg_frame.specs.Limits.{over, layers_allowed, all_bytes, op_count, rects_over, exported, count_broken, size_broken, limit_broken};
 ghost use Rattle.fg_base.specs.Maxima.{max_units, max_ops, max_rects, max_exports, max_resource_bytes};
 ghost use Rattle.fg_base.specs.Operands.{rect_count};
-ghost use Rattle.fg_frame.specs.Places.{first_over, room_after};
+ghost use Rattle.fg_base.specs.Rooms.{first_over, room_after};
 
 use crate::place::Place;
 use crate::rule::Rule;
 use crate::{Frame, Pass, Resource, Spot};
 use fg_base::{
     Broken, Limit, MAX_EXPORTS, MAX_LAYERS, MAX_OPS, MAX_PASSES, MAX_QUEUES, MAX_RECTS,
-    MAX_RESOURCE_BYTES, MAX_UNITS, Op,
+    MAX_RESOURCE_BYTES, MAX_UNITS, Op, first_over,
 };
 
 fn over(limit: Limit, place: Place) -> Broken<Rule, Place>
@@ -60,27 +60,17 @@ fn wrong_size(resources: &[Resource]) -> Option<usize>
 fn units_over(resources: &[Resource]) -> Option<usize>
     ensures { result ≡ first_over (λ r. r.layers) max_units 0 resources.now }
 {
-    let mut room = MAX_UNITS;
-    for (i, resource) in resources.iter().enumerate() {
-        if resource.layers > room {
-            return Some(i);
-        }
-        room -= resource.layers;
-    }
-    None
+    first_over(
+        resources,
+        MAX_UNITS as u128,
+        |resource| resource.layers as u128,
+    )
 }
 
 fn ops_over(passes: &[Pass]) -> Option<usize>
     ensures { result ≡ first_over op_count max_ops 0 passes.now }
 {
-    let mut room = MAX_OPS;
-    for (p, pass) in passes.iter().enumerate() {
-        if pass.ops.len() > room {
-            return Some(p);
-        }
-        room -= pass.ops.len();
-    }
-    None
+    first_over(passes, MAX_OPS as u128, |pass| pass.ops.len() as u128)
 }
 
 // The room that the rectangles leave, or the first draw with which they are more.
@@ -136,15 +126,11 @@ fn exported(frame: &Frame, spot: &Spot) -> u32
 fn exports_over(frame: &Frame) -> Option<usize>
     ensures { result ≡ first_over (exported frame.now) max_exports 0 frame.now.exports }
 {
-    let mut room = MAX_EXPORTS;
-    for (i, spot) in frame.exports.iter().enumerate() {
-        let count = exported(frame, spot);
-        if count > room {
-            return Some(i);
-        }
-        room -= count;
-    }
-    None
+    first_over(
+        &frame.exports,
+        MAX_EXPORTS as u128,
+        |spot| exported(frame, spot) as u128,
+    )
 }
 
 #[tactic(auto, using(crate::proofs::Sizes::product_fits))]
@@ -157,15 +143,11 @@ fn all_bytes(resource: &Resource) -> u128
 fn bytes_over(resources: &[Resource]) -> Option<usize>
     ensures { result ≡ first_over all_bytes max_resource_bytes 0 resources.now }
 {
-    let mut room = MAX_RESOURCE_BYTES;
-    for (i, resource) in resources.iter().enumerate() {
-        let bytes = all_bytes(resource);
-        if bytes > room {
-            return Some(i);
-        }
-        room -= bytes;
-    }
-    None
+    first_over(
+        resources,
+        MAX_RESOURCE_BYTES,
+        |resource| all_bytes(resource),
+    )
 }
 
 // The limits on what stands in the lists.

@@ -5,14 +5,11 @@ use Rattle.std.specs.List.{list_all}
 use Rattle.std.proofs.lemmas.Bool.Decides.{nat_tests}
 use Rattle.std.proofs.lemmas.Fmt.{decimal_digit}
 use Rattle.std.proofs.lemmas.List.{length-append, take_at, drop_at}
+use Rattle.std.proofs.Math.Bool.{and-false}
 use Rattle.fg_base.specs.Names.{IsName, is_name, is_name_byte, name_of}
 use Rattle.fg_base.specs.declared.path.Leg.{Leg}
 use Rattle.fg_frame.specs.declared.frame.Spot.{Spot}
 use Rattle.fg_framefile.specs.Spots.{layer_of, layered_spot, spot_of, spot_at, spot_data, with_layer, FitsSpot}
-
-no_and : (b : Bool) → (b && false) ≡ false
-no_and true = refl
-no_and false = refl
 
 third_fails : (a b c : Bool) → c ≡ false → (a && b && c) ≡ false
 third_fails true true c e = e
@@ -21,7 +18,7 @@ third_fails false b c e = refl
 
 slash_inside : (name more : List ℕ) → list_all is_name_byte (name ++ 47 ∷ more) ≡ false
 slash_inside [] more = refl
-slash_inside (b ∷ bs) more = rw (slash_inside bs more) (no_and (is_name_byte b))
+slash_inside (b ∷ bs) more = rw (slash_inside bs more) (and-false (is_name_byte b))
 
 no_name : (name more : List ℕ) → name_of (name ++ 47 ∷ more) ≡ None
 no_name name more =

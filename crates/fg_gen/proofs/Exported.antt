@@ -5,9 +5,9 @@ use Rattle.std.proofs.lemmas.Bool.{eqb-true}
 use Rattle.std.proofs.lemmas.List.{length-append}
 use Rattle.std.proofs.lemmas.List.Elements.{All-filter}
 use Rattle.std.proofs.lemmas.List.Kept.{AllPairs-filter}
+use Rattle.fg_base.proofs.Lists.{chosen_more}
 use Rattle.fg_gen.specs.Generated.{is_exported, exported}
 use Rattle.fg_gen.proofs.Numbering.{range_below, range_differs}
-use Rattle.fg_gen.proofs.Walking.{chosen_more}
 
 module _ (n : ℕ) where
   -- of the resources before this one

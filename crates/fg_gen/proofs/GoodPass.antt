@@ -2,7 +2,7 @@
 use Rattle.std.proofs.Common.{◌≡◌, ◌≢◌, ℕ, zero, suc, ◌/◌, ◌%◌, ◌==◌, ◌<◌, ◌&&◌, ◌||◌, Bool, true, false, List, [], ◌∷◌, map, get_or, slice_get, slice_index_or, replicate, Some, None, cond, if◌then◌else◌, refl, sym, ap, ap₂, ◌∙◌, subst, arith, eq-eqb}
 use Rattle.std.specs.List.{All, list_any}
 use Rattle.std.specs.Option.{option_map_or}
-use Rattle.std.proofs.lemmas.Bool.{ne_eqb, eqb-true}
+use Rattle.std.proofs.lemmas.Bool.{ne_eqb, eqb-true, or_left}
 use Rattle.std.proofs.lemmas.List.Elements.{All-cons, All-nil}
 use Rattle.std.proofs.lemmas.List.Folds.{list_any_none, list_any-append}
 use Rattle.fg_base.proofs.Booleans.{clash, or_true}
@@ -37,12 +37,8 @@ shape_of_image zero u lt = absurd (omega (arith, lt))
 shape_of_image (suc n) zero lt = refl
 shape_of_image (suc n) (suc u) lt = shape_of_image n u (omega (arith, lt))
 
-or_here : (a b : Bool) → a ≡ true → (a || b) ≡ true
-or_here true b e = refl
-or_here false b e = absurd (clash e)
-
 in_front : (x : ℕ) (xs : List ℕ) → list_any (λ y. y == x) (x ∷ xs) ≡ true
-in_front x xs = or_here (x == x) (list_any (λ y. y == x) xs) (eq-eqb x x refl)
+in_front x xs = or_left (x == x) (list_any (λ y. y == x) xs) (eq-eqb x x refl)
 
 at_second : (x y : ℕ) (xs : List ℕ) → list_any (λ z. z == x) (y ∷ x ∷ xs) ≡ true
 at_second x y xs = ap (λ b. (y == x) || b) (in_front x xs) ∙ or_true (y == x)
@@ -160,7 +156,7 @@ module _ (frame : NumberedFrame) (n : ℕ) (units : frame.units ≡ replicate n 
     not_in_place = list_any_none (λ s. s == destination_of op) (sources_of op) (λ k d lt. let less = below_sources k d lt in ne_eqb (get_or (sources_of op) k d) (destination_of op) (λ e. omega (arith, less, e, own)))
 
     written : writes_it pass i ≡ true
-    written = or_here (i == i) false (eq-eqb i i refl)
+    written = or_left (i == i) false (eq-eqb i i refl)
 
     op_good : IsGoodOp frame pass op
     op_good = record {

@@ -10,6 +10,7 @@ use Rattle.std.proofs.lemmas.List.FromFn.{length-range_with_len, length-map-rang
 use Rattle.std.proofs.lemmas.List.Sums.{sum_by-cons}
 use Rattle.fg_base.proofs.Absence.{first_none}
 use Rattle.fg_base.proofs.Lists.{one}
+use Rattle.fg_base.proofs.Rooms.{never_over}
 use Rattle.fg_base.specs.Bounds.{sides_allowed, size_allowed}
 use Rattle.fg_base.specs.Broken.{of_rule}
 use Rattle.fg_base.specs.Operands.{operands_of}
@@ -19,7 +20,7 @@ use Rattle.fg_frame.proofs.Sufficient.{none_found, none_in}
 use Rattle.fg_frame.specs.FirstFault.{name_broken}
 use Rattle.fg_frame.specs.Limits.{over, layers_allowed, all_bytes, op_count, rects_over, exported as units_exported, limit_broken}
 use Rattle.fg_frame.specs.Members.{member_at}
-use Rattle.fg_frame.specs.Places.{first_over}
+use Rattle.fg_base.specs.Rooms.{first_over}
 use Rattle.fg_frame.specs.Repeats.{first_repeat, repeats_at, repeats_in, repeated}
 use Rattle.fg_frame.specs.Unknowns.{has_queue, is_known, is_known_unit, unknown_at, unknown_in, unknown_operand, unknown}
 use Rattle.fg_frame.specs.declared.frame.Frame.{Frame}
@@ -37,14 +38,6 @@ use Rattle.fg_gen.proofs.Exported.{few_exported, exported_differ, exported_small
 use Rattle.fg_gen.proofs.Numbering.{N, a_small, b_small, reads_small, known, known_unit, range_small, range_differs, names_are}
 
 -- SIZES
-
--- sizes that are no more than the room together
-room_for : {X : Type 0} (size : X → ℕ) (xs : List X) (room i : ℕ) → sum_by size xs ≤ room → first_over size room i xs ≡ None
-room_for size [] room i fits = refl
-room_for size (x ∷ xs) room i fits =
-    let sum = sum_by-cons size x xs in
-    ap (λ t. if t then Some i else first_over size (room - size x) (suc i) xs) (le-ltb room (size x) (omega (arith, sum, fits)))
-    ∙ room_for size xs (room - size x) (suc i) (omega (arith, sum, fits))
 
 -- entries of one size
 sum_equal : {X Y : Type 0} (size : Y → ℕ) (f : X → Y) (each : ℕ) (xs : List X) → ((x : X) → size (f x) ≡ each) → sum_by size (map f xs) ≡ length xs * each
@@ -90,7 +83,7 @@ module _ (number n : ℕ) (few : n ≤ 256) where
   -- LIMITS
 
   of_resources : (size : Resource → ℕ) (each : ℕ) → ((i : ℕ) → size (resource i) ≡ each) → (room : ℕ) → n * each ≤ room → first_over size room 0 frame.resources ≡ None
-  of_resources size each is room fits = room_for size frame.resources room 0 (subst (λ s. s ≤ room) (sym (sum_equal size resource each all is ∙ ap (λ m. m * each) size_all)) fits)
+  of_resources size each is room fits = never_over size frame.resources room 0 (subst (λ s. s ≤ room) (sym (sum_equal size resource each all is ∙ ap (λ m. m * each) size_all)) fits)
 
   all_resources : (test : Resource → Bool) → ((i : ℕ) → test (resource i) ≡ true) → position (λ r. not (test r)) frame.resources ≡ None
   all_resources test is = none_found (λ r. not (test r)) frame.resources (All-map (λ r. not (test r) ≡ false) resource all (λ k d lt. ap not (is (get_or all k d))))
@@ -102,10 +95,10 @@ module _ (number n : ℕ) (few : n ≤ 256) where
   few_bytes = of_resources all_bytes 16384 (λ i. refl) 268435456 (omega (arith, few))
 
   few_ops : first_over op_count 256 0 frame.passes ≡ None
-  few_ops = room_for op_count frame.passes 256 0 (let sum = sum_equal op_count pass_at 1 all (λ i. refl) in omega (arith, sum, size_all, few))
+  few_ops = never_over op_count frame.passes 256 0 (let sum = sum_equal op_count pass_at 1 all (λ i. refl) in omega (arith, sum, size_all, few))
 
   few_exports : first_over (units_exported frame) 32 0 frame.exports ≡ None
-  few_exports = room_for (units_exported frame) frame.exports 32 0 (
+  few_exports = never_over (units_exported frame) frame.exports 32 0 (
       let sum = sum_equal (units_exported frame) spot 1 (exported n) (λ i. one_layer (λ r. bytes_eq r.name (resource_name i)) all) in
       let size = few_exported n few in
       omega (arith, sum, size))

@@ -1,22 +1,11 @@
 -- Names that end in a number.
-use Rattle.std.proofs.Common.{◌≡◌, ℕ, ◌+◌, ◌<◌, ◌^◌, ◌++◌, ◌&&◌, List, [], ◌∷◌, length, take, true, Option, Some, None, refl, ap, ap₂, ◌∙◌, add-one, if◌then◌else◌, arith}
+use Rattle.std.proofs.Common.{◌≡◌, ℕ, ◌+◌, ◌<◌, ◌^◌, ◌++◌, ◌&&◌, List, ◌∷◌, length, take, true, Option, Some, None, ap, ap₂, ◌∙◌, add-one, if◌then◌else◌, arith}
 use Rattle.std.specs.Fmt.{decimal}
-use Rattle.std.specs.Int.{IsInRange}
-use Rattle.std.specs.List.{list_all}
-use Rattle.std.specs.Str.Parse.{AllDigits}
 use Rattle.std.proofs.Math.Seq.{take-append_seam}
 use Rattle.std.proofs.lemmas.Bool.{le-leb}
-use Rattle.std.proofs.lemmas.Bool.Decides.{nat_tests}
 use Rattle.std.proofs.lemmas.Fmt.{decimal_is_IsNumeral, length-decimal-le}
-use Rattle.std.proofs.lemmas.Str.Parse.{digit_from_value}
+use Rattle.fg_base.proofs.NameLemmas.{digits_named}
 use Rattle.fg_base.specs.Names.{is_name, is_name_byte, name_of}
-
-digit_named : (c : ℕ) → IsInRange 48 57 c → is_name_byte c ≡ true
-digit_named c in_range = grind (arith, nat_tests)
-
-digits_named : (ds : List ℕ) → AllDigits 10 ds → list_all is_name_byte ds ≡ true
-digits_named [] all = refl
-digits_named (c ∷ cs) all = ap₂ (λ a b. a && b) (digit_named c (digit_from_value c all.0)) (digits_named cs all.1)
 
 pub is_numbered : (letter i : ℕ) → is_name_byte letter ≡ true → i < 2 ^ 32 → is_name (letter ∷ decimal i) ≡ true
 is_numbered letter i is small =

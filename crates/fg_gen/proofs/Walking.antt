@@ -2,9 +2,8 @@
 use Rattle.std.proofs.Common.{◌≡◌, ℕ, ◌+◌, ◌*◌, ◌%◌, ◌++◌, Bool, true, false, List, [], ◌∷◌, map, sym, ap, ◌∙◌, add-one, cond, arith}
 use Rattle.std.specs.List.{filter, range_with_len}
 use Rattle.std.proofs.lemmas.List.{map-append, append-nil}
-use Rattle.std.proofs.lemmas.List.Elements.{filter-append}
 use Rattle.std.proofs.lemmas.List.FromFn.{map-range_with_len_more}
-use Rattle.fg_base.proofs.Lists.{range_more}
+use Rattle.fg_base.proofs.Lists.{chosen_more}
 use Rattle.fg_gen.specs.Operations.{drawn}
 
 -- one entry more
@@ -16,9 +15,6 @@ entry_more f list list' i x so_far is grows =
 -- the number drawn next
 pub drawn_more : (number i w w' : ℕ) → w ≡ drawn number i → w' ≡ (75 * w + 74) % 65537 → w' ≡ drawn number (i + 1)
 drawn_more number i w w' is next = rw add-one (next ∙ ap (λ x. (75 * x + 74) % 65537) is)
-
-pub chosen_more : (test : ℕ → Bool) (i : ℕ) → filter test (range_with_len 0 (i + 1)) ≡ filter test (range_with_len 0 i) ++ cond (test i) (i ∷ []) []
-chosen_more test i = rw add-one (ap (filter test) (range_more 0 i i (let e : 0 + i ≡ i = omega arith in e)) ∙ filter-append test (range_with_len 0 i) (i ∷ []))
 
 -- a number more that passes the test, or one that does not
 pub chosen_on : {X : Type 0} (f : ℕ → X) (test : ℕ → Bool) (list list' : List X) (i : ℕ) (x : X) → list ≡ map f (filter test (range_with_len 0 i)) → test i ≡ true → x ≡ f i → list' ≡ list ++ x ∷ [] → list' ≡ map f (filter test (range_with_len 0 (i + 1)))

@@ -9,8 +9,10 @@ use Rattle.fg_base.specs.Operands.{operands_of, sources_of, destination_of}
 use Rattle.fg_base.specs.Touches.{touches_of, source_touch, destination_touch}
 use Rattle.fg_base.specs.declared.op.Op.{Op}
 use Rattle.fg_base.specs.declared.shape.Shape.{Shape}
+use Rattle.fg_base.specs.declared.shape.Shape.TheVariants.{Buffer, Image}
 use Rattle.fg_base.specs.declared.touch.Touch.{Touch}
 use Rattle.fg_groups.specs.Code.Grown.{no_touch, touch_at, operand_use}
+use Rattle.fg_groups.specs.Commands.{copy_out}
 use Rattle.fg_groups.specs.Uses.{uses_from}
 use Rattle.fg_groups.specs.declared.command.Command.{Command}
 use Rattle.fg_groups.specs.declared.unit_use.Use.{Use}
@@ -70,3 +72,7 @@ module _ (shapes : List Shape) (units c : ℕ) (command : Command) where
       sym (append-nil list)
       ∙ ap (λ l. list ++ uses_from shapes units c command.queue k (take k (operands_of command.op)) l) (sym (drop_all k (touches_of shapes command.op) (let e = touches-length shapes command.op in omega (arith, e, le))))
       ∙ before
+
+pub copy_destination : (shape : Shape) (src dst : ℕ) → destination_of (copy_out shape src dst) ≡ dst
+copy_destination (Buffer size) src dst = refl
+copy_destination (Image width height texel) src dst = refl

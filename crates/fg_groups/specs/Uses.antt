@@ -1,14 +1,13 @@
 -- What commands use of units.
-use Rattle.std.specs.Prelude.{ℕ, suc, List, [], ◌∷◌, ◌++◌, ◌==◌, ◌&&◌, nat_lt, not, Bool, Option, Some, None, unwrap_or, if◌then◌else◌}
+use Rattle.std.specs.Prelude.{ℕ, suc, List, [], ◌∷◌, ◌++◌, ◌==◌, ◌&&◌, nat_lt, not, Bool, None, unwrap_or, if◌then◌else◌}
 use Rattle.std.specs.Int.RustNames.{bit_or}
 use Rattle.std.specs.List.{list_any}
-use Rattle.fg_base.specs.Shapes.{shape_at, is_image}
+use Rattle.fg_base.specs.Shapes.{shape_at}
 use Rattle.fg_base.specs.Touches.{touches_of}
 use Rattle.fg_base.specs.declared.role.Role.{Role}
 use Rattle.fg_base.specs.declared.shape.Shape.{Shape}
 use Rattle.fg_base.specs.declared.touch.Touch.{Touch}
-use Rattle.fg_bits.specs.Roles.{role_stage, load_access, store_access, role_layout}
-use Rattle.fg_bits.specs.declared.layout.Layout.{Layout}
+use Rattle.fg_bits.specs.Roles.{role_stage, load_access, store_access, layout_wanted}
 use Rattle.fg_groups.specs.declared.command.Command.{Command}
 use Rattle.fg_groups.specs.declared.unit_use.Use.{Use}
 
@@ -29,10 +28,6 @@ role_writes role = unwrap_or (store_access role) 0
 abbrev pub role_accesses : Role → Bool → ℕ
 role_accesses role whole = bit_or (unwrap_or (load_access role whole) 0) (role_writes role)
 
--- that of the role for an image; a buffer has none
-abbrev pub layout_for : Shape → Role → Option Layout
-layout_for shape role = if is_image shape then Some (role_layout role) else None
-
 -- of command c on queue q, by its operand k
 abbrev pub use_of : List Shape → ℕ → ℕ → ℕ → Touch → Use
 use_of shapes c q k touch = record {
@@ -43,7 +38,7 @@ use_of shapes c q k touch = record {
   stage = record { 0 = role_stage touch.role };
   accesses = record { 0 = role_accesses touch.role touch.whole };
   writes = record { 0 = role_writes touch.role };
-  layout = layout_for (shape_at shapes touch.what) touch.role;
+  layout = layout_wanted (shape_at shapes touch.what) touch.role;
 }
 
 -- ALL OPERANDS OF A COMMAND

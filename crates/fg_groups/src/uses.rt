@@ -5,11 +5,11 @@ ghost use Rattle.std.specs.List.{All, list_any};
 ghost use Rattle.fg_base.specs.Operands.{operands_of};
 ghost use Rattle.fg_bits.specs.Roles.{load_access};
 ghost use Rattle.fg_groups.specs.Code.Grown.{operand_use};
-ghost use Rattle.fg_groups.specs.Uses.{role_writes, role_accesses, layout_for, use_of, is_first_named, command_uses, uses_of};
+ghost use Rattle.fg_groups.specs.Uses.{role_writes, role_accesses, use_of, is_first_named, command_uses, uses_of};
 
 use crate::{Command, Use};
 use fg_base::{List, NoMemory, Op, Role, Shape, Touch, shape_at};
-use fg_bits::{Accesses, Layout, load_access, role_layout, role_stage, store_access};
+use fg_bits::{Accesses, layout_wanted, load_access, role_stage, store_access};
 use std::alloc::Global;
 
 fn role_writes(role: Role) -> Accesses
@@ -36,16 +36,6 @@ fn role_accesses(role: Role, whole: bool) -> Accesses
     Accesses(role_loads(role, whole).0 | role_writes(role).0)
 }
 
-fn layout_for(shape: Shape, role: Role) -> Option<Layout>
-    ensures { result ≡ layout_for shape role }
-{
-    if shape.is_image() {
-        Some(role_layout(role))
-    } else {
-        None
-    }
-}
-
 // Command c on a queue, by its operand k.
 fn use_of(shapes: &[Shape], command: u32, queue: u32, operand: u32, touch: Touch) -> Use
     requires { touch.what < length shapes.now }
@@ -59,7 +49,7 @@ fn use_of(shapes: &[Shape], command: u32, queue: u32, operand: u32, touch: Touch
         stage: role_stage(touch.role),
         accesses: role_accesses(touch.role, touch.whole),
         writes: role_writes(touch.role),
-        layout: layout_for(shape_at(shapes, touch.what), touch.role),
+        layout: layout_wanted(shape_at(shapes, touch.what), touch.role),
     }
 }
 

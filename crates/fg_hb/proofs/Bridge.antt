@@ -20,7 +20,7 @@ past : (done rest : List ℕ) (n : ℕ) → (Among n done → ⊥) → before_in
 past [] rest n out = ap (λ t. cond t [] (n ∷ before_in rest n)) (eq-eqb n n refl)
 past (x ∷ done) rest n out = ap (λ t. cond t [] (x ∷ before_in (done ++ n ∷ rest) n)) (ne_eqb x n (λ e. out (inl (sym e)))) ∙ ap (λ l. x ∷ l) (past done rest n (λ h. out (inr h)))
 
-among_right : (done rest : List ℕ) (n : ℕ) → Among n rest → Among n (done ++ rest)
+pub among_right : (done rest : List ℕ) (n : ℕ) → Among n rest → Among n (done ++ rest)
 among_right [] rest n h = h
 among_right (x ∷ done) rest n h = inr (among_right done rest n h)
 
@@ -67,14 +67,14 @@ is_some : (o : Option ℕ) → is_none o ≡ false → (x : ℕ) × (o ≡ Some 
 is_some None e = absurd (false≢true (sym e))
 is_some (Some x) e = (x, refl)
 
-is_same : (o : Option ℕ) (x : ℕ) → is_at o x ≡ true → o ≡ Some x
+pub is_same : (o : Option ℕ) (x : ℕ) → is_at o x ≡ true → o ≡ Some x
 is_same None x e = absurd (clash e)
 is_same (Some y) x e = ap (λ z. Some z) (eqb-true y x e)
 
 at_it : (o : Option ℕ) (x : ℕ) → o ≡ Some x → is_at o x ≡ true
 at_it o x e = ap (λ z. is_at z x) e ∙ eq-eqb x x refl
 
-never_false : (w : Bool) (o : Option ℕ) → (w ≡ true → (x : ℕ) × (o ≡ Some x)) → (w && is_none o) ≡ false
+pub never_false : (w : Bool) (o : Option ℕ) → (w ≡ true → (x : ℕ) × (o ≡ Some x)) → (w && is_none o) ≡ false
 never_false false o f = refl
 never_false true o f = let t = f refl in ap (λ z. is_none z) t.1
 

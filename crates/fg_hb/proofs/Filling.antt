@@ -6,6 +6,7 @@ use Rattle.std.proofs.lemmas.List.Quantifiers.{position-Some}
 use Rattle.std.proofs.lemmas.Nat.{and_comm, and_assoc}
 use Rattle.std.specs.List.{position}
 use Rattle.std.specs.Option.{option_map}
+use Rattle.std.specs.Int.Bits.{and_zero_r}
 use Rattle.fg_bits.specs.Sets as sets
 use Rattle.fg_hb.specs.Before.{place, joined}
 use Rattle.fg_hb.specs.Code.Filling.{Tabled, AllEdges, Filling, Added, Covered, takes_over, Passes, QueueDone, NodeDone}
@@ -33,14 +34,11 @@ goes_next nodes x y s e = and_from (is_signal (node_at nodes x).kind) (goes_to n
 pub goes_last : (nodes : List Node) (x y : ℕ) → is_signal (node_at nodes x).kind ≡ true → next_signal nodes x ≡ None → is_host (node_at nodes y).kind ≡ true → signalled nodes x y ≡ true
 goes_last nodes x y s e h = and_from (is_signal (node_at nodes x).kind) (goes_to nodes y (next_signal nodes x)) s (ap (λ o. goes_to nodes y o) e ∙ h)
 
-and_zero : (a : ℕ) → bit_and a 0 ≡ 0
-and_zero a = and_comm a 0
-
 meets_more : (a b c : ℕ) → sets.has a b ≡ true → sets.meets b c ≡ true → sets.meets a c ≡ true
 meets_more a b c h m = ⊎_elim (λ e. absurd (clash (sym (ap (λ t. not t) (eq-eqb (bit_and b c) 0 (none (eqb-true (bit_and a c) 0 e)))) ∙ m))) (λ e. ap (λ t. not t) e) (cases_Bool (bit_and a c == 0))
   where
     none : bit_and a c ≡ 0 → bit_and b c ≡ 0
-    none e = ap (λ z. bit_and z c) (sym (eqb-true (bit_and a b) b h)) ∙ ap (λ z. bit_and z c) (and_comm a b) ∙ and_assoc c b a ∙ ap (λ z. bit_and b z) e ∙ and_zero b
+    none e = ap (λ z. bit_and z c) (sym (eqb-true (bit_and a b) b h)) ∙ ap (λ z. bit_and z c) (and_comm a b) ∙ and_assoc c b a ∙ ap (λ z. bit_and b z) e ∙ and_zero_r b
 
 pub passes : (nodes : List Node) (x y : ℕ) → x < y → holds_back (node_at nodes x) (node_at nodes y) ≡ true → takes_over (node_at nodes y) (node_at nodes x) ≡ true → Passes nodes x y
 passes nodes x y lt h t w less fits k = (held_edge nodes x y lt h, held_edge nodes y w less on)
@@ -80,7 +78,7 @@ edge_within nodes x y h = go (edge_cases nodes x y h)
     held lt k = ⊎_elim (λ l. l) (λ ge.
         let p = and_parts ((node_at nodes x).queue == (node_at nodes y).queue) ((is_sync (node_at nodes x).kind || is_sync (node_at nodes y).kind) && sets.meets (node_at nodes x).dst_stages.0 (node_at nodes y).src_stages.0) k in
         let q = and_parts (is_sync (node_at nodes x).kind || is_sync (node_at nodes y).kind) (sets.meets (node_at nodes x).dst_stages.0 (node_at nodes y).src_stages.0) p.1 in
-        absurd (clash (sym (ap (λ z. not (z == 0)) (ap (λ z. bit_and (node_at nodes x).dst_stages.0 z.src_stages.0) (get_or_past nodes y no_node ge) ∙ and_zero (node_at nodes x).dst_stages.0)) ∙ q.1))) (cases_lt y (length nodes))
+        absurd (clash (sym (ap (λ z. not (z == 0)) (ap (λ z. bit_and (node_at nodes x).dst_stages.0 z.src_stages.0) (get_or_past nodes y no_node ge) ∙ and_zero_r (node_at nodes x).dst_stages.0)) ∙ q.1))) (cases_lt y (length nodes))
 
     go : EdgeCase nodes x y → (x < length nodes) × (y < length nodes)
     go (inl a) = let l = held a.0 a.1 in (omega (arith, a.0, l), l)

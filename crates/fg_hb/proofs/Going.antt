@@ -248,12 +248,3 @@ left-step Q queues count next list G q on w f =
 
 pub stuck-at : (Q : Queues) (queues count : ℕ) (M : Numbered Q queues count) (next list : List ℕ) (G : Going Q queues count next list) → ((q : ℕ) → q < queues → goes_on Q next q ≡ false) → (q v : ℕ) → ((r : ℕ) → r < q → Q.start (r + 1) ≤ get_or next r 0) → (q < queues) × (get_or next q 0 < Q.start (q + 1)) → v ≡ get_or next q v → NoWalk (needs_of Q count) v × (Q.queue v ≡ q)
 stuck-at Q queues count M next list G none q v before left e = subst (λ z. NoWalk (needs_of Q count) z × (Q.queue z ≡ q)) (sym (at_index next q v (omega (arith, left.0, G.size)) e)) (stuck Q queues count M next list G none q left.0 before left.1)
-
-pub going-first : (Q : Queues) (queues count : ℕ) (M : Numbered Q queues count) (next : List ℕ) → length next ≡ queues → ((r : ℕ) → r < queues → get_or next r 0 ≡ Q.start r) → Going Q queues count next []
-going-first Q queues count M next size starts = record {
-  size = size;
-  greedy = tt;
-  placed = λ n h. let w = M.within n h in sym (le-ltb n (get_or next (Q.queue n) 0) (omega (arith, w.1, starts (Q.queue n) w.0)));
-  low = λ q h. omega (arith, starts q h);
-  high = λ q h. omega (arith, starts q h, M.rising q (q + 1) (omega arith) (omega (arith, h)));
-}

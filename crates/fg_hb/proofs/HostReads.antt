@@ -1,5 +1,5 @@
 -- Nothing comes after a host read.
-use Rattle.std.proofs.Common.{◌≡◌, ◌⊎◌, inl, inr, ℕ, zero, suc, ◌==◌, ◌&&◌, ◌||◌, Bool, true, false, not, List, [], ◌∷◌, map, length, refl, sym, ap, ◌∙◌}
+use Rattle.std.proofs.Common.{◌≡◌, inl, inr, ℕ, zero, suc, ◌==◌, ◌&&◌, ◌||◌, Bool, true, false, not, List, [], ◌∷◌, map, length, refl, sym, ap, ◌∙◌}
 use Rattle.std.specs.Int.Bits.{bit_and, and_zero_l}
 use Rattle.std.proofs.lemmas.Bool.{false≢true, and_parts}
 use Rattle.fg_base.proofs.Booleans.{clash}
@@ -14,7 +14,7 @@ use Rattle.fg_subs.specs.declared.program.Item.{Item}
 use Rattle.fg_subs.specs.declared.program.Item.TheVariants.{Command, Global, BufferBarrier, ImageBarrier, Release, Acquire}
 use Rattle.fg_subs.specs.declared.program.Program.{Program}
 
-no_item : (q : ℕ) (item : Item) → is_host (item_node q item).kind ≡ true → ⊥
+pub no_item : (q : ℕ) (item : Item) → is_host (item_node q item).kind ≡ true → ⊥
 no_item q (Command op) h = clash h
 no_item q (Global masks) h = clash h
 no_item q (BufferBarrier piece masks) h = clash h
@@ -54,3 +54,12 @@ nothing_after nodes queues x y is e = go (edge_cases nodes x y e)
 
 pub ends : (program : Program) → IsEnding program
 ends program x y h e = nothing_after (program_nodes program) (length program.queues) x y (at_host (length program.queues) (entries_of program) x h) e
+
+-- an item's node is of its queue
+pub item_queue : (q : ℕ) (item : Item) → (item_node q item).queue ≡ q
+item_queue q (Command op) = refl
+item_queue q (Global masks) = refl
+item_queue q (BufferBarrier piece masks) = refl
+item_queue q (ImageBarrier piece layouts masks) = refl
+item_queue q (Release transfer) = refl
+item_queue q (Acquire transfer) = refl

@@ -1,5 +1,5 @@
 -- Happens-before and the orders of the nodes.
-use Rattle.std.proofs.Common.{◌≡◌, ◌⊎◌, inl, inr, ℕ, ◌<◌, List, [], ◌∷◌, length, sym, ap, subst, ⊎_elim, eq-eqb, ne_eqb, cond}
+use Rattle.std.proofs.Common.{◌≡◌, ◌≢◌, ◌⊎◌, inl, inr, ℕ, ◌<◌, List, [], ◌∷◌, length, sym, ap, subst, ⊎_elim, eq-eqb, ne_eqb, cond}
 use Rattle.std.proofs.lemmas.Bool.{cases_eq}
 use Rattle.fg_hb.specs.Edges.{edge}
 use Rattle.fg_hb.specs.Orders.{Among, before_in, Earlier, Order}
@@ -7,8 +7,11 @@ use Rattle.fg_hb.specs.declared.node.Node.{Node}
 use Rattle.fg_hb.proofs.Filling.{edge_within}
 use Rattle.fg_reach.specs.Paths.{Path, one, then_on}
 
-up_to : (u n : ℕ) (list : List ℕ) → u ≡ n → before_in (u ∷ list) n ≡ []
+pub up_to : (u n : ℕ) (list : List ℕ) → u ≡ n → before_in (u ∷ list) n ≡ []
 up_to u n list e = ap (λ t. cond t [] (u ∷ before_in list n)) (eq-eqb u n e)
+
+pub past : (z n : ℕ) (rest : List ℕ) → z ≢ n → before_in (z ∷ rest) n ≡ z ∷ before_in rest n
+past z n rest ne = ap (λ t. cond t [] (z ∷ before_in rest n)) (ne_eqb z n ne)
 
 pub on_from : (u n : ℕ) (list : List ℕ) → (u ≡ n → ⊥) → before_in (u ∷ list) n ≡ u ∷ before_in list n
 on_from u n list ne = ap (λ t. cond t [] (u ∷ before_in list n)) (ne_eqb u n ne)

@@ -1,10 +1,11 @@
 -- The nodes of a program stand in line: queue by queue, and the host reads last.
-use Rattle.std.proofs.Common.{◌≡◌, ℕ, ◌+◌, ◌<◌, ◌≤◌, Bool, true, false, ◌&&◌, ◌==◌, nat_lt, nat_le, not, Option, Some, None, List, length, drop, get_or, refl, sym, ap, ◌∙◌, subst, ⊎_elim, eqb-true, arith}
-use Rattle.std.proofs.lemmas.Bool.{cases_lt, cases_Bool, and_parts, lt-ltb, le-ltb, ltb-true, leb-true, le-leb}
+use Rattle.std.proofs.Common.{◌≡◌, ℕ, ◌+◌, ◌<◌, ◌≤◌, Bool, true, false, ◌&&◌, ◌==◌, nat_lt, not, Option, Some, None, List, length, drop, get_or, refl, sym, ap, ◌∙◌, subst, ⊎_elim, eqb-true, arith}
+use Rattle.std.proofs.lemmas.Bool.{cases_lt, cases_Bool, and_parts, lt-ltb, le-ltb}
 use Rattle.std.proofs.lemmas.List.{get_or-drop, get_or_past}
 use Rattle.std.proofs.lemmas.List.Quantifiers.{position-Some}
 use Rattle.std.specs.List.{position}
 use Rattle.std.specs.Option.{option_map}
+use Rattle.std.proofs.Math.Bool.{and-false}
 use Rattle.fg_hb.specs.Edges.{is_wait, is_host, is_signal, is_sync, has_value, signals, reaches, meeting, node_at}
 use Rattle.fg_hb.specs.Nodes.{no_node}
 use Rattle.fg_hb.specs.Orders.{is_queued}
@@ -21,7 +22,7 @@ pub record Lines (nodes : List Node) (starts : List ℕ) (queues : ℕ) : Type 0
   pub rising : (q r : ℕ) → q ≤ r → r ≤ queues → get_or starts q 0 ≤ get_or starts r 0
   pub fewer : get_or starts queues 0 ≤ length nodes
 
-sync_no_host : (kind : Kind) → is_sync kind ≡ true → is_host kind ≡ false
+pub sync_no_host : (kind : Kind) → is_sync kind ≡ true → is_host kind ≡ false
 sync_no_host Host h = absurd (clash h)
 sync_no_host Command h = refl
 sync_no_host Barrier h = refl
@@ -51,7 +52,7 @@ idle_met nodes Barrier h = refl
 idle_met nodes (Signal value) h = refl
 idle_met nodes Host h = refl
 
-next_place : (nodes : List Node) (x n : ℕ) (o : Option ℕ) → position (signals (node_at nodes x).queue) (drop (x + 1) nodes) ≡ o → option_map (λ k. x + 1 + k) o ≡ Some n → (x < n) × ((node_at nodes x).queue ≡ (node_at nodes n).queue)
+pub next_place : (nodes : List Node) (x n : ℕ) (o : Option ℕ) → position (signals (node_at nodes x).queue) (drop (x + 1) nodes) ≡ o → option_map (λ k. x + 1 + k) o ≡ Some n → (x < n) × ((node_at nodes x).queue ≡ (node_at nodes n).queue)
 next_place nodes x n None e f = absurd cc
 next_place nodes x n (Some k) e f =
     let p = position-Some (signals (node_at nodes x).queue) (drop (x + 1) nodes) k no_node e in
@@ -62,10 +63,6 @@ next_place nodes x n (Some k) e f =
   where
     some_same : {a b : ℕ} → Some a ≡ Some b → a ≡ b
     some_same e = cc
-
-and_false : (b : Bool) → (b && false) ≡ false
-and_false false = refl
-and_false true = refl
 
 module _ (nodes : List Node) (starts : List ℕ) (queues : ℕ) (L : Lines nodes starts queues) where
   abbrev count : ℕ
@@ -97,7 +94,7 @@ module _ (nodes : List Node) (starts : List ℕ) (queues : ℕ) (L : Lines nodes
       yes e f = ap (λ t. t && not (is_host (node_at nodes n).kind)) e ∙ ap (λ t. not t) f
 
       no : is_host (node_at nodes n).kind ≡ true → is_queued nodes n ≡ false
-      no f = ap (λ t. nat_lt n (length nodes) && not t) f ∙ and_false (nat_lt n (length nodes))
+      no f = ap (λ t. nat_lt n (length nodes) && not t) f ∙ and-false (nat_lt n (length nodes))
 
   within_list : (n : ℕ) → is_sync (node_at nodes n).kind ≡ true → n < length nodes
   within_list n h = ⊎_elim (λ lt. lt) (λ ge. absurd (clash (sym (ap (λ z. is_sync z.kind) (get_or_past nodes n no_node ge)) ∙ h))) (cases_lt n (length nodes))

@@ -1,5 +1,5 @@
 -- The place of each node in an order.
-use Rattle.std.proofs.Common.{◌≡◌, ◌⊎◌, ◌↔◌, inl, inr, ℕ, zero, suc, ◌+◌, ◌<◌, ◌≤◌, true, false, ◌==◌, List, [], ◌∷◌, length, get_or, slice_set, get_or-set_same, get_or-set_other, refl, sym, ap, ◌∙◌, subst, ⊎_elim, eq-eqb, ne_eqb, cond, arith}
+use Rattle.std.proofs.Common.{◌≡◌, ◌⊎◌, ◌↔◌, inl, inr, ℕ, zero, suc, ◌+◌, ◌<◌, ◌≤◌, true, ◌==◌, List, [], ◌∷◌, length, get_or, slice_set, get_or-set_same, get_or-set_other, refl, sym, ap, ◌∙◌, subst, ⊎_elim, eq-eqb, ne_eqb, cond, arith}
 use Rattle.std.proofs.lemmas.Bool.{cases_eq, cases_lt}
 use Rattle.fg_hb.specs.Before.{place, joined}
 use Rattle.fg_hb.specs.Code.Filling.{Tabled, Filling, NodeDone}
@@ -25,7 +25,7 @@ differ (x ∷ list) i zero d lt fits e = omega (arith, lt)
 differ (x ∷ list) zero (suc j) d lt fits e = d.0 (subst (λ z. Among z list) (sym e) (among_at list j (omega (arith, fits))))
 differ (x ∷ list) (suc i) (suc j) d lt fits e = differ list i j d.1 (omega (arith, lt)) (omega (arith, fits)) e
 
-among_before : (list : List ℕ) (x n : ℕ) → Among x (before_in list n) → Among x list
+pub among_before : (list : List ℕ) (x n : ℕ) → Among x (before_in list n) → Among x list
 among_before [] x n h = h
 among_before (u ∷ list) x n h = ⊎_elim
     (λ (e : u ≡ n). absurd (subst (λ l. Among x l) (ap (λ t. cond t [] (u ∷ before_in list n)) (eq-eqb u n e)) h))
@@ -129,15 +129,6 @@ module _ (nodes : List Node) (order places : List ℕ) (O : Order nodes order) (
         let q = placed y w.1 in
         earlier_less order x y (place places x) (place places y) O.once p.0 q.0 p.1 q.1 (O.forward x y (O.all y w.1) e);
   }
-
-pub empty_filling : (nodes : List Node) (places : List ℕ) (pairs : Pairs) (count : ℕ) → Tabled nodes places count → pairs.count ≡ count → ((a b : ℕ) → has pairs a b ≡ false) → Filling nodes places pairs
-empty_filling nodes places pairs count T e none = record {
-  tabled = subst (λ n. Tabled nodes places n) (sym e) T;
-  edges = λ a b h. absurd (never (sym (none a b) ∙ h));
-}
-  where
-    never : false ≡ true → ⊥
-    never e = cc
 
 -- rows with all edges, closed
 pub closed_rows : (nodes : List Node) (places : List ℕ) (pairs new : Pairs) → Filling nodes places pairs → ((n : ℕ) → n < length nodes → NodeDone nodes places pairs n) → ((a b : ℕ) → (has new a b ≡ true) ↔ Path (λ x y. has pairs x y) a b) → (x y : ℕ) → x < length nodes → y < length nodes → (joined new places x y ≡ true) ↔ Path (edge nodes) x y

@@ -1,6 +1,6 @@
 -- Lists of numbers taken one by one, each after all that it needs.
 use Rattle.std.proofs.Common.{◌≡◌, ◌⊎◌, inl, inr, ℕ, ◌<◌, ◌≤◌, Bool, true, false, ◌||◌, ◌==◌, List, [], ◌∷◌, refl, sym, ap, ◌∙◌, subst, ⊎_elim, eq-eqb, ne_eqb, eqb-true, cond, arith}
-use Rattle.std.proofs.lemmas.Bool.{cases_lt, cases_eq, cases_Bool, false≢true, or_cases, or_left, or_right, or_parts}
+use Rattle.std.proofs.lemmas.Bool.{cases_eq, cases_Bool, false≢true, or_cases, or_left, or_right, or_parts}
 use Rattle.fg_hb.specs.Orders.{Among, Distinct, before_in, NotAbove}
 
 -- needs x n: x has to stand before n; never n: n can never be placed, as a wait that no signal meets
@@ -148,15 +148,3 @@ walk-met N p (u ∷ rest) f n h = ⊎_elim (λ e. subst (λ z. N.never z ≡ fal
 pub walk-small : (N : Needs) (p : ℕ → Bool) (list : List ℕ) → Walk N p list → (n : ℕ) → Among n list → n < N.count
 walk-small N p [] f n h = absurd h
 walk-small N p (u ∷ rest) f n h = ⊎_elim (λ e. subst (λ z. z < N.count) (sym e) f.0.small) (λ e. walk-small N (add p u) rest f.1 n e) h
-
--- numbers go up with their queues, and each needs the earlier ones of its queue: the next one of the lowest queue that can go on is the least that may come next
-pub head-least : (N : Needs) (queue : ℕ → ℕ) (p : ℕ → Bool) (h : ℕ) → ((x y : ℕ) → x < y → queue x ≤ queue y) → ((x n : ℕ) → queue x ≡ queue n → x < n → N.needs x n ≡ true) → Available N p h → ((y : ℕ) → Available N p y → queue y < queue h → ⊥) → (y : ℕ) → Available N p y → h ≤ y
-head-least N queue p h up line here low y a = go (cases_lt y h)
-  where
-    at : y < h → (queue y < queue h) ⊎ (queue h ≤ queue y) → h ≤ y
-    at lt (inl q) = absurd (low y a q)
-    at lt (inr q) = let r : queue y ≤ queue h = up y h lt in let e : queue y ≡ queue h = omega arith in absurd (false≢true (sym a.fresh ∙ here.after y (line y h e lt)))
-
-    go : (y < h) ⊎ (h ≤ y) → h ≤ y
-    go (inl lt) = at lt (cases_lt (queue y) (queue h))
-    go (inr le) = le

@@ -1,9 +1,7 @@
 -- Tables of nodes that grow by one entry.
-use Rattle.std.proofs.Common.{◌≡◌, ℕ, ◌+◌, ◌<◌, ◌≤◌, ◌++◌, List, [], ◌∷◌, Option, Some, length, map, take, get_or, slice_get, sym, ap, ◌∙◌, add-one, arith}
+use Rattle.std.proofs.Common.{◌≡◌, ℕ, ◌+◌, ◌<◌, ◌≤◌, ◌++◌, List, [], ◌∷◌, Option, length, map, get_or, sym, ap, ◌∙◌, arith}
 use Rattle.std.proofs.lemmas.List.FromFn.{map-range_with_len_more, length-map-range_with_len, get_or-map-range_with_len}
-use Rattle.std.proofs.Math.Seq.{take-suc}
-use Rattle.std.proofs.lemmas.List.{map-append, length-map}
-use Rattle.std.proofs.lemmas.Option.{slice_get_within, get_or_from_slice_get}
+use Rattle.std.proofs.lemmas.List.{length-map}
 use Rattle.fg_hb.specs.Edges.{node_at}
 use Rattle.fg_hb.specs.Code.Tables.{link_of, links_until}
 use Rattle.fg_hb.specs.declared.node.Node.{Node}
@@ -25,10 +23,3 @@ link_there nodes now links n link same is lt e =
 
 pub as_many : {X Y : Type 0} (f : X → Y) (xs : List X) (ys : List Y) (bound : ℕ) → ys ≡ map f xs → length xs ≤ bound → length ys ≤ bound
 as_many f xs ys bound is few = let e : length ys ≡ length xs = ap length is ∙ length-map xs f in omega (arith, e, few)
-
--- what f gives of one entry more
-pub one_image : {X Y : Type 0} (f : X → Y) (xs : List X) (n : ℕ) (x : X) (old more : List Y) (y : Y) → old ≡ map f (take n xs) → slice_get xs n ≡ Some x → y ≡ f x → more ≡ old ++ y ∷ [] → more ≡ map f (take (n + 1) xs)
-one_image f xs n x old more y so_far at is grows =
-    let lt : n < length xs = slice_get_within xs n x at in
-    let here : take (n + 1) xs ≡ take n xs ++ x ∷ [] = ap (λ k. take k xs) (add-one n) ∙ take-suc xs n x lt ∙ ap (λ z. take n xs ++ z ∷ []) (get_or_from_slice_get xs n x x at) in
-    grows ∙ ap (λ l. l ++ y ∷ []) so_far ∙ ap (λ z. map f (take n xs) ++ z ∷ []) is ∙ sym (ap (map f) here ∙ map-append f (take n xs) (x ∷ []))

@@ -144,7 +144,7 @@ fn entry_node(queues: u32, entry: Entry) -> Node
 }
 
 /// All nodes, in the order of their numbers.
-#[tactic(auto, using(crate::proofs::Tables::one_image, crate::proofs::Tables::as_many))]
+#[tactic(auto, using(fg_base::proofs::Lists::one_image, crate::proofs::Tables::as_many))]
 pub(crate) fn program_nodes(alloc: Global, shaped: &Shaped) -> Result<List<Node>, NoMemory>
     ensures nodes { IfOk result (λ nodes. nodes ≡ program_nodes shaped.now) }
     ensures few { IfOk result (λ nodes. length nodes ≤ max_nodes) }

@@ -1,15 +1,12 @@
 -- Texels of blocks, and of bytes that are put together of blocks.
-use Rattle.std.proofs.Common.{◌≡◌, ℕ, ◌+◌, ◌*◌, ◌/◌, ◌%◌, ◌-◌, ◌^◌, ◌<◌, ◌≤◌, Fits, w8, w32, List, ◌++◌, length, get_or, take, drop, arith, refl, sym, ap, ◌∙◌, inl, inr}
+use Rattle.std.proofs.Common.{◌≡◌, ℕ, ◌+◌, ◌*◌, ◌/◌, ◌%◌, ◌-◌, ◌^◌, ◌<◌, ◌≤◌, Fits, w8, w32, List, ◌++◌, length, get_or, drop, arith, refl, sym, ap, ◌∙◌, inl, inr}
 use Rattle.std.specs.Prelude.{replicate}
 use Rattle.std.specs.Simd.Lanes.{Each1, digits_l, number_l}
 use Rattle.std.proofs.lemmas.Bool.{cases_lt}
 use Rattle.std.proofs.lemmas.Grind.{common_steps}
-use Rattle.std.proofs.lemmas.List.{get_or-take, get_or-append_right, get_or_past, length-take-le}
+use Rattle.std.proofs.lemmas.List.{get_or_past}
 use Rattle.std.proofs.lemmas.Nat.{from_le_bytes-to_le_bytes_4}
 use Rattle.std.proofs.lemmas.Simd.{below_from_Fits, get_or_narrower, Each1-get_or}
-use Rattle.std.proofs.lemmas.Slice.{take-put_mid}
-use Rattle.std.proofs.Math.ListN.{get_or-append}
-use borrow.Rule.Slice.PartMut.{put_mid}
 use Rattle.fg_base.specs.Shapes.{texel_bytes}
 use Rattle.fg_base.specs.Texels.{texel_at, modulus}
 use Rattle.fg_base.specs.declared.shape.Texel.{Texel}
@@ -90,23 +87,6 @@ laid_on t p old block new b rest le front back up here k h =
 pub whole_block : (t : Texel) (b : ℕ) → (32 * b + 32) / texel_bytes t ≡ block_texels t * (b + 1)
 whole_block R8 b = omega arith
 whole_block R32 b = omega arith
-
--- what is read of bytes, some of which were put from one place to the end
-pub put_front : (a k : ℕ) (xs ys : List ℕ) (i : ℕ) → a ≤ length xs → i < a → get_or (put_mid a k xs ys) i 0 ≡ get_or xs i 0
-put_front a k xs ys i le lt =
-    let n = a + length ys in
-    sym (get_or-take n (put_mid a k xs ys) i 0 (omega arith))
-    ∙ ap (λ (l : List ℕ). get_or l i 0) (take-put_mid a k xs ys n refl le)
-    ∙ get_or-append (take a xs) ys 0 i (omega (arith, length-take-le a xs le))
-    ∙ get_or-take a xs i 0 lt
-
-pub put_back : (a k : ℕ) (xs ys : List ℕ) (i : ℕ) → a ≤ length xs → i < length ys → get_or (put_mid a k xs ys) (a + i) 0 ≡ get_or ys i 0
-put_back a k xs ys i le lt =
-    let n = a + length ys in
-    sym (get_or-take n (put_mid a k xs ys) (a + i) 0 (omega arith))
-    ∙ ap (λ (l : List ℕ). get_or l (a + i) 0) (take-put_mid a k xs ys n refl le)
-    ∙ get_or-append_right (take a xs) ys a (a + i) 0 (length-take-le a xs le) (omega arith)
-    ∙ ap (λ (m : ℕ). get_or ys m 0) (omega arith)
 
 -- a word among the bytes of words
 pub narrowed : (words : List ℕ) (j : ℕ) → (length words ≡ 8) × Each1 (Fits w32) words → j < 8 → texel_at R32 (digits_l 256 32 (number_l 4294967296 words)) j ≡ get_or words j 0

@@ -3,21 +3,14 @@ use Rattle.std.proofs.Common.{◌≡◌, ℕ, ◌+◌, ◌<◌, ◌≤◌, ◌==
 use Rattle.std.specs.List.{list_any, range_with_len}
 use Rattle.std.proofs.lemmas.Bool.{cases_eq, cases_lt, lt-ltb, le-ltb}
 use Rattle.std.proofs.lemmas.List.Folds.{list_any-append, list_any_more}
+use Rattle.std.proofs.Math.Bool.{and-false}
+use Rattle.fg_base.proofs.Booleans.{or_false}
 use Rattle.fg_base.proofs.Lists.{range_more}
 use Rattle.fg_groups.specs.Needs.{has_command}
 use Rattle.fg_groups.specs.declared.command.Command.{Command}
 use Rattle.fg_groups.specs.declared.unit_use.Use.{Use}
+use Rattle.fg_place.proofs.Sorted.{flip}
 use Rattle.fg_lifetimes.specs.Code.Leading.{queue_in, comes_later}
-
-pub eq_turned : (a b : ℕ) → (a == b) ≡ (b == a)
-eq_turned a b = ⊎_elim
-    (λ e. eq-eqb a b e ∙ sym (eq-eqb b a (sym e)))
-    (λ ne. ne_eqb a b ne ∙ sym (ne_eqb b a (λ e. ne (sym e))))
-    (cases_eq a b)
-
-pub or_false : (b : Bool) → (b || false) ≡ b
-or_false true = refl
-or_false false = refl
 
 -- NUMBER AFTER NUMBER
 
@@ -57,10 +50,6 @@ ends_at true false c t e = refl
 ends_at false true c t e = refl
 ends_at false false c t e = refl
 
-and_false : (b : Bool) → (b && false) ≡ false
-and_false true = refl
-and_false false = refl
-
 -- those that end at one of all commands are all
 pub all_told : (commands : List Command) (x y end : ℕ) (o n : Bool) → length commands ≤ end → n ≡ ((nat_lt y end && comes_later commands x y) || o) → n ≡ (comes_later commands x y || o)
 all_told commands x y end o n over now = ⊎_elim
@@ -70,8 +59,8 @@ all_told commands x y end o n over now = ⊎_elim
   where
     none : length commands ≤ y → ((nat_lt y end && comes_later commands x y) || o) ≡ (comes_later commands x y || o)
     none ge =
-        let never : comes_later commands x y ≡ false = ap (λ b. nat_lt x y && (b && queue_in commands x == queue_in commands y)) (le-ltb y (length commands) ge) ∙ and_false (nat_lt x y) in
-        ap (λ l. (nat_lt y end && l) || o) never ∙ ap (λ b. b || o) (and_false (nat_lt y end)) ∙ sym (ap (λ l. l || o) never)
+        let never : comes_later commands x y ≡ false = ap (λ b. nat_lt x y && (b && queue_in commands x == queue_in commands y)) (le-ltb y (length commands) ge) ∙ and-false (nat_lt x y) in
+        ap (λ l. (nat_lt y end && l) || o) never ∙ ap (λ b. b || o) (and-false (nat_lt y end)) ∙ sym (ap (λ l. l || o) never)
 
 -- FROM GROUP TO GROUP
 
@@ -112,8 +101,8 @@ both_kinds false false = refl
 pub from_step : (next : List Use) (k : ℕ) (d : Use) (from x y : ℕ) (o m n : Bool) → k < length next → m ≡ ((from == x && has_command y (take k next)) || o) → n ≡ ((x == from && y == (get_or next k d).command) || m) → n ≡ ((from == x && has_command y (take (k + 1) next)) || o)
 from_step next k d from x y o m n lt before now =
     now
-    ∙ ap (λ b. (b && y == (get_or next k d).command) || m) (eq_turned x from)
-    ∙ ap (λ b. (from == x && b) || m) (eq_turned y (get_or next k d).command)
+    ∙ ap (λ b. (b && y == (get_or next k d).command) || m) (flip x from)
+    ∙ ap (λ b. (from == x && b) || m) (flip y (get_or next k d).command)
     ∙ ap (λ b. (from == x && (get_or next k d).command == y) || b) before
     ∙ from_more (from == x) ((get_or next k d).command == y) (has_command y (take k next)) o
     ∙ sym (ap (λ b. (from == x && b) || o) (list_any_more (λ (u : Use). u.command == y) next k d lt))

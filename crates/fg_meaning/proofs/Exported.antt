@@ -1,9 +1,10 @@
 -- What a good frame exports has contents after all passes.
-use Rattle.std.proofs.Common.{◌≡◌, ℕ, ◌==◌, ◌&&◌, ◌||◌, Bool, true, false, List, [], ◌∷◌, take, get_or, Some, None, is_some, if◌then◌else◌, refl, subst, ap, ◌∙◌}
+use Rattle.std.proofs.Common.{◌≡◌, ℕ, ◌==◌, ◌&&◌, ◌||◌, Bool, true, false, List, [], ◌∷◌, take, get_or, Some, is_some, if◌then◌else◌, refl, subst, ap, ◌∙◌}
 use Rattle.std.specs.List.{All, list_any, find}
 use Rattle.std.specs.Option.{option_map_or}
-use Rattle.std.proofs.lemmas.Bool.{eqb-true}
+use Rattle.std.proofs.lemmas.Bool.{eqb-true, or_right}
 use Rattle.std.proofs.lemmas.List.Folds.{Any-from_list_any, list_any-from_Any}
+use Rattle.fg_base.proofs.Absence.{is_there}
 use Rattle.fg_base.specs.Applied.{bytes_at}
 use Rattle.fg_base.specs.Operands.{destination_of, mapped, touches}
 use Rattle.fg_base.specs.Shapes.{shape_at}
@@ -24,13 +25,9 @@ and_right : (a b : Bool) → (a && b) ≡ true → b ≡ true
 and_right true b e = e
 and_right false b e = absurd cc
 
-pub or_right : (a b c : Bool) → (b ≡ true → c ≡ true) → (a || b) ≡ true → (a || c) ≡ true
-or_right true b c so e = refl
-or_right false b c so e = so e
-
-pub further : (a b : Bool) → b ≡ true → (a || b) ≡ true
-further true b e = refl
-further false b e = e
+pub or_more : (a b c : Bool) → (b ≡ true → c ≡ true) → (a || b) ≡ true → (a || c) ≡ true
+or_more true b c so e = refl
+or_more false b c so e = so e
 
 abbrev stores : ℕ → Op ℕ → Bool
 stores unit op = destination_of op == unit
@@ -42,7 +39,7 @@ whole_stores shapes unit (op ∷ ops) e = by_test (touches unit op) e (whole_sto
   where
     by_test : (b : Bool) → option_map_or (stores_whole shapes unit) (if b then Some op else find (touches unit) ops) false ≡ true → (starts_whole shapes ops unit ≡ true → list_any (stores unit) ops ≡ true) → list_any (stores unit) (op ∷ ops) ≡ true
     by_test true e more = ap (λ b. b || list_any (stores unit) ops) (and_left (destination_of op == unit) (is_whole (mapped (shape_at shapes) op)) e)
-    by_test false e more = further (stores unit op) (list_any (stores unit) ops) (more e)
+    by_test false e more = or_right (stores unit op) (list_any (stores unit) ops) (more e)
 
 renewed : (frame : NumberedFrame) (before : List NumberedPass) (pass : NumberedPass) (unit : ℕ) → IsGoodPass frame before pass → renews unit pass ≡ true → stores_to unit pass ≡ true
 renewed frame before pass unit good e =
@@ -58,11 +55,7 @@ all_renewed frame good unit e =
     let here = subst (λ p. IsGoodPass frame (take pass.0 frame.passes) p) pass.3 (good.passes_good pass.0 pass.1 pass.2) in
     list_any-from_Any (stores_to unit) frame.passes (pass.0, pass.1, pass.2, pass.3, renewed frame (take pass.0 frame.passes) pass.1 unit here pass.4)
 
-is_there : {X : Type 0} (b : Bool) (x : X) → is_some (if b then Some x else None) ≡ b
-is_there true x = refl
-is_there false x = refl
-
 pub exported : (frame : NumberedFrame) → IsGood frame → All (λ unit. is_some (meaning frame unit) ≡ true) frame.exports
 exported frame good k d lt =
     let unit : ℕ = get_or frame.exports k d in
-    is_there (has_picture frame unit) (bytes_at (all_bytes frame) unit) ∙ or_right (is_import frame.units unit) (list_any (renews unit) frame.passes) (list_any (stores_to unit) frame.passes) (all_renewed frame good unit) (good.exports_there k d lt)
+    is_there (has_picture frame unit) (bytes_at (all_bytes frame) unit) ∙ or_more (is_import frame.units unit) (list_any (renews unit) frame.passes) (list_any (stores_to unit) frame.passes) (all_renewed frame good unit) (good.exports_there k d lt)

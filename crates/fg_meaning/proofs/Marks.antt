@@ -5,7 +5,7 @@ use Rattle.std.proofs.lemmas.Bool.Decides.{eqb_tells}
 use Rattle.std.proofs.lemmas.List.{length-map, length-set, get_or-set_same, get_or-set_other, ext_get_or, get_or_read}
 use Rattle.std.proofs.lemmas.List.Elements.{All-head, All-tail}
 use Rattle.std.proofs.lemmas.List.FromFn.{length-map-range_with_len, get_or-map-range_with_len}
-use Rattle.fg_base.proofs.Booleans.{or_assoc}
+use Rattle.fg_base.proofs.Booleans.{or_assoc, or_false}
 use Rattle.fg_base.specs.Applied.{bytes_at}
 use Rattle.fg_base.specs.Operands.{destination_of}
 use Rattle.fg_base.specs.declared.op.Op.{Op}
@@ -15,10 +15,6 @@ use Rattle.fg_frame.specs.Units.{Unit}
 use Rattle.fg_frame.specs.declared.numbered.NumberedPass.{NumberedPass}
 use Rattle.fg_meaning.specs.Meaning.{all_bytes, stores_to, meaning}
 use Rattle.fg_meaning.specs.Code.Stored.{marked_by, marked, AreMarked, chosen}
-
-or_false : (a : Bool) → (a || false) ≡ a
-or_false true = refl
-or_false false = refl
 
 or_true : (a : Bool) → true ≡ (a || true)
 or_true true = refl

@@ -53,7 +53,7 @@ module _ (passes : List NumberedPass) (p : ℕ) where
     pub here : true ≡ list_any (touches unit) ops → true ≡ total
     here some = sym (either ∙ ap (λ b. b || list_any (touches unit) (all_ops (drop (p + 1) passes))) (sym some))
 
-after_ops-append : (shapes : List Shape) (first second : List (Op ℕ)) (bytes : List (List ℕ)) → after_ops shapes bytes (first ++ second) ≡ after_ops shapes (after_ops shapes bytes first) second
+pub after_ops-append : (shapes : List Shape) (first second : List (Op ℕ)) (bytes : List (List ℕ)) → after_ops shapes bytes (first ++ second) ≡ after_ops shapes (after_ops shapes bytes first) second
 after_ops-append shapes [] second bytes = refl
 after_ops-append shapes (op ∷ first) second bytes = after_ops-append shapes first second (after_op shapes bytes op)
 

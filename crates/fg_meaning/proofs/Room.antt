@@ -2,13 +2,14 @@
 use Rattle.std.proofs.Common.{subst, map, ◌≡◌, ◌≢◌, ℕ, ◌<◌, ◌==◌, inl, List, [], ◌∷◌, length, slice_index_or, slice_set, true, false, refl, sym, ap, ◌∙◌, ⊎_elim}
 use Rattle.std.proofs.lemmas.Bool.Decides.{eqb_tells}
 use Rattle.std.proofs.lemmas.List.{length-map, length-set, get_or-set_same, get_or-set_other, set-set}
+use Rattle.fg_base.proofs.Operands.{destination_long}
 use Rattle.fg_base.specs.Applied.{applied, bytes_at, after_op}
 use Rattle.fg_base.specs.Operands.{sources_of, destination_of, mapped}
 use Rattle.fg_base.specs.Shapes.{bytes_of, shape_at}
 use Rattle.fg_base.specs.declared.op.Op.{Op}
 use Rattle.fg_frame.specs.Good.{shapes_in}
 use Rattle.fg_frame.specs.Numbered.{NumberedFrame}
-use Rattle.fg_meaning.proofs.Runs.{destination_long, destination_within, same_sources, still_sized}
+use Rattle.fg_meaning.proofs.Runs.{destination_within, same_sources, still_sized}
 use Rattle.fg_meaning.proofs.Settling.{carried}
 use Rattle.fg_meaning.specs.Code.Held.{IsAt, Stands, is_wanted}
 use Rattle.fg_meaning.specs.Meaning.{after_ops}

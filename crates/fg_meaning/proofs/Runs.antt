@@ -1,13 +1,13 @@
 -- Operations on the bytes of all units.
-use Rattle.std.proofs.Common.{subst, take, zero, suc, map, ◌≡◌, ◌≢◌, ℕ, ◌+◌, ◌<◌, ◌==◌, ◌++◌, List, [], ◌∷◌, length, get_or, slice_set, slice_index, slice_index_or, true, false, refl, sym, ap, ap₂, ◌∙◌, arith, ⊎_elim}
+use Rattle.std.proofs.Common.{subst, zero, suc, map, ◌≡◌, ◌≢◌, ℕ, ◌+◌, ◌<◌, ◌==◌, List, [], ◌∷◌, length, get_or, slice_set, slice_index, slice_index_or, true, false, refl, sym, ap, ap₂, ◌∙◌, arith, ⊎_elim}
 use Rattle.std.specs.List.{All}
 use Rattle.std.proofs.lemmas.Bool.Decides.{eqb_tells}
 use Rattle.std.proofs.lemmas.List.{length-set, length-append, get_or-set_same, get_or-set_other, get_or_append_left, set-set}
-use Rattle.std.proofs.Math.Seq.{get_or-append_seam, take-append_seam}
+use Rattle.std.proofs.Math.Seq.{get_or-append_seam}
 use Rattle.std.proofs.lemmas.List.Elements.{All-head, All-tail}
 use Rattle.std.proofs.lemmas.List.Folds.{list_any_at}
 use Rattle.fg_base.proofs.Lists.{map_same}
-use Rattle.fg_base.proofs.Operands.{sources_mapped, destination_mapped}
+use Rattle.fg_base.proofs.Operands.{sources_mapped}
 use Rattle.fg_base.specs.Applied.{applied, bytes_at, after_op}
 use Rattle.fg_base.specs.InPlace.{in_place}
 use Rattle.fg_base.specs.Operands.{sources_of, destination_of, operands_of, mapped}
@@ -60,14 +60,7 @@ long shapes bytes (x ∷ xs) (suc k) sized = long shapes bytes xs k (All-tail (�
 pub source_long : (shapes : List Shape) (bytes : List (List ℕ)) (op : Op ℕ) (k : ℕ) (r : List ℕ) → All (λ unit. length (bytes_at bytes unit) ≡ bytes_of (shape_at shapes unit)) (sources_of op) → r ≡ slice_index_or (map (bytes_at bytes) (sources_of op)) k [] → length r ≡ source_bytes (mapped (shape_at shapes) op) k
 source_long shapes bytes op k r sized is = ap length is ∙ long shapes bytes (sources_of op) k sized ∙ ap (λ xs. slice_index (map bytes_of xs) k) (sym (sources_mapped (shape_at shapes) op))
 
-pub destination_long : (shapes : List Shape) (op : Op ℕ) (n : ℕ) → n ≡ bytes_of (shape_at shapes (destination_of op)) → n ≡ bytes_of (destination_of (mapped (shape_at shapes) op))
-destination_long shapes op n is = is ∙ ap bytes_of (sym (destination_mapped (shape_at shapes) op))
-
 -- ONE OPERATION
-
--- what a vector holds when its slice was written
-pub written_back : (count : ℕ) (new more : List ℕ) → length new ≡ count → take count (new ++ more) ≡ new
-written_back count new more is = subst (λ n. take n (new ++ more) ≡ new) is (take-append_seam new more)
 
 -- the length of a unit's bytes
 abbrev IsLong : List Shape → List (List ℕ) → ℕ → Type 0

@@ -5,10 +5,9 @@ use Rattle.std.specs.Str.{bytes_eq}
 use Rattle.std.specs.Fmt.{decimal}
 use Rattle.std.proofs.lemmas.Fmt.{decimal_injective, length-decimal-le}
 use Rattle.std.proofs.lemmas.Slice.Eq.{bytes_eq-Decides}
-use Rattle.fg_base.proofs.Booleans.{clash}
-use Rattle.fg_base.proofs.Lists.{same_bytes}
+use Rattle.fg_base.proofs.Lists.{all_append}
 use Rattle.fg_named.proofs.OwnNames.{all_names, own_names}
-use Rattle.fg_named.proofs.Pairs.{NoPair, both, no_pair_on}
+use Rattle.fg_named.proofs.Pairs.{NoPair, no_pair_on}
 use Rattle.fg_named.specs.Names.{join_name, numbered_name}
 
 -- TWO NAMES
@@ -19,9 +18,6 @@ apart a b other = by_test (bytes_eq a b) refl
     by_test : (c : Bool) → bytes_eq a b ≡ c → bytes_eq a b ≡ false
     by_test true e = absurd (other ((bytes_eq-Decides a b).0 e))
     by_test false e = e
-
-pub turned : (a b : List ℕ) → bytes_eq a b ≡ false → bytes_eq b a ≡ false
-turned a b e = apart b a (λ same. absurd (clash (sym e ∙ ap (λ x. bytes_eq x b) (sym same) ∙ same_bytes b)))
 
 same_frame : (i k : ℕ) (more rest : List ℕ) → ◌≡◌ {A = List ℕ} ((48 + i) ∷ more) ((48 + k) ∷ rest) → i ≡ k
 same_frame i k more rest e = let digits : 48 + i ≡ 48 + k = cc in omega arith
@@ -69,10 +65,6 @@ pub after_all : (i k : ℕ) (names : List (List ℕ)) → i < k → AllByRecursi
 after_all i k [] less of = tt
 after_all i k (name ∷ names) less of = ((k, less, of.0), after_all i k names less of.1)
 
-pub after_more : (i : ℕ) (names : List (List ℕ)) → AllByRecursion (IsAfter (suc i)) names → AllByRecursion (IsAfter i) names
-after_more i [] after = tt
-after_more i (name ∷ names) after = ((after.0.0, (let less : suc i < after.0.0 = after.0.1 in omega arith), after.0.2), after_more i names after.1)
-
 -- RESOURCES
 
 own_later : (i j k count : ℕ) → j < k → k + count ≤ 2 ^ 64 → AllByRecursion (λ b. bytes_eq b (numbered_name i j) ≡ false) (own_names i k count)
@@ -93,7 +85,7 @@ join_apart i j (suc count) few = (apart (numbered_name i j) (join_name i) (not_j
 
 all_after : (i k : ℕ) (counts : List ℕ) → i < k → AllByRecursion (IsAfter i) (all_names k counts)
 all_after i k [] less = tt
-all_after i k (count ∷ counts) less = both (IsAfter i) (own_names k 0 count) (all_names (suc k) counts) (after_all i k (own_names k 0 count) less (own_of k 0 count)) (all_after i (suc k) counts (omega arith))
+all_after i k (count ∷ counts) less = all_append (IsAfter i) (own_names k 0 count) (all_names (suc k) counts) (after_all i k (own_names k 0 count) less (own_of k 0 count)) (all_after i (suc k) counts (omega arith))
 
 pub all_distinct : (i : ℕ) (counts : List ℕ) → AllByRecursion (λ count. count ≤ 256) counts → NoPair bytes_eq (all_names i counts)
 all_distinct i [] few = tt

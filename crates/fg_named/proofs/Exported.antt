@@ -3,6 +3,7 @@ use Rattle.std.proofs.Common.{◌≡◌, ℕ, suc, ◌<◌, ◌≤◌, ◌&&◌,
 use Rattle.std.specs.List.{AllByRecursion, filter, list_any, position}
 use Rattle.std.specs.Str.{bytes_eq}
 use Rattle.std.specs.Fmt.{decimal}
+use Rattle.fg_base.proofs.Lists.{all_append}
 use Rattle.fg_frame.specs.Clashes.{clash, first_clash, layers_clash}
 use Rattle.fg_frame.specs.Units.{numbering}
 use Rattle.fg_frame.specs.Unknowns.{is_known}
@@ -10,7 +11,7 @@ use Rattle.fg_frame.specs.declared.frame.Frame.{Frame}
 use Rattle.fg_frame.specs.declared.frame.Spot.{Spot}
 use Rattle.fg_named.proofs.Clashless.{no_clash, wholes_apart}
 use Rattle.fg_named.proofs.Distinct.{IsAfter, IsOf, frames_apart}
-use Rattle.fg_named.proofs.Pairs.{NoPair, both, no_pair_on}
+use Rattle.fg_named.proofs.Pairs.{NoPair, no_pair_on}
 use Rattle.fg_named.specs.Declared.{Declared}
 use Rattle.fg_named.specs.Exports.{declared_exports, named_others}
 use Rattle.fg_named.specs.Joins.{whole}
@@ -35,7 +36,7 @@ later_spots j i frame (spot ∷ spots) less = ((i, less, (46 ∷ decimal (unwrap
 
 spots_after : (j i : ℕ) (ds : List Declared) → j < i → AllByRecursion (λ spot. IsAfter j spot.name) (declared_exports i ds)
 spots_after j i [] less = tt
-spots_after j i (d ∷ ds) less = both (λ spot. IsAfter j spot.name) (map (renamed_spot (rename_in i d.frame)) d.frame.exports) (declared_exports (suc i) ds) (later_spots j i d.frame d.frame.exports less) (spots_after j (suc i) ds (omega arith))
+spots_after j i (d ∷ ds) less = all_append (λ spot. IsAfter j spot.name) (map (renamed_spot (rename_in i d.frame)) d.frame.exports) (declared_exports (suc i) ds) (later_spots j i d.frame d.frame.exports less) (spots_after j (suc i) ds (omega arith))
 
 each_apart : (i : ℕ) (a : Spot) (spots : List Spot) → IsOf i a.name → AllByRecursion (λ spot. IsAfter i spot.name) spots → AllByRecursion (λ b. clash b a ≡ false) spots
 each_apart i a [] of after = tt

@@ -3,10 +3,11 @@ use Rattle.std.proofs.Common.{◌≡◌, ◌≢◌, ℕ, zero, suc, ◌<◌, ◌
 use Rattle.std.specs.List.{AllByRecursion}
 use Rattle.std.specs.Str.{bytes_eq}
 use Rattle.std.specs.Fmt.{decimal}
+use Rattle.fg_base.proofs.Lists.{turned}
 use Rattle.fg_frame.specs.Clashes.{clash, first_clash}
 use Rattle.fg_frame.specs.declared.frame.Resource.{Resource}
 use Rattle.fg_named.proofs.Clashless.{IsClashless, wholes_apart}
-use Rattle.fg_named.proofs.Distinct.{IsOf, apart, frames_apart, same_resource, turned}
+use Rattle.fg_named.proofs.Distinct.{IsOf, apart, frames_apart, same_resource}
 use Rattle.fg_named.proofs.Holders.{AreDifferent, HaveOneLayer, OneLayer}
 use Rattle.fg_named.proofs.Pairs.{NoPair, no_first}
 use Rattle.fg_named.specs.Joins.{NamedCarry, named_carries, named_join, named_renewal, whole}

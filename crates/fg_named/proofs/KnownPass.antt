@@ -1,8 +1,9 @@
 -- A pass of which nothing is unknown, wherever it stands.
-use Rattle.std.proofs.Common.{◌≡◌, ℕ, suc, ◌+◌, List, [], ◌∷◌, get_or, not, Bool, true, false, Some, None, if◌then◌else◌, refl, ap, ap₂}
+use Rattle.std.proofs.Common.{◌≡◌, ℕ, suc, ◌+◌, List, [], ◌∷◌, get_or, not, true, Some, None, if◌then◌else◌, ap, ap₂}
 use Rattle.std.specs.List.{All, AllByRecursion, position}
 use Rattle.std.specs.Option.{option_map, option_or}
-use Rattle.fg_base.proofs.Absence.{all_pass, first_none, has_it, map_none, or_first, or_second}
+use Rattle.std.proofs.lemmas.Bool.{not_from_true}
+use Rattle.fg_base.proofs.Absence.{all_pass, first_none, has_it, map_none, or_first, or_second, passes_test}
 use Rattle.fg_base.specs.Operands.{operands_of}
 use Rattle.fg_base.specs.Walks.{first_in}
 use Rattle.fg_base.specs.declared.op.Op.{Op}
@@ -15,14 +16,6 @@ use Rattle.fg_frame.specs.declared.frame.Pass.{Pass}
 use Rattle.fg_frame.specs.declared.frame.Spot.{Spot}
 use Rattle.fg_frame.specs.declared.place.Place.TheVariants as at
 
-pub not_false : (b : Bool) → b ≡ true → not b ≡ false
-not_false true e = refl
-not_false false e = absurd cc
-
-passes_test : {X : Type 0} (b : Bool) (x : X) → b ≡ true → (if b then None else Some x) ≡ None
-passes_test true x e = refl
-passes_test false x e = absurd cc
-
 pub record IsKnownPass (frame : Frame) (n : Numbering) (pass : Pass) : Type 0 where
   pub queue : has_queue frame pass.queue ≡ true
   pub reads : All (λ spot. is_known n spot ≡ true) pass.reads
@@ -33,8 +26,8 @@ module _ (frame : Frame) (n : Numbering) where
   pub none_unknown : (p : ℕ) (pass : Pass) → IsKnownPass frame n pass → unknown_in frame n p pass ≡ None
   none_unknown p pass K =
       ap₂ option_or (passes_test (has_queue frame pass.queue) (at.PassQueue p) K.queue)
-      (ap₂ option_or (ap (option_map (λ k. at.Read p k)) (none_found (λ spot. not (is_known n spot)) pass.reads (λ k d lt. not_false (is_known n (get_or pass.reads k d)) (K.reads k d lt))))
-      (ap₂ option_or (ap (option_map (λ k. at.Write p k)) (none_found (λ w. not (is_known n w.what)) pass.writes (λ k d lt. not_false (is_known n (get_or pass.writes k d).what) (K.writes k d lt))))
+      (ap₂ option_or (ap (option_map (λ k. at.Read p k)) (none_found (λ spot. not (is_known n spot)) pass.reads (λ k d lt. not_from_true (is_known n (get_or pass.reads k d)) (K.reads k d lt))))
+      (ap₂ option_or (ap (option_map (λ k. at.Write p k)) (none_found (λ w. not (is_known n w.what)) pass.writes (λ k d lt. not_from_true (is_known n (get_or pass.writes k d).what) (K.writes k d lt))))
       (none_in (unknown_operand n p) pass.ops (λ k d lt. none_in (unknown_at n p k (get_or pass.ops k d)) (operands_of (get_or pass.ops k d)) (λ j e less. passes_test (is_known_unit n (get_or (operands_of (get_or pass.ops k d)) j e)) (at.Operand p k (member_at (get_or pass.ops k d) j)) (K.ops k d lt j e less))))))
 
   known_at : (p k : ℕ) (op : Op Spot) → unknown_operand n p k op ≡ None → All (λ spot. is_known_unit n spot ≡ true) (operands_of op)

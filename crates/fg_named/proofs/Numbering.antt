@@ -4,6 +4,7 @@ use Rattle.std.specs.Prelude.{option_and_then}
 use Rattle.std.specs.List.{position}
 use Rattle.std.specs.Str.{bytes_eq}
 use Rattle.std.proofs.lemmas.List.{length-append}
+use Rattle.fg_base.proofs.Lists.{got_front, got_back}
 use Rattle.fg_frame.proofs.Lookups.{found_by}
 use Rattle.fg_frame.specs.Repeats.{first_repeat}
 use Rattle.fg_frame.specs.Units.{Numbering, numbering, stretch_of, stretches}
@@ -13,7 +14,6 @@ use Rattle.fg_frame.specs.declared.numbered.Stretch.{Stretch}
 use Rattle.fg_named.proofs.OwnNames.{own_at, own_count, own_names}
 use Rattle.fg_named.proofs.Stretches.{moved_stretch, stretch_count}
 use Rattle.fg_named.specs.Names.{numbered_name, rename_in}
-use Rattle.fg_window.proofs.Means.{got_front, got_back}
 use Rattle.fg_window.proofs.Moves.{at_middle}
 
 -- LOOK-UPS

@@ -3,6 +3,7 @@ use Rattle.std.proofs.Common.{◌≡◌, ℕ, suc, ◌<◌, ◌≤◌, ◌++◌,
 use Rattle.std.specs.List.{AllByRecursion}
 use Rattle.std.specs.Str.{bytes_eq}
 use Rattle.std.proofs.lemmas.List.{map-append}
+use Rattle.fg_base.proofs.Lists.{all_append}
 use Rattle.fg_base.specs.Walks.{first_in}
 use Rattle.fg_frame.specs.Repeats.{repeats_in}
 use Rattle.fg_frame.specs.Units.{numbering}
@@ -14,7 +15,7 @@ use Rattle.fg_named.proofs.Distinct.{IsAfter, IsOf, after_all, frame_names, join
 use Rattle.fg_named.proofs.Fresh.{AreFresh, join_clashless, still_fresh}
 use Rattle.fg_named.proofs.Holders.{AreDifferent, HaveOneLayer}
 use Rattle.fg_named.proofs.OwnNames.{own_names}
-use Rattle.fg_named.proofs.Pairs.{NoPair, both}
+use Rattle.fg_named.proofs.Pairs.{NoPair}
 use Rattle.fg_named.specs.Declared.{Declared}
 use Rattle.fg_named.specs.Joins.{NamedCarry, named_carries, named_join, named_joins}
 use Rattle.fg_named.specs.Names.{numbered_name, rename_in}
@@ -58,7 +59,7 @@ module _ (queue : List ℕ) where
       let rest = declared_passes queue (suc i) (named_after i d.holders sources) ds in
       let own = names_in (named_joins i queue (named_carries i d.frame.resources d.holders sources)) ++ own_names i 0 (length d.frame.passes) in
       subst (AllByRecursion (IsAfter j)) (sym (map-append (λ p. p.name) (named_passes_in queue i sources d) rest ∙ ap (λ ns. ns ++ names_in rest) (part_names i sources d)))
-      (both (IsAfter j) own (names_in rest) (after_all j i own less (joined_of i (length d.frame.passes) (named_carries i d.frame.resources d.holders sources))) (names_after j (suc i) (named_after i d.holders sources) ds (omega arith)))
+      (all_append (IsAfter j) own (names_in rest) (after_all j i own less (joined_of i (length d.frame.passes) (named_carries i d.frame.resources d.holders sources))) (names_after j (suc i) (named_after i d.holders sources) ds (omega arith)))
 
   names_apart : (i : ℕ) (sources : List NamedSource) (ds : List Declared) → AllByRecursion IsNamed ds → NoPair bytes_eq (names_in (declared_passes queue i sources ds))
   names_apart i sources [] named = tt
@@ -87,8 +88,8 @@ module _ (queue : List ℕ) where
       let rs = d.frame.resources in
       let cs = named_carries i rs d.holders sources in
       let renamed = renamed_passes i 0 (rename_in i d.frame) d.frame.passes in
-      both IsClashless (named_joins i queue cs ++ renamed) (declared_passes queue (suc i) (named_after i d.holders sources) ds)
-      (both IsClashless (named_joins i queue cs) renamed (joins_clashless i cs (join_clashless i rs D.few_resources queue d.holders sources D.held D.different fresh.apart)) (renamed_clashless i 0 d.frame d.frame.passes D.few_resources D.known D.clashless))
+      all_append IsClashless (named_joins i queue cs ++ renamed) (declared_passes queue (suc i) (named_after i d.holders sources) ds)
+      (all_append IsClashless (named_joins i queue cs) renamed (joins_clashless i cs (join_clashless i rs D.few_resources queue d.holders sources D.held D.different fresh.apart)) (renamed_clashless i 0 d.frame d.frame.passes D.few_resources D.known D.clashless))
       (all_clashless (suc i) (named_after i d.holders sources) ds named.1 (still_fresh i rs D.few_resources d.holders sources D.held D.different fresh))
 
   pub passes_repeat_nothing : (i : ℕ) (sources : List NamedSource) (ds : List Declared) → AllByRecursion IsNamed ds → AreFresh i (left_names sources) → first_in (repeats_in (map (λ p. p.name) (declared_passes queue i sources ds))) 0 (declared_passes queue i sources ds) ≡ None

@@ -6,7 +6,9 @@ use Rattle.std.specs.Str.{bytes_eq}
 use Rattle.std.proofs.lemmas.Grind.{flat_map-append}
 use Rattle.std.proofs.lemmas.List.{length-append, length-map, map-append}
 use Rattle.std.proofs.lemmas.Slice.Eq.{bytes_eq-Decides}
+use Rattle.std.proofs.lemmas.Bool.{not_from_true}
 use Rattle.fg_base.proofs.Absence.{all_pass, map_none, or_first, or_second}
+use Rattle.fg_base.proofs.Lists.{all_append}
 use Rattle.fg_base.specs.Walks.{first_in}
 use Rattle.fg_frame.proofs.Exports.{position_here}
 use Rattle.fg_frame.proofs.Small.{few_resources, length_units, limits_none, some_layers, unknown_none}
@@ -27,12 +29,12 @@ use Rattle.fg_named.proofs.Distinct.{all_distinct}
 use Rattle.fg_named.proofs.Exported.{fewer, is_other}
 use Rattle.fg_named.proofs.Holders.{IsUsable}
 use Rattle.fg_named.proofs.Known.{join_known, renamed_known, whole_known}
-use Rattle.fg_named.proofs.KnownPass.{IsKnownPass, known_pass, none_unknown, not_false}
+use Rattle.fg_named.proofs.KnownPass.{IsKnownPass, known_pass, none_unknown}
 use Rattle.fg_named.proofs.NamedSources.{AreNamed, after_named, after_sources, carries_single, same_carries, same_imports, source_of}
 use Rattle.fg_named.proofs.Numbering.{StandsIn, name_moves}
 use Rattle.fg_named.proofs.OwnNames.{all_names, own_count, own_names}
 use Rattle.fg_named.proofs.OtherUnits.{same_test}
-use Rattle.fg_named.proofs.Pairs.{both, no_first}
+use Rattle.fg_named.proofs.Pairs.{no_first}
 use Rattle.fg_named.proofs.PassNumbers.{AreSingle, IsSingle, carry_of, join_numbered, one_unit, passes_moved}
 use Rattle.fg_named.proofs.Renamed.{known_moved, reads_moved}
 use Rattle.fg_named.proofs.Stretches.{found_some, moved_stretch, renamed_layers, renamed_stretches, sets_layers, sets_stretches, stretch_count, stretches_moved, stretches_on}
@@ -143,8 +145,8 @@ module _ (Wf : Frame) (W : Numbering) (queue : List ℕ) (first : queue_number W
         exports = flat_map-append (units_of W) (map (renamed_spot (rename_in i f)) f.exports) (declared_exports (suc i) ds) ∙ ap₂ (λ a b. a ++ b) (reads_moved (numbering f) W (rename_in i f) n moves some f.exports known) tail.exports;
         last = tail.last ∙ ap (λ ss. last_sources (next n (flown_of d)) ss (map flown_of ds)) sources;
         still_named = tail.still_named;
-        known = both (IsKnownPass Wf W) (named_joins i queue cs ++ renamed) (declared_passes queue (suc i) after ds) (both (IsKnownPass Wf W) (named_joins i queue cs) renamed (joins_known Wf W i queue cs there (carries_single W i n rs S d.holders named declared.0.held is_named)) (passes_known (numbering f) W (rename_in i f) n moves f Wf (sym declared.0.same) i 0 0 f.passes (or_first passes_unknown exports_unknown unknown))) tail.known;
-        exports_known = both (λ spot. is_known W spot ≡ true) (map (renamed_spot (rename_in i f)) f.exports) (declared_exports (suc i) ds) (spots_known (numbering f) W (rename_in i f) n moves f.exports (each (λ spot. is_known (numbering f) spot ≡ true) f.exports known)) tail.exports_known;
+        known = all_append (IsKnownPass Wf W) (named_joins i queue cs ++ renamed) (declared_passes queue (suc i) after ds) (all_append (IsKnownPass Wf W) (named_joins i queue cs) renamed (joins_known Wf W i queue cs there (carries_single W i n rs S d.holders named declared.0.held is_named)) (passes_known (numbering f) W (rename_in i f) n moves f Wf (sym declared.0.same) i 0 0 f.passes (or_first passes_unknown exports_unknown unknown))) tail.known;
+        exports_known = all_append (λ spot. is_known W spot ≡ true) (map (renamed_spot (rename_in i f)) f.exports) (declared_exports (suc i) ds) (spots_known (numbering f) W (rename_in i f) n moves f.exports (each (λ spot. is_known (numbering f) spot ≡ true) f.exports known)) tail.exports_known;
       }
 
 -- THE WHOLE WINDOW
@@ -223,9 +225,9 @@ module _ (queues : List QueueDecl) (ds : List Declared) (held : List (List ℕ))
       let last = left_names (last_named 0 (kept held) ds) in
       let Known = λ (spot : Spot). is_known W spot ≡ true in
       let more = wholes_known (filter (is_other own) last) (fewer (IsSingle W) (is_other own) last (all_single W (last_named 0 (kept held) ds) window_same.still_named)) in
-      let spots = all_of Known (own ++ named_others own last) (both Known own (named_others own last) window_same.exports_known more) in
+      let spots = all_of Known (own ++ named_others own last) (all_append Known own (named_others own last) window_same.exports_known more) in
       ap₂ option_or (none_in (unknown_in Wf W) Wf.passes (λ p d lt. none_unknown Wf W p (get_or Wf.passes p d) (all_of (IsKnownPass Wf W) Wf.passes window_same.known p d lt)))
-      (ap (option_map (λ k. at.Export k)) (none_found (λ spot. not (is_known W spot)) Wf.exports (λ k d lt. not_false (is_known W (get_or Wf.exports k d)) (spots k d lt))))
+      (ap (option_map (λ k. at.Export k)) (none_found (λ spot. not (is_known W spot)) Wf.exports (λ k d lt. not_from_true (is_known W (get_or Wf.exports k d)) (spots k d lt))))
 
 pub window_numbered : (queues : List QueueDecl) (ds : List Declared) (held : List (List ℕ)) → AllByRecursion (IsUsable queues) ds → 0 < length queues → numbered (window_frame queues ds held) ≡ window (map (λ q. q.family) queues) (map flown_of ds) held
 window_numbered queues ds held declared some_queue =

@@ -1,10 +1,10 @@
 -- An operation in an object with one more member is read again.
 use Rattle.std.proofs.Common.{◌≡◌, ℕ, Bool, true, false, Ordering, Less, Equal, Greater, List, ◌∷◌, Ok, Err, if◌then◌else◌, refl, sym, ap, ◌∙◌, true≢false}
-use Rattle.std.specs.Prelude.{◌||◌}
 use Rattle.std.specs.Ordering.{nat_cmp, match_ordering}
 use Rattle.std.specs.Cmp.Lexicographic.{slice_cmp}
 use Rattle.std.specs.Str.{bytes_eq}
-use Rattle.std.proofs.lemmas.Slice.Eq.{bytes_eq-Decides}
+use Rattle.fg_base.proofs.Booleans.{or_true}
+use Rattle.fg_base.proofs.Lists.{same_bytes}
 use Rattle.fg_base.specs.declared.op.Op.{Op}
 use Rattle.fg_base.specs.declared.path.Leg.{Leg}
 use Rattle.fg_forms.specs.Parts.{below, others_at, unknown_in}
@@ -13,13 +13,6 @@ use Rattle.fg_opforms.specs.Kinds.{is_in, members_of, op_kind}
 use Rattle.fg_opforms.specs.OpWriting.{op_members}
 use Rattle.serde_json.specs.Data.{Data, object, Members, no_members, member, put}
 use Rattle.serde_json.proofs.Views.{get_member-put_other}
-
-or_true : (b : Bool) → (b || true) ≡ true
-or_true true = refl
-or_true false = refl
-
-same_bytes : (k : List ℕ) → bytes_eq k k ≡ true
-same_bytes k = (bytes_eq-Decides k k).1 refl
 
 module _ (k : List ℕ) (v : Data) where
   module _ (known : List (List ℕ)) (at : List Leg) where

@@ -2,6 +2,8 @@
 use Rattle.std.proofs.Common.{◌≡◌, ℕ, ◌+◌, ◌*◌, ◌/◌, ◌%◌, ◌≤◌, Bool, true, false, Option, Some, None, is_some, refl, sym, ap, ◌∙◌, arith}
 use Rattle.std.specs.Prelude.{◌&&◌, ◌==◌, nat_le, if◌then◌else◌}
 use Rattle.std.proofs.lemmas.Bool.Decides.{nat_tests}
+use Rattle.fg_base.proofs.Booleans.{both}
+use Rattle.fg_base.proofs.EffectLengths.{has_room as room}
 use Rattle.fg_base.specs.Shapes.{bytes_of, texel_bytes, texel_eq, is_image, grid_of, grid_eq, equal_grids, same_grid, same_texel, same_sides, twice_the_sides, has_bytes, has_rect, has_texel, is_buffer}
 use Rattle.fg_base.specs.Texels.{canvas_of}
 use Rattle.fg_base.specs.declared.grid.Grid.{Grid}
@@ -48,12 +50,6 @@ same_texels R8 R32 e = absurd cc
 same_texels R32 R8 e = absurd cc
 same_texels R32 R32 e = refl
 
-pub both : (a b : Bool) → (a && b) ≡ true → (a ≡ true) × (b ≡ true)
-both true true e = (refl, refl)
-both true false e = absurd cc
-both false true e = absurd cc
-both false false e = absurd cc
-
 pub number_same : (m n : ℕ) → (m == n) ≡ true → m ≡ n
 number_same m n e = grind (arith, nat_tests)
 
@@ -74,7 +70,7 @@ at_grids a b None p c d e = absurd cc
 at_grids a b (Some g) None c d e = absurd cc
 at_grids a b (Some g) (Some h) c d e = (c.0 ∙ grid_same g h e ∙ sym d.0, c.1, d.1)
 
-same_canvas : (a b : Shape) → same_grid a b ≡ true → (canvas_of a ≡ canvas_of b) × (bytes_of a ≡ grid_size a) × (bytes_of b ≡ grid_size b)
+pub same_canvas : (a b : Shape) → same_grid a b ≡ true → (canvas_of a ≡ canvas_of b) × (bytes_of a ≡ grid_size a) × (bytes_of b ≡ grid_size b)
 same_canvas a b e = at_grids a b (grid_of a) (grid_of b) (its_canvas a) (its_canvas b) e
 
 pub same_bytes : (a b : Shape) → same_grid a b ≡ true → bytes_of a ≡ grid_size b
@@ -147,11 +143,6 @@ twice (Image w h t) (Image v k s) e =
       width = sym (number_same (2 * v) w sides.0);
       height = sym (number_same (2 * k) h sides.1);
     }
-
--- bytes of a buffer
-room : (s : Shape) (offset size : ℕ) → has_bytes s offset size ≡ true → offset + size ≤ bytes_of s
-room (Buffer n) offset size e = grind (arith, nat_tests)
-room (Image w h t) offset size e = absurd cc
 
 pub record HasRoom (s : Shape) (offset size : ℕ) : Type 0 where
   pub whole : size % 4 ≡ 0

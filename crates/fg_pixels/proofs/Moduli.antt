@@ -9,6 +9,11 @@ pub kept : (t : Texel) (n : ℕ) → n % 2 ^ 32 % modulus t ≡ n % modulus t
 kept R8 n = omega arith
 kept R32 n = omega arith
 
+-- what is cut off a texel does not come back
+pub cut_twice : (t : Texel) (n : ℕ) → n % modulus t % modulus t ≡ n % modulus t
+cut_twice R8 n = omega arith
+cut_twice R32 n = omega arith
+
 -- a difference that wrapped
 pub kept_difference : (t : Texel) (a b d : ℕ) → a < modulus t → b < modulus t → (d + b) % 2 ^ 32 ≡ a → d % modulus t ≡ (a + modulus t - b) % modulus t
 kept_difference R8 a b d ha hb e = omega arith

@@ -3,6 +3,7 @@ use Rattle.std.proofs.Common.{◌≡◌, ℕ, ◌+◌, ◌-◌, ◌<◌, true, f
 use Rattle.std.specs.Prelude.{◌&&◌, ◌==◌, if◌then◌else◌}
 use Rattle.std.proofs.lemmas.Bool.Decides.{nat_tests}
 use Rattle.std.proofs.lemmas.List.{drop_all, append-nil}
+use Rattle.fg_base.proofs.Booleans.{both}
 use Rattle.fg_base.specs.Applied.{replaced}
 use Rattle.fg_base.specs.Kernels.{is_inside}
 use Rattle.fg_base.specs.Shapes.{bytes_of, has_sides}
@@ -14,7 +15,7 @@ use Rattle.fg_base.specs.declared.op.Op.TheVariants.{FillBuffer, ClearImage, Cop
 use Rattle.fg_base.specs.declared.shape.Shape.{Shape}
 use Rattle.fg_base.specs.declared.shape.Shape.TheVariants.{Buffer, Image}
 use Rattle.fg_pixels.specs.Anew.{IgnoresOld}
-use Rattle.fg_pixels.proofs.Fitting.{both, number_same}
+use Rattle.fg_pixels.proofs.Fitting.{number_same}
 use Rattle.fg_pixels.proofs.Pictures.{same_band}
 
 -- all bytes in the place of theirs

@@ -1,8 +1,8 @@
 -- A command uses a group at most once.
-use Rattle.std.proofs.Common.{◌≡◌, ◌≢◌, ⊎_elim, ℕ, zero, suc, ◌+◌, ◌<◌, ◌≤◌, ◌==◌, ◌||◌, not, Bool, true, false, List, [], ◌∷◌, ◌++◌, length, map, get_or, Some, if◌then◌else◌, refl, sym, ap, ◌∙◌, subst, eqb-true, eq-eqb, arith}
+use Rattle.std.proofs.Common.{◌≡◌, ⊎_elim, ℕ, zero, suc, ◌<◌, ◌≤◌, ◌==◌, ◌||◌, not, Bool, true, false, List, [], ◌∷◌, ◌++◌, length, map, get_or, Some, if◌then◌else◌, refl, sym, ap, ◌∙◌, subst, eqb-true, eq-eqb, arith}
 use Rattle.std.specs.List.{All, AllPairs, filter, list_any}
 use Rattle.std.specs.Prelude.{nat_lt, slice_get}
-use Rattle.std.proofs.lemmas.Bool.{and_parts, cases_lt, false≢true}
+use Rattle.std.proofs.lemmas.Bool.{and_parts, cases_lt, false≢true, or_parts}
 use Rattle.std.proofs.lemmas.List.Elements.{All-nil, All-cons, All-head, All-tail, All-append, All-weaker, All-filter, All-map, filter_passes}
 use Rattle.std.proofs.lemmas.List.Folds.{list_any-append}
 use Rattle.std.proofs.lemmas.List.Kept.{AllPairs-cons, AllPairs-filter}
@@ -50,10 +50,6 @@ Apart u v = u.unit ≡ v.unit → ⊥
 abbrev Unlike : Use → Use → Type 0
 Unlike u v = u.command ≡ v.command → u.unit ≡ v.unit → ⊥
 
-or_none : (a b : Bool) → (a || b) ≡ false → (a ≡ false) × (b ≡ false)
-or_none true b e = absurd (false≢true (sym e))
-or_none false b e = (refl, e)
-
 named_all : (P : Use → Type 0) (b : Bool) (u : Use) → (b ≡ true → P u) → All P (if b then u ∷ [] else [])
 named_all P true u h = All-cons P u [] (h refl) (All-nil P)
 named_all P false u h = All-nil P
@@ -64,7 +60,7 @@ module _ (shapes : List Shape) (units c q : ℕ) where
   unnamed k named (touch ∷ touches) =
       All-append (Unnamed named) (if is_first_named units named touch.what then use_of shapes c q k touch ∷ [] else []) (uses_from shapes units c q (suc k) (named ++ touch.what ∷ []) touches)
       (named_all (Unnamed named) (is_first_named units named touch.what) (use_of shapes c q k touch) (λ e. none (list_any (λ unit. unit == touch.what) named) (and_parts (nat_lt touch.what units) (not (list_any (λ unit. unit == touch.what) named)) e).1))
-      (All-weaker (Unnamed (named ++ touch.what ∷ [])) (Unnamed named) (λ u h. (or_none (list_any (λ unit. unit == u.unit) named) (list_any (λ unit. unit == u.unit) (touch.what ∷ [])) (sym (list_any-append (λ unit. unit == u.unit) named (touch.what ∷ [])) ∙ h)).0) (uses_from shapes units c q (suc k) (named ++ touch.what ∷ []) touches) (unnamed (suc k) (named ++ touch.what ∷ []) touches))
+      (All-weaker (Unnamed (named ++ touch.what ∷ [])) (Unnamed named) (λ u h. (or_parts (list_any (λ unit. unit == u.unit) named) (list_any (λ unit. unit == u.unit) (touch.what ∷ [])) (sym (list_any-append (λ unit. unit == u.unit) named (touch.what ∷ [])) ∙ h)).0) (uses_from shapes units c q (suc k) (named ++ touch.what ∷ []) touches) (unnamed (suc k) (named ++ touch.what ∷ []) touches))
     where
       none : (b : Bool) → not b ≡ true → b ≡ false
       none true e = absurd (false≢true e)
@@ -82,8 +78,8 @@ module _ (shapes : List Shape) (units c q : ℕ) where
 
       differ : (u : Use) → Unnamed (named ++ touch.what ∷ []) u → Apart (use_of shapes c q k touch) u
       differ u h same =
-          let last : ((touch.what == u.unit) || false) ≡ false = (or_none (list_any (λ unit. unit == u.unit) named) (list_any (λ unit. unit == u.unit) (touch.what ∷ [])) (sym (list_any-append (λ unit. unit == u.unit) named (touch.what ∷ [])) ∙ h)).1 in
-          false≢true (sym (or_none (touch.what == u.unit) false last).0 ∙ eq-eqb touch.what u.unit same)
+          let last : ((touch.what == u.unit) || false) ≡ false = (or_parts (list_any (λ unit. unit == u.unit) named) (list_any (λ unit. unit == u.unit) (touch.what ∷ [])) (sym (list_any-append (λ unit. unit == u.unit) named (touch.what ∷ [])) ∙ h)).1 in
+          false≢true (sym (or_parts (touch.what == u.unit) false last).0 ∙ eq-eqb touch.what u.unit same)
 
   of_command : (k : ℕ) (named : List ℕ) (touches : List Touch) → All (λ u. u.command ≡ c) (uses_from shapes units c q k named touches)
   of_command k named [] = All-nil (λ u. u.command ≡ c)
@@ -138,9 +134,6 @@ module _ (G : Grouping) (L : IsGrouped G) where
   never : (c i j g : ℕ) → i < j → slice_get (groups_used G c) i ≡ Some g → slice_get (groups_used G c) j ≡ Some g → ⊥
   never c i j g lt e f = go (entry_map (λ (u : UseAt). u.group) own i g e) (entry_map (λ (u : UseAt). u.group) own j g f)
     where
-      is-own : UseAt → Bool
-      is-own u = u.command == c
-
       own : List UseAt
       own = filter (λ u. u.command == c) (uses_at G)
 

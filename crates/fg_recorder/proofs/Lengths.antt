@@ -58,10 +58,6 @@ module _ (G : Grouping) (heap : Heap) (families : length G.families ≤ 4) where
   wanted_few kinds.Init turn A = omega arith
   wanted_few kinds.AliasInit turn A = omega arith
 
-  further_few : (b : Bool) (mark : Mark) → length (if b then mark ∷ [] else []) ≤ 5
-  further_few true mark = omega arith
-  further_few false mark = omega arith
-
   needs_few : (q c g : ℕ) → length (use_needs G heap q c g) ≤ 5
   needs_few q c g =
       both_few (is_command c (first (group_at G g))) (wanted_first G (turn_of G heap g) (earlier G g)) (if is_command c (first (on q (group_at G g))) then wanted_further (turn_of G heap g) else [])

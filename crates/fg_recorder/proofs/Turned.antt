@@ -5,6 +5,7 @@ use Rattle.std.proofs.lemmas.Bool.{false≢true}
 use Rattle.std.proofs.lemmas.List.Folds.{list_any_none}
 use Rattle.std.proofs.lemmas.List.FromFn.{get_or-map-range_with_len, length-map-range_with_len}
 use Rattle.std.proofs.lemmas.List.{get_or_past}
+use Rattle.fg_base.proofs.Absence.{is_there}
 use Rattle.fg_bits.specs.declared.masks.Masks.{Masks}
 use Rattle.fg_groups.specs.Needs.{group_at, goes_on, has_unit, one_unit}
 use Rattle.fg_groups.specs.Placed.{is_import}
@@ -87,10 +88,6 @@ first_kept false false true = refl
 first_kept false true false = refl
 first_kept false true true = refl
 
-some_if : {X : Type 0} (b : Bool) (x : X) → is_some (if b then Some x else None) ≡ b
-some_if true x = refl
-some_if false x = refl
-
 one_of : {X : Type 0} (b : Bool) (x y : X) → (if b then Some x else None) ≡ Some y → y ≡ x
 one_of true x y h = cc
 one_of false x y h = absurd (cc)
@@ -117,7 +114,7 @@ module _ (G : Grouping) (heap : Heap) (g : ℕ) where
       let B = group_at G (suc g) in
       let L = uses_under G heap (place_of G (first B).unit) in
       ap (λ t. is_some t.release) (e ∙ ap (turn_of G heap) next)
-      ∙ some_if (is_transfer (turn_of G heap (suc g)).kind) (release_masks (earlier G (suc g)) (last (earlier G (suc g))).queue)
+      ∙ is_there (is_transfer (turn_of G heap (suc g)).kind) (release_masks (earlier G (suc g)) (last (earlier G (suc g))).queue)
       ∙ only_after G (group_at G g) L B (goes_on G g)
 
   pub masks_are : (turn : Turn) (masks : Masks) → turn ≡ turn_of G heap (g + 1) → turn.release ≡ Some masks → masks ≡ release_masks (group_at G g) (last (group_at G g)).queue

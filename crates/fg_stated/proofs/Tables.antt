@@ -1,9 +1,8 @@
 -- One access more in the tables.
-use Rattle.std.proofs.Common.{◌≡◌, ◌==◌, ◌&&◌, ◌||◌, ℕ, zero, suc, ◌+◌, ◌<◌, Bool, true, false, List, [], ◌∷◌, length, ◌≢◌, get_or, take, drop, slice_set, get_or-set_same, get_or-set_other, ⊎_elim, Option, Some, None, refl, sym, ap, ◌∙◌, subst, arith}
+use Rattle.std.proofs.Common.{◌≡◌, ◌==◌, ◌&&◌, ℕ, zero, suc, ◌+◌, ◌<◌, Bool, true, false, List, [], ◌∷◌, length, ◌≢◌, get_or, take, drop, slice_set, get_or-set_same, get_or-set_other, ⊎_elim, Option, Some, None, refl, sym, ap, ◌∙◌, subst, arith}
 use Rattle.std.proofs.lemmas.Bool.{cases_eq}
 use Rattle.std.proofs.Math.Bool.{and-true}
 use Rattle.std.proofs.lemmas.List.{take_all}
-use Rattle.std.proofs.lemmas.List.Folds.{list_any_more}
 use Rattle.std.specs.List.{find, list_any}
 use Rattle.std.specs.Option.{option_or}
 use Rattle.std.specs.Prelude.{if◌then◌else◌}
@@ -53,23 +52,6 @@ is_first_more test pieces accesses j a old new h F K = record {
 -- the first k pieces of a list
 abbrev pub among : List ℕ → ℕ → ℕ → Bool
 among pieces k q = list_any (λ x. x == q) (take k pieces)
-
--- one piece more
-pub put_more : (pieces : List ℕ) (k d : ℕ) (a : NodeAccess) (first old new : List (Option NodeAccess)) → k < length pieces → PutWhere (among pieces k) a first old → PutWhere (λ q. get_or pieces k d == q) a old new → PutWhere (among pieces (k + 1)) a first new
-put_more pieces k d a first old new within F K = record {
-  size = K.size ∙ F.size;
-  each = λ q lt.
-      K.each q (omega (arith, lt, F.size))
-      ∙ ap (λ z. if get_or pieces k d == q then Some a else z) (F.each q lt)
-      ∙ either (get_or pieces k d == q) (among pieces k q) (get_or first q None)
-      ∙ ap (λ b. if b then Some a else get_or first q None) (sym (list_any_more (λ x. x == q) pieces k d within));
-}
-  where
-    either : (here before : Bool) (old : Option NodeAccess) → (if here then Some a else (if before then Some a else old)) ≡ (if before || here then Some a else old)
-    either true true old = refl
-    either true false old = refl
-    either false true old = refl
-    either false false old = refl
 
 -- the pieces that a change overlaps
 pub put_over : (V : View) (a : NodeAccess) (first new : List (Option NodeAccess)) → length first ≡ length V.pieces → changes a.access.kind ≡ true → PutWhere (among (overlapping V a.access.piece) (length (overlapping V a.access.piece))) a first new → PutWhere (λ p. changes_bytes V p a) a first new

@@ -21,8 +21,9 @@ use Rattle.fg_steps.proofs.Found.{Feeds, Imports}
 use Rattle.fg_steps.proofs.Holds.{loaded_of, Agrees}
 use Rattle.fg_steps.proofs.Invariant.{Values}
 use Rattle.fg_steps.proofs.Cases.{is_store, store_changes, stores_changes, store_loads_not}
-use Rattle.fg_steps.proofs.Orders.{after_in, earlier_among, before_split, list_split, after_not, among_join}
+use Rattle.fg_steps.proofs.Orders.{after_in, earlier_among, before_split, list_split, after_not}
 use Rattle.fg_steps.proofs.Shared.{covers_place, overlap_self, clash_change}
+use Rattle.fg_hb.proofs.Bridge.{among_right}
 use Rattle.fg_hb.proofs.InOrder.{not_both, goes_forward}
 use Rattle.fg_hb.specs.Edges.{edge, is_host}
 use Rattle.fg_hb.specs.Orders.{Among, before_in, Earlier, Order}
@@ -111,7 +112,7 @@ module _ (program : Program) (C : Commands program) (T : Tied (view_of program))
       w_ahead = goes_forward V.nodes order O w n D.before
 
       ahead : Earlier order v n
-      ahead = subst (λ l. Among v l) (sym (before_split order w n w_ahead)) (among_join (before_in order w) (w ∷ before_in (after_in order w) n) v (inr h))
+      ahead = subst (λ l. Among v l) (sym (before_split order w n w_ahead)) (among_right (before_in order w) (w ∷ before_in (after_in order w) n) v (inr h))
 
       outside : (v ≡ w → ⊥) × (Earlier order v w → ⊥)
       outside = after_not order v w O.once (earlier_among (after_in order w) v n h)

@@ -7,7 +7,6 @@ use Rattle.fg_bits.specs.declared.layout.Layout.{Layout}
 use Rattle.fg_bits.specs.declared.layout.Layout.TheVariants as layouts
 use Rattle.fg_steps.proofs.Formed.{Formed, after_owner}
 use Rattle.fg_steps.proofs.Found.{FedBy, LastOf, NoneOf, LayoutBy, OwnerBy, Finds}
-use Rattle.fg_steps.proofs.Cases.{load_no_transfer, layout_changes, transfer_wants}
 use Rattle.fg_steps.proofs.Listed.{Latest, latest, latest_none}
 use Rattle.fg_steps.proofs.Pieces.{Sorted, layouts_sorted, owners_sorted}
 use Rattle.fg_steps.proofs.Shared.{clash_change}
@@ -20,6 +19,7 @@ use Rattle.fg_stated.specs.Stated.{Stated, needs_owner}
 use Rattle.fg_ties.proofs.Ordered.{has_within, listed_in, listed_of, not_earlier}
 use Rattle.fg_ties.specs.Passing.{Before}
 use Rattle.fg_ties.specs.Tied.{Tied}
+use Rattle.fg_view.proofs.KindFacts.{layout_changes, load_keeps, wanting_keeps}
 use Rattle.fg_view.specs.AccessKinds.{changes, loads, sets_layout, sets_owner, transfers, wanted}
 use Rattle.fg_view.proofs.Listing.{listed}
 use Rattle.fg_view.specs.ShapedView.{Has, Precedes, NodeAccessAt}
@@ -116,7 +116,7 @@ module _ (V : View) (F : Formed V) (order : List ℕ) (O : Order V.nodes order) 
               has = (listed_of V order L.0 c L.1.at).1;
               leaves = feeds.1;
               piece = feeds.0;
-              before = before_here n a j.0 j.1 (changes_bytes V a.piece) L.0 c L.1 (clash_change V c.access a q.1 q.0) (no_change c n a q.1 (load_no_transfer a.kind al)) ha;
+              before = before_here n a j.0 j.1 (changes_bytes V a.piece) L.0 c L.1 (clash_change V c.access a q.1 q.0) (no_change c n a q.1 (load_keeps a.kind al)) ha;
               last = λ v d hd ch over p. last_before n a j.0 j.1 (changes_bytes V a.piece) L.0 c L.1 v d hd p (and_from (overlap V d.piece a.piece) (changes d.kind) over ch) (clash_change V d c.access ch (subst (λ z. overlap V d.piece z ≡ true) (sym feeds.0) over));
             },
           )
@@ -152,7 +152,7 @@ module _ (V : View) (F : Formed V) (order : List ℕ) (O : Order V.nodes order) 
 
       go : (o : Option NodeAccess) → last_on sets_layout a.piece (take j.0 (node_accesses_of V order)) ≡ o → option_map_or (λ c. layout_after c.access.kind) o layouts.Undefined ≡ layout → LayoutBy V n a.piece layout
       go None e is = inr (sort_none sets_layout (layouts_sorted V) n a ha j.0 j.1 e, sym is)
-      go (Some c) e is = inl (c.node, c.access, sort_last sets_layout (layouts_sorted V) n a ha j.0 j.1 c e (λ t k. no_change c n a (layout_changes c.access.kind k) (transfer_wants a.kind layout want) t), is)
+      go (Some c) e is = inl (c.node, c.access, sort_last sets_layout (layouts_sorted V) n a ha j.0 j.1 c e (λ t k. no_change c n a (layout_changes c.access.kind k) (wanting_keeps a.kind layout want) t), is)
 
   owner_by : Stated V (node_accesses_of V order) → (n : ℕ) (a : Access) → Has V n a → needs_owner V (node_access n a) ≡ true → OwnerBy V (first_owner V (node_accesses_of V order)) n a.piece (family_at V n)
   owner_by X n a ha needs = go (last_on sets_owner a.piece (take j.0 (node_accesses_of V order))) refl ((X j.0 (node_access n a) j.1).owner needs)

@@ -1,13 +1,12 @@
 -- Kinds of nodes and of accesses, case by case.
-use Rattle.std.proofs.Common.{◌≡◌, ◌⊎◌, inl, inr, ℕ, ◌<◌, Bool, true, false, Some, refl}
+use Rattle.std.proofs.Common.{◌≡◌, ◌⊎◌, inl, inr, ℕ, ◌<◌, Bool, true, false, refl}
 use Rattle.std.proofs.lemmas.Bool.{false≢true}
-use Rattle.fg_bits.specs.declared.layout.Layout.{Layout}
 use Rattle.fg_steps.specs.Agents.{agent_at, agent_number}
 use Rattle.fg_steps.specs.Ready.{is_command}
 use Rattle.fg_hb.specs.Edges.{is_sync, is_host}
 use Rattle.fg_hb.specs.declared.kind.Kind.{Kind}
 use Rattle.fg_hb.specs.declared.kind.Kind.TheVariants as kinds
-use Rattle.fg_view.specs.AccessKinds.{changes, loads, stores, sets_layout, transfers, sets_owner, is_discard, is_acquire, wanted}
+use Rattle.fg_view.specs.AccessKinds.{changes, loads, stores, sets_layout, transfers, sets_owner, is_discard, is_acquire}
 use Rattle.fg_view.specs.ShapedView.{IsByQueue, IsByBarrier}
 use Rattle.fg_view.specs.declared.access.AccessKind.{AccessKind}
 use Rattle.fg_view.specs.declared.access.AccessKind.TheVariants.{Load, Store, Transition, Discard, Release, Acquire}
@@ -51,10 +50,6 @@ pub store_changes : (d : AccessKind) → is_store d ≡ true → changes d ≡ t
 store_changes (Store agent layout) h = refl
 store_changes d h = absurd (false≢true h)
 
-pub store_stores : (d : AccessKind) → is_store d ≡ true → stores d ≡ true
-store_stores (Store agent layout) h = refl
-store_stores d h = absurd (false≢true h)
-
 pub store_loads_not : (d : AccessKind) → is_store d ≡ true → loads d ≡ true → ⊥
 store_loads_not (Store agent layout) h l = false≢true l
 store_loads_not d h l = false≢true h
@@ -63,16 +58,6 @@ pub stores_changes : (d : AccessKind) → stores d ≡ true → changes d ≡ tr
 stores_changes (Store agent layout) h = refl
 stores_changes (Transition layouts) h = refl
 stores_changes d h = absurd (false≢true h)
-
-pub load_no_transfer : (d : AccessKind) → loads d ≡ true → transfers d ≡ false
-load_no_transfer (Release handover) h = absurd (false≢true h)
-load_no_transfer (Acquire handover) h = absurd (false≢true h)
-load_no_transfer d h = refl
-
-pub layout_changes : (d : AccessKind) → sets_layout d ≡ true → changes d ≡ true
-layout_changes (Transition layouts) h = refl
-layout_changes (Discard layout) h = refl
-layout_changes d h = absurd (false≢true h)
 
 pub acquire_sets_owner : (d : AccessKind) → is_acquire d ≡ true → sets_owner d ≡ true
 acquire_sets_owner (Acquire handover) h = refl
@@ -97,11 +82,6 @@ pub record IsPlain (d : AccessKind) : Type 0 where
   pub acquires : is_acquire d ≡ false
   pub store : changes d ≡ true → is_store d ≡ true
 
-pub load_plain : (d : AccessKind) → loads d ≡ true → changes d ≡ false → IsPlain d
-load_plain (Load agent layout) h c = record { layouts = refl; owners = refl; discards = refl; acquires = refl; store = λ e. absurd (false≢true e) }
-load_plain (Transition layouts) h c = absurd cc
-load_plain d h c = absurd (false≢true h)
-
 pub of_queue_plain : (q : ℕ) (d : AccessKind) → IsByQueue q d → IsPlain d
 of_queue_plain q (Load agent layout) h = record { layouts = refl; owners = refl; discards = refl; acquires = refl; store = λ e. absurd (false≢true e) }
 of_queue_plain q (Store agent layout) h = record { layouts = refl; owners = refl; discards = refl; acquires = refl; store = λ e. refl }
@@ -112,19 +92,6 @@ pub barrier_no_store : (d : AccessKind) → IsByBarrier d → is_store d ≡ fal
 barrier_no_store (Store agent layout) (inl h) = absurd (false≢true h)
 barrier_no_store (Store agent layout) (inr h) = absurd (false≢true h)
 barrier_no_store d h = refl
-
--- a change that is no store and loads nothing discards
-pub keeps_or_discards : (d : AccessKind) → changes d ≡ true → is_store d ≡ false → (loads d ≡ true) ⊎ (is_discard d ≡ true)
-keeps_or_discards (Store agent layout) h s = absurd cc
-keeps_or_discards (Transition layouts) h s = inl refl
-keeps_or_discards (Discard layout) h s = inr refl
-keeps_or_discards d h s = absurd (false≢true h)
-
--- what loads leaves bytes, where it changes them
-pub loads_stores : (d : AccessKind) → loads d ≡ true → changes d ≡ true → stores d ≡ true
-loads_stores (Transition layouts) h c = refl
-loads_stores (Load agent layout) h c = absurd (false≢true c)
-loads_stores d h c = absurd (false≢true h)
 
 -- what leaves bytes and is no store keeps them
 pub stores_loads : (d : AccessKind) → stores d ≡ true → is_store d ≡ false → loads d ≡ true
@@ -143,9 +110,3 @@ discard_stores_not d h = absurd (false≢true h)
 pub discard_changes : (d : AccessKind) → is_discard d ≡ true → changes d ≡ true
 discard_changes (Discard layout) h = refl
 discard_changes d h = absurd (false≢true h)
-
--- what wants a layout is no transfer
-pub transfer_wants : (d : AccessKind) (layout : Layout) → wanted d ≡ Some layout → transfers d ≡ false
-transfer_wants (Release handover) layout h = absurd cc
-transfer_wants (Acquire handover) layout h = absurd cc
-transfer_wants d layout h = refl

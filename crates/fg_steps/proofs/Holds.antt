@@ -13,7 +13,7 @@ use Rattle.fg_steps.proofs.Control.{Past, done_of, finishes_ready}
 use Rattle.fg_steps.proofs.Formed.{Formed}
 use Rattle.fg_steps.proofs.Found.{Feeds, Imports, FedBy}
 use Rattle.fg_steps.proofs.Invariant.{is_dirty, Values, Acyclic, IsLast, Untouched, Knows, store_passed, turn_passed, ByteOk, Finishes}
-use Rattle.fg_steps.proofs.Cases.{is_store, IsNumbered, stores_changes, load_no_transfer, sync_not_host}
+use Rattle.fg_steps.proofs.Cases.{is_store, IsNumbered, stores_changes, sync_not_host}
 use Rattle.fg_steps.proofs.Last.{done_before}
 use Rattle.fg_steps.proofs.Moves.{knows_sees, fresh_sees}
 use Rattle.fg_steps.proofs.Nodes.{left_clean, store_numbered}
@@ -21,6 +21,7 @@ use Rattle.fg_steps.proofs.Shared.{covers_at, overlap_at, clash_at, store_left, 
 use Rattle.fg_hb.specs.Edges.{is_host}
 use Rattle.fg_ties.specs.Passing.{Before, UpTo, VisibleBy, Passed}
 use Rattle.fg_ties.specs.Tied.{Tied}
+use Rattle.fg_view.proofs.KindFacts.{load_keeps}
 use Rattle.fg_view.specs.AccessKinds.{changes, loads}
 use Rattle.fg_view.specs.ShapedView.{Has}
 use Rattle.fg_view.specs.Views.{View, accesses_of, piece_at}
@@ -95,7 +96,7 @@ module _ (V : View) (T : Tied V) (done done' : ℕ → Bool) (n m i : ℕ) (b : 
     L = feeds_last w c D
 
     p : Passed V w c n b
-    p = T.passed w n c b D.has hb (record { apart = λ e. N.was (subst (λ z. done z ≡ true) e L.finished); clash = clash_at V c b m i L.alters L.at at }) D.before L.alters (load_no_transfer b.kind bl)
+    p = T.passed w n c b D.has hb (record { apart = λ e. N.was (subst (λ z. done z ≡ true) e L.finished); clash = clash_at V c b m i L.alters L.at at }) D.before L.alters (load_keeps b.kind bl)
 
     shown : Before V p.1 n × (shows_at V p.1 (agent_of b.kind) m i ≡ true)
     shown = shown_to V b.kind (agent_count V) n b.piece p.1 m i bl bc (F.numbered n b hb cl) p.4 at
@@ -142,7 +143,7 @@ module _ (V : View) (F : Formed V) (T : Tied V) (A : Acyclic V) (out : ℕ → L
     host_sees hl (inl D) =
         same_bytes V s.main (W.byte D.0) b.piece
         (λ m i at. (H.bytes m i).value D.0 D.1 (feeds_last V T (done_of s.phase) _ n m i b N hb at D.0 D.1 D.2) D.2.leaves
-        (left_clean V F T A W (done_of s.phase) _ n m i (lines m i) (s.main m i) N (H.bytes m i) (λ g f. absurd (sync_not_host (kind_at V n) (flush_syncs V F.shaped n g m i f) hl)) b hb (load_no_transfer b.kind bl) at))
+        (left_clean V F T A W (done_of s.phase) _ n m i (lines m i) (s.main m i) N (H.bytes m i) (λ g f. absurd (sync_not_host (kind_at V n) (flush_syncs V F.shaped n g m i f) hl)) b hb (load_keeps b.kind bl) at))
         ∙ G.fed n D.0 b D.1 hb bl D.2
     host_sees hl (inr I) =
         same_bytes V s.main W.start b.piece (λ m i at. ((H.bytes m i).fresh (imports_untouched V T (done_of s.phase) _ n m i b N hb at I)).0)

@@ -17,7 +17,7 @@ use Rattle.fg_steps.proofs.Control.{Past, done_of, finishes_ready, not_torn, any
 use Rattle.fg_steps.proofs.Formed.{Formed, At, at_first, at_rest, at_cases, at_none, one_change, one_owner}
 use Rattle.fg_steps.proofs.Found.{LastOf, NoneOf, LayoutBy, OwnerBy, Finds}
 use Rattle.fg_steps.proofs.Invariant.{Acyclic, Finishes}
-use Rattle.fg_steps.proofs.Cases.{layout_changes, owner_moves, acquire_sets_owner, discard_sets_owner}
+use Rattle.fg_steps.proofs.Cases.{owner_moves, acquire_sets_owner, discard_sets_owner}
 use Rattle.fg_steps.proofs.Last.{none_after}
 use Rattle.fg_steps.proofs.Shared.{overlap_self, clash_change, clash_transfer}
 use Rattle.fg_steps.proofs.Syncs.{find_access}
@@ -26,6 +26,7 @@ use Rattle.fg_stated.specs.PieceStates.{layout_after, owner_after}
 use Rattle.fg_stated.specs.Stated.{needs_owner, acquires}
 use Rattle.fg_ties.specs.Passing.{Before}
 use Rattle.fg_ties.specs.Tied.{Tied}
+use Rattle.fg_view.proofs.KindFacts.{layout_changes}
 use Rattle.fg_view.specs.AccessKinds.{sets_layout, sets_owner, wanted, is_discard, is_acquire}
 use Rattle.fg_view.specs.ShapedView.{Has}
 use Rattle.fg_view.specs.Views.{View, accesses_of, family_at, piece_at, overlap, clash, shared_at, node_access}

@@ -7,7 +7,7 @@ use Rattle.std.proofs.lemmas.List.{get_or-map, get_or_past, get_or-set_same, get
 use Rattle.std.proofs.lemmas.List.FromFn.{fill_by_all}
 use Rattle.std.proofs.lemmas.Option.{slice_get-get_or, slice_get_within}
 use Rattle.std.proofs.Math.Seq.{take-append_seam, get_or-append_seam}
-use Rattle.fg_base.proofs.Absence.{map_none}
+use Rattle.fg_base.proofs.Absence.{map_none, some_same}
 use Rattle.fg_base.proofs.Lists.{entry_of}
 use Rattle.fg_base.proofs.Operands.{destination_mapped}
 use Rattle.fg_base.specs.Applied.{applied, bytes_at, after_op}
@@ -63,9 +63,6 @@ map_map f g (x ∷ xs) = ap (λ l. f (g x) ∷ l) (map_map f g xs)
 
 none_some : {X : Type 0} {x : X} → None ≡ Some x → ⊥
 none_some e = cc
-
-some_same : {X : Type 0} {a b : X} → Some a ≡ Some b → a ≡ b
-some_same e = cc
 
 module _ (program : Program) (none : first_broken program ≡ None) where
   abbrev V : View

@@ -3,7 +3,6 @@ use Rattle.std.proofs.Common.{◌≡◌, ◌==◌, ◌*◌, ◌^◌, ◌<◌, �
 use Rattle.std.specs.Int.RustNames.{bit_and, bit_or}
 use Rattle.std.specs.Int.{bit_at}
 use Rattle.std.proofs.lemmas.Bool.{eqb-false}
-use Rattle.std.proofs.lemmas.Nat.{and_le_r}
 use Rattle.std.proofs.lemmas.Nat.Bits.{bit_at_and, bit_at_or, bit_at-lt, bit_at-zero, and_pow, same_from_bits}
 use Rattle.fg_bits.specs.Sets.{has}
 
@@ -35,9 +34,6 @@ or_zero a = same_from_bits (bit_or a 0) a (λ i.
     let both = bit_at_or a 0 i in
     let none = bit_at-zero i in
     omega (arith, both, none))
-
-pub and_zero : (a : ℕ) → bit_and a 0 ≡ 0
-and_zero a = let small = and_le_r a 0 in omega (arith, small)
 
 same_test : (a b : ℕ) → a ≡ b → (a == b) ≡ false → ⊥
 same_test a b is e = absurd (eqb-false a b e is)

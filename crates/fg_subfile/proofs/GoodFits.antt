@@ -5,6 +5,7 @@ use Rattle.std.specs.List.{All, AllByRecursion}
 use Rattle.std.specs.Int.RustNames.{bit_and, bit_or}
 use Rattle.std.proofs.lemmas.Bool.{and_parts}
 use Rattle.std.proofs.lemmas.List.Elements.{All-head, All-tail}
+use Rattle.std.specs.Int.Bits.{and_zero_r}
 use Rattle.fg_base.specs.Bounds.{is_between, sides_allowed, size_allowed}
 use Rattle.fg_base.specs.declared.shape.Family.{Family}
 use Rattle.fg_base.specs.declared.shape.Family.TheVariants.{Graphics, Compute, Transfer}
@@ -19,7 +20,7 @@ use Rattle.fg_bits.specs.declared.masks.Masks.{Masks}
 use Rattle.fg_forms.proofs.Ranges.{in_range}
 use Rattle.fg_forms.specs.Leaves.{greatest}
 use Rattle.fg_shapeforms.specs.Bodies.{FitsLayers}
-use Rattle.fg_subfile.proofs.Bits.{and_zero, has_union, has_part}
+use Rattle.fg_subfile.proofs.Bits.{has_union, has_part}
 use Rattle.fg_subfile.specs.BarrierMasks.{FitsMasks}
 use Rattle.fg_subfile.specs.Batches.{FitsBatch, FitsQueue}
 use Rattle.fg_subfile.specs.Items.{FitsItem}
@@ -73,7 +74,7 @@ stages_named family set on =
 module _ (all : ℕ) (stages : ℕ) where
   part_named : (b : Bool) (bit : ℕ) → bit_and all bit ≡ bit → bit_and all (if b then bit else 0) ≡ (if b then bit else 0)
   part_named true bit is = is
-  part_named false bit is = and_zero all
+  part_named false bit is = and_zero_r all
 
   parts_named : (rows : List Access) (set : ℕ) → AllByRecursion (λ row. bit_and all row.bit ≡ row.bit) rows → bit_and all set ≡ set → bit_and all (union_from set (supported_part stages) rows) ≡ union_from set (supported_part stages) rows
   parts_named [] set each is = is
@@ -81,7 +82,7 @@ module _ (all : ℕ) (stages : ℕ) where
       parts_named rows (bit_or set (supported_part stages row)) each.1 (has_union all set (supported_part stages row) is (part_named (meets stages row.stages) row.bit each.0))
 
 supported_named : (stages : ℕ) → bit_and (known access_names) (supported stages) ≡ supported stages
-supported_named stages = parts_named (known access_names) stages accesses 0 (refl, (refl, (refl, (refl, (refl, (refl, (refl, (refl, (refl, (refl, (refl, (refl, tt)))))))))))) (and_zero (known access_names))
+supported_named stages = parts_named (known access_names) stages accesses 0 (refl, (refl, (refl, (refl, (refl, (refl, (refl, (refl, (refl, (refl, (refl, (refl, tt)))))))))))) (and_zero_r (known access_names))
 
 accesses_named : (stages set : ℕ) → supports stages set ≡ true → IsNamed access_names set
 accesses_named stages set on =

@@ -1,10 +1,11 @@
 -- A written mask is read again.
-use Rattle.std.proofs.Common.{◌≡◌, ◌==◌, ◌||◌, ◌^◌, ℕ, Bool, true, false, cond, List, [], ◌∷◌, ◌++◌, length, Some, if◌then◌else◌, refl, sym, ap, ◌∙◌, eqb-true, arith}
+use Rattle.std.proofs.Common.{◌≡◌, ◌==◌, ◌^◌, ℕ, Bool, true, false, cond, List, [], ◌∷◌, ◌++◌, length, Some, if◌then◌else◌, refl, sym, ap, ◌∙◌, eqb-true, arith}
 use Rattle.std.specs.List.{list_any, slice_split, onto_first, AllByRecursion}
 use Rattle.std.specs.Option.{option_and_then, option_map}
 use Rattle.std.specs.Int.RustNames.{bit_and, bit_or}
-use Rattle.std.proofs.lemmas.Bool.{ne_eqb}
+use Rattle.std.proofs.lemmas.Bool.{ne_eqb, or_parts}
 use Rattle.std.proofs.lemmas.Nat.{and_comm}
+use Rattle.std.specs.Int.Bits.{and_zero_r}
 use Rattle.fg_bits.specs.Accesses.{access_names}
 use Rattle.fg_bits.specs.Sets.{has}
 use Rattle.fg_bits.specs.Stages.{stage_names}
@@ -12,7 +13,7 @@ use Rattle.fg_bits.specs.Texts.{is_bar, bits_named, union_of, mask_of, names_of,
 use Rattle.fg_bits.specs.declared.accesses.Accesses.{Accesses}
 use Rattle.fg_bits.specs.declared.stages.Stages.{Stages}
 use Rattle.fg_subfile.specs.Masks.{known, stages_of, stages_text, FitsStages, accesses_of, accesses_text, FitsAccesses}
-use Rattle.fg_subfile.proofs.Bits.{and_or_both, or_assoc, zero_or, or_zero, and_zero, apart}
+use Rattle.fg_subfile.proofs.Bits.{and_or_both, or_assoc, zero_or, or_zero, apart}
 
 abbrev Row : Type 0
 Row = List ℕ × ℕ
@@ -23,7 +24,7 @@ abbrev Found : List Row → List Row → Type 0
 Found table rows = AllByRecursion (λ row. (bits_named table row.0 ≡ Some row.1) × ((k : ℕ) × (row.1 ≡ 2 ^ k))) rows
 
 union_names : (table rows : List Row) (set acc : ℕ) → Found table rows → union_of table acc (names_of rows set) ≡ Some (bit_or acc (bit_and set (known rows)))
-union_names table [] set acc found = ap Some (sym (ap (bit_or acc) (and_zero set) ∙ or_zero acc))
+union_names table [] set acc found = ap Some (sym (ap (bit_or acc) (and_zero_r set) ∙ or_zero acc))
 union_names table (row ∷ rows) set acc found = by_test (has set row.1) refl (λ more. union_names table rows set more found.1)
   where
     rest : ℕ
@@ -43,10 +44,6 @@ union_names table (row ∷ rows) set acc found = by_test (has set row.1) refl (�
 
 abbrev Plain : List ℕ → Type 0
 Plain name = list_any is_bar name ≡ false
-
-or_parts : (x y : Bool) → (x || y) ≡ false → (x ≡ false) × (y ≡ false)
-or_parts true y e = absurd cc
-or_parts false y e = (refl, e)
 
 cut_first : (name rest : List ℕ) → Plain name → slice_split is_bar (name ++ 124 ∷ rest) ≡ name ∷ slice_split is_bar rest
 cut_first [] rest plain = refl

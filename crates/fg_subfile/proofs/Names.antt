@@ -6,14 +6,15 @@ use Rattle.std.specs.Int.RustNames.{bit_and, bit_or}
 use Rattle.std.specs.Str.{bytes_eq}
 use Rattle.std.proofs.lemmas.List.{append-nil, append_assoc}
 use Rattle.std.proofs.lemmas.Option.{slice_get_within}
+use Rattle.std.specs.Int.Bits.{and_zero_r}
 use Rattle.fg_bits.specs.Accesses.{access_names}
 use Rattle.fg_bits.specs.Sets.{has}
 use Rattle.fg_bits.specs.Stages.{stage_names}
 use Rattle.fg_bits.specs.Texts.{is_bar, bits_named, union_of, mask_of, names_of, joined}
 use Rattle.fg_bits.specs.declared.accesses.Accesses.{Accesses}
 use Rattle.fg_bits.specs.declared.stages.Stages.{Stages}
-use Rattle.fg_subfile.specs.Masks.{known, IsNamed, stages_of, FitsStages, accesses_of, FitsAccesses}
-use Rattle.fg_subfile.proofs.Bits.{has_first, has_rest, has_union, and_zero}
+use Rattle.fg_subfile.specs.Masks.{known, IsNamed, FitsStages, FitsAccesses}
+use Rattle.fg_subfile.proofs.Bits.{has_first, has_rest, has_union}
 
 abbrev Row : Type 0
 Row = List ℕ × ℕ
@@ -57,23 +58,15 @@ mask_known : (rows : List Row) (text : List ℕ) (all : ℕ) → mask_of rows te
 mask_known rows text all is = by_test (length text == 0) is
   where
     by_test : (b : Bool) → (if b then Some 0 else union_of rows 0 (slice_split is_bar text)) ≡ Some all → bit_and (known rows) all ≡ all
-    by_test true is = let same : 0 ≡ all = cc in subst (λ x. bit_and (known rows) x ≡ x) same (and_zero (known rows))
-    by_test false is = union_known rows (slice_split is_bar text) 0 all (and_zero (known rows)) is
+    by_test true is = let same : 0 ≡ all = cc in subst (λ x. bit_and (known rows) x ≡ x) same (and_zero_r (known rows))
+    by_test false is = union_known rows (slice_split is_bar text) 0 all (and_zero_r (known rows)) is
 
 named : (rows : List Row) (text : List ℕ) (all : ℕ) → mask_of rows text ≡ Some all → IsNamed rows all
 named rows text all is = eq-eqb (bit_and (known rows) all) all (mask_known rows text all is)
 
-pub stages_read : (found : Option Stages) (text : List ℕ) → option_map (λ s. s.0) found ≡ mask_of stage_names text → found ≡ stages_of text
-stages_read None text is = ap (option_map (λ bits. record { 0 = bits })) is
-stages_read (Some set) text is = ap (option_map (λ bits. record { 0 = bits })) is
-
 pub stages_fit : (found : Option Stages) (text : List ℕ) → option_map (λ s. s.0) found ≡ mask_of stage_names text → IfSome found FitsStages
 stages_fit None text is = tt
 stages_fit (Some set) text is = named stage_names text set.0 (sym is)
-
-pub accesses_read : (found : Option Accesses) (text : List ℕ) → option_map (λ a. a.0) found ≡ mask_of access_names text → found ≡ accesses_of text
-accesses_read None text is = ap (option_map (λ bits. record { 0 = bits })) is
-accesses_read (Some set) text is = ap (option_map (λ bits. record { 0 = bits })) is
 
 pub accesses_fit : (found : Option Accesses) (text : List ℕ) → option_map (λ a. a.0) found ≡ mask_of access_names text → IfSome found FitsAccesses
 accesses_fit None text is = tt

@@ -1,14 +1,16 @@
 -- A program that breaks no rule is small.
-use Rattle.std.proofs.Common.{◌≡◌, ◌≤◌, ◌+◌, ◌-◌, ℕ, suc, Bool, true, false, nat_le, nat_lt, not, List, [], ◌∷◌, Option, Some, None, Ok, Err, length, if◌then◌else◌, refl, arith}
-use Rattle.std.specs.List.{position}
+use Rattle.std.proofs.Common.{◌≡◌, ◌≤◌, ◌+◌, true, nat_le, not, List, [], ◌∷◌, Option, Some, None, length, if◌then◌else◌, refl, ap, ◌∙◌, arith}
+use Rattle.std.specs.List.{position, sum_by}
 use Rattle.std.specs.Option.{option_or, option_map}
-use Rattle.std.proofs.lemmas.Bool.{leb-true, ltb-false, and_parts}
+use Rattle.std.proofs.lemmas.Bool.{leb-true, and_parts}
+use Rattle.std.proofs.lemmas.List.Sums.{sum_by-cons}
 use Rattle.fg_base.specs.Bounds.{is_between, sides_allowed, size_allowed}
 use Rattle.fg_base.specs.declared.limit.Limit.TheVariants as limits
 use Rattle.fg_base.specs.Maxima.{max_memory_bytes, max_nodes}
-use Rattle.fg_base.specs.Rooms.{go_on, spend_in, not_lasting, take_size, first_over}
+use Rattle.fg_base.specs.Rooms.{first_over}
 use Rattle.fg_base.specs.declared.broken.Broken.{Broken}
 use Rattle.fg_base.proofs.Absence.{or_first, or_second, map_none, has_it, all_pass}
+use Rattle.fg_base.proofs.Rooms.{all_fit}
 use Rattle.fg_subs.specs.FirstFault.{first_broken, rules_broken}
 use Rattle.fg_subs.specs.Obeys.{IsSmall}
 use Rattle.fg_subs.specs.Limits.{over, memory_bytes, all_bytes, rects_over, count_broken, size_broken, limit_broken}
@@ -20,17 +22,10 @@ use Rattle.fg_subs.specs.declared.program.Memory.{Memory}
 use Rattle.fg_subs.specs.declared.program.Program.{Program}
 use Rattle.fg_subs.specs.declared.rule.Rule.{Rule}
 
--- what lasts is at most the room
-lasts : (memories : List Memory) (room i : ℕ) → not_lasting (spend_in (take_size memory_bytes) room i memories) ≡ None → all_bytes memories ≤ room
-lasts [] room i none = omega arith
-lasts (m ∷ ms) room i none = by_test (nat_lt room (memory_bytes m)) refl none (λ left. lasts ms (room - memory_bytes m) (suc i) left)
-  where
-    by_test : (b : Bool) → nat_lt room (memory_bytes m) ≡ b → not_lasting (go_on (λ left. spend_in (take_size memory_bytes) left (suc i) ms) (if b then Err i else Ok (room - memory_bytes m))) ≡ None → (not_lasting (spend_in (take_size memory_bytes) (room - memory_bytes m) (suc i) ms) ≡ None → all_bytes ms ≤ room - memory_bytes m) → memory_bytes m + all_bytes ms ≤ room
-    by_test true e none more = absurd cc
-    by_test false e none more =
-        let fits : memory_bytes m ≤ room = ltb-false room (memory_bytes m) e in
-        let rest = more none in
-        omega arith
+-- the bytes of all memories are the sum of theirs
+pub bytes_sum : (memories : List Memory) → sum_by memory_bytes memories ≡ all_bytes memories
+bytes_sum [] = refl
+bytes_sum (memory ∷ memories) = sum_by-cons memory_bytes memory memories ∙ ap (λ n. memory_bytes memory + n) (bytes_sum memories)
 
 -- the limits one after another
 module _ (program : Program) (none : first_broken program ≡ None) where
@@ -59,7 +54,7 @@ module _ (program : Program) (none : first_broken program ≡ None) where
   sizes = option_map (λ i. over limits.Size (at.Piece i)) (position (λ piece. not (size_allowed piece.shape)) program.pieces)
 
   abbrev bytes : Option (Broken Rule Place)
-  bytes = option_map (λ i. over limits.Total (at.Memory i)) (first_over memory_bytes max_memory_bytes program.memories)
+  bytes = option_map (λ i. over limits.Total (at.Memory i)) (first_over memory_bytes max_memory_bytes 0 program.memories)
 
   no_limit : limit_broken program ≡ None
   no_limit = or_first (limit_broken program) (rules_broken program (shapes_of program)) none
@@ -101,5 +96,8 @@ module _ (program : Program) (none : first_broken program ≡ None) where
     readbacks = leb-true (length program.readbacks) 32 (has_it (nat_le (length program.readbacks) 32) (over limits.Readbacks at.Readbacks) (or_second rects readbacks after_nodes));
     sides = all_pass (λ piece. sides_allowed piece.shape) program.pieces (map_none (λ i. over limits.Side (at.Piece i)) (position (λ piece. not (sides_allowed piece.shape)) program.pieces) (or_first sides (option_or sizes bytes) small));
     sizes = all_pass (λ piece. size_allowed piece.shape) program.pieces (map_none (λ i. over limits.Size (at.Piece i)) (position (λ piece. not (size_allowed piece.shape)) program.pieces) (or_first sizes bytes after_sides));
-    bytes = lasts program.memories max_memory_bytes 0 (map_none (λ i. over limits.Total (at.Memory i)) (first_over memory_bytes max_memory_bytes program.memories) (or_second sizes bytes after_sides));
+    bytes =
+        let fit = all_fit memory_bytes program.memories max_memory_bytes 0 (map_none (λ i. over limits.Total (at.Memory i)) (first_over memory_bytes max_memory_bytes 0 program.memories) (or_second sizes bytes after_sides)) in
+        let same = bytes_sum program.memories in
+        omega (arith, same, fit);
   }

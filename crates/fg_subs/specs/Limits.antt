@@ -69,7 +69,7 @@ abbrev pub size_broken : Program → Option (Broken Rule Place)
 size_broken program =
     option_or (option_map (λ i. over limits.Side (at.Piece i)) (position (λ piece. not (sides_allowed piece.shape)) program.pieces))
     (option_or (option_map (λ i. over limits.Size (at.Piece i)) (position (λ piece. not (size_allowed piece.shape)) program.pieces))
-    (option_map (λ i. over limits.Total (at.Memory i)) (first_over memory_bytes max_memory_bytes program.memories)))
+    (option_map (λ i. over limits.Total (at.Memory i)) (first_over memory_bytes max_memory_bytes 0 program.memories)))
 
 abbrev pub limit_broken : Program → Option (Broken Rule Place)
 limit_broken program = option_or (count_broken program) (size_broken program)

@@ -87,7 +87,7 @@ fn rects_over(queues: &[Queue]) -> Option<Place>
 }
 
 fn bytes_over(memories: &[Memory]) -> Option<usize>
-    ensures { result ≡ first_over memory_bytes max_memory_bytes memories.now }
+    ensures { result ≡ first_over memory_bytes max_memory_bytes 0 memories.now }
 {
     first_over(memories, MAX_MEMORY_BYTES, |memory| memory_bytes(memory))
 }

@@ -4,6 +4,7 @@ use Rattle.std.specs.Option.{option_map, option_map_or}
 use Rattle.std.proofs.lemmas.Bool.{cases_lt}
 use Rattle.std.proofs.lemmas.List.{get_or_past}
 use Rattle.std.proofs.lemmas.Option.{slice_get-map}
+use Rattle.fg_base.proofs.Lists.{got_front}
 use Rattle.fg_hb.specs.Orders.{Among, Distinct, before_in, Earlier}
 use Rattle.fg_view.specs.ShapedView.{ShapedView, AccessAt, Has, NodeAccessAt}
 use Rattle.fg_view.specs.Effects.{no_effect}
@@ -18,11 +19,6 @@ none : {X P : Type 0} (x : X) → None ≡ Some x → P
 none x e = absurd cc
 
 -- IN ONE OF TWO LISTS
-
-left_in : {X : Type 0} (xs ys : List X) (i : ℕ) (x : X) → slice_get xs i ≡ Some x → slice_get (xs ++ ys) i ≡ Some x
-left_in [] ys i x h = none x h
-left_in (z ∷ xs) ys zero x h = h
-left_in (z ∷ xs) ys (suc i) x h = left_in xs ys i x h
 
 right_in : {X : Type 0} (xs ys : List X) (x : X) → In x ys → In x (xs ++ ys)
 right_in [] ys x h = h
@@ -68,7 +64,7 @@ pub listed_in : (V : View) (order : List ℕ) (n : ℕ) (a : Access) → Among n
 listed_in V [] n a m h = absurd m
 listed_in V (u ∷ order) n a (inl e) (i, h) = (
   i,
-  left_in (map (node_access u) (accesses_of V u)) (node_accesses_of V order) i (node_access n a)
+  got_front (map (node_access u) (accesses_of V u)) (node_accesses_of V order) i (node_access n a)
       (subst (λ z. slice_get (map (node_access z) (accesses_of V z)) i ≡ Some (node_access n a)) e (slice_get-map (node_access n) (accesses_of V n) i ∙ ap (λ o. option_map (node_access n) o) h)),
 )
 listed_in V (u ∷ order) n a (inr m) h = right_in (map (node_access u) (accesses_of V u)) (node_accesses_of V order) (node_access n a) (listed_in V order n a m h)

@@ -13,11 +13,10 @@ use Rattle.fg_view.specs.Views.{View, overlap, overlapping}
 use Rattle.fg_view.specs.declared.access.Access.{Access}
 use Rattle.fg_view.specs.declared.access.AccessKind.{AccessKind}
 use Rattle.fg_view.specs.declared.node_access.NodeAccess.{NodeAccess}
-use Rattle.fg_ties.specs.Code.Chains.{IsIn, Latest, Links}
+use Rattle.fg_ties.specs.Code.Chains.{IsIn, Latest}
 use Rattle.fg_ties.specs.First.{IsFirst}
 use Rattle.fg_ties.specs.Code.Places.{no_node_access, node_access_at, piece_of, kind_of, clashes_with_loads, Known, IsFirstWith, TiedAt, PlacesTiedBelow}
 use Rattle.fg_ties.specs.Tied.{PairTied, TiedBelow}
-use Rattle.fg_ties.specs.declared.chain.Chain.{Chain}
 use Rattle.fg_ties.specs.declared.tie.Untied.{Untied}
 use Rattle.fg_ties.proofs.Clashes.{overlap_turned}
 use Rattle.fg_ties.proofs.Through.{itself, clash_change, through}
@@ -45,19 +44,8 @@ apart V accesses i j S L h far C = absurd (none (clash_cases V (node_access_at a
     none (inl (over, c)) = false≢true (sym far_off ∙ over)
     none (inr (same, t)) = false≢true (sym far_off ∙ subst (λ p. overlap V (piece_of accesses i) p ≡ true) same (itself V (piece_of accesses i) S (known_at V accesses i S L h).piece))
 
-never_either : (f g : Bool) → f ≡ false → g ≡ false → (f || g) ≡ true → ⊥
-never_either f g p q h = ⊎_elim (λ e. false≢true (sym p ∙ e)) (λ e. false≢true (sym q ∙ e)) (or_cases f g h)
-
 still : (d : AccessKind) → clashes_with_loads d ≡ false → (changes d ≡ false) × (transfers d ≡ false)
 still d h = (⊎_elim (λ e. absurd (false≢true (sym h ∙ or_left (changes d) (transfers d) e))) (λ e. e) (cases_Bool (changes d)), ⊎_elim (λ e. absurd (false≢true (sym h ∙ or_right (changes d) (transfers d) e))) (λ e. e) (cases_Bool (transfers d)))
-
--- two loads do not clash
-pub both_load : (V : View) (accesses : List NodeAccess) (i j : ℕ) → clashes_with_loads (kind_of accesses i) ≡ false → clashes_with_loads (kind_of accesses j) ≡ false → TiedAt V accesses i j
-both_load V accesses i j p q C = absurd (none (clash_cases V (node_access_at accesses i).access (node_access_at accesses j).access C.clash))
-  where
-    none : ((overlap V (piece_of accesses i) (piece_of accesses j) ≡ true) × ((changes (kind_of accesses i) || changes (kind_of accesses j)) ≡ true)) ⊎ ((piece_of accesses i ≡ piece_of accesses j) × ((transfers (kind_of accesses i) || transfers (kind_of accesses j)) ≡ true)) → ⊥
-    none (inl (over, c)) = never_either (changes (kind_of accesses i)) (changes (kind_of accesses j)) (still (kind_of accesses i) p).0 (still (kind_of accesses j) q).0 c
-    none (inr (same, t)) = never_either (transfers (kind_of accesses i)) (transfers (kind_of accesses j)) (still (kind_of accesses i) p).1 (still (kind_of accesses j) q).1 t
 
 module _ (V : View) (accesses : List NodeAccess) (S : ShapedView V) (L : Listed V accesses) (j q : ℕ) (within : j < length accesses) (G : PlacesTiedBelow V accesses j) (over : overlap V (piece_of accesses j) q ≡ true) (own : q < length V.pieces) where
   -- a change of the piece that is tied with j stands for all earlier accesses of the piece
@@ -132,13 +120,6 @@ all_pieces V accesses loads j S L within among i lt n = ⊎_elim
 
     known : piece_of accesses i < length V.pieces
     known = (known_at V accesses i S L here_in).piece
-
--- as many pieces as the chain has, and of its kind
-pub links_own : (accesses : List NodeAccess) (pieces j : ℕ) (loads : Bool) (chain : Chain) → Links accesses pieces j loads chain → Links accesses (length chain.last.items) j chain.loads chain
-links_own accesses pieces j loads chain L = subst (λ n. Links accesses n j chain.loads chain) (sym L.table) (subst (λ k. Links accesses pieces j k chain) (sym L.kind) L)
-
-pub links_more : (accesses : List NodeAccess) (pieces j : ℕ) (loads : Bool) (old new : Chain) → Links accesses pieces j loads old → Links accesses (length old.last.items) (j + 1) old.loads new → Links accesses pieces (j + 1) loads new
-links_more accesses pieces j loads old new L M = subst (λ n. Links accesses n (j + 1) loads new) L.table (subst (λ k. Links accesses (length old.last.items) (j + 1) k new) L.kind M)
 
 pub is_first : (V : View) (accesses : List NodeAccess) (j : ℕ) (untied : Untied) → j < length accesses → PlacesTiedBelow V accesses j → IsFirstWith V accesses j untied → IsFirst V accesses untied.flaw untied.first untied.second
 is_first V accesses j untied h G (i, lt, first, second, flawed, least) = record {

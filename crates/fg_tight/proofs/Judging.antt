@@ -1,10 +1,9 @@
 -- What is judged, and what a judgement makes of a candidate.
-use Rattle.std.proofs.Common.{◌≡◌, ◌∙◌, ◌↔◌, ℕ, Bool, true, false, List, Result, Ok, Err, Some, None, IfOk, refl, subst, sym, ap}
+use Rattle.std.proofs.Common.{◌≡◌, ◌∙◌, ◌↔◌, ℕ, Bool, true, false, List, Result, Ok, Err, None, IfOk, refl, subst, sym, ap}
 use Rattle.fg_base.proofs.Booleans.{clash}
 use Rattle.fg_checker.specs.Sound.{IsSound, Sound}
 use Rattle.fg_subs.specs.FirstFault.{first_fault}
 use Rattle.fg_subs.specs.Obeys.{BatchAt}
-use Rattle.fg_subs.specs.declared.fault.SubFault.{SubFault}
 use Rattle.fg_subs.specs.declared.program.Batch.{Batch}
 use Rattle.fg_subs.specs.declared.program.Program.{Program}
 use Rattle.fg_subs.specs.declared.program.Queue.{Queue}
@@ -19,10 +18,6 @@ use Rattle.fg_tight.proofs.Programs.{undone}
 -- without a fault it passes exactly where it is sound
 pub sound_passes : (program : Program) (passes : Bool) → first_fault program ≡ None → ((passes ≡ true) ↔ IsSound program) → ((passes ≡ true) ↔ Passes program)
 sound_passes program passes none h = ((λ e. record { faultless = none; sound = h.0 e }), (λ p. h.1 p.sound))
-
--- with a fault it does not
-pub faulty : (program : Program) (fault : SubFault) → first_fault program ≡ Some fault → ((false ≡ true) ↔ Passes program)
-faulty program fault is = ((λ e. absurd (clash e)), (λ p. let e : None ≡ Some fault = sym p.faultless ∙ is in absurd cc))
 
 -- kept where it passes, and else undone
 pub tried_as : (program judged now : Program) (passes changed : Bool) (q b k : ℕ) (waits old : List WaitFor) → HasWait program q b k

@@ -1,6 +1,7 @@
 -- What several parts of a round come to, one after another.
 use Rattle.std.proofs.Common.{◌≡◌, ◌∙◌, ◌<◌, ◌≤◌, ◌+◌, ◌||◌, ℕ, Bool, true, false, not, length, slice_get, Some, refl, subst, sym, below_more, arith}
 use Rattle.std.proofs.lemmas.Option.{slice_get_within}
+use Rattle.std.proofs.lemmas.Bool.{or_parts}
 use Rattle.fg_base.proofs.Booleans.{clash}
 use Rattle.fg_subs.specs.Obeys.{BatchAt}
 use Rattle.fg_subs.specs.declared.program.Batch.{Batch}
@@ -11,10 +12,6 @@ use Rattle.fg_tight.specs.Code.Weights.{weight}
 use Rattle.fg_tight.specs.Own.{single_stages}
 use Rattle.fg_tight.specs.Tight.{Passes, Tight}
 use Rattle.fg_tight.proofs.Trials.{came_same}
-
-neither : (x y : Bool) → (x || y) ≡ false → (x ≡ false) × (y ≡ false)
-neither true y e = absurd (clash (sym e))
-neither false y e = (refl, e)
 
 not_heavier : (x : Bool) (a b : Program) → Came a b x → weight b ≤ weight a
 not_heavier true a b came = omega (arith, came.lighter refl)
@@ -28,7 +25,7 @@ falls false false a b c first second e = absurd (clash e)
 pub came_on : (x y : Bool) (a b c : Program) → Came a b x → Came b c y → Came a c (x || y)
 came_on x y a b c first second = record {
   passes = λ p. second.passes (first.passes p);
-  same = λ e. second.same (neither x y e).1 ∙ first.same (neither x y e).0;
+  same = λ e. second.same (or_parts x y e).1 ∙ first.same (or_parts x y e).0;
   lighter = falls x y a b c first second;
   stands = λ given s. second.stands given (first.stands given s);
 }
@@ -40,7 +37,7 @@ module _ (Done : Program → ℕ → Type 0) (start : Program) where
   pub walked_on : (now next : Program) (x y : Bool) (count : ℕ) → Walked Done start now x count → Came now next y → (x ≡ false → y ≡ false → Done now count) → Walked Done start next (x || y) (count + 1)
   walked_on now next x y count walked came done = record {
     came = came_on x y start now next walked.came came;
-    done = λ e. below_more _ _ (walked.done (neither x y e).0) (subst (λ p. Done p count) (walked.came.same (neither x y e).0) (done (neither x y e).0 (neither x y e).1));
+    done = λ e. below_more _ _ (walked.done (or_parts x y e).0) (subst (λ p. Done p count) (walked.came.same (or_parts x y e).0) (done (or_parts x y e).0 (or_parts x y e).1));
   }
 
   -- where the last part's program and flag are handed on
@@ -63,10 +60,10 @@ came_after a b c to x y changed first second same also =
 
 -- if nothing was changed in two parts, nothing was in the first, and the program was the same for the second
 pub first_same : (x y changed : Bool) → changed ≡ (x || y) → changed ≡ false → x ≡ false
-first_same x y changed also not = (neither x y (sym also ∙ not)).0
+first_same x y changed also not = (or_parts x y (sym also ∙ not)).0
 
 pub second_same : (x y changed : Bool) → changed ≡ (x || y) → changed ≡ false → y ≡ false
-second_same x y changed also not = (neither x y (sym also ∙ not)).1
+second_same x y changed also not = (or_parts x y (sym also ∙ not)).1
 
 pub wait_done : (program : Program) (q b k : ℕ) → WaitTried program q b k → ((i : ℕ) → i < 5 → StageNumberTried q b k program i) → FitTried program q b k → WaitDone q b program k
 wait_done program q b k whole stages fit queue batch wait at = record {
@@ -90,7 +87,3 @@ all_done program count is all q b k queue batch wait at =
 -- a program that passes, and in which all waits were tried in vain
 pub tight_as : (program to : Program) → to ≡ program → Passes program → ((q : ℕ) → QueueDone program q) → Tight to
 tight_as program to same passes done = subst Tight (sym same) (record { passes = passes; needed = λ q b k. done q b k })
-
-pub not_true : (b : Bool) → not b ≡ true → b ≡ false
-not_true true e = absurd (clash e)
-not_true false e = refl

@@ -3,21 +3,13 @@ use Rattle.std.proofs.Common.{◌≡◌, ◌⊎◌, inl, inr, ℕ, zero, suc, �
 use Rattle.std.specs.Prelude.{slice_get}
 use Rattle.std.proofs.lemmas.Bool.{cases_Bool}
 use Rattle.std.proofs.lemmas.List.{map-append}
+use Rattle.fg_base.proofs.Lists.{got_front, got_back}
 use Rattle.fg_timeline.specs.Below.{any_below, count_below, all_below}
 
 pub side : (n m : ℕ) → (n < m) ⊎ (m ≤ n)
 side n m = grind arith
 
 -- PLACES IN TWO LISTS
-
-pub there_left : {X : Type 0} (xs ys : List X) (k : ℕ) (x : X) → slice_get xs k ≡ Some x → slice_get (xs ++ ys) k ≡ Some x
-there_left [] ys k x e = absurd cc
-there_left (z ∷ xs) ys zero x e = e
-there_left (z ∷ xs) ys (suc k) x e = there_left xs ys k x e
-
-pub there_right : {X : Type 0} (xs ys : List X) (k : ℕ) → slice_get (xs ++ ys) (length xs + k) ≡ slice_get ys k
-there_right [] ys k = let e : 0 + k ≡ k = omega arith in ap (slice_get ys) e
-there_right (z ∷ xs) ys k = let e : suc (length xs) + k ≡ suc (length xs + k) = omega arith in ap (slice_get (z ∷ (xs ++ ys))) e ∙ there_right xs ys k
 
 pub data InTwo {X : Type 0} (xs ys : List X) (k : ℕ) (x : X) : Type 0 where
   in_left : slice_get xs k ≡ Some x → InTwo xs ys k x
@@ -67,10 +59,10 @@ there_below f zero a j x lt e = absurd (no lt)
 there_below f (suc n) a j x lt e = go (side a n) (λ l. there_below f n a j x l e)
   where
     go : (a < n) ⊎ (n ≤ a) → (a < n → slice_get (all_below f n) (length (all_below f a) + j) ≡ Some x) → slice_get (all_below f n ++ f n) (length (all_below f a) + j) ≡ Some x
-    go (inl l) ih = there_left (all_below f n) (f n) (length (all_below f a) + j) x (ih l)
+    go (inl l) ih = got_front (all_below f n) (f n) (length (all_below f a) + j) x (ih l)
     go (inr g) ih =
         let same : a ≡ n = omega (arith, lt, g) in
-        ap (λ z. slice_get (all_below f n ++ f n) (length (all_below f z) + j)) same ∙ there_right (all_below f n) (f n) j ∙ ap (λ z. slice_get (f z) j) (sym same) ∙ e
+        ap (λ z. slice_get (all_below f n ++ f n) (length (all_below f z) + j)) same ∙ got_back (all_below f n) (f n) j ∙ ap (λ z. slice_get (f z) j) (sym same) ∙ e
 
 pub record InBelow {X : Type 0} (f : ℕ → List X) (n k : ℕ) (x : X) : Type 0 where
   pub entry : ℕ

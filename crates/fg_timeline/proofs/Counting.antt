@@ -1,11 +1,9 @@
 -- Signals that are counted.
-use Rattle.std.proofs.Common.{◌≡◌, ◌≢◌, ◌⊎◌, inl, inr, ℕ, suc, ◌+◌, ◌<◌, ◌≤◌, ◌==◌, ◌&&◌, ◌||◌, if◌then◌else◌, Bool, true, false, List, [], ◌∷◌, ◌++◌, length, map, get_or, set, Option, Some, None, refl, sym, ap, ◌∙◌, subst, eq-eqb, add-one, arith}
-use Rattle.std.specs.List.{range_with_len}
+use Rattle.std.proofs.Common.{◌≡◌, ◌≢◌, ◌⊎◌, inl, inr, ℕ, suc, ◌+◌, ◌<◌, ◌≤◌, ◌==◌, ◌&&◌, ◌||◌, if◌then◌else◌, Bool, true, false, List, length, get_or, set, Option, Some, None, refl, sym, ap, ◌∙◌, subst, eq-eqb, add-one, arith}
 use Rattle.std.specs.Option.{option_map_or}
 use Rattle.std.specs.Prelude.{slice_get}
 use Rattle.std.proofs.Math.ListN.{length-set}
 use Rattle.std.proofs.lemmas.Bool.{cases_Bool, cases_eq, and_parts, ne_eqb}
-use Rattle.std.proofs.lemmas.List.FromFn.{map-range_with_len_more}
 use Rattle.std.proofs.lemmas.List.{get_or-set_same, get_or-set_other}
 use Rattle.std.proofs.lemmas.Option.{slice_get-get_or}
 use Rattle.fg_subs.specs.declared.program.Item as subs
@@ -18,10 +16,6 @@ use Rattle.fg_timeline.specs.Steps.{queue_of, queue_at, is_item, has_item, IsScr
 use Rattle.fg_timeline.specs.Waits.{last_item}
 use Rattle.fg_timeline.specs.declared.step.Step.{Step}
 use Rattle.fg_timeline.specs.declared.step.Step.TheVariants.{Item, Need}
-
--- what f gives for one number more
-pub one_more : {X : Type 0} (f : ℕ → X) (n : ℕ) (x : X) (old more : List X) → old ≡ map f (range_with_len 0 n) → x ≡ f n → more ≡ old ++ x ∷ [] → more ≡ map f (range_with_len 0 (n + 1))
-one_more f n x old more so_far is grows = grows ∙ ap (λ l. l ++ x ∷ []) so_far ∙ ap (λ y. map f (range_with_len 0 n) ++ y ∷ []) is ∙ sym (map-range_with_len_more f 0 n n (omega arith))
 
 -- each step is of a queue that is there
 pub queue_known : (script : List Step) (count i : ℕ) → IsScript script count → i < length script → queue_at script i < count

@@ -1,6 +1,7 @@
 -- The entries of queues that are cut from parts are the parts.
 use Rattle.std.proofs.Common.{◌≡◌, ℕ, suc, ◌+◌, List, [], ◌∷◌, ◌++◌, length, map, Option, refl, sym, ap, ◌∙◌, append_assoc, append-nil, arith}
 use Rattle.std.specs.List.{flat_map}
+use Rattle.std.proofs.lemmas.Simd.{map-map}
 use Rattle.fg_base.specs.declared.shape.Family.{Family}
 use Rattle.fg_subs.specs.Entries.{Entry, OfItem, OfHost, batch_entries, queue_entries}
 use Rattle.fg_subs.specs.Places.{all_in}
@@ -46,14 +47,10 @@ queues_entries script count q (family ∷ families) =
     shift : (n : ℕ) → suc q + n ≡ q + suc n
     shift n = omega arith
 
-over : {X Y Z : Type 0} (g : Y → Z) (f : X → Y) (xs : List X) → map g (map f xs) ≡ map (λ x. g (f x)) xs
-over g f [] = refl
-over g f (x ∷ xs) = ap (λ ys. g (f x) ∷ ys) (over g f xs)
-
 queue_shown : (script : List Step) (count q : ℕ) → map entry_of (queue_places script count q) ≡ on_queue script count q
 queue_shown script count q =
     map_below entry_of (step_places script count q) (length script)
-    ∙ same_below (λ i. map entry_of (step_places script count q i)) (λ i. map (part_entry q) (parts_at script count q i)) (length script) (λ i lt. over entry_of (place q i) (parts_at script count q i))
+    ∙ same_below (λ i. map entry_of (step_places script count q i)) (λ i. map (part_entry q) (parts_at script count q i)) (length script) (λ i lt. map-map entry_of (place q i) (parts_at script count q i))
     ∙ sym (map_below (part_entry q) (parts_at script count q) (length script))
 
 all_shown : (script : List Step) (count : ℕ) → map entry_of (places script count) ≡ all_below (on_queue script count) count

@@ -2,11 +2,12 @@
 use Rattle.std.proofs.Common.{◌≡◌, ◌⊎◌, inl, inr, ℕ, zero, suc, ◌+◌, ◌<◌, ◌≤◌, ◌==◌, ◌&&◌, ◌||◌, nat_lt, if◌then◌else◌, Bool, true, false, List, [], ◌∷◌, ◌++◌, length, Option, Some, None, refl, sym, ap, ◌∙◌, subst, eq-eqb, arith}
 use Rattle.std.specs.Option.{option_map, option_map_or}
 use Rattle.std.specs.Prelude.{slice_get}
-use Rattle.std.proofs.lemmas.Bool.{cases_Bool, and_from, and_parts, false≢true}
+use Rattle.std.proofs.lemmas.Bool.{cases_Bool, and_from, and_parts, false≢true, or_left, or_right}
 use Rattle.std.proofs.lemmas.List.{length-map}
 use Rattle.std.proofs.lemmas.Option.{slice_get-map, slice_get_within}
+use Rattle.fg_base.proofs.Lists.{got_front, got_back}
 use Rattle.fg_subs.specs.declared.program.Item as subs
-use Rattle.fg_timeline.proofs.Below.{side, there_left, there_right, InTwo, in_left, in_right, in_two, in_map, begins_before, there_below, InBelow, in_below, any_there, count_up}
+use Rattle.fg_timeline.proofs.Below.{side, InTwo, in_left, in_right, in_two, in_map, begins_before, there_below, InBelow, in_below, any_there, count_up}
 use Rattle.fg_timeline.proofs.Latest.{item_there, item_within, item_queue, latest_need, latest_from, LastAt, last_cases, last_after, risen}
 use Rattle.fg_timeline.specs.Below.{all_below, any_below, count_below}
 use Rattle.fg_timeline.specs.Laws.{Stands, a_wait, an_item, a_signal, IsNumbered, AreNumbered, AllThere, InOrder, IsFor, AreFor, AreMet, Ends, AreRising}
@@ -118,10 +119,10 @@ wait_there script count q i p lq lp h w =
     let one : slice_get (wait_at script count q i p) 0 ≡ Some (Waits (wait_for script count q i p)) = ap (λ b. slice_get (when b (Waits (wait_for script count q i p))) 0) w in
     let two : slice_get (waits_at script count q i) (length (all_below (wait_at script count q i) p) + 0) ≡ Some (Waits (wait_for script count q i p)) = there_below (wait_at script count q i) count p 0 (Waits (wait_for script count q i p)) lp one in
     let three : slice_get (waits_at script count q i) (length (all_below (wait_at script count q i) p)) ≡ Some (Waits (wait_for script count q i p)) = ap (slice_get (waits_at script count q i)) (plain (length (all_below (wait_at script count q i) p))) ∙ two in
-    at_parts script count q i (length (all_below (wait_at script count q i) p)) T.0 (Waits (wait_for script count q i p)) lq T.1 (there_left (waits_at script count q i) (after_waits script count q i T.0) (length (all_below (wait_at script count q i) p)) (Waits (wait_for script count q i p)) three)
+    at_parts script count q i (length (all_below (wait_at script count q i) p)) T.0 (Waits (wait_for script count q i p)) lq T.1 (got_front (waits_at script count q i) (after_waits script count q i T.0) (length (all_below (wait_at script count q i) p)) (Waits (wait_for script count q i p)) three)
 
 item_at : (script : List Step) (count q i : ℕ) (item : subs.Item) → q < count → slice_get script i ≡ Some (Item q item) → slice_get (places script count) (item_number script count q i) ≡ Some (place q i (Does item))
-item_at script count q i item lq e = at_parts script count q i (length (waits_at script count q i)) item (Does item) lq e (ap (slice_get (waits_at script count q i ++ after_waits script count q i item)) (plain (length (waits_at script count q i))) ∙ there_right (waits_at script count q i) (after_waits script count q i item) 0)
+item_at script count q i item lq e = at_parts script count q i (length (waits_at script count q i)) item (Does item) lq e (ap (slice_get (waits_at script count q i ++ after_waits script count q i item)) (plain (length (waits_at script count q i))) ∙ got_back (waits_at script count q i) (after_waits script count q i item) 0)
 
 signal_there : (script : List Step) (count q i : ℕ) → q < count → has_signal script count q i ≡ true → slice_get (places script count) (signal_number script count q i) ≡ Some (place q i (Signals (signal_after script count i)))
 signal_there script count q i lq s =
@@ -129,7 +130,7 @@ signal_there script count q i lq s =
     let T = item_there script q i h in
     let one : slice_get (after_waits script count q i T.0) 1 ≡ Some (Signals (signal_after script count i)) = ap (λ b. slice_get (Does T.0 ∷ when b (Signals (signal_after script count i))) 1) s in
     ap (slice_get (places script count)) next
-    ∙ at_parts script count q i (length (waits_at script count q i) + 1) T.0 (Signals (signal_after script count i)) lq T.1 (there_right (waits_at script count q i) (after_waits script count q i T.0) 1 ∙ one)
+    ∙ at_parts script count q i (length (waits_at script count q i) + 1) T.0 (Signals (signal_after script count i)) lq T.1 (got_back (waits_at script count q i) (after_waits script count q i T.0) 1 ∙ one)
   where
     next : signal_number script count q i ≡ number script count q i (length (waits_at script count q i) + 1)
     next = omega arith
@@ -170,13 +171,6 @@ in_order script count = record {
 
 more_of : (a b : ℕ) → nat_lt a b ≡ true → a < b
 more_of a b e = grind arith
-
-or_left : (a b : Bool) → a ≡ true → (a || b) ≡ true
-or_left a b e = ap (λ z. z || b) e
-
-or_right : (a b : Bool) → b ≡ true → (a || b) ≡ true
-or_right true b e = refl
-or_right false b e = e
 
 is_for : (script : List Step) (count q i p : ℕ) → IsScript script count → q < count → p < count → has_item script q i ≡ true → waits script q i p ≡ true → (s : ℕ) → latest script q p i ≡ suc s → IsFor script count q i p
 is_for script count q i p K lq lp h w s e =

@@ -1,6 +1,6 @@
 //! Which steps a signal follows.
 
-ghost use Rattle.std.specs.Prelude.{◌≡◌, ℕ, ◌+◌, ◌<◌, ◌≤◌, ◌||◌, false, length, get_or, IfOk, OnOk};
+ghost use Rattle.std.specs.Prelude.{◌≡◌, ℕ, ◌+◌, ◌<◌, ◌||◌, false, length, get_or, IfOk, OnOk};
 ghost use Rattle.fg_timeline.specs.Code.Counts.{signals_of, HasLasts, HasCounts};
 ghost use Rattle.fg_timeline.specs.Signals.{awaited_by, is_awaited, has_signal, value_at};
 ghost use Rattle.fg_timeline.specs.Steps.{IsScript, queue_at};
@@ -109,7 +109,7 @@ fn counted(
 }
 
 /// The signals that the steps of so many queues need.
-#[tactic(auto, using(crate::proofs::Counting::one_more))]
+#[tactic(auto, using(fg_base::proofs::Lists::one_more))]
 pub(crate) fn signals_of(alloc: Global, script: &[Step], count: u32) -> Result<Signals, NoMemory>
     requires { IsScript script.now count }
     ensures { IfOk result (λ signals. signals ≡ signals_of script.now count) }

@@ -62,7 +62,7 @@ fn turn_of(
 
 /// For each group what stands before it, and the release after the group before it. `ordered` and `placement` are of the
 /// placed units, by their places in `placed`.
-#[tactic(auto, using(crate::proofs::Members::one_more))]
+#[tactic(auto, using(fg_base::proofs::Lists::one_more))]
 pub fn turns(
     alloc: Global,
     groups: &Groups,

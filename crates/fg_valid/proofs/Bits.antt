@@ -123,9 +123,6 @@ supports_inside a b bits h e = inside_then bits (supported (expand a)) (supporte
 pub supports_from : (stages bits : ℕ) → Inside bits (supported (expand stages)) → supports stages bits ≡ true
 supports_from stages bits h = has_from_inside (supported (expand stages)) bits h
 
-pub supports_more : (a b bits : ℕ) → Inside a b → supports a bits ≡ true → supports b bits ≡ true
-supports_more a b bits h e = supports_from b bits (supports_inside a b bits h e)
-
 pub supports_none : (stages : ℕ) → supports stages 0 ≡ true
 supports_none stages = supports_from stages 0 (none_inside (supported (expand stages)))
 

@@ -22,6 +22,7 @@ use Rattle.fg_frame.specs.Good.{IsGood, IsGoodOp, shapes_in}
 use Rattle.fg_frame.specs.Numbered.{NumberedFrame}
 use Rattle.fg_frame.specs.Units.{Unit}
 use Rattle.fg_frame.specs.declared.numbered.NumberedPass.{NumberedPass}
+use Rattle.fg_groups.proofs.Operands.{copy_destination}
 use Rattle.fg_groups.specs.Commands.{on_queue, pass_commands, kept_commands, copy_out, export_queue, export_command, export_commands, readback_shape}
 use Rattle.fg_groups.specs.Groups.{family_of, grouping}
 use Rattle.fg_groups.specs.declared.command.Command.{Command}
@@ -134,10 +135,6 @@ module _ (frame : NumberedFrame) (kept : List Bool) (good : IsGood frame) where
       (λ k unit lt within is. copy_apart (shape_at (shapes_in frame) unit) unit (length frame.units + k) (ne_eqb unit (length frame.units + k) (λ e. omega (arith, e, within))))
 
   -- WHERE EXPORTS GO
-
-  copy_destination : (shape : Shape) (src dst : ℕ) → destination_of (copy_out shape src dst) ≡ dst
-  copy_destination (Buffer size) src dst = refl
-  copy_destination (Image width height texel) src dst = refl
 
   pub exports_into : All (λ command. IfSome command.export (λ k. length frame.units ≤ destination_of command.op)) G.commands
   exports_into = each_command (λ command. IfSome command.export (λ k. length frame.units ≤ destination_of command.op))

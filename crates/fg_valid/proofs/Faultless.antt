@@ -24,12 +24,13 @@
 --   OnQueue   barriers           a use's stage is one of its queue's family, and masks are of uses on one queue
 --   Runs      commands           an operation's queue runs it, and any queue runs the copy of an export
 --   Timeline  waits, signals     values count the signals of a queue from 1 on
-use Rattle.std.proofs.Common.{◌≡◌, ℕ, suc, ◌+◌, ◌≤◌, nat_le, not, Bool, true, List, [], ◌∷◌, length, take, slice_get, if◌then◌else◌, Option, Some, None, IfSome, refl, ap, ◌∙◌, subst, arith}
-use Rattle.std.specs.List.{All, position, position_or_len, sum_by}
+use Rattle.std.proofs.Common.{◌≡◌, ℕ, suc, ◌+◌, ◌≤◌, nat_le, not, Bool, true, List, [], ◌∷◌, length, take, slice_get, if◌then◌else◌, Option, Some, None, IfSome, refl, ap, subst, arith}
+use Rattle.std.specs.List.{All, position, position_or_len}
 use Rattle.std.specs.Option.{option_or, option_map}
 use Rattle.std.proofs.lemmas.Bool.{le-leb, le-ltb, and_from}
 use Rattle.std.proofs.lemmas.List.Elements.{All-head, All-tail}
-use Rattle.std.proofs.lemmas.List.Sums.{sum_by-cons}
+use Rattle.fg_base.proofs.Absence.{passes_test}
+use Rattle.fg_base.proofs.Rooms.{never_over}
 use Rattle.fg_base.specs.Bounds.{is_between, sides_allowed, size_allowed}
 use Rattle.fg_base.specs.Broken.{of_rule}
 use Rattle.fg_base.specs.Maxima.{max_queues, max_memories, max_pieces, max_nodes, max_readbacks, max_memory_bytes}
@@ -37,23 +38,22 @@ use Rattle.fg_base.specs.Rooms.{first_over}
 use Rattle.fg_base.specs.Walks.{first_in}
 use Rattle.fg_base.specs.declared.limit.Limit.TheVariants as limits
 use Rattle.fg_frame.proofs.Sufficient.{both_none}
+use Rattle.fg_subs.proofs.Few.{bytes_sum}
 use Rattle.fg_subs.specs.Entries.{entries_of}
 use Rattle.fg_subs.specs.FirstFault.{rule_broken, form_broken, use_broken, rules_broken, first_broken, first_fault}
-use Rattle.fg_subs.specs.Limits.{over, memory_bytes, all_bytes, rects_over, count_broken, size_broken, limit_broken}
+use Rattle.fg_subs.specs.Limits.{over, memory_bytes, rects_over, count_broken, size_broken, limit_broken}
 use Rattle.fg_subs.specs.Obeys.{BatchObeys, Obeys, IsSmall}
 use Rattle.fg_subs.specs.Paths.{told}
 use Rattle.fg_subs.specs.Rules.{piece_obeys, wait_obeys, item_obeys, signal_obeys, readback_obeys, signal_place, batch_place, next_place, queue_place, broken_at, shapes_of}
 use Rattle.fg_subs.specs.Timelines.{highest}
 use Rattle.fg_subs.specs.declared.place.Place.TheVariants as at
 use Rattle.fg_subs.specs.declared.program.Batch.{Batch}
-use Rattle.fg_subs.specs.declared.program.Memory.{Memory}
 use Rattle.fg_subs.specs.declared.program.Piece.{Piece}
 use Rattle.fg_subs.specs.declared.program.Program.{Program}
 use Rattle.fg_subs.specs.declared.program.Queue.{Queue}
 use Rattle.fg_subs.specs.declared.program.Signal.{Signal}
 use Rattle.fg_subs.specs.declared.rule.Rule.{Rule}
 use Rattle.fg_subs.specs.declared.rule.Rule.TheVariants as rules
-use Rattle.fg_valid.proofs.Limits.{never_over}
 
 -- NOTHING IS FOUND
 
@@ -80,14 +80,11 @@ all_none rule i (x ∷ xs) each =
 from_first : {X Y : Type 0} (rule : ℕ → X → Option Y) (xs : List X) → ((k : ℕ) (x : X) → slice_get xs k ≡ Some x → rule k x ≡ None) → first_in rule 0 xs ≡ None
 from_first rule xs each = all_none rule 0 xs (λ k x is. let z : k ≡ 0 + k = omega arith in subst (λ n. rule n x ≡ None) z (each k x is))
 
-has : {X : Type 0} (test : Bool) (x : X) → test ≡ true → (if test then None else Some x) ≡ None
-has test x e = ap (λ b. if b then None else Some x) e
-
 -- EACH RULE
 
 signal_none : (rule : Rule) (queue : Queue) (reached q b : ℕ) (signal : Option Signal) → IfSome signal (λ s. signal_obeys rule queue.family reached s ≡ true) → signal_place rule queue.family reached q b signal ≡ None
 signal_none rule queue reached q b None h = refl
-signal_none rule queue reached q b (Some signal) h = has (signal_obeys rule queue.family reached signal) (at.Signal q b) h
+signal_none rule queue reached q b (Some signal) h = passes_test (signal_obeys rule queue.family reached signal) (at.Signal q b) h
 
 batch_none : (rule : Rule) (program : Program) (queue : Queue) (q b : ℕ) (batch : Batch) → BatchObeys rule program queue b batch → batch_place rule (length program.queues) (shapes_of program) queue.family (highest (take b queue.batches)) q b batch ≡ None
 batch_none rule program queue q b batch O =
@@ -118,10 +115,6 @@ rule_none rule program O =
 
 -- LIMITS
 
-pub bytes_sum : (memories : List Memory) → sum_by memory_bytes memories ≡ all_bytes memories
-bytes_sum [] = refl
-bytes_sum (memory ∷ memories) = sum_by-cons memory_bytes memory memories ∙ ap (λ n. memory_bytes memory + n) (bytes_sum memories)
-
 limits_none : (program : Program) → IsSmall program → rects_over program.queues ≡ None → limit_broken program ≡ None
 limits_none program small rects =
     let queues = if is_between 1 max_queues (length program.queues) then None else Some (over limits.Queues at.Queues) in
@@ -132,24 +125,24 @@ limits_none program small rects =
     let readbacks = if nat_le (length program.readbacks) max_readbacks then None else Some (over limits.Readbacks at.Readbacks) in
     let sides = option_map (λ i. over limits.Side (at.Piece i)) (position (λ piece. not (sides_allowed piece.shape)) program.pieces) in
     let sizes = option_map (λ i. over limits.Size (at.Piece i)) (position (λ piece. not (size_allowed piece.shape)) program.pieces) in
-    let bytes = option_map (λ i. over limits.Total (at.Memory i)) (first_over memory_bytes max_memory_bytes program.memories) in
+    let bytes = option_map (λ i. over limits.Total (at.Memory i)) (first_over memory_bytes max_memory_bytes 0 program.memories) in
     both_none (count_broken program) (size_broken program)
     (both_none queues (option_or memories (option_or pieces (option_or nodes (option_or drawn readbacks))))
-    (has (is_between 1 max_queues (length program.queues)) (over limits.Queues at.Queues) (and_from (nat_le 1 (length program.queues)) (nat_le (length program.queues) max_queues) (le-leb 1 (length program.queues) small.some_queue) (le-leb (length program.queues) max_queues small.queues)))
+    (passes_test (is_between 1 max_queues (length program.queues)) (over limits.Queues at.Queues) (and_from (nat_le 1 (length program.queues)) (nat_le (length program.queues) max_queues) (le-leb 1 (length program.queues) small.some_queue) (le-leb (length program.queues) max_queues small.queues)))
     (both_none memories (option_or pieces (option_or nodes (option_or drawn readbacks)))
-    (has (nat_le (length program.memories) max_memories) (over limits.Memories at.Memories) (le-leb (length program.memories) max_memories small.memories))
+    (passes_test (nat_le (length program.memories) max_memories) (over limits.Memories at.Memories) (le-leb (length program.memories) max_memories small.memories))
     (both_none pieces (option_or nodes (option_or drawn readbacks))
-    (has (nat_le (length program.pieces) max_pieces) (over limits.Pieces at.Pieces) (le-leb (length program.pieces) max_pieces small.pieces))
+    (passes_test (nat_le (length program.pieces) max_pieces) (over limits.Pieces at.Pieces) (le-leb (length program.pieces) max_pieces small.pieces))
     (both_none nodes (option_or drawn readbacks)
-    (has (nat_le (length (entries_of program)) max_nodes) (over limits.Nodes at.Whole) (le-leb (length (entries_of program)) max_nodes small.entries))
+    (passes_test (nat_le (length (entries_of program)) max_nodes) (over limits.Nodes at.Whole) (le-leb (length (entries_of program)) max_nodes small.entries))
     (both_none drawn readbacks
     (mapped_none (over limits.Rects) (rects_over program.queues) rects)
-    (has (nat_le (length program.readbacks) max_readbacks) (over limits.Readbacks at.Readbacks) (le-leb (length program.readbacks) max_readbacks small.readbacks)))))))
+    (passes_test (nat_le (length program.readbacks) max_readbacks) (over limits.Readbacks at.Readbacks) (le-leb (length program.readbacks) max_readbacks small.readbacks)))))))
     (both_none sides (option_or sizes bytes)
     (mapped_none (λ i. over limits.Side (at.Piece i)) (position (λ piece. not (sides_allowed piece.shape)) program.pieces) (none_fails (λ (piece : Piece). sides_allowed piece.shape) program.pieces small.sides))
     (both_none sizes bytes
     (mapped_none (λ i. over limits.Size (at.Piece i)) (position (λ piece. not (size_allowed piece.shape)) program.pieces) (none_fails (λ (piece : Piece). size_allowed piece.shape) program.pieces small.sizes))
-    (mapped_none (λ i. over limits.Total (at.Memory i)) (first_over memory_bytes max_memory_bytes program.memories) (never_over memory_bytes program.memories max_memory_bytes (let same = bytes_sum program.memories in let few = small.bytes in omega (arith, same, few))))))
+    (mapped_none (λ i. over limits.Total (at.Memory i)) (first_over memory_bytes max_memory_bytes 0 program.memories) (never_over memory_bytes program.memories max_memory_bytes 0 (let same = bytes_sum program.memories in let few = small.bytes in omega (arith, same, few))))))
 
 -- ALL
 

@@ -6,7 +6,7 @@ use Rattle.std.proofs.lemmas.List.Sums.{sum_by-cons, sum_by-append}
 use Rattle.fg_base.proofs.Operands.{rects_mapped}
 use Rattle.fg_base.specs.Maxima.{max_rects}
 use Rattle.fg_base.specs.Operands.{rect_count}
-use Rattle.fg_base.specs.Rooms.{go_on, spend_in, not_lasting, take_size, first_over}
+use Rattle.fg_base.specs.Rooms.{go_on, spend_in, not_lasting}
 use Rattle.fg_base.specs.Shapes.{shape_at}
 use Rattle.fg_base.specs.declared.op.Op.{Op}
 use Rattle.fg_base.specs.declared.shape.Family.{Family}
@@ -52,9 +52,6 @@ spends {X} {Y} spend size fits (x ∷ xs) room i le =
     ap (go_on (λ n. spend_in spend n (suc i) xs)) (fits room i x (omega (arith, all, le)))
     ∙ spends spend size fits xs (room - size x) (suc i) (omega (arith, all, le))
     ∙ ap (λ n. Ok n) left
-
-pub never_over : {X : Type 0} (size : X → ℕ) (xs : List X) (room : ℕ) → sum_by size xs ≤ room → first_over size room xs ≡ None
-never_over size xs room le = ap not_lasting (spends (take_size size) size (λ left i x fits. ap (λ b. if b then Err i else Ok (left - size x)) (le-ltb left (size x) fits)) xs room 0 le)
 
 -- RECTANGLES
 

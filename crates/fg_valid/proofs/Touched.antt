@@ -5,6 +5,7 @@ use Rattle.std.proofs.lemmas.Bool.{cases_lt, and_from, lt-ltb, le-leb, or_left, 
 use Rattle.std.proofs.lemmas.List.Elements.{All-contains, Contains-append_left, Contains-append_right}
 use Rattle.std.proofs.lemmas.List.Folds.{list_any_at, list_any-append}
 use Rattle.fg_base.proofs.Booleans.{clash}
+use Rattle.fg_base.proofs.Lists.{any_mapped}
 use Rattle.fg_base.specs.Operands.{sources_of, destination_of, operands_of}
 use Rattle.fg_base.specs.Touches.{source_touch, destination_touch, touches_of}
 use Rattle.fg_base.specs.declared.op.Op.{Op}
@@ -46,10 +47,6 @@ named_used shapes units c q k named (touch ∷ touches) r lt new e = go (touch.w
         let none : list_any (λ unit. unit == r) (named ++ touch.what ∷ []) ≡ false = list_any-append (λ unit. unit == r) named (touch.what ∷ []) ∙ or_from (list_any (λ unit. unit == r) named) ((touch.what == r) || false) new (or_from (touch.what == r) false is refl) in
         let U = later more none in
         record { one = U.one; unit = U.unit; there = Contains-append_right (if is_first_named units named touch.what then use_of shapes c q k touch ∷ [] else []) (uses_from shapes units c q (suc k) (named ++ touch.what ∷ []) touches) U.one U.there }
-
-any_mapped : {X Y : Type 0} (p : Y → Bool) (f : X → Y) (xs : List X) → list_any p (map f xs) ≡ list_any (λ x. p (f x)) xs
-any_mapped p f [] = refl
-any_mapped p f (x ∷ xs) = ap (λ b. p (f x) || b) (any_mapped p f xs)
 
 -- operands and touches name the same
 named_touched : (shapes : List Shape) (op : Op ℕ) (r : ℕ) → list_any (names r) (touches_of shapes op) ≡ list_any (λ x. x == r) (operands_of op)

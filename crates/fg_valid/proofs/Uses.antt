@@ -20,12 +20,12 @@ use Rattle.fg_base.specs.declared.shape.Shape.TheVariants.{Buffer, Image}
 use Rattle.fg_base.specs.declared.touch.Touch.{Touch}
 use Rattle.fg_bits.specs.Families.{family_number, on_family}
 use Rattle.fg_bits.specs.Layouts.{is_undefined}
-use Rattle.fg_bits.specs.Roles.{role_stage, role_layout}
+use Rattle.fg_bits.specs.Roles.{role_stage, role_layout, layout_wanted}
 use Rattle.fg_bits.specs.Support.{supports}
 use Rattle.fg_bits.specs.declared.layout.Layout.{Layout}
 use Rattle.fg_groups.specs.Groups.{family_of}
 use Rattle.fg_groups.specs.Laws.{IsSourced}
-use Rattle.fg_groups.specs.Uses.{role_writes, role_accesses, layout_for, use_of, is_first_named, uses_from, command_uses}
+use Rattle.fg_groups.specs.Uses.{role_writes, role_accesses, use_of, is_first_named, uses_from, command_uses}
 use Rattle.fg_groups.specs.declared.command.Command.{Command}
 use Rattle.fg_groups.specs.declared.grouping.Grouping.{Grouping}
 use Rattle.fg_groups.specs.declared.unit_use.Use.{Use}
@@ -83,7 +83,7 @@ role-layout StorageRead = refl
 role-layout StorageWrite = refl
 role-layout (Attachment load) = refl
 
-laid_out : (shape : Shape) (role : Role) → IsLaidOut shape (layout_for shape role)
+laid_out : (shape : Shape) (role : Role) → IsLaidOut shape (layout_wanted shape role)
 laid_out (Buffer size) role = record { image = refl; known = tt }
 laid_out (Image width height texel) role = record { image = refl; known = role-layout role }
 

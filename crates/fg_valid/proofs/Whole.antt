@@ -23,6 +23,7 @@ use Rattle.fg_recorder.specs.Recorded.{heap_with, program_of}
 use Rattle.fg_recorder.specs.Script.{script}
 use Rattle.fg_recorder.specs.declared.mark.Marked.{Marked}
 use Rattle.fg_recorder.specs.declared.mark.Marked.TheVariants.{Does, Needs}
+use Rattle.fg_subs.proofs.Few.{bytes_sum}
 use Rattle.fg_subs.specs.Entries.{OfHost, entries_of}
 use Rattle.fg_subs.specs.FirstFault.{first_fault}
 use Rattle.fg_subs.specs.Obeys.{BatchObeys, BatchAt, Obeys, IsSmall}
@@ -44,7 +45,7 @@ use Rattle.fg_timeline.specs.declared.step.Step.TheVariants as steps
 use Rattle.fg_turns.specs.Under.{Heap}
 use Rattle.fg_valid.proofs.Bytes.{total}
 use Rattle.fg_valid.proofs.Commands.{shapes_count}
-use Rattle.fg_valid.proofs.Faultless.{faultless, bytes_sum}
+use Rattle.fg_valid.proofs.Faultless.{faultless}
 use Rattle.fg_valid.proofs.Limits.{all_rects, nodes_few}
 use Rattle.fg_valid.proofs.Numbers.{kept_numbers, kept_few, kept_late}
 use Rattle.fg_valid.proofs.Pieces.{piece_shapes, all_sizes, all_sides, imports_count, pieces_obey, readbacks_obey}

@@ -1,5 +1,5 @@
 -- The rows of versions, one pass more.
-use Rattle.std.proofs.Common.{subst, zero, suc, map, take, ◌^◌, slice_get, ◌≡◌, ◌≢◌, ℕ, ◌+◌, ◌<◌, ◌≤◌, ◌==◌, ◌++◌, List, [], ◌∷◌, length, get_or, not, is_some, Bool, true, false, Option, Some, IfSome, if◌then◌else◌, refl, sym, ap, ap₂, ◌∙◌, arith, append_assoc, ⊎_elim}
+use Rattle.std.proofs.Common.{subst, zero, suc, map, take, ◌^◌, slice_get, ◌≡◌, ◌≢◌, ℕ, ◌+◌, ◌<◌, ◌≤◌, ◌==◌, ◌++◌, List, [], ◌∷◌, length, get_or, not, Bool, true, false, Option, Some, IfSome, if◌then◌else◌, refl, sym, ap, ap₂, ◌∙◌, arith, append_assoc, ⊎_elim}
 use Rattle.std.specs.List.{All, filter, filter_map, cons_option, range_with_len}
 use Rattle.std.proofs.lemmas.Bool.Decides.{eqb_tells}
 use Rattle.std.proofs.lemmas.List.{append-nil, ext_get_or, length-set, get_or-set_same, get_or-set_other}
@@ -7,9 +7,7 @@ use Rattle.std.proofs.lemmas.Option.{slice_get-get_or}
 use Rattle.std.proofs.lemmas.List.Elements.{All-same, All-push, All-head, All-tail, All-cons, All-append}
 use Rattle.std.proofs.lemmas.List.FromFn.{length-map-range_with_len, get_or-map-range_with_len, map-range_with_len_more}
 use Rattle.fg_base.proofs.Lists.{map_same}
-use Rattle.fg_frame.specs.Good.{is_import}
 use Rattle.fg_frame.specs.Numbered.{NumberedFrame}
-use Rattle.fg_frame.specs.Units.{Unit}
 use Rattle.fg_frame.specs.declared.frame.Write.{Write}
 use Rattle.fg_frame.specs.declared.numbered.NumberedPass.{NumberedPass}
 use Rattle.fg_versions.specs.Code.Rows.{grown, added, added_numbers}
@@ -167,11 +165,6 @@ first_row n unit = sym (append-nil (imported n unit))
 
 pub pass_got : (n : NumberedFrame) (p : ℕ) (P : NumberedPass → Type 0) → p < length n.passes → IfSome (slice_get n.passes p) P → P (pass_at n p)
 pass_got n p P lt has = subst (λ o. IfSome o P) (slice_get-get_or n.passes p no_pass lt) has
-
-pub import_is : (all : List Unit) (unit : ℕ) (b : Bool) → unit < length all → IfSome (slice_get all unit) (λ u. b ≡ is_some u.imported) → is_import all unit ≡ b
-import_is [] unit b lt says = absurd (omega arith)
-import_is (u ∷ all) zero b lt says = sym says
-import_is (u ∷ all) (suc unit) b lt says = import_is all unit b (omega arith) says
 
 pub row_pushed : (n : NumberedFrame) (unit : ℕ) (before after : List (List (Option ℕ))) (row : List (Option ℕ)) → before ≡ map (versions n 0) (range_with_len 0 unit) → row ≡ imported n unit → after ≡ before ++ row ∷ [] → after ≡ map (versions n 0) (range_with_len 0 (unit + 1))
 row_pushed n unit before after row is here pushed = pushed ∙ ap₂ (λ xs x. xs ++ x ∷ []) is (here ∙ first_row n unit) ∙ sym (map-range_with_len_more (versions n 0) 0 unit unit (omega arith))

@@ -27,7 +27,7 @@ after_change (x ∷ xs) zero (suc j) a b h e f lt c =
     entry_of (λ y. transfers y.kind ≡ true) xs j b (h.0 (subst (λ y. changes y.kind ≡ true) same c)) f
 after_change (x ∷ xs) (suc i) (suc j) a b h e f lt c = after_change xs i j a b h.2 e f (omega (arith, lt)) c
 
-nothing_there : (j : ℕ) (b : Access) → slice_get [] j ≡ Some b → ⊥
+pub nothing_there : (j : ℕ) (b : Access) → slice_get [] j ≡ Some b → ⊥
 nothing_there j b e = absurd cc
 
 pub after_owner : (xs : List Access) (i j : ℕ) (a b : Access) → Ends xs → slice_get xs i ≡ Some a → slice_get xs j ≡ Some b → i < j → sets_owner a.kind ≡ true → ⊥

@@ -1,16 +1,15 @@
 -- What each part of a program that breaks no rule does as a node.
-use Rattle.std.proofs.Common.{◌≡◌, ℕ, false, length, map, slice_get, Some, sym, ap, ◌∙◌, subst, refl}
+use Rattle.std.proofs.Common.{◌≡◌, ℕ, false, length, map, slice_get, Some, sym, ap, ◌∙◌, subst}
 use Rattle.std.specs.Option.{option_map}
 use Rattle.std.proofs.lemmas.Bool.{ltb-true}
 use Rattle.std.proofs.lemmas.Option.{slice_get-map}
 use Rattle.fg_base.specs.declared.shape.Family.{Family}
+use Rattle.fg_hb.proofs.HostReads.{item_queue}
 use Rattle.fg_hb.specs.Edges.{is_host}
-use Rattle.fg_hb.specs.Nodes.{item_node, entry_node}
+use Rattle.fg_hb.specs.Nodes.{entry_node}
 use Rattle.fg_subs.specs.Entries.{Entry, OfWait, OfItem, OfSignal, OfHost}
 use Rattle.fg_subs.specs.Obeys.{EntryObeys}
 use Rattle.fg_subs.specs.Rules.{shapes_of}
-use Rattle.fg_subs.specs.declared.program.Item.{Item}
-use Rattle.fg_subs.specs.declared.program.Item.TheVariants.{Command, Global, BufferBarrier, ImageBarrier, Release, Acquire}
 use Rattle.fg_subs.specs.declared.program.Program.{Program}
 use Rattle.fg_subs.specs.declared.program.Queue.{Queue}
 use Rattle.fg_subs.specs.declared.rule.Rule.TheVariants as rules
@@ -37,14 +36,6 @@ HasFamily program q = (f : Family) × (slice_get (map (λ queue. queue.family) p
 
 of_queue : (program : Program) (q : ℕ) (queue : Queue) → slice_get program.queues q ≡ Some queue → HasFamily program q
 of_queue program q queue is = (queue.family, slice_get-map (λ queue. queue.family) program.queues q ∙ ap (option_map (λ queue. queue.family)) is)
-
-item_queue : (q : ℕ) (item : Item) → (item_node q item).queue ≡ q
-item_queue q (Command op) = refl
-item_queue q (Global masks) = refl
-item_queue q (BufferBarrier piece masks) = refl
-item_queue q (ImageBarrier piece layouts masks) = refl
-item_queue q (Release t) = refl
-item_queue q (Acquire t) = refl
 
 pub entry_family : (program : Program) (entry : Entry) → EntryObeys rules.Known program entry → is_host (entry_node (length program.queues) entry).kind ≡ false → HasFamily program (entry_node (length program.queues) entry).queue
 entry_family program (OfWait q wait) obeys queued = of_queue program q obeys.0 obeys.1

@@ -6,9 +6,8 @@ use Rattle.std.proofs.lemmas.Bool.{ltb-true}
 use Rattle.std.proofs.lemmas.List.Elements.{All-nil, All-append}
 use Rattle.fg_base.specs.declared.shape.Shape.{Shape}
 use Rattle.fg_bits.specs.declared.layout.Layouts.{Layouts}
-use Rattle.fg_bits.specs.declared.masks.Masks.{Masks}
 use Rattle.fg_hb.specs.Edges.{is_sync}
-use Rattle.fg_hb.specs.Nodes.{wait_node, barrier_node, item_node, signal_node, host_node, no_node}
+use Rattle.fg_hb.specs.Nodes.{wait_node, item_node, signal_node, host_node, no_node}
 use Rattle.fg_hb.specs.declared.kind.Kind.{Kind}
 use Rattle.fg_hb.specs.declared.kind.Kind.TheVariants as kinds
 use Rattle.fg_hb.specs.declared.node.Node.{Node}
@@ -24,12 +23,11 @@ use Rattle.fg_base.proofs.Lists.{one}
 use Rattle.fg_view.proofs.Endings.{if_some, Ends, alone}
 use Rattle.fg_view.specs.AccessKinds.{transfers}
 use Rattle.fg_view.specs.ShapedView.{IsByQueue, IsByBarrier}
-use Rattle.fg_view.specs.Effects.{access, same_layout, transition_through, layout_change, handover_of, acquire_accesses, no_effect, barrier_effect, item_effect, wait_effect, signal_effect, host_effect}
+use Rattle.fg_view.specs.Effects.{access, same_layout, transition_through, layout_change, handover_of, acquire_accesses, no_effect, item_effect, wait_effect, signal_effect, host_effect}
 use Rattle.fg_view.specs.declared.access.Access.{Access}
 use Rattle.fg_view.specs.declared.access.Agent.TheVariants as agent
 use Rattle.fg_view.specs.declared.access.AccessKind.{AccessKind}
 use Rattle.fg_view.specs.declared.access.AccessKind.TheVariants as access_kinds
-use Rattle.fg_view.specs.declared.effect.Scope.{Scope}
 use Rattle.fg_view.specs.declared.effect.Effect.{Effect}
 
 -- what a node of a node_kind, of queue q, does
@@ -47,9 +45,6 @@ pub record FitsNode (pieces : ℕ) (node : Node) (effect : Effect) : Type 0 wher
   pub silent : (is_sync node.kind ≡ true) ⊎ ((effect.available ≡ 0) × (effect.visible ≡ 0))
 
 -- BARRIERS
-
-barrier_fits : (n q : ℕ) (accesses : List Access) (masks : Masks) (scope : Scope) → All (λ a. a.piece < n) accesses → Ends accesses → All (λ a. IsByBarrier a.kind) accesses → FitsNode n (barrier_node q masks) (barrier_effect accesses masks scope)
-barrier_fits n q accesses masks scope known last does = record { known = known; last = last; does = does; silent = inl refl }
 
 transition_each : (P : Access → Type 0) (piece : ℕ) (layouts : Layouts) → P (access piece (access_kinds.Transition layouts)) → All P (transition_through piece layouts)
 transition_each P piece layouts p = by_test (is_undefined layouts.from || same_layout layouts)

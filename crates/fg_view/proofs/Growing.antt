@@ -1,9 +1,8 @@
 -- Lists that grow by what one entry gives.
-use Rattle.std.proofs.Common.{◌≡◌, ℕ, ◌+◌, ◌<◌, ◌++◌, List, [], ◌∷◌, Some, length, map, take, slice_get, sym, ap, ◌∙◌, add-one, append-nil}
+use Rattle.std.proofs.Common.{◌≡◌, ℕ, ◌+◌, ◌<◌, ◌++◌, List, [], ◌∷◌, Some, length, take, slice_get, sym, ap, ◌∙◌, add-one, append-nil}
 use Rattle.std.specs.List.{flat_map}
 use Rattle.std.proofs.Math.Seq.{take-suc}
 use Rattle.std.proofs.lemmas.Grind.{flat_map-append}
-use Rattle.std.proofs.lemmas.List.{map-append}
 use Rattle.std.proofs.lemmas.Option.{slice_get_within, get_or_from_slice_get}
 
 one_further : {X : Type 0} (xs : List X) (n : ℕ) (x : X) → slice_get xs n ≡ Some x → take (n + 1) xs ≡ take n xs ++ x ∷ []
@@ -15,6 +14,3 @@ pub one_part : {X Y : Type 0} (f : X → List Y) (xs : List X) (n : ℕ) (x : X)
 one_part f xs n x old more so_far at grows =
     let only : flat_map f (x ∷ []) ≡ f x = append-nil (f x) in
     grows ∙ ap (λ l. l ++ f x) so_far ∙ ap (λ l. flat_map f (take n xs) ++ l) (sym only) ∙ sym (ap (flat_map f) (one_further xs n x at) ∙ flat_map-append f (take n xs) (x ∷ []))
-
-pub one_image : {X Y : Type 0} (f : X → Y) (xs : List X) (n : ℕ) (x : X) (old more : List Y) (y : Y) → old ≡ map f (take n xs) → slice_get xs n ≡ Some x → y ≡ f x → more ≡ old ++ y ∷ [] → more ≡ map f (take (n + 1) xs)
-one_image f xs n x old more y so_far at is grows = grows ∙ ap (λ l. l ++ y ∷ []) so_far ∙ ap (λ z. map f (take n xs) ++ z ∷ []) is ∙ sym (ap (map f) (one_further xs n x at) ∙ map-append f (take n xs) (x ∷ []))

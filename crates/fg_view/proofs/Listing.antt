@@ -28,7 +28,7 @@ in_one_part [] ys i x e = inr (i, omega arith, e)
 in_one_part (z ∷ xs) ys zero x e = inl e
 in_one_part (z ∷ xs) ys (suc i) x e = ⊎_elim (λ f. inl f) (λ f. let later : i ≡ length xs + f.0 = f.1 in inr (f.0, omega (arith, later), f.2)) (in_one_part xs ys i x e)
 
-made_of : (n : ℕ) (o : Option Access) (a : NodeAccess) → option_map (node_access n) o ≡ Some a → (a.node ≡ n) × (o ≡ Some a.access)
+pub made_of : (n : ℕ) (o : Option Access) (a : NodeAccess) → option_map (node_access n) o ≡ Some a → (a.node ≡ n) × (o ≡ Some a.access)
 made_of n None a e = absurd cc
 made_of n (Some x) a e =
     let same : node_access n x ≡ a = cc in

@@ -2,19 +2,13 @@
 use Rattle.std.proofs.Common.{◌≡◌, ℕ, ◌+◌, ◌<◌, ◌==◌, ◌&&◌, ◌++◌, true, List, [], ◌∷◌, length, get_or, sym, ap, ◌∙◌, subst, eqb-true, eq-eqb, arith}
 use Rattle.std.specs.List.{All, filter, list_any, range_with_len}
 use Rattle.std.proofs.Math.Bool.{Bool, cond, and-true}
-use Rattle.std.proofs.lemmas.List.{map-id}
 use Rattle.std.proofs.lemmas.List.Elements.{All-filter, All-from_get_or, filter_passes}
 use Rattle.std.proofs.lemmas.List.Folds.{list_any_at}
-use Rattle.std.proofs.lemmas.List.FromFn.{filter_of_map_range_with_len_more, get_or-range_with_len, length-range_with_len}
+use Rattle.std.proofs.lemmas.List.FromFn.{get_or-range_with_len, length-range_with_len}
 use Rattle.std.proofs.lemmas.Map.Views.{any-filter_same}
+use Rattle.fg_base.proofs.Lists.{chosen_more}
 use Rattle.fg_subs.specs.declared.program.Piece.{Piece}
 use Rattle.fg_view.specs.Views.{View, no_piece, pieces_overlap, overlap, overlapping}
-
-numbers_more : (p : ℕ → Bool) (n : ℕ) → filter p (range_with_len 0 (n + 1)) ≡ filter p (range_with_len 0 n) ++ cond (p n) (n ∷ []) []
-numbers_more p n =
-    ap (filter p) (sym (map-id (range_with_len 0 (n + 1))))
-    ∙ filter_of_map_range_with_len_more p (λ x. x) 0 n n (omega arith)
-    ∙ ap (λ xs. filter p xs ++ cond (p n) (n ∷ []) []) (map-id (range_with_len 0 n))
 
 -- of the pieces before number q those that overlap this one
 abbrev pub list_until : List Piece → Piece → ℕ → List ℕ
@@ -22,7 +16,7 @@ list_until pieces a q = filter (λ q. pieces_overlap a (get_or pieces q no_piece
 
 -- one piece more
 pub list_more : (pieces : List Piece) (a : Piece) (q : ℕ) (told : Bool) → told ≡ pieces_overlap a (get_or pieces q no_piece) → list_until pieces a (q + 1) ≡ list_until pieces a q ++ cond told (q ∷ []) []
-list_more pieces a q told e = numbers_more (λ q. pieces_overlap a (get_or pieces q no_piece)) q ∙ ap (λ b. list_until pieces a q ++ cond b (q ∷ []) []) (sym e)
+list_more pieces a q told e = chosen_more (λ q. pieces_overlap a (get_or pieces q no_piece)) q ∙ ap (λ b. list_until pieces a q ++ cond b (q ∷ []) []) (sym e)
 
 -- each piece of the list is there
 pub known_overlapping : (V : View) (p : ℕ) → All (λ q. q < length V.pieces) (overlapping V p)

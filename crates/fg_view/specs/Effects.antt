@@ -1,9 +1,9 @@
 -- What each node of a program does to memory.
-use Rattle.std.specs.Prelude.{ℕ, List, [], ◌∷◌, ◌++◌, ◌==◌, ◌||◌, Bool, Option, Some, None, if◌then◌else◌}
+use Rattle.std.specs.Prelude.{ℕ, List, [], ◌∷◌, ◌++◌, ◌==◌, ◌||◌, Bool, None, if◌then◌else◌}
 use Rattle.std.specs.Int.RustNames.{bit_or}
 use Rattle.std.specs.List.{flat_map}
 use Rattle.std.specs.Option.{option_map_or}
-use Rattle.fg_base.specs.Shapes.{shape_at, is_image}
+use Rattle.fg_base.specs.Shapes.{shape_at}
 use Rattle.fg_base.specs.Touches.{touches_of}
 use Rattle.fg_base.specs.declared.op.Op.{Op}
 use Rattle.fg_base.specs.declared.role.Role.{Role}
@@ -12,8 +12,7 @@ use Rattle.fg_base.specs.declared.touch.Touch.{Touch}
 use Rattle.fg_bits.specs.Accesses.{memory_read, memory_write}
 use Rattle.fg_bits.specs.Agents.{agents}
 use Rattle.fg_bits.specs.Layouts.{layout_number, is_undefined}
-use Rattle.fg_bits.specs.Roles.{role_stage, load_access, store_access, role_layout}
-use Rattle.fg_bits.specs.declared.layout.Layout.{Layout}
+use Rattle.fg_bits.specs.Roles.{role_stage, load_access, store_access, layout_wanted}
 use Rattle.fg_bits.specs.declared.layout.Layouts.{Layouts}
 use Rattle.fg_bits.specs.declared.masks.Masks.{Masks}
 use Rattle.fg_subs.specs.Entries.{Entry, OfWait, OfItem, OfSignal, OfHost}
@@ -40,10 +39,6 @@ access piece kind = record { piece = piece; kind = kind }
 -- the agent of a queue that makes such an access in the stage of the role
 abbrev pub role_agent : ℕ → Role → ℕ → Agent
 role_agent q role kind = agent.Of q (agents (role_stage role) kind)
-
--- an image has to be in the layout of its role
-abbrev pub layout_wanted : Shape → Role → Option Layout
-layout_wanted shape role = if is_image shape then Some (role_layout role) else None
 
 abbrev pub touch_load : List Shape → ℕ → Touch → ℕ → List Access
 touch_load shapes q touch kind = access touch.what (access_kinds.Load (role_agent q touch.role kind) (layout_wanted (shape_at shapes touch.what) touch.role)) ∷ []

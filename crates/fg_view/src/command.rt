@@ -4,11 +4,11 @@ ghost use Rattle.std.specs.Prelude.{◌≡◌, ◌<◌, ◌++◌, [], length, tr
 ghost use Rattle.std.specs.Option.{option_map_or};
 ghost use Rattle.fg_bits.specs.Roles.{load_access, store_access};
 ghost use Rattle.fg_subs.specs.Ranges.{has_operands};
-ghost use Rattle.fg_view.specs.Effects.{role_agent, layout_wanted, touch_load, touch_store, touch_accesses, command_accesses};
+ghost use Rattle.fg_view.specs.Effects.{role_agent, touch_load, touch_store, touch_accesses, command_accesses};
 
 use crate::{Access, AccessKind, Agent};
 use fg_base::{List, NoMemory, Op, Role, Shape, Touch};
-use fg_bits::{Accesses, Layout, agents, load_access, role_layout, role_stage, store_access};
+use fg_bits::{Accesses, agents, layout_wanted, load_access, role_stage, store_access};
 use std::alloc::Global;
 
 // The agent of a queue that makes such an access in the stage of the role.
@@ -18,16 +18,6 @@ fn role_agent(queue: u32, role: Role, kind: Accesses) -> Agent
     Agent::Of {
         queue,
         bit: agents(role_stage(role), kind),
-    }
-}
-
-fn layout_wanted(shape: Shape, role: Role) -> Option<Layout>
-    ensures { result ≡ layout_wanted shape role }
-{
-    if shape.is_image() {
-        Some(role_layout(role))
-    } else {
-        None
     }
 }
 

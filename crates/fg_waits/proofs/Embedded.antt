@@ -2,6 +2,7 @@
 use Rattle.std.proofs.Common.{◌≡◌, ◌⊎◌, inl, inr, ℕ, zero, suc, ◌<◌, ◌≤◌, List, [], ◌∷◌, length, get_or, Option, Some, None, option_map, refl, sym, ap, ◌∙◌, subst, arith}
 use Rattle.std.specs.Prelude.{slice_get}
 use Rattle.std.proofs.lemmas.Option.{slice_get_cases, slice_get_within}
+use Rattle.fg_base.proofs.Absence.{some_same}
 use Rattle.fg_waits.proofs.Thinned.{Thins}
 
 -- both are there, and stand to each other, or neither
@@ -23,9 +24,6 @@ pub record Embedded {X : Type 0} (May : X → Type 0) (Stands : X → X → Type
 
 none_some : {X : Type 0} {x : X} → None ≡ Some x → ⊥
 none_some e = cc
-
-some_eq : {a b : ℕ} → Some a ≡ Some b → a ≡ b
-some_eq e = cc
 
 -- WITH ONE ENTRY MORE THAT IS LEFT OUT
 
@@ -50,7 +48,7 @@ module _ {X : Type 0} (May : X → Type 0) (Stands : X → X → Type 0) where
     down = λ y. Some y;
     rises = λ m n lt. lt;
     back = λ n. refl;
-    forth = λ y n e. sym (some_eq e);
+    forth = λ y n e. sym (some_same e);
     alike = λ n. tt;
     gone = λ y e. absurd (none_some (sym e));
   }
@@ -96,12 +94,12 @@ module _ {X : Type 0} (May : X → Type 0) (Stands : X → X → Type 0) where
       back (suc n) = ap (option_map suc) (E.back n)
 
       forth : (y n : ℕ) → down_kept E.down y ≡ Some n → up_kept E.up n ≡ y
-      forth zero n e = sym (ap (up_kept E.up) (some_eq e))
+      forth zero n e = sym (ap (up_kept E.up) (some_same e))
       forth (suc y) n e = go (E.down y) refl e
         where
           go : (o : Option ℕ) → E.down y ≡ o → option_map suc o ≡ Some n → up_kept E.up n ≡ suc y
           go None at e = absurd (none_some e)
-          go (Some m) at e = sym (ap (up_kept E.up) (some_eq e)) ∙ ap suc (E.forth y m at)
+          go (Some m) at e = sym (ap (up_kept E.up) (some_same e)) ∙ ap suc (E.forth y m at)
 
       alike : (n : ℕ) → Both Stands (slice_get (g ∷ given) (up_kept E.up n)) (slice_get (x ∷ xs) n)
       alike zero = stands

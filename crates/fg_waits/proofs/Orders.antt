@@ -1,24 +1,17 @@
 -- From an order of given nodes to one of nodes that follow them.
-use Rattle.std.proofs.Common.{◌≡◌, ◌≢◌, ◌⊎◌, inl, inr, ⊎_elim, ℕ, ◌<◌, nat_lt, not, true, if◌then◌else◌, List, [], ◌∷◌, length, Option, Some, None, option_map, refl, sym, ap, ◌∙◌, subst, eq-eqb, ne_eqb}
+use Rattle.std.proofs.Common.{◌≡◌, ◌⊎◌, inl, inr, ⊎_elim, ℕ, ◌<◌, nat_lt, not, true, List, [], ◌∷◌, length, Option, Some, None, option_map, refl, sym, ap, ◌∙◌, subst}
 use Rattle.std.specs.List.{cons_option, filter_map}
 use Rattle.std.proofs.lemmas.Bool.{and_from, and_parts, cases_eq, lt-ltb, ltb-true}
+use Rattle.fg_base.proofs.Absence.{some_same}
+use Rattle.fg_hb.proofs.InOrder.{past, up_to}
 use Rattle.fg_hb.specs.Edges.{is_host, is_wait, meeting, node_at}
 use Rattle.fg_hb.specs.Orders.{Among, Distinct, before_in, Earlier, is_queued, Order}
 use Rattle.fg_hb.specs.declared.node.Node.{Node}
 use Rattle.fg_waits.proofs.Edges.{edge_given, meeting_alike}
 use Rattle.fg_waits.proofs.Followed.{Follows}
 
-some_eq : {a b : ℕ} → Some a ≡ Some b → a ≡ b
-some_eq e = cc
-
 some_none : {X : Type 0} {x : X} → Some x ≡ None → ⊥
 some_none e = cc
-
-up_to_it : (x n : ℕ) (rest : List ℕ) → x ≡ n → before_in (x ∷ rest) n ≡ []
-up_to_it x n rest e = ap (λ b. if b then [] else x ∷ before_in rest n) (eq-eqb x n e)
-
-past_it : (x n : ℕ) (rest : List ℕ) → x ≢ n → before_in (x ∷ rest) n ≡ x ∷ before_in rest n
-past_it x n rest e = ap (λ b. if b then [] else x ∷ before_in rest n) (ne_eqb x n e)
 
 module _ (given nodes : List Node) (up : ℕ → ℕ) (down : ℕ → Option ℕ) (F : Follows given nodes up down) where
   -- LISTS OF NUMBERS
@@ -42,7 +35,7 @@ module _ (given nodes : List Node) (up : ℕ → ℕ) (down : ℕ → Option ℕ
       go : (o : Option ℕ) → down x ≡ o → (up n ≡ x) ⊎ Among (up n) rest → (Among (up n) rest → Among n (filter_map down rest)) → Among n (cons_option o (filter_map down rest))
       go None e (inl same) more = absurd (some_none (sym (from_up x n same) ∙ e))
       go None e (inr b) more = more b
-      go (Some m) e (inl same) more = inl (some_eq (sym (from_up x n same) ∙ e))
+      go (Some m) e (inl same) more = inl (some_same (sym (from_up x n same) ∙ e))
       go (Some m) e (inr b) more = inr (more b)
 
   distinct : (list : List ℕ) → Distinct list → Distinct (filter_map down list)
@@ -61,14 +54,14 @@ module _ (given nodes : List Node) (up : ℕ → ℕ) (down : ℕ → Option ℕ
       go None e more =
           more
           ∙ ap (λ o. cons_option o (filter_map down (before_in rest (up n)))) (sym e)
-          ∙ ap (filter_map down) (sym (past_it x (up n) rest (λ same. some_none (sym (from_up x n (sym same)) ∙ e))))
+          ∙ ap (filter_map down) (sym (past x (up n) rest (λ same. some_none (sym (from_up x n (sym same)) ∙ e))))
       go (Some m) e more = ⊎_elim
-          (λ (same : m ≡ n). up_to_it m n (filter_map down rest) same ∙ ap (filter_map down) (sym (up_to_it x (up n) rest (sym (F.forth x m e) ∙ ap up same))))
+          (λ (same : m ≡ n). up_to m n (filter_map down rest) same ∙ ap (filter_map down) (sym (up_to x (up n) rest (sym (F.forth x m e) ∙ ap up same))))
           (λ (other : m ≡ n → ⊥).
-          past_it m n (filter_map down rest) other
+          past m n (filter_map down rest) other
           ∙ ap (λ l. m ∷ l) more
           ∙ ap (λ o. cons_option o (filter_map down (before_in rest (up n)))) (sym e)
-          ∙ ap (filter_map down) (sym (past_it x (up n) rest (λ same. other (some_eq (sym e ∙ from_up x n (sym same)))))))
+          ∙ ap (filter_map down) (sym (past x (up n) rest (λ same. other (some_same (sym e ∙ from_up x n (sym same)))))))
           (cases_eq m n)
 
   earlier : (list : List ℕ) (x n : ℕ) → Earlier list (up x) (up n) → Earlier (filter_map down list) x n
@@ -97,7 +90,7 @@ module _ (given nodes : List Node) (up : ℕ → ℕ) (down : ℕ → Option ℕ
       where
         go : (o : Option ℕ) → meeting nodes (node_at nodes n).kind ≡ o → (y : ℕ) → option_map up (meeting nodes (node_at nodes n).kind) ≡ Some y → Earlier list y (up n) → (x : ℕ) × (meeting nodes (node_at nodes n).kind ≡ Some x) × Earlier (filter_map down list) x n
         go None e y is before = absurd (some_none (sym is ∙ ap (option_map up) e))
-        go (Some x) e y is before = (x, e, earlier list x n (subst (λ z. Earlier list z (up n)) (some_eq (sym is ∙ ap (option_map up) e)) before))
+        go (Some x) e y is before = (x, e, earlier list x n (subst (λ z. Earlier list z (up n)) (some_same (sym is ∙ ap (option_map up) e)) before))
 
     pub order_of : Order nodes (filter_map down list)
     order_of = record {

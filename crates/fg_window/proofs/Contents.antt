@@ -1,7 +1,8 @@
 -- Which units of a window have contents.
-use Rattle.std.proofs.Common.{◌≡◌, ◌≢◌, ℕ, zero, suc, ◌+◌, ◌<◌, ◌≤◌, ◌==◌, ◌||◌, ◌⊎◌, inl, inr, List, [], ◌∷◌, ◌++◌, length, map, Bool, true, false, Option, Some, None, refl, sym, ap, subst, ◌∙◌, eq-eqb, arith, ⊎_elim}
+use Rattle.std.proofs.Common.{◌≡◌, ◌≢◌, ℕ, zero, suc, ◌+◌, ◌<◌, ◌≤◌, ◌==◌, ◌⊎◌, inl, inr, List, [], ◌∷◌, ◌++◌, length, map, true, Option, Some, None, refl, sym, ap, subst, ◌∙◌, eq-eqb, arith, ⊎_elim}
 use Rattle.std.specs.List.{AllByRecursion}
 use Rattle.std.proofs.lemmas.Bool.Decides.{eqb_tells}
+use Rattle.std.proofs.lemmas.Bool.{or_left, or_right}
 use Rattle.fg_base.specs.Shapes.{bytes_of, shape_at}
 use Rattle.fg_base.specs.declared.shape.Shape.{Shape}
 use Rattle.fg_base.specs.declared.shape.Shape.TheVariants.{Buffer}
@@ -9,7 +10,6 @@ use Rattle.fg_frame.specs.Good.{is_import, shapes_in}
 use Rattle.fg_frame.specs.Numbered.{NumberedFrame}
 use Rattle.fg_frame.specs.Units.{Unit}
 use Rattle.fg_frame.specs.declared.numbered.NumberedPass.{NumberedPass}
-use Rattle.fg_meaning.proofs.Exported.{further}
 use Rattle.fg_window.proofs.GoodJoin.{Different, IsCarry, carried}
 use Rattle.fg_window.proofs.Imports.{all_length, import_last, is_as_before, is_imported, same_length}
 use Rattle.fg_window.proofs.Sources.{AllPlaced, AreLeft}
@@ -39,10 +39,6 @@ import_inside (u ∷ us) (suc x) e = let lt : x < length us = import_inside us x
 pub import_kept : (us : List Unit) (x y : ℕ) (b : List ℕ) → is_import us y ≡ true → is_import (with_import us x (Some b)) y ≡ true
 import_kept us x y b e = ⊎_elim (λ h. subst (λ z. is_import (with_import us z (Some b)) y ≡ true) h.1 (is_imported us y b (import_inside us y e))) (λ h. is_as_before us x y (Some b) (λ same. h.1 (sym same)) ∙ e) (eqb_tells y x)
 
-first_of : (a b : Bool) → a ≡ true → (a || b) ≡ true
-first_of true b e = refl
-first_of false b e = absurd cc
-
 -- an import of a frame is an import of the window, or is copied to
 pub import_or_copy : (n : ℕ) (shapes : List Shape) (places : List (Option ℕ)) (sources : List Source) (us : List Unit) (y : ℕ) → is_import us y ≡ true → (is_import (with_imports places (map import_from sources) us) y ≡ true) ⊎ (carried (n + y) (carries n shapes places sources) ≡ true)
 import_or_copy n shapes [] sources us y e = inl e
@@ -50,8 +46,8 @@ import_or_copy n shapes (place ∷ places) [] us y e = inl e
 import_or_copy n shapes (None ∷ places) (source ∷ sources) us y e = import_or_copy n shapes places sources us y e
 import_or_copy n shapes (Some x ∷ places) (Given b ∷ sources) us y e = import_or_copy n shapes places sources (with_import us x (Some b)) y (import_kept us x y b e)
 import_or_copy n shapes (Some x ∷ places) (Left unit ∷ sources) us y e =
-    ⊎_elim (λ h. inr (first_of (n + x == n + y) (carried (n + y) (carries n shapes places sources)) (eq-eqb (n + x) (n + y) (ap (λ k. n + k) (sym h.1)))))
-    (λ h. ⊎_elim (λ i. inl i) (λ c. inr (further (n + x == n + y) (carried (n + y) (carries n shapes places sources)) c)) (import_or_copy n shapes places sources (with_import us x None) y (is_as_before us x y None (λ same. h.1 (sym same)) ∙ e)))
+    ⊎_elim (λ h. inr (or_left (n + x == n + y) (carried (n + y) (carries n shapes places sources)) (eq-eqb (n + x) (n + y) (ap (λ k. n + k) (sym h.1)))))
+    (λ h. ⊎_elim (λ i. inl i) (λ c. inr (or_right (n + x == n + y) (carried (n + y) (carries n shapes places sources)) c)) (import_or_copy n shapes places sources (with_import us x None) y (is_as_before us x y None (λ same. h.1 (sym same)) ∙ e)))
     (eqb_tells y x)
 
 all_placed : (P Q : ℕ → Type 0) (places : List (Option ℕ)) → ((x : ℕ) → P x → Q x) → AllPlaced P places → AllPlaced Q places
@@ -79,8 +75,8 @@ placed_fed W earlier n shapes (size ∷ sizes) (Some x ∷ places) (Given b ∷ 
 placed_fed W earlier n shapes (size ∷ sizes) (Some x ∷ places) (Left unit ∷ sources) us is placed left =
     let rest = carries n shapes places sources in
     let all = with_imports places (map import_from sources) (with_import us x None) in (
-      inr (first_of (n + x == n + x) (carried (n + x) rest) (eq-eqb (n + x) (n + x) refl)),
-      all_placed (IsFed n all rest) (IsFed n all (record { from = unit; to = n + x; size = bytes_of (shape_at shapes x) } ∷ rest)) places (λ y fed. ⊎_elim (λ i. inl i) (λ c. inr (further (n + x == n + y) (carried (n + y) rest) c)) fed)
+      inr (or_left (n + x == n + x) (carried (n + x) rest) (eq-eqb (n + x) (n + x) refl)),
+      all_placed (IsFed n all rest) (IsFed n all (record { from = unit; to = n + x; size = bytes_of (shape_at shapes x) } ∷ rest)) places (λ y fed. ⊎_elim (λ i. inl i) (λ c. inr (or_right (n + x == n + y) (carried (n + y) rest) c)) fed)
           (placed_fed W earlier n shapes sizes places sources (with_import us x None) (same_length us x None ∙ is) placed.3 left.3),
     )
 

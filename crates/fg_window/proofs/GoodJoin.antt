@@ -2,7 +2,7 @@
 use Rattle.std.proofs.Common.{◌≡◌, ◌≢◌, ℕ, ◌+◌, ◌<◌, ◌≤◌, ◌==◌, ◌&&◌, ◌||◌, List, [], ◌∷◌, length, map, get_or, nat_le, Bool, true, false, Some, if◌then◌else◌, refl, sym, ap, ap₂, ◌∙◌, eq-eqb, ne_eqb, arith}
 use Rattle.std.specs.List.{All, AllByRecursion, list_any, find}
 use Rattle.std.specs.Option.{option_map_or}
-use Rattle.std.proofs.lemmas.Bool.{le-leb}
+use Rattle.std.proofs.lemmas.Bool.{le-leb, or_right}
 use Rattle.std.proofs.lemmas.List.Elements.{All-cons, All-map, All-nil}
 use Rattle.std.proofs.lemmas.List.Folds.{list_any_at, list_any_none}
 use Rattle.fg_base.proofs.Booleans.{or_false}
@@ -15,7 +15,6 @@ use Rattle.fg_frame.specs.Good.{IsGoodOp, IsGoodPass, has_contents, renews, shap
 use Rattle.fg_frame.specs.Numbered.{NumberedFrame}
 use Rattle.fg_frame.specs.Uses.{reads_it, starts_whole, stores_whole, writes_it}
 use Rattle.fg_frame.specs.declared.numbered.NumberedPass.{NumberedPass}
-use Rattle.fg_meaning.proofs.Exported.{further}
 use Rattle.fg_window.proofs.Each.{all_of}
 use Rattle.fg_window.proofs.Tests.{any_mapped}
 use Rattle.fg_window.specs.Joins.{Carry, copy_of, join_of, joins, renewal}
@@ -104,7 +103,7 @@ module _ (W : NumberedFrame) (earlier : List NumberedPass) (n : ℕ) where
         let reads : reads_it (join_of all) carry.from ≡ true = any_mapped (λ r. r == carry.from) (λ c. c.from) (λ c. c.from == carry.from) all (λ c. refl) ∙ read k d lt in
         record {
           on_queue = λ family is. refl;
-          declared_sources = All-cons (λ x. (writes_it (join_of all) x || reads_it (join_of all) x) ≡ true) carry.from [] (further (writes_it (join_of all) carry.from) (reads_it (join_of all) carry.from) reads) (All-nil (λ x. (writes_it (join_of all) x || reads_it (join_of all) x) ≡ true));
+          declared_sources = All-cons (λ x. (writes_it (join_of all) x || reads_it (join_of all) x) ≡ true) carry.from [] (or_right (writes_it (join_of all) carry.from) (reads_it (join_of all) carry.from) reads) (All-nil (λ x. (writes_it (join_of all) x || reads_it (join_of all) x) ≡ true));
           declared_destination = any_mapped (λ w. w.what == carry.to) renewal (λ c. c.to == carry.to) all (λ c. refl) ∙ named k d lt;
           fitting = copy_fits carry C;
           not_in_place = ap (λ b. b || false) (ne_eqb carry.from carry.to (λ e. absurd (omega (arith, e, C.low, C.high))));

@@ -7,7 +7,7 @@ use Rattle.std.proofs.lemmas.List.{length-map}
 use Rattle.std.proofs.lemmas.List.Folds.{Any-from_list_any, list_any-append, list_any_at}
 use Rattle.std.proofs.lemmas.Option.{get_or_from_slice_get, slice_get-map, slice_get_within}
 use Rattle.fg_base.proofs.Booleans.{or_true}
-use Rattle.fg_base.proofs.Lists.{entry_of}
+use Rattle.fg_base.proofs.Lists.{entry_of, got_front, got_back}
 use Rattle.fg_base.specs.Applied.{bytes_at}
 use Rattle.fg_base.specs.declared.shape.Family.{Family}
 use Rattle.fg_frame.specs.Good.{IsGood, is_import}
@@ -62,15 +62,6 @@ picture_held : (flown : Flown) (held : List (List ℕ)) (unit : ℕ) → has_pic
 picture_held flown held unit e = or_more (is_import flown.frame.units unit) (list_any (stores_to unit) flown.frame.passes) (is_import (with_imports flown.places (map (λ bytes. Some bytes) held) flown.frame.units) unit) (import_stays flown.places held flown.frame.units unit) e
 
 -- THE EXPORTS OF EACH FRAME
-
-pub got_front : {X : Type 0} (xs ys : List X) (p : ℕ) (x : X) → slice_get xs p ≡ Some x → slice_get (xs ++ ys) p ≡ Some x
-got_front [] ys p x at = absurd cc
-got_front (y ∷ xs) ys zero x at = at
-got_front (y ∷ xs) ys (suc p) x at = got_front xs ys p x at
-
-pub got_back : {X : Type 0} (xs ys : List X) (p : ℕ) → slice_get (xs ++ ys) (length xs + p) ≡ slice_get ys p
-got_back [] ys p = let z : 0 + p ≡ p = omega arith in ap (slice_get ys) z
-got_back (x ∷ xs) ys p = let e : suc (length xs) + p ≡ suc (length xs + p) = omega arith in ap (slice_get (x ∷ (xs ++ ys))) e ∙ got_back xs ys p
 
 own_at : (frames : List Flown) (n i k : ℕ) (flown : Flown) (unit : ℕ) → slice_get frames i ≡ Some flown → slice_get flown.frame.exports k ≡ Some unit → slice_get (own_exports n frames) (exports_before frames i + k) ≡ Some ((n + units_before frames i) + unit)
 own_at [] n i k flown unit at is = absurd cc

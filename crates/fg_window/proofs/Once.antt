@@ -1,12 +1,14 @@
 -- A window exports no unit twice.
-use Rattle.std.proofs.Common.{◌≡◌, ◌≢◌, ℕ, suc, ◌+◌, ◌<◌, ◌≤◌, ◌==◌, not, Bool, true, false, List, [], ◌∷◌, ◌++◌, length, map, get_or, Option, Some, None, refl, sym, ap, subst, ◌∙◌, eq-eqb, arith}
-use Rattle.std.specs.List.{All, AllByRecursion, AllPairs, list_any}
+use Rattle.std.proofs.Common.{◌≡◌, ◌≢◌, ℕ, ◌+◌, ◌<◌, ◌≤◌, ◌==◌, not, true, false, List, [], ◌∷◌, ◌++◌, length, map, get_or, Option, Some, None, sym, ap, subst, ◌∙◌, eq-eqb, arith}
+use Rattle.std.specs.List.{All, AllByRecursion, list_any}
 use Rattle.std.proofs.lemmas.List.{get_or-map, length-map}
-use Rattle.std.proofs.lemmas.List.Elements.{All-append, All-head, All-map, All-nil, All-tail, filter_passes}
+use Rattle.std.proofs.lemmas.List.Elements.{All-append, All-map, All-nil, filter_passes}
 use Rattle.std.proofs.lemmas.List.Folds.{list_any_at}
 use Rattle.std.proofs.lemmas.List.Kept.{AllPairs-cons, AllPairs-filter}
+use Rattle.std.proofs.lemmas.Bool.{not-true}
 use Rattle.fg_base.specs.declared.shape.Family.{Family}
 use Rattle.fg_base.specs.declared.shape.Shape.{Shape}
+use Rattle.fg_frame.proofs.Once.{Apart, Differ, differ_both}
 use Rattle.fg_frame.specs.Good.{shapes_in}
 use Rattle.fg_window.proofs.Each.{all_of}
 use Rattle.fg_window.specs.Flown.{Flown}
@@ -15,19 +17,6 @@ use Rattle.fg_window.specs.Together.{Absent, ArePlaced, Flies}
 use Rattle.fg_window.specs.Window.{others, own_exports}
 
 -- LISTS WHOSE ENTRIES DIFFER
-
-abbrev Differ : List ℕ → Type 0
-Differ xs = AllPairs (λ x y. x ≢ y) xs
-
-abbrev Apart : List ℕ → List ℕ → Type 0
-Apart xs ys = All (λ x. All (λ y. x ≢ y) ys) xs
-
-differ_both : (xs ys : List ℕ) → Differ xs → Differ ys → Apart xs ys → Differ (xs ++ ys)
-differ_both [] ys one two across = two
-differ_both (x ∷ xs) ys one two across =
-    AllPairs-cons (λ a b. a ≢ b) x (xs ++ ys)
-    (All-append (λ y. x ≢ y) xs ys (λ k d lt. one 0 (suc k) d (omega arith) (omega (arith, lt))) (All-head (λ a. All (λ y. a ≢ y) ys) x xs across))
-    (differ_both xs ys (λ i j d less lt. one (suc i) (suc j) d (omega (arith, less)) (omega (arith, lt))) two (All-tail (λ a. All (λ y. a ≢ y) ys) x xs across))
 
 differ_moved : (n : ℕ) (xs : List ℕ) → Differ xs → Differ (map (λ x. n + x) xs)
 differ_moved n xs one = λ i j d less lt.
@@ -142,15 +131,11 @@ start_before n (bytes ∷ held) = start_before n held
 no_clash : true ≡ false → ⊥
 no_clash e = cc
 
-not_true : (b : Bool) → not b ≡ true → b ≡ false
-not_true true e = absurd cc
-not_true false e = refl
-
 others_apart : (own more : List ℕ) → Apart own (others own more)
 others_apart own more = λ k d lt. λ j e less. λ same.
     let x = get_or own k d in
     let y = get_or (others own more) j e in
-    let none : list_any (λ z. z == y) own ≡ false = not_true (list_any (λ z. z == y) own) (filter_passes (λ unit. not (list_any (λ z. z == unit) own)) more j e less) in
+    let none : list_any (λ z. z == y) own ≡ false = not-true (list_any (λ z. z == y) own) (filter_passes (λ unit. not (list_any (λ z. z == unit) own)) more j e less) in
     no_clash (sym (list_any_at (λ z. z == y) own k d lt (eq-eqb x y same)) ∙ none)
 
 pub window_once : (queues : List Family) (sizes : List ℕ) (frames : List Flown) (held : List (List ℕ)) → AllByRecursion (Flies queues sizes) frames → Differ (own_exports 0 frames ++ others (own_exports 0 frames) (left_units (last_sources 0 (given held) frames)))

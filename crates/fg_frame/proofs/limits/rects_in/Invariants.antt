@@ -1,6 +1,6 @@
 use Rattle.std.proofs.Common.{◌≡◌, drop}
 use Rattle.fg_base.specs.Operands.{rect_count}
-use Rattle.fg_frame.specs.Places.{first_over, room_after}
+use Rattle.fg_base.specs.Rooms.{first_over, room_after}
 use Rattle.fg_frame.proofs.limits.rects_in.Given as goal
 
 abbrev pub invariant-loop-k : goal.invariant-loop-k

@@ -1,5 +1,5 @@
 use Rattle.std.proofs.Common.{◌≡◌, length, ap, ◌∙◌}
-use Rattle.fg_hb.proofs.Tables.{one_image}
+use Rattle.fg_base.proofs.Lists.{one_image}
 use Rattle.fg_hb.specs.Nodes.{entry_node}
 use Rattle.fg_subs.specs.Entries.{entries_of, seen}
 use Rattle.fg_hb.proofs.node.program_nodes.Goals as goal

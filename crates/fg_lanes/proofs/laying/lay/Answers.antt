@@ -3,9 +3,10 @@ use Rattle.std.specs.Simd.Lanes.{put_chunk}
 use Rattle.std.proofs.lemmas.List.{get_or-take}
 use Rattle.std.proofs.lemmas.Simd.{get_or-put_chunk_below, get_or-put_chunk_at}
 use borrow.Rule.Slice.PartMut.{put_mid}
+use Rattle.fg_base.proofs.Lists.{mid_below, mid_at}
 use Rattle.fg_base.specs.Shapes.{texel_bytes}
 use Rattle.fg_lanes.specs.Code.Blocks.{block_texels, AreTexels}
-use Rattle.fg_lanes.proofs.Blocks.{laid_on, put_front, put_back, whole_block}
+use Rattle.fg_lanes.proofs.Blocks.{laid_on, whole_block}
 use Rattle.fg_lanes.proofs.laying.lay.Goals as goal
 
 pub loop-block-preserved : goal.loop-block-preserved
@@ -33,7 +34,7 @@ returns g c t p gives =
     let whole : 32 * b + rest ≡ length c.args.out.now = omega arith in
     subst (λ (n : ℕ). AreTexels t (put_mid (32 * b) rest out part) (n / texel_bytes t) p) whole
     (laid_on t p out c.f-2.result (put_mid (32 * b) rest out part) b rest (omega arith)
-    (λ i lt. put_front (32 * b) rest out part i start lt)
-    (λ i lt. put_back (32 * b) rest out part i start (omega (arith, long)) ∙ ap (λ (l : List ℕ). get_or l i 0) c.copy_from_slice.ensures.after ∙ get_or-take rest c.f-2.result i 0 lt)
+    (λ i lt. mid_below (32 * b) rest out part i start lt)
+    (λ i lt. mid_at (32 * b) rest out part i start (omega (arith, long)) ∙ ap (λ (l : List ℕ). get_or l i 0) c.copy_from_slice.ensures.after ∙ get_or-take rest c.f-2.result i 0 lt)
     (subst (λ (n : ℕ). AreTexels t out (block_texels t * n) p) (omega arith) (c.loop-block.invariant t p gives))
     (gives b true c.f-2.result (record { 0 = omega arith; 1 = λ e. absurd cc; 2 = λ e. omega arith }) c.f-2.ensures))

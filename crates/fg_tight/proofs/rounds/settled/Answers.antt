@@ -1,6 +1,7 @@
 use Rattle.std.proofs.Common.{◌≡◌, true, false}
+use Rattle.std.proofs.lemmas.Bool.{not-true}
 use Rattle.fg_base.proofs.Absence.{not_false}
-use Rattle.fg_tight.proofs.Walks.{not_true, tight_as}
+use Rattle.fg_tight.proofs.Walks.{tight_as}
 use Rattle.fg_tight.proofs.rounds.settled.Goals as goal
 
 pub loop-next-init : goal.loop-next-init
@@ -19,7 +20,7 @@ loop-next-smaller c =
 
 pub returns-then-not-next-clause-tight : goal.returns-then-not-next-clause-tight
 returns-then-not-next-clause-tight c =
-    let same : c.in_ok-next.next.changed ≡ false = first_of (assumption c.if-not-next.true, search (not_true, c.if-not-next.true)) in
+    let same : c.in_ok-next.next.changed ≡ false = first_of (assumption c.if-not-next.true, search (not-true, c.if-not-next.true)) in
     tight_as c.loop-next.now c.in_ok-next.next.program (c.in_ok-next.ensures.came.same same) c.loop-next.invariant.passes (c.in_ok-next.ensures.done same)
 
 pub returns-then-not-next-clause-stands : goal.returns-then-not-next-clause-stands

@@ -1,8 +1,8 @@
 use Rattle.std.proofs.Common.{◌≡◌, ap, sym, ◌∙◌, subst}
+use Rattle.fg_base.proofs.Lists.{one_image}
 use Rattle.fg_subs.specs.Entries.{entries_of, seen}
 use Rattle.fg_subs.specs.Rules.{shapes_of}
 use Rattle.fg_subs.specs.declared.rule.Rule.TheVariants as rules
-use Rattle.fg_view.proofs.Growing.{one_image}
 use Rattle.fg_view.proofs.EntryFits.{entry_known}
 use Rattle.fg_view.specs.Code.KnownEntries.{IsKnown}
 use Rattle.fg_view.specs.Effects.{entry_effect}

@@ -1,7 +1,8 @@
 use Rattle.std.proofs.Common.{◌≡◌, [], ap, ap₂, arith, slice_set, ◌∙◌}
+use Rattle.fg_base.proofs.Lists.{written_back}
 use Rattle.fg_base.specs.Applied.{bytes_at}
 use Rattle.fg_base.specs.Operands.{destination_of}
-use Rattle.fg_meaning.proofs.Runs.{taken_sized, taken_count, out_long, destination_fits, written_back, op_done, put_long}
+use Rattle.fg_meaning.proofs.Runs.{taken_sized, taken_count, out_long, destination_fits, op_done, put_long}
 use Rattle.fg_meaning.proofs.bytes.Bytes.run_op.Goals as goal
 
 pub store-requires-clause-sources : goal.store-requires-clause-sources

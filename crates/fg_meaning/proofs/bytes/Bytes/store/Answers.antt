@@ -1,4 +1,5 @@
-use Rattle.fg_meaning.proofs.Runs.{source_long, destination_long}
+use Rattle.fg_base.proofs.Operands.{destination_long}
+use Rattle.fg_meaning.proofs.Runs.{source_long}
 use Rattle.fg_meaning.proofs.bytes.Bytes.store.Goals as goal
 use Rattle.fg_pixels.proofs.Draws.{not_draw}
 
