@@ -32,8 +32,7 @@ enum Step {
     NoMemory,
 }
 
-/// Reads to the end, or one byte over the limit, which is in bytes; or to the first read that fails, or for which there is no
-/// memory.
+/// Reads to the end, or to one byte over the limit (in bytes), or to the first read that fails or finds no memory.
 pub fn read_input<I: Source>(alloc: Global, input: &mut I, limit: usize) -> Intake
     requires { limit < 2 ^ 32 }
     ensures intake { IsIntake limit (I.left input.old) (I.left input.new) (I.faults input.old) (I.faults input.new) result }

@@ -22,8 +22,8 @@ use std::thread::Threads;
 /// submission. Where a read fails or memory runs out, nothing is written. Where no read and no write fails, the status
 /// is that of the answer and its whole text is written, unless memory runs out. Where a device ran, the taps are told what it
 /// did, one tap after another, before the text is written: each until it is finished, and then it is moved to the end of
-/// the answer's `spent`, and its place among the taps to that of `places`. Only `run`, `exec`, `gen --summary`, `flight` and `audit` start threads, and of these `audit` alone does not call
-/// the gate.
+/// the answer's `spent`, and the place that it had among the taps is put at the end of `places`. Only `run`, `exec`,
+/// `gen --summary`, `flight` and `audit` start threads, and of these `audit` alone does not call the gate.
 pub fn framec<R: Threads + Wait + Sync, I: Source, O: Sink, G: Gate + Sync>(
     rt: &R,
     alloc: Global,

@@ -1,5 +1,5 @@
 //! The functions that C calls. `include/framec.h` declares them. Each answers the status with which the program would end, and
-//! tells in `wanted` how many bytes its text has; a text that is longer than `output` leaves it as it was.
+//! tells in `wanted` how many bytes its text has; where the text is longer than `output`, `output` is left as it was.
 
 ghost use Rattle.std.specs.Prelude.{false};
 ghost use Rattle.fg_words.specs.declared.command.Command.{Command};
