@@ -1,5 +1,5 @@
 -- Numbers modulo those of texels.
-use Rattle.std.proofs.Common.{◌≡◌, ℕ, ◌+◌, ◌-◌, ◌%◌, ◌^◌, ◌<◌, arith}
+use Rattle.std.proofs.Common.{◌≡◌, ℕ, ◌%◌, ◌^◌, arith}
 use Rattle.fg_base.specs.Texels.{modulus}
 use Rattle.fg_base.specs.declared.shape.Texel.{Texel}
 use Rattle.fg_base.specs.declared.shape.Texel.TheVariants.{R8, R32}
@@ -13,11 +13,6 @@ kept R32 n = omega arith
 pub cut_twice : (t : Texel) (n : ℕ) → n % modulus t % modulus t ≡ n % modulus t
 cut_twice R8 n = omega arith
 cut_twice R32 n = omega arith
-
--- a difference that wrapped
-pub kept_difference : (t : Texel) (a b d : ℕ) → a < modulus t → b < modulus t → (d + b) % 2 ^ 32 ≡ a → d % modulus t ≡ (a + modulus t - b) % modulus t
-kept_difference R8 a b d ha hb e = omega arith
-kept_difference R32 a b d ha hb e = omega arith
 
 pub kept_twice : (t : Texel) (m n : ℕ) → m ≡ n % 2 ^ 32 → m % modulus t ≡ n % modulus t
 kept_twice R8 m n e = omega arith

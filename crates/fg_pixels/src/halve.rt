@@ -26,22 +26,23 @@ fn halved_at(grid: Grid, src: &[u8], x: u32, y: u32) -> u32
     ((u64::from(a) + u64::from(b) + u64::from(c) + u64::from(d)) / 4) as u32
 }
 
-// Two texels of one byte, side by side. They are read as one number, which the compiler reads many of at once.
+// The sum of two texels of one byte, side by side. They are read as one number, and their place is reckoned in the width of
+// places, so that the compiler reads many of them at once.
 #[inline(always)]
-fn pair_of(grid: Grid, src: &[u8], x: u32, y: u32) -> u32
+fn pair_of(grid: Grid, src: &[u8], x: u32, y: u32) -> u16
     requires size { HasRows grid grid.height src.now }
     requires texel { grid.texel ≡ R8 }
-    requires x { x + 1 < grid.width }
+    requires x { 2 * x + 1 < grid.width }
     requires y { y < grid.height }
-    ensures value { result ≡ picture grid src.now x y + picture grid src.now (x + 1) y }
+    ensures value { result ≡ picture grid src.now (2 * x) y + picture grid src.now (2 * x + 1) y }
     ensures small { result < 512 }
 {
-    let i = y as usize * grid.width as usize + x as usize;
+    let i = y as usize * grid.width as usize + 2 * x as usize;
     let Some(pair) = src[i..].first_chunk::<2>() else {
         unreachable!();
     };
     let both = u16::from_le_bytes(*pair);
-    u32::from(both % 256 + both / 256)
+    both % 256 + both / 256
 }
 
 #[inline(always)]
@@ -53,8 +54,7 @@ fn halved_bytes(grid: Grid, src: &[u8], x: u32, y: u32) -> u32
     requires y { 2 * y + 1 < grid.height }
     ensures { result ≡ halved (picture grid src.now) x y }
 {
-    let (left, top) = (2 * x, 2 * y);
-    (pair_of(grid, src, left, top) + pair_of(grid, src, left, top + 1)) / 4
+    u32::from((pair_of(grid, src, x, 2 * y) + pair_of(grid, src, x, 2 * y + 1)) / 4)
 }
 
 /// Rows of `halve`, from row `first` on. `grid` is the source's, whose sides are twice those of the result.
