@@ -79,5 +79,6 @@ pub is_there : {X : Type 0} (b : Bool) (x : X) → is_some (if b then Some x els
 is_there true x = refl
 is_there false x = refl
 
+-- equal options that are there hold equal values
 pub some_same : {X : Type 0} {a b : X} → Some a ≡ Some b → a ≡ b
 some_same e = cc

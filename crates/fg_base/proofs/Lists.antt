@@ -41,6 +41,7 @@ pub any_mapped : {X Y : Type 0} (p : Y → Bool) (f : X → Y) (xs : List X) →
 any_mapped p f [] = refl
 any_mapped p f (x ∷ xs) = ap (λ b. p (f x) || b) (any_mapped p f xs)
 
+-- what holds of each entry of two lists holds of each of both in a row
 pub all_append : {X : Type 0} (P : X → Type 0) (xs ys : List X) → AllByRecursion P xs → AllByRecursion P ys → AllByRecursion P (xs ++ ys)
 all_append P [] ys x y = y
 all_append P (z ∷ xs) ys x y = (x.0, all_append P xs ys x.1 y)
@@ -55,6 +56,7 @@ pub got_back : {X : Type 0} (xs ys : List X) (p : ℕ) → slice_get (xs ++ ys) 
 got_back [] ys p = let z : 0 + p ≡ p = omega arith in ap (slice_get ys) z
 got_back (x ∷ xs) ys p = let e : suc (length xs) + p ≡ suc (length xs + p) = omega arith in ap (slice_get (x ∷ (xs ++ ys))) e ∙ got_back xs ys p
 
+-- the first so many entries, where as many are written before the others
 pub written_back : (count : ℕ) (new more : List ℕ) → length new ≡ count → take count (new ++ more) ≡ new
 written_back count new more is = subst (λ n. take n (new ++ more) ≡ new) is (take-append_seam new more)
 

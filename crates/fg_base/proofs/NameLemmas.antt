@@ -1,4 +1,4 @@
--- A name's bytes are ASCII, and zeros follow them up to 32.
+-- Bytes of names: they are ASCII, digits are among them, and zeros follow them up to 32.
 use Rattle.std.proofs.Common.{◌≡◌, ℕ, zero, suc, ◌<◌, ◌&&◌, true, List, [], ◌∷◌, ◌++◌, length, drop, replicate, refl, ap, ap₂, arith}
 use Rattle.std.specs.Int.{IsInRange}
 use Rattle.std.specs.List.{list_all}

@@ -11,7 +11,7 @@ use Rattle.fg_caches.specs.declared.cell.Cell.TheVariants as cells
 use Rattle.fg_caches.specs.declared.row.Row.{Row}
 use Rattle.fg_caches.specs.declared.segment.Segment.{Segment}
 use Rattle.fg_caches.specs.Places.{line_by}
-use Rattle.fg_caches.specs.Code.Rows.{part_or, seen_part, HasLine}
+use Rattle.fg_caches.specs.Code.Rows.{part_or, seen_part}
 use Rattle.fg_caches.specs.Places.{segment_at, place, row_at}
 use Rattle.fg_caches.specs.Code.Segments.{Ascending}
 use Rattle.fg_caches.specs.Lines.{seen, range}
@@ -29,10 +29,6 @@ part_fits slots main (cells.Dirty p) x m f = f
 pub seen_fits : (slots : List (List ℕ)) (r : Row) (agent : Option ℕ) (x : ℕ) → Knows 32 agent → RowFits slots r x → PartFits slots (seen_part r agent) x
 seen_fits slots r None x k f = f.main
 seen_fits slots r (Some g) x k f = part_fits slots r.main (line_by r g) x f.main (f.cells g k)
-
-pub has_line : (slots : List (List ℕ)) (r : Row) (agent : Option ℕ) (x : ℕ) → Knows 32 agent → RowFits slots r x → HasLine r agent
-has_line slots r None x k f = tt
-has_line slots r (Some g) x k f = omega (arith, f.lines, k)
 
 module _ (segments : List Segment) (k at : ℕ) (is : k ≡ place segments at) (inside : k < length segments) where
   pub run_place : (x : ℕ) → at ≤ x → x < (segment_at segments k).end → place segments x ≡ k

@@ -8,6 +8,7 @@ use Rattle.std.proofs.lemmas.List.{length-append, length-map}
 use Rattle.std.proofs.lemmas.List.Elements.{All-nil, All-append, All-map}
 use Rattle.std.proofs.lemmas.List.Sums.{fails_before_first, passes_at_first}
 use Rattle.std.proofs.lemmas.Option.{get_or_from_slice_get, slice_get-get_or, slice_get_within}
+use Rattle.fg_base.proofs.Absence.{some_same}
 use Rattle.fg_base.proofs.Lists.{entry_of, got_back}
 use Rattle.fg_compiled.proofs.Entries.{entry_cases}
 use Rattle.fg_compiled.specs.Nodes.{copy_of}
@@ -42,9 +43,6 @@ copies_from G k c e = go (slice_get G.commands c) refl e
 pub record AreCopied (G : Grouping) : Type 0 where
   pub each : (k : ℕ) → k < export_count G → Copies G k (copy_of G k)
   pub once : (k c : ℕ) → Copies G k c → copy_of G k ≡ c
-
-some_same : (a b : ℕ) → Some a ≡ Some b → a ≡ b
-some_same a b e = cc
 
 -- OF A FRAME
 
@@ -91,7 +89,7 @@ module _ (frame : NumberedFrame) where
         late : (length own ≤ c) × (slice_get (export_commands frame 0 frame.exports) (c - length own) ≡ Some C.command) → c ≡ length own + k
         late h =
             let le = h.0 in
-            let number : 0 + (c - length own) ≡ k = some_same (0 + (c - length own)) k (sym (export_number frame.exports 0 (c - length own) C.command h.1) ∙ C.export) in
+            let number : 0 + (c - length own) ≡ k = some_same (sym (export_number frame.exports 0 (c - length own) C.command h.1) ∙ C.export) in
             omega (arith, le, number)
 
     count_is : export_count G ≡ length frame.exports

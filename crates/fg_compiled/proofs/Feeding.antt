@@ -7,6 +7,7 @@ use Rattle.std.proofs.lemmas.Bool.{and_parts, cases_order, false≢true}
 use Rattle.std.proofs.lemmas.List.{get_or_append_left, length-map}
 use Rattle.std.proofs.lemmas.List.Folds.{list_any_at}
 use Rattle.std.proofs.lemmas.Option.{get_or_from_slice_get, slice_get-map}
+use Rattle.fg_base.proofs.Absence.{some_same}
 use Rattle.fg_base.proofs.Lists.{entry_of}
 use Rattle.fg_base.proofs.Operands.{mapped_same}
 use Rattle.fg_base.specs.Operands.{destination_of, mapped, operands_of, touches}
@@ -132,15 +133,12 @@ module _ (frame : NumberedFrame) (kept : List Bool) (good : IsGood frame) where
     pub stored_before : (d : ℕ) × (d < c) × DoesTo (grouping frame kept) d r Stores
     stored_before = go started
       where
-        some_same : (x y : Command) → Some x ≡ Some y → x ≡ y
-        some_same x y e = cc
-
         go : (b : ℕ) × (b ≤ c) × IsStart (shapes_in frame) (commands frame kept) r b → (d : ℕ) × (d < c) × DoesTo (grouping frame kept) d r Stores
         go (b, le, I) =
             let parts = and_parts (destination_of I.command.op == r) (is_whole (mapped (shape_at (shapes_in frame)) I.command.op)) I.whole in
             let to : destination_of I.command.op ≡ r = eqb-true (destination_of I.command.op) r parts.0 in
             ⊎_elim
-            (λ (e : b ≡ c). absurd (not_itself I.command (some_same D.command I.command (sym D.there ∙ ap (slice_get (commands frame kept)) (sym e) ∙ I.there)) to parts.1))
+            (λ (e : b ≡ c). absurd (not_itself I.command (some_same (sym D.there ∙ ap (slice_get (commands frame kept)) (sym e) ∙ I.there)) to parts.1))
             (⊎_elim
             (λ (l : b < c). (b, l, record { command = I.command; there = I.there; touch = destination_touch (grouping frame kept).shapes I.command.op; among = destination_there (grouping frame kept).shapes I.command.op; unit = to; so = stores I.command.op }))
             (λ (l : c < b). absurd (omega (arith, l, le))))

@@ -7,13 +7,14 @@ use Rattle.std.proofs.lemmas.Bool.{false≢true, or_parts}
 use Rattle.std.proofs.lemmas.List.{get_or_default}
 use Rattle.std.proofs.lemmas.List.Elements.{All-nil, All-append, All-contains, Contains-get_or}
 use Rattle.std.proofs.lemmas.List.Folds.{list_any-append}
+use Rattle.fg_base.proofs.Absence.{some_same}
 use Rattle.fg_base.proofs.Lists.{one}
 use Rattle.fg_base.specs.Shapes.{is_image, shape_at}
 use Rattle.fg_base.specs.declared.role.Role.{Role}
 use Rattle.fg_base.specs.declared.shape.Shape.{Shape}
 use Rattle.fg_base.specs.declared.shape.Shape.TheVariants.{Buffer, Image}
 use Rattle.fg_bits.specs.Layouts.{is_undefined, layout_number}
-use Rattle.fg_bits.specs.Roles.{role_layout, layout_wanted}
+use Rattle.fg_bits.specs.Roles.{layout_wanted}
 use Rattle.fg_bits.specs.declared.layout.Layout.{Layout}
 use Rattle.fg_bits.specs.declared.layout.Layout.TheVariants.{Undefined, General, ColorAttachment, ShaderReadOnly, TransferSrc, TransferDst}
 use Rattle.fg_bits.specs.declared.masks.Masks.{Masks}
@@ -68,10 +69,7 @@ for_role (Buffer size) role = record { image = refl; known = λ l e. absurd (non
   where
     none_some : (l : Layout) → None ≡ Some l → ⊥
     none_some l e = cc
-for_role (Image width height texel) role = record { image = refl; known = λ l e. ap is_undefined (sym (some_same (role_layout role) l e)) ∙ role-layout role }
-  where
-    some_same : (a b : Layout) → Some a ≡ Some b → a ≡ b
-    some_same a b e = cc
+for_role (Image width height texel) role = record { image = refl; known = λ l e. ap is_undefined (sym (some_same e)) ∙ role-layout role }
 
 -- GROUPS
 

@@ -3,6 +3,7 @@ use Rattle.std.proofs.Common.{◌≡◌, ℕ, suc, ◌+◌, ◌<◌, true, false
 use Rattle.std.specs.List.{Contains}
 use Rattle.std.specs.Option.{option_map_or}
 use Rattle.std.proofs.lemmas.Bool.{false≢true, le-leb, or_left}
+use Rattle.fg_base.proofs.Absence.{some_same}
 use Rattle.fg_base.proofs.Lists.{entry_of}
 use Rattle.fg_base.specs.Operands.{destination_of}
 use Rattle.fg_base.specs.Touches.{destination_role, destination_touch, touches_of}
@@ -82,9 +83,6 @@ copy_role : (shape : Shape) (src dst : ℕ) → destination_role (copy_out shape
 copy_role (Buffer size) src dst = refl
 copy_role (Image width height texel) src dst = refl
 
-same_some : (a b : ℕ) → Some a ≡ Some b → a ≡ b
-same_some a b e = cc
-
 none_some : (k : ℕ) → None ≡ Some k → ⊥
 none_some k e = cc
 
@@ -163,7 +161,7 @@ module _ (G : Grouping) (heap : Heap) (P : Program) (S : IsSet G heap P) where
   pub copied_to : (k c : ℕ) (C : Copies G k c) → Sort G C.command → (destination_of C.command.op ≡ length G.imports + k) × (destination_role C.command.op ≡ CopyWrite)
   copied_to k c C (a_pass none operands apart) = absurd (none_some k (sym none ∙ C.export))
   copied_to k c C (a_copy j unit shape below lt is op from to) =
-      let same : j ≡ k = same_some j k (sym is ∙ C.export) in
+      let same : j ≡ k = some_same (sym is ∙ C.export) in
       (ap destination_of op ∙ copy_destination shape unit (length G.imports + j) ∙ ap (λ n. length G.imports + n) same, ap destination_role op ∙ copy_role shape unit (length G.imports + j))
 
   takes_copy : (g c : ℕ) (a : Access) → IsExport G g (export_at G g) → Copies G (export_at G g) c → OfMember F V N c g a → Sooner V.nodes (N.command c) (copied_node G heap (export_at G g)) → Takes V (N.command c) a (copied_node G heap (export_at G g))

@@ -7,6 +7,7 @@ use Rattle.std.proofs.lemmas.List.Elements.{All-append, All-contains, Contains-a
 use Rattle.std.proofs.lemmas.List.Folds.{Any-from_list_any}
 use Rattle.std.proofs.lemmas.List.Sums.{fails_before_first, passes_at_first}
 use Rattle.std.proofs.lemmas.Option.{get_or_from_slice_get, slice_get-get_or, slice_get_within}
+use Rattle.fg_base.proofs.Absence.{some_same}
 use Rattle.fg_base.proofs.Lists.{entry_of, one}
 use Rattle.fg_base.specs.Operands.{destination_of, operands_of, sources_of, touches}
 use Rattle.fg_base.specs.Shapes.{shape_at}
@@ -117,14 +118,11 @@ module _ (frame : NumberedFrame) (kept : List Bool) (good : IsGood frame) (A : A
           let s = starts_there frame kept good A unit none (ops_at frame.passes p) whole in
           let place = I.place in
           ⊎_elim
-          (λ (same : s.0 ≡ i). subst (λ o. stores_whole (shapes_in frame) unit o ≡ true) (some_same s.1 B.op (sym s.2 ∙ ap (slice_get (ops_at frame.passes p)) same ∙ I.at)) s.4)
+          (λ (same : s.0 ≡ i). subst (λ o. stores_whole (shapes_in frame) unit o ≡ true) (some_same (sym s.2 ∙ ap (slice_get (ops_at frame.passes p)) same ∙ I.at)) s.4)
           (⊎_elim
           (λ (l : s.0 < i). absurd (none_before p s.0 s.1 I.within I.is_kept s.2 (omega (arith, l, place)) s.3))
           (λ (l : i < s.0). absurd (false≢true (sym (s.5 i B.op l I.at) ∙ touched))))
           (cases_order s.0 i)
-        where
-          some_same : (x y : Op ℕ) → Some x ≡ Some y → x ≡ y
-          some_same x y e = cc
 
       pub kept_whole : stores_whole (shapes_in frame) unit B.op ≡ true
       kept_whole = ⊎_elim

@@ -5,6 +5,7 @@ use Rattle.std.specs.Prelude.{unwrap_or}
 use Rattle.std.proofs.lemmas.Bool.{cases_Bool, cases_order, false≢true, le-leb, or_left}
 use Rattle.std.proofs.lemmas.List.Elements.{Contains-get_or}
 use Rattle.std.proofs.lemmas.List.Folds.{list_any_at}
+use Rattle.fg_base.proofs.Absence.{some_same}
 use Rattle.fg_base.proofs.Lists.{entry_of}
 use Rattle.fg_base.specs.Touches.{destination_touch, touches_of}
 use Rattle.fg_base.specs.declared.role.Role.{Role}
@@ -112,7 +113,7 @@ module _ (G : Grouping) (heap : Heap) (P : Program) (S : IsSet G heap P) (fed : 
       let M : Member G d g = record { one = U.one; there = X.member; command = U.command } in
       let Y = sourced G S.grouped d g X.group M in
       let I = sourced_use G U.one Y in
-      let command : Y.command ≡ D.command = some_same Y.command D.command (sym Y.there ∙ ap (slice_get G.commands) U.command ∙ D.there) in
+      let command : Y.command ≡ D.command = some_same (sym Y.there ∙ ap (slice_get G.commands) U.command ∙ D.there) in
       let among : Contains (touches_of G.shapes D.command.op) I.touch = subst (λ (x : commands.Command). Contains (touches_of G.shapes x.op) I.touch) command I.there in
       let apart = entry_of (λ (x : commands.Command). Sort G x) G.commands d D.command S.sorts D.there in
       let touch : I.touch ≡ D.touch = alike G.shapes D.command.op (not_in_place G D.command apart) I.touch D.touch among D.among (sym (ap (λ (u : Use). u.unit) I.is) ∙ U.unit) in
@@ -125,9 +126,6 @@ module _ (G : Grouping) (heap : Heap) (P : Program) (S : IsSet G heap P) (fed : 
         command = U.command;
         write = ap is_write I.is ∙ ap (λ (t : Touch). not (role_writes t.role == 0)) touch ∙ store_writes D.touch.role D.so.0 D.so.1;
       }
-    where
-      some_same : (x y : commands.Command) → Some x ≡ Some y → x ≡ y
-      some_same x y e = cc
 
   -- a group with a member that loads comes after the group of the store
   before_load : (c g : ℕ) → (low : g < length G.groups) → Member G c g → is_import G (unit_of G g) ≡ false → DoesTo G c (unit_of G g) Loads → IsStoredBefore g

@@ -5,6 +5,7 @@ use Rattle.std.specs.Option.{option_map_or}
 use Rattle.std.proofs.lemmas.List.{map-append}
 use Rattle.std.proofs.lemmas.List.Elements.{All-append, All-map, All-contains, All-contains_itself, Contains-get_or, Contains-append_left, Contains-append_right, Contains-append_cases}
 use Rattle.std.proofs.lemmas.List.Folds.{flat_map-map, list_any_at}
+use Rattle.std.proofs.lemmas.Simd.{map-map}
 use Rattle.fg_base.proofs.Booleans.{clash}
 use Rattle.fg_base.proofs.Lists.{each_of, map_same, one}
 use Rattle.fg_base.proofs.Operands.{sources_mapped, destination_mapped, mapped_twice, mapped_same, source_role_mapped, destination_role_mapped}
@@ -27,10 +28,6 @@ use Rattle.fg_cut.proofs.Full.{if_some}
 use Rattle.fg_view.specs.Effects.{access, role_agent, touch_load, touch_store, touch_accesses, command_accesses}
 use Rattle.fg_view.specs.declared.access.Access.{Access}
 use Rattle.fg_view.specs.declared.access.AccessKind.TheVariants.{Load, Store}
-
-map_map : {X Y Z : Type 0} (f : X → Y) (g : Y → Z) (xs : List X) → map g (map f xs) ≡ map (λ x. g (f x)) xs
-map_map f g [] = refl
-map_map f g (x ∷ xs) = ap (λ ys. g (f x) ∷ ys) (map_map f g xs)
 
 -- ONE STAGE
 
@@ -134,9 +131,9 @@ module _ (shapes pieces : List Shape) (f : ℕ → ℕ) (op : Op ℕ) (same : Al
   sources_moved : map (source_touch pieces (mapped f op)) (sources_of (mapped f op)) ≡ map (moved f) (map (source_touch shapes op) (sources_of op))
   sources_moved =
       ap (map (source_touch pieces (mapped f op))) (sources_mapped f op)
-      ∙ map_map f (source_touch pieces (mapped f op)) (sources_of op)
+      ∙ map-map (source_touch pieces (mapped f op)) f (sources_of op)
       ∙ map_same piece_touch (λ n. moved f (source_touch shapes op n)) (sources_of op) (λ k d lt. source_moved (get_or (sources_of op) k d) (sources_same k d lt))
-      ∙ sym (map_map (source_touch shapes op) (moved f) (sources_of op))
+      ∙ sym (map-map (moved f) (source_touch shapes op) (sources_of op))
 
   destination_moved : destination_touch pieces (mapped f op) ≡ moved f (destination_touch shapes op)
   destination_moved =

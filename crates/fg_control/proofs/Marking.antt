@@ -1,7 +1,7 @@
 -- Marks of begun commands, one more of them.
 use Rattle.std.proofs.Common.{◌≡◌, ℕ, ◌+◌, ◌<◌, Bool, true, false, ◌&&◌, ◌||◌, ◌==◌, List, length, get_or, slice_set, refl, sym, ap, ◌∙◌, eqb-true, if◌then◌else◌}
 use Rattle.std.proofs.Math.Bool.{and-false}
-use Rattle.fg_base.proofs.Booleans.{or_true}
+use Rattle.fg_base.proofs.Booleans.{or_false, or_true}
 use Rattle.fg_control.proofs.Below.{some_more}
 use Rattle.fg_control.proofs.Lists.{set_by}
 use Rattle.fg_control.specs.Code.Running.{is_among}
@@ -26,10 +26,6 @@ mark_more V n numbers i y first old new read M each x =
     joined false false true = refl
     joined false false false = refl
 
-    or_false : (a : Bool) → (a || false) ≡ a
-    or_false true = refl
-    or_false false = refl
-
     step : (t : Bool) → (y == x) ≡ t → ((get_or first x false || (is_among numbers i x && hits V x n)) || (t && hits V y n)) ≡ (get_or first x false || ((t || is_among numbers i x) && hits V x n))
     step true e =
         ap (λ z. (get_or first x false || (is_among numbers i x && hits V x n)) || hits V z n) (eqb-true y x e)
@@ -42,15 +38,7 @@ marked_set marked x h lt e k = set_by marked x (λ z. true) true false lt refl k
   where
     step : (t : Bool) → (if t then true else get_or marked k false) ≡ (get_or marked k false || (t && true))
     step true = sym (or_true (get_or marked k false))
-    step false = sym (or_none (get_or marked k false))
-      where
-        or_none : (a : Bool) → (a || false) ≡ a
-        or_none true = refl
-        or_none false = refl
+    step false = sym (or_false (get_or marked k false))
 
 pub marked_kept : (marked : List Bool) (x : ℕ) (h : Bool) → h ≡ false → (k : ℕ) → get_or marked k false ≡ (get_or marked k false || ((x == k) && h))
-marked_kept marked x h e k = sym (ap (λ z. get_or marked k false || z) (ap (λ z. (x == k) && z) e ∙ and-false (x == k)) ∙ or_none (get_or marked k false))
-  where
-    or_none : (a : Bool) → (a || false) ≡ a
-    or_none true = refl
-    or_none false = refl
+marked_kept marked x h e k = sym (ap (λ z. get_or marked k false || z) (ap (λ z. (x == k) && z) e ∙ and-false (x == k)) ∙ or_false (get_or marked k false))

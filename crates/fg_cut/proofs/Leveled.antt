@@ -6,6 +6,7 @@ use Rattle.std.specs.Prelude.{slice_get}
 use Rattle.std.proofs.lemmas.Bool.{and_parts, cases_lt, false≢true, or_cases}
 use Rattle.std.proofs.lemmas.List.{length-map}
 use Rattle.std.proofs.lemmas.Option.{slice_get_past, slice_get_within}
+use Rattle.fg_base.proofs.Absence.{some_same}
 use Rattle.fg_bits.specs.Sets.{meets}
 use Rattle.fg_crossing.proofs.Levels.{lifted}
 use Rattle.fg_crossing.specs.Levels.{Leveled, Under}
@@ -188,10 +189,7 @@ module _ (P : Program) (script : List Step) (count : ℕ) (E : entries_of P ≡ 
       M = meets_one n (met_wait nodes (node_at nodes n).kind x e)
 
       same : M.signal ≡ x
-      same = let h = sym M.is ∙ e in of M.signal x h
-        where
-          of : (a b : ℕ) → Some a ≡ Some b → a ≡ b
-          of a b h = cc
+      same = some_same (sym M.is ∙ e)
 
   to_host : (x n : ℕ) → n < length nodes → is_signal (node_at nodes x).kind ≡ true → is_host (node_at nodes n).kind ≡ true → (x < length nodes) × Under level x n
   to_host x n fits signal host = go (cases_lt n last)

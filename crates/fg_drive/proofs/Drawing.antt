@@ -16,7 +16,8 @@ none_left keeper = by_tender keeper.tender
     by_tender None = refl
     by_tender (Some g) = refl
 
-none_drawn : (agents : ℕ) (sizes : List ℕ) (g : Lcg) (left : ℕ) → may_draw agents sizes ≡ false → moves_by (Some g) left agents sizes ≡ []
+-- a tender that may draw nothing makes no move
+pub none_drawn : (agents : ℕ) (sizes : List ℕ) (g : Lcg) (left : ℕ) → may_draw agents sizes ≡ false → moves_from g left agents sizes ≡ []
 none_drawn agents sizes g zero may = refl
 none_drawn agents sizes g (suc left) may = ap (λ (b : Bool). if b then drawn agents sizes g ∷ moves_from (after_five g) left agents sizes else []) may
 

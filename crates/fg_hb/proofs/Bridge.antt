@@ -3,6 +3,7 @@ use Rattle.std.proofs.Common.{◌≡◌, ◌⊎◌, inl, inr, ℕ, ◌+◌, ◌<
 use Rattle.std.proofs.lemmas.Bool.{cases_Bool, false≢true, and_parts, and_from, or_cases, or_left, or_right, lt-ltb, ltb-true}
 use Rattle.std.specs.List.{range_with_len}
 use Rattle.std.specs.Option.{is_none}
+use Rattle.fg_base.proofs.Absence.{some_same}
 use Rattle.fg_bits.specs.Sets.{meets}
 use Rattle.fg_hb.specs.Edges.{is_wait, is_host, is_signal, is_sync, is_at, holds_back, next_signal, meeting, node_at, goes_to, signalled, edge}
 use Rattle.fg_hb.specs.Orders.{Among, Distinct, before_in, Earlier, is_queued, InTurn, Front, Order, IsLeast, IsStuck}
@@ -92,9 +93,6 @@ all_needs nodes starts count = record {
   never = λ n. is_wait (node_at nodes n).kind && is_none (meeting nodes (node_at nodes n).kind);
 }
 
-some_same : (x y : ℕ) → Some x ≡ Some y → x ≡ y
-some_same x y e = eqb-true x y (ap (λ o. is_at o y) e ∙ eq-eqb y y refl)
-
 pub signal_sync : (kind : Kind) → is_signal kind ≡ true → is_sync kind ≡ true
 signal_sync (Signal value) h = refl
 signal_sync Command h = absurd (clash h)
@@ -182,7 +180,7 @@ module _ (nodes : List Node) (starts : List ℕ) (queues count : ℕ) (L : Lined
   }
 
   met_earlier : (list : List ℕ) → InTurn nodes list → (x n : ℕ) → Among n list → met n ≡ Some x → Earlier list x n
-  met_earlier list T x n h e = let t = T.met n h (met_wait nodes (node_at nodes n).kind x e) in subst (λ z. Earlier list z n) (some_same t.0 x (sym t.1 ∙ e)) t.2
+  met_earlier list T x n h e = let t = T.met n h (met_wait nodes (node_at nodes n).kind x e) in subst (λ z. Earlier list z n) (some_same (sym t.1 ∙ e)) t.2
 
   never : (list : List ℕ) → InTurn nodes list → (n : ℕ) → Among n list → (is_wait (node_at nodes n).kind && is_none (met n)) ≡ false
   never list T n h = never_false (is_wait (node_at nodes n).kind) (met n) (λ k. let t = T.met n h k in (t.0, t.1))

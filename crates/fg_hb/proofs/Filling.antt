@@ -7,6 +7,7 @@ use Rattle.std.proofs.lemmas.Nat.{and_comm, and_assoc}
 use Rattle.std.specs.List.{position}
 use Rattle.std.specs.Option.{option_map}
 use Rattle.std.specs.Int.Bits.{and_zero_r}
+use Rattle.fg_base.proofs.Absence.{some_same}
 use Rattle.fg_bits.specs.Sets as sets
 use Rattle.fg_hb.specs.Before.{place, joined}
 use Rattle.fg_hb.specs.Code.Filling.{Tabled, AllEdges, Filling, Added, Covered, takes_over, Passes, QueueDone, NodeDone}
@@ -67,9 +68,6 @@ next_within nodes x n (Some k) e f =
     let same : x + 1 + k ≡ n = some_same f in
     let len = length-drop (x + 1) nodes in
     omega (arith, p.0, same, len)
-  where
-    some_same : {a b : ℕ} → Some a ≡ Some b → a ≡ b
-    some_same e = cc
 
 pub edge_within : (nodes : List Node) (x y : ℕ) → edge nodes x y ≡ true → (x < length nodes) × (y < length nodes)
 edge_within nodes x y h = go (edge_cases nodes x y h)

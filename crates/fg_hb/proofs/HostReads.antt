@@ -1,4 +1,4 @@
--- Nothing comes after a host read.
+-- Nothing comes after a host read, which is no item of a queue.
 use Rattle.std.proofs.Common.{◌≡◌, inl, inr, ℕ, zero, suc, ◌==◌, ◌&&◌, ◌||◌, Bool, true, false, not, List, [], ◌∷◌, map, length, refl, sym, ap, ◌∙◌}
 use Rattle.std.specs.Int.Bits.{bit_and, and_zero_l}
 use Rattle.std.proofs.lemmas.Bool.{false≢true, and_parts}

@@ -13,12 +13,9 @@ up_to u n list e = ap (λ t. cond t [] (u ∷ before_in list n)) (eq-eqb u n e)
 pub past : (z n : ℕ) (rest : List ℕ) → z ≢ n → before_in (z ∷ rest) n ≡ z ∷ before_in rest n
 past z n rest ne = ap (λ t. cond t [] (z ∷ before_in rest n)) (ne_eqb z n ne)
 
-pub on_from : (u n : ℕ) (list : List ℕ) → (u ≡ n → ⊥) → before_in (u ∷ list) n ≡ u ∷ before_in list n
-on_from u n list ne = ap (λ t. cond t [] (u ∷ before_in list n)) (ne_eqb u n ne)
-
 not_itself : (list : List ℕ) (n : ℕ) → Earlier list n n → ⊥
 not_itself [] n h = h
-not_itself (u ∷ list) n h = ⊎_elim (λ e. subst (λ l. Among n l) (up_to u n list e) h) (λ ne. ⊎_elim (λ k. ne (sym k)) (λ k. not_itself list n k) (subst (λ l. Among n l) (on_from u n list ne) h)) (cases_eq u n)
+not_itself (u ∷ list) n h = ⊎_elim (λ e. subst (λ l. Among n l) (up_to u n list e) h) (λ ne. ⊎_elim (λ k. ne (sym k)) (λ k. not_itself list n k) (subst (λ l. Among n l) (past u n list ne) h)) (cases_eq u n)
 
 then_far : (x y u : ℕ) (fy fn : List ℕ) → (u ≡ y → ⊥) → (Among y fn → Among x fy → Among x fn) → (y ≡ u) ⊎ Among y fn → (x ≡ u) ⊎ Among x fy → (x ≡ u) ⊎ Among x fn
 then_far x y u fy fn e ih a (inl q) = inl q
@@ -30,9 +27,9 @@ earlier_then [] x y n h k = absurd k
 earlier_then (u ∷ list) x y n h k =
     ⊎_elim (λ (e : u ≡ n). absurd (subst (λ l. Among y l) (up_to u n list e) k))
     (λ (e : u ≡ n → ⊥).
-    subst (λ l. Among x l) (sym (on_from u n list e))
+    subst (λ l. Among x l) (sym (past u n list e))
     (⊎_elim (λ (p : u ≡ y). absurd (subst (λ l. Among x l) (up_to u y list p) h))
-    (λ (p : u ≡ y → ⊥). then_far x y u (before_in list y) (before_in list n) p (λ b a. earlier_then list x y n a b) (subst (λ l. Among y l) (on_from u n list e) k) (subst (λ l. Among x l) (on_from u y list p) h))
+    (λ (p : u ≡ y → ⊥). then_far x y u (before_in list y) (before_in list n) p (λ b a. earlier_then list x y n a b) (subst (λ l. Among y l) (past u n list e) k) (subst (λ l. Among x l) (past u y list p) h))
     (cases_eq u y)))
     (cases_eq u n)
 

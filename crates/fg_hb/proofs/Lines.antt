@@ -1,11 +1,12 @@
 -- The nodes of a program stand in line: queue by queue, and the host reads last.
-use Rattle.std.proofs.Common.{◌≡◌, ℕ, ◌+◌, ◌<◌, ◌≤◌, Bool, true, false, ◌&&◌, ◌==◌, nat_lt, not, Option, Some, None, List, length, drop, get_or, refl, sym, ap, ◌∙◌, subst, ⊎_elim, eqb-true, arith}
+use Rattle.std.proofs.Common.{◌≡◌, ℕ, ◌+◌, ◌<◌, ◌≤◌, true, false, ◌&&◌, ◌==◌, nat_lt, not, Option, Some, None, List, length, drop, get_or, refl, sym, ap, ◌∙◌, subst, ⊎_elim, eqb-true, arith}
 use Rattle.std.proofs.lemmas.Bool.{cases_lt, cases_Bool, and_parts, lt-ltb, le-ltb}
 use Rattle.std.proofs.lemmas.List.{get_or-drop, get_or_past}
 use Rattle.std.proofs.lemmas.List.Quantifiers.{position-Some}
 use Rattle.std.specs.List.{position}
 use Rattle.std.specs.Option.{option_map}
 use Rattle.std.proofs.Math.Bool.{and-false}
+use Rattle.fg_base.proofs.Absence.{some_same}
 use Rattle.fg_hb.specs.Edges.{is_wait, is_host, is_signal, is_sync, has_value, signals, reaches, meeting, node_at}
 use Rattle.fg_hb.specs.Nodes.{no_node}
 use Rattle.fg_hb.specs.Orders.{is_queued}
@@ -60,9 +61,6 @@ next_place nodes x n (Some k) e f =
     let there : get_or (drop (x + 1) nodes) k no_node ≡ node_at nodes n = get_or-drop (x + 1) nodes k no_node ∙ ap (λ z. node_at nodes z) same in
     let q = and_parts ((node_at nodes n).queue == (node_at nodes x).queue) (is_signal (node_at nodes n).kind) (subst (λ z. signals (node_at nodes x).queue z ≡ true) there p.1) in
     (omega (arith, same), sym (eqb-true (node_at nodes n).queue (node_at nodes x).queue q.0))
-  where
-    some_same : {a b : ℕ} → Some a ≡ Some b → a ≡ b
-    some_same e = cc
 
 module _ (nodes : List Node) (starts : List ℕ) (queues : ℕ) (L : Lines nodes starts queues) where
   abbrev count : ℕ

@@ -1,8 +1,8 @@
 -- The first row of a list of rows.
-use Rattle.std.proofs.Common.{◌≡◌, ◌≢◌, ◌⊎◌, ◌↔◌, inl, inr, ℕ, suc, ◌+◌, ◌-◌, ◌*◌, ◌/◌, ◌%◌, ◌<◌, ◌≤◌, true, false, ◌==◌, List, ◌++◌, length, get_or, drop, length-append, refl, sym, ap, ◌∙◌, ⊎_elim, subst, arith}
+use Rattle.std.proofs.Common.{◌≡◌, ◌≢◌, ◌⊎◌, ◌↔◌, inl, inr, ℕ, suc, ◌+◌, ◌-◌, ◌*◌, ◌/◌, ◌%◌, ◌<◌, ◌≤◌, true, false, ◌==◌, List, ◌++◌, length, get_or, length-append, refl, sym, ap, ◌∙◌, ⊎_elim, subst, arith}
 use Rattle.std.proofs.lemmas.Bool.{cases_eq, cases_lt}
 use Rattle.std.proofs.lemmas.Nat.Bits.{bit_at-zero}
-use Rattle.std.proofs.lemmas.List.{get_or_append_left, get_or-append-add, get_or-drop}
+use Rattle.std.proofs.lemmas.List.{get_or_append_left, get_or-append-add}
 use Rattle.std.specs.Int.{bit_at}
 use Rattle.fg_reach.specs.Bits.{bit}
 use Rattle.fg_reach.specs.Code.Closing.{row_bit, ClosedRows, Reaches, FirstClosed}
@@ -17,13 +17,6 @@ cat_right xs ys b =
     let q : (length xs * 64 + b) / 64 ≡ length xs + b / 64 = omega arith in
     let r : (length xs * 64 + b) % 64 ≡ b % 64 = omega arith in
     rw (q, r) (ap (λ w. bit_at w (b % 64) == 1) (get_or-append-add xs ys (b / 64) 0))
-
-pub drop_bit : (list : List ℕ) (k b : ℕ) → bit (drop k list) b ≡ bit list (k * 64 + b)
-unfolding bit
-drop_bit list k b =
-    let q : (k * 64 + b) / 64 ≡ k + b / 64 = omega arith in
-    let r : (k * 64 + b) % 64 ≡ b % 64 = omega arith in
-    rw (q, r) (ap (λ w. bit_at w (b % 64) == 1) (get_or-drop k list (b / 64) 0))
 
 pub no_bits : (list : List ℕ) (b : ℕ) → ((k : ℕ) → k < length list → get_or list k 0 ≡ 0) → b < 64 * length list → bit list b ≡ false
 unfolding bit

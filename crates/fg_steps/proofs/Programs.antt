@@ -7,6 +7,7 @@ use Rattle.std.proofs.lemmas.List.{get_or-map, get_or_past, get_or-set_same, get
 use Rattle.std.proofs.lemmas.List.FromFn.{fill_by_all}
 use Rattle.std.proofs.lemmas.Option.{slice_get-get_or, slice_get_within}
 use Rattle.std.proofs.Math.Seq.{take-append_seam, get_or-append_seam}
+use Rattle.std.proofs.lemmas.Simd.{map-map}
 use Rattle.fg_base.proofs.Absence.{map_none, some_same}
 use Rattle.fg_base.proofs.Lists.{entry_of}
 use Rattle.fg_base.proofs.Operands.{destination_mapped}
@@ -56,10 +57,6 @@ use Rattle.fg_view.specs.AccessKinds.{loads, is_acquire}
 use Rattle.fg_view.specs.ShapedView.{ShapedView, Has}
 use Rattle.fg_view.specs.Views.{View, view_of, accesses_of, queue_at, no_piece, piece_at, imported_at, is_import, piece_imported}
 use Rattle.fg_view.specs.declared.access.Access.{Access}
-
-map_map : {X Y Z : Type 0} (f : Y → Z) (g : X → Y) (xs : List X) → map (λ x. f (g x)) xs ≡ map f (map g xs)
-map_map f g [] = refl
-map_map f g (x ∷ xs) = ap (λ l. f (g x) ∷ l) (map_map f g xs)
 
 none_some : {X : Type 0} {x : X} → None ≡ Some x → ⊥
 none_some e = cc
@@ -220,7 +217,7 @@ module _ (program : Program) (none : first_broken program ≡ None) where
 
       loaded_is : loaded_of V (λ m p. bytes_at bytes p) n ≡ map (bytes_at bytes) (sources_of op) ++ map (bytes_at bytes) (old_of op (is_whole (mapped (shape_at (shapes_of program)) op)))
       loaded_is =
-          map_map (bytes_at bytes) (λ a. a.piece) (filter (λ a. loads a.kind) (accesses_of V n))
+          sym (map-map (bytes_at bytes) (λ a. a.piece) (filter (λ a. loads a.kind) (accesses_of V n)))
           ∙ ap (map (bytes_at bytes)) (ap pieces_loaded is.1.accesses ∙ command_loads (shapes_of program) is.0 op)
           ∙ map-append (bytes_at bytes) (sources_of op) (old_of op (is_whole (mapped (shape_at (shapes_of program)) op)))
 

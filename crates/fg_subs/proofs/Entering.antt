@@ -19,7 +19,6 @@ use Rattle.fg_subs.specs.declared.program.Item.{Item}
 use Rattle.fg_subs.specs.declared.program.Program.{Program}
 use Rattle.fg_subs.specs.declared.program.Queue.{Queue}
 use Rattle.fg_subs.specs.declared.program.Signal.{Signal}
-use Rattle.fg_subs.specs.declared.program.WaitFor.{WaitFor}
 
 -- PLACES AND WHAT STANDS THERE
 

@@ -1,5 +1,5 @@
 -- A program that breaks no rule obeys each.
-use Rattle.std.proofs.Common.{◌≡◌, ℕ, subst, slice_get, length, take, not, true, Option, None, Some, IfSome, refl}
+use Rattle.std.proofs.Common.{◌≡◌, ℕ, subst, length, take, not, true, Option, None, Some, IfSome, refl}
 use Rattle.std.specs.List.{All, position}
 use Rattle.std.specs.Option.{option_or, option_map}
 use Rattle.fg_base.specs.Walks.{first_in}

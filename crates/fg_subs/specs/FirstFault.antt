@@ -1,5 +1,5 @@
 -- The first rule that a program breaks.
-use Rattle.std.specs.Prelude.{◌≡◌, List, Option, Some, None}
+use Rattle.std.specs.Prelude.{◌≡◌, List, Option, Some}
 use Rattle.std.specs.Option.{option_or, option_map}
 use Rattle.fg_base.specs.Broken.{of_rule}
 use Rattle.fg_base.specs.declared.broken.Broken.{Broken}

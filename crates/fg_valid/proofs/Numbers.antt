@@ -5,6 +5,7 @@ use Rattle.std.proofs.lemmas.Bool.{cases_lt, lt-leb}
 use Rattle.std.proofs.lemmas.List.FromFn.{length-range_with_len, get_or-range_with_len}
 use Rattle.std.proofs.lemmas.List.Sums.{sum_by-cons, length-filter, count_by-le-length}
 use Rattle.std.proofs.lemmas.List.Elements.{All-filter, filter_passes}
+use Rattle.fg_base.proofs.Absence.{some_same}
 
 -- whether one is counted
 abbrev pub hit : (ℕ → Bool) → ℕ → ℕ
@@ -39,12 +40,9 @@ counted p n k lt e =
     let z : 0 + k ≡ k = omega arith in
     counted_from p 0 n k lt (subst (λ x. p x ≡ true) (sym z) e) ∙ ap (λ x. Some x) z
 
-same_some : (a b : ℕ) → Some a ≡ Some b → a ≡ b
-same_some a b e = cc
-
 -- two that pass have two numbers
 pub apart : (p : ℕ → Bool) (n j k : ℕ) → j < n → k < n → p j ≡ true → p k ≡ true → count_by p (range_with_len 0 j) ≡ count_by p (range_with_len 0 k) → j ≡ k
-apart p n j k lj lk hj hk e = same_some j k (sym (counted p n j lj hj) ∙ ap (slice_get (filter p (range_with_len 0 n))) e ∙ counted p n k lk hk)
+apart p n j k lj lk hj hk e = some_same (sym (counted p n j lj hj) ∙ ap (slice_get (filter p (range_with_len 0 n))) e ∙ counted p n k lk hk)
 
 -- what holds of numbers that pass holds of those that are kept
 pub kept_numbers : (P : ℕ → Type 0) (p : ℕ → Bool) (n : ℕ) → ((k : ℕ) → k < n → p k ≡ true → P k) → All P (filter p (range_with_len 0 n))

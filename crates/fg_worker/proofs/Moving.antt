@@ -1,5 +1,5 @@
 -- A tender on its way.
-use Rattle.std.proofs.Common.{◌≡◌, ◌≤◌, ◌<◌, ◌+◌, ◌-◌, ℕ, zero, suc, Option, None, List, [], ◌∷◌, ◌++◌, Bool, true, false, if◌then◌else◌, refl, sym, ap, ◌∙◌, subst, append_assoc, arith}
+use Rattle.std.proofs.Common.{◌≡◌, ◌≤◌, ◌<◌, ◌+◌, ◌-◌, ℕ, suc, Option, None, List, [], ◌∷◌, ◌++◌, Bool, true, false, if◌then◌else◌, refl, sym, ap, ◌∙◌, subst, append_assoc, arith}
 use Rattle.std.specs.Prelude.{◌↔◌, IsSome, is_some}
 use Rattle.std.proofs.lemmas.Bool.{false≢true}
 use Rattle.std.proofs.lemmas.List.{append-nil}
@@ -15,10 +15,6 @@ use Rattle.fg_worker.specs.Holds.{Both, MayMake, Tends, TendsTo, TendsAll}
 
 pub opens : (d : Device) (seed agents : ℕ) (sizes : List ℕ) → GoesNowhere d → TendsOn d d seed 256 (seeded seed) agents sizes
 opens d seed agents sizes nowhere known long enough = record { events = []; went = nowhere; room = enough; moves = refl }
-
-pub none_drawn : (agents : ℕ) (sizes : List ℕ) (g : Lcg) (left : ℕ) → may_draw agents sizes ≡ false → moves_from g left agents sizes ≡ []
-none_drawn agents sizes g zero may = refl
-none_drawn agents sizes g (suc left) may = ap (λ (b : Bool). if b then drawn agents sizes g ∷ moves_from (after_five g) left agents sizes else []) may
 
 -- a tender that gives none
 pub undrawn : (result : Option Event) (may : Bool) → result ≡ None → (IsSome result ↔ (may ≡ true)) → may ≡ false

@@ -1,6 +1,7 @@
 use Rattle.std.proofs.Common.{◌≡◌, ◌-◌, ℕ, Bool, true, if◌then◌else◌, refl, ap, ◌∙◌, arith}
 use Rattle.fg_caches.specs.Draws.{may_draw, after_five, moves_from}
-use Rattle.fg_worker.proofs.Moving.{Draws, starts, ends, goes_on, undrawn, none_drawn}
+use Rattle.fg_drive.proofs.Drawing.{none_drawn}
+use Rattle.fg_worker.proofs.Moving.{Draws, starts, ends, goes_on, undrawn}
 use Rattle.fg_worker.proofs.tending.tend_through.Goals as goal
 
 pub loop-move-init : goal.loop-move-init
