@@ -209,13 +209,6 @@ impl Device {
         &self.program
     }
 
-    /// The value that the timeline of the queue has reached.
-    pub fn counter(&self, queue: u32) -> u64
-        ensures { result ≡ (state_of self.now).counter queue }
-    {
-        self.control.counter(queue)
-    }
-
     /// What has happened. Each event could come in its turn.
     pub fn history(&self) -> &[Event]
         ensures history { result.now ≡ self.now.history }
