@@ -1,14 +1,17 @@
 //! Whether a device can make an event.
 
-ghost use Rattle.std.specs.Prelude.{◌≡◌, ◌&&◌, ◌+◌, nat_le, slice_get, false};
+ghost use Rattle.std.specs.Prelude.{◌≡◌, ◌&&◌, ◌+◌, nat_le, slice_get, true, false};
 ghost use Rattle.std.specs.Option.{option_map_or};
 ghost use Rattle.fg_caches.specs.Lines.{range};
 ghost use Rattle.fg_hb.specs.Edges.{is_host, is_sync};
-ghost use Rattle.fg_steps.specs.Devices.{is_ready, view_in};
+ghost use Rattle.fg_steps.specs.Coming.{is_enabled};
+ghost use Rattle.fg_steps.specs.Devices.{is_ready, state_of, view_in};
+ghost use Rattle.fg_steps.specs.Histories.{is_move};
 ghost use Rattle.fg_steps.specs.Ready.{is_command, kind_at};
 ghost use Rattle.fg_steps.specs.Steps.{may_move};
 ghost use Rattle.fg_subs.specs.Limits.{memory_bytes};
 
+use fg_base::Event;
 use fg_device::Device;
 use fg_drive::size_of;
 use fg_hb::Kind;
@@ -54,10 +57,38 @@ fn has_range(program: &Program, memory: u32, start: u32, len: u32) -> bool
     }
 }
 
-/// Whether the device has the agent and the range. The range may be empty.
-pub(crate) fn may_move(device: &Device, agent: u32, memory: u32, start: u32, len: u32) -> bool
+// Whether the device has the agent and the range. The range may be empty.
+fn reaches(device: &Device, agent: u32, memory: u32, start: u32, len: u32) -> bool
     ensures { result ≡ may_move device.now.program agent (range memory start len) }
 {
     let program = device.program().program();
     (agent as usize) < 8 * program.queues.len() && has_range(program, memory, start, len)
+}
+
+/// Whether the cache move is one of an agent that the device has, in a range that it has.
+pub(crate) fn may_move(device: &Device, event: &Event) -> bool
+    requires { is_move event.now ≡ true }
+    ensures { result ≡ is_enabled device.now.program (state_of device.now) event.now }
+{
+    match *event {
+        Event::WriteBack {
+            agent,
+            memory,
+            start,
+            len,
+        }
+        | Event::Fill {
+            agent,
+            memory,
+            start,
+            len,
+        }
+        | Event::DropLine {
+            agent,
+            memory,
+            start,
+            len,
+        } => reaches(device, agent, memory, start, len),
+        _ => unreachable!(),
+    }
 }

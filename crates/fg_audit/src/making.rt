@@ -51,45 +51,38 @@ fn host(device: &mut Device, node: u32) -> bool
     true
 }
 
-// The event WriteBack.
-fn write_back(device: &mut Device, agent: u32, memory: u32, start: u32, len: u32) -> bool
-    requires { 0 < device.old.moves }
-    ensures follows { Follows device.old device.new (events.WriteBack agent memory start len) result }
+// A cache move.
+fn move_lines(device: &mut Device, event: &Event) -> bool
+    requires is { is_move event.now ≡ true }
+    requires moves { 0 < device.old.moves }
+    ensures follows { Follows device.old device.new event.now result }
     ensures quiet { Quiet device.old device.new }
 {
     round_laws();
-    if !may_move(device, agent, memory, start, len) {
+    if !may_move(device, event) {
         return false;
     }
-    device.write_back(agent, memory, start, len);
-    true
-}
-
-// The event Fill.
-fn fill(device: &mut Device, agent: u32, memory: u32, start: u32, len: u32) -> bool
-    requires { 0 < device.old.moves }
-    ensures follows { Follows device.old device.new (events.Fill agent memory start len) result }
-    ensures quiet { Quiet device.old device.new }
-{
-    round_laws();
-    if !may_move(device, agent, memory, start, len) {
-        return false;
+    match *event {
+        Event::WriteBack {
+            agent,
+            memory,
+            start,
+            len,
+        } => device.write_back(agent, memory, start, len),
+        Event::Fill {
+            agent,
+            memory,
+            start,
+            len,
+        } => device.fill(agent, memory, start, len),
+        Event::DropLine {
+            agent,
+            memory,
+            start,
+            len,
+        } => device.drop_line(agent, memory, start, len),
+        _ => unreachable!(),
     }
-    device.fill(agent, memory, start, len);
-    true
-}
-
-// The event DropLine.
-fn drop_line(device: &mut Device, agent: u32, memory: u32, start: u32, len: u32) -> bool
-    requires { 0 < device.old.moves }
-    ensures follows { Follows device.old device.new (events.DropLine agent memory start len) result }
-    ensures quiet { Quiet device.old device.new }
-{
-    round_laws();
-    if !may_move(device, agent, memory, start, len) {
-        return false;
-    }
-    device.drop_line(agent, memory, start, len);
     true
 }
 
@@ -104,24 +97,9 @@ pub(crate) fn make(device: &mut Device, event: &Event) -> bool
         Event::Begin { .. } | Event::End { .. } => unreachable!(),
         Event::Sync { node } => sync(device, node),
         Event::Host { node } => host(device, node),
-        Event::WriteBack {
-            agent,
-            memory,
-            start,
-            len,
-        } => write_back(device, agent, memory, start, len),
-        Event::Fill {
-            agent,
-            memory,
-            start,
-            len,
-        } => fill(device, agent, memory, start, len),
-        Event::DropLine {
-            agent,
-            memory,
-            start,
-            len,
-        } => drop_line(device, agent, memory, start, len),
+        Event::WriteBack { .. } | Event::Fill { .. } | Event::DropLine { .. } => {
+            move_lines(device, event)
+        }
     }
 }
 
