@@ -4,10 +4,8 @@ ghost use Rattle.std.specs.Prelude.{◌≡◌, ◌<◌, ◌+◌, ◌*◌, ◌/�
 ghost use Rattle.fg_flight.specs.Flights.{AreHeld, window_at, window_count};
 ghost use Rattle.fg_fly.specs.Code.Flying.{AreWindows, CanRead, IsFlown, IsKept, Prints, text_before};
 ghost use Rattle.fg_fly.specs.Flights.{Flies};
-ghost use Rattle.fg_fly.specs.Plans.{CanFly};
 ghost use Rattle.fg_frame.specs.Numbered.{numbered};
 ghost use Rattle.fg_run.specs.FrameRuns.{RunsOn};
-ghost use Rattle.fg_words.specs.Commands.{HasWorkers};
 
 use crate::held::hold;
 use crate::outcome::Outcome;
@@ -54,7 +52,6 @@ fn run_window<R: Threads + Wait + Sync, G: Gate + Sync>(
     held: &List<Option<List<u8>>>,
     gate: &G,
 ) -> Result<Device, NoMemory>
-    requires workers { HasWorkers options }
     requires there { w < window_count windows.now.depth windows.now.frames }
     requires held { AreHeld windows.now.frames windows.now.persist held.now }
     ensures { IfOk result (RunsOn options.tend false (numbered (window_at windows.now.frames windows.now.persist windows.now.depth held.now w))) }
@@ -98,7 +95,6 @@ fn fly_window<R: Threads + Wait + Sync, G: Gate + Sync>(
     flying: &mut Flying,
     gate: &G,
 ) -> Result<(), NoMemory>
-    requires plan { CanFly plan.now }
     requires windows { AreWindows frames.now plan.now.depth windows.now }
     requires there { w < window_count windows.now.depth windows.now.frames }
     requires flown { IsFlown plan.now.options.tend windows.now w flying.old }
@@ -119,7 +115,6 @@ pub(crate) fn fly_windows<R: Threads + Wait + Sync, G: Gate + Sync>(
     frames: &[GoodFrame],
     gate: &G,
 ) -> Result<Outcome, NoMemory>
-    requires plan { CanFly plan.now }
     requires windows { AreWindows frames.now plan.now.depth windows.now }
     ensures { IfOk result (Flies plan.now.options.tend windows.now.persist windows.now.depth windows.now.frames) }
 {

@@ -1,6 +1,6 @@
 //! A good frame runs.
 
-ghost use Rattle.std.specs.Prelude.{◌≤◌, IfOk};
+ghost use Rattle.std.specs.Prelude.{IfOk};
 ghost use Rattle.fg_frame.specs.Numbered.{numbered};
 ghost use Rattle.fg_run.specs.FrameRuns.{RunsOn};
 
@@ -23,8 +23,6 @@ pub fn run_good<R: Threads + Wait + Sync, G: Gate + Sync>(
     good: &GoodFrame,
     gate: &G,
 ) -> Result<Device, NoMemory>
-    requires least { 1 ≤ options.workers }
-    requires most { options.workers ≤ 16 }
     ensures { IfOk result (RunsOn options.tend tight (numbered good.now)) }
 {
     let made = compiled(alloc, good, tight)?;

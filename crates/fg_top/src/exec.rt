@@ -1,6 +1,6 @@
 //! The command `exec`.
 
-ghost use Rattle.std.specs.Prelude.{◌≤◌, ◌⊎◌, IfOk};
+ghost use Rattle.std.specs.Prelude.{◌⊎◌, IfOk};
 ghost use Rattle.fg_checker.specs.Sound.{IsSound};
 ghost use Rattle.fg_top.specs.Answers.{ExecutesFile};
 ghost use Rattle.fg_answer.specs.Statuses.{HasText};
@@ -31,8 +31,6 @@ fn execute_checked<R: Threads + Wait + Sync, G: Gate + Sync>(
     program: &Checked,
     gate: &G,
 ) -> Result<Reply, NoMemory>
-    requires least { 1 ≤ options.workers }
-    requires most { options.workers ≤ 16 }
     requires sound { IsSound program.now.program }
     ensures program { IfOk result (Executes options trace program.now.program) }
     ensures has_text { IfOk result (λ reply. HasText reply.answer.status) }
@@ -50,8 +48,6 @@ fn execute_program<R: Threads + Wait + Sync, G: Gate + Sync>(
     program: Shaped,
     gate: &G,
 ) -> Result<Reply, NoMemory>
-    requires least { 1 ≤ options.workers }
-    requires most { options.workers ≤ 16 }
     ensures program { IfOk result (λ reply. Executes options trace program reply ⊎ IsStill (Rejects program) reply) }
     ensures has_text { IfOk result (λ reply. HasText reply.answer.status) }
 {
@@ -70,8 +66,6 @@ pub fn execute_file<R: Threads + Wait + Sync, G: Gate + Sync>(
     bytes: &[u8],
     gate: &G,
 ) -> Result<Reply, NoMemory>
-    requires least { 1 ≤ options.workers }
-    requires most { options.workers ≤ 16 }
     ensures file { IfOk result (ExecutesFile options trace (program_file bytes.now)) }
     ensures has_text { IfOk result (λ reply. HasText reply.answer.status) }
 {

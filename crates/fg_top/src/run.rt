@@ -1,6 +1,6 @@
 //! The command `run`.
 
-ghost use Rattle.std.specs.Prelude.{◌≤◌, Bool, IfOk};
+ghost use Rattle.std.specs.Prelude.{Bool, IfOk};
 ghost use Rattle.fg_compile.specs.Right.{IsRightFor};
 ghost use Rattle.fg_frame.specs.Numbered.{numbered};
 ghost use Rattle.fg_top.specs.Answers.{RunsFile};
@@ -34,8 +34,6 @@ fn run_compiled<R: Threads + Wait + Sync, G: Gate + Sync>(
     made: &Compiled,
     gate: &G,
 ) -> Result<Reply, NoMemory>
-    requires least { 1 ≤ options.workers }
-    requires most { options.workers ≤ 16 }
     requires kept { AreKept (numbered good.now) made.now.kept }
     requires right { IsRightFor (numbered good.now) made.now.program.program }
     ensures frame { (tight : Bool) → Compiles tight (numbered good.now) made.now.kept made.now.placement made.now.program.program →
@@ -56,8 +54,6 @@ fn run_frame<R: Threads + Wait + Sync, G: Gate + Sync>(
     good: &GoodFrame,
     gate: &G,
 ) -> Result<Reply, NoMemory>
-    requires least { 1 ≤ options.workers }
-    requires most { options.workers ≤ 16 }
     ensures frame { IfOk result (RunsFrame options trace tight good.now) }
     ensures has_text { IfOk result (λ reply. HasText reply.answer.status) }
 {
@@ -75,8 +71,6 @@ pub fn run_file<R: Threads + Wait + Sync, G: Gate + Sync>(
     bytes: &[u8],
     gate: &G,
 ) -> Result<Reply, NoMemory>
-    requires least { 1 ≤ options.workers }
-    requires most { options.workers ≤ 16 }
     ensures file { IfOk result (RunsFile options trace tight (frame_file bytes.now)) }
     ensures has_text { IfOk result (λ reply. HasText reply.answer.status) }
 {

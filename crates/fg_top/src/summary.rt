@@ -90,8 +90,6 @@ fn summarize_compiled<R: Threads + Wait + Sync, G: Gate + Sync>(
     made: &Compiled,
     gate: &G,
 ) -> Result<Reply, NoMemory>
-    requires least { 1 ≤ options.workers }
-    requires most { options.workers ≤ 16 }
     requires compiles { Compiles false (numbered good.now) made.now.kept made.now.placement made.now.program.program }
     ensures frame { IfOk result (SummarizesFrame options good.now) }
     ensures has_text { IfOk result (λ reply. HasText reply.answer.status) }
@@ -109,8 +107,6 @@ fn summarize_frame<R: Threads + Wait + Sync, G: Gate + Sync>(
     good: &GoodFrame,
     gate: &G,
 ) -> Result<Reply, NoMemory>
-    requires least { 1 ≤ options.workers }
-    requires most { options.workers ≤ 16 }
     ensures frame { IfOk result (SummarizesFrame options good.now) }
     ensures has_text { IfOk result (λ reply. HasText reply.answer.status) }
 {
@@ -129,8 +125,6 @@ pub fn summarize<R: Threads + Wait + Sync, G: Gate + Sync>(
 ) -> Result<Reply, NoMemory>
     requires some { 1 ≤ passes }
     requires few { passes ≤ 256 }
-    requires least { 1 ≤ options.workers }
-    requires most { options.workers ≤ 16 }
     ensures frame { IfOk result (SummarizesFrame options (generated number passes)) }
     ensures has_text { IfOk result (λ reply. HasText reply.answer.status) }
 {

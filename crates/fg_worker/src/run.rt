@@ -85,9 +85,7 @@ pub fn run_workers<R: Threads + Wait + Sync, G: Gate + Sync>(
     workers: u32,
     tend: Option<u64>,
     gate: &G,
-) -> Result<Device, NoMemory>
-    requires { (1 ≤ workers) × (workers ≤ 16) }
-{
+) -> Result<Device, NoMemory> {
     let run = Run::new(rt, alloc, program, workers, tend)?;
     let parts = workers as usize + tend.is_some() as usize;
     let ends = thread::map_indices(rt, alloc, parts, &|i| run.part(rt, alloc, i, gate))?;

@@ -1,9 +1,6 @@
 use Rattle.fg_fly.proofs.Flown.{gave_up, on_ok, ran_flown, ran_prints, ran_reads}
 use Rattle.fg_fly.proofs.flying.fly_window.Goals as goal
 
-pub run_window-requires-clause-workers : goal.run_window-requires-clause-workers
-run_window-requires-clause-workers g c κs within = c.requires.plan.workers
-
 pub run_window-requires-clause-there : goal.run_window-requires-clause-there
 run_window-requires-clause-there g c κs within = c.requires.there
 

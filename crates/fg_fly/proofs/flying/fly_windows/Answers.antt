@@ -24,8 +24,5 @@ returns-in_err-flying g c = gave_up c.from_residual.result _ _ c.from_residual.e
 pub returns-in_err-fly_window : goal.returns-in_err-fly_window
 returns-in_err-fly_window g c = gave_up c.from_residual-in_err-fly_window.result _ _ c.from_residual-in_err-fly_window.ensures.1
 
-pub fly_window-requires-clause-plan : goal.fly_window-requires-clause-plan
-fly_window-requires-clause-plan g c κs within = c.requires.plan
-
 pub fly_window-requires-clause-windows : goal.fly_window-requires-clause-windows
 fly_window-requires-clause-windows g c κs within = c.requires.windows

@@ -16,12 +16,6 @@ frame-requires-clause-held g c =
 pub returns-in_err-good : goal.returns-in_err-good
 returns-in_err-good g c = gave_up c.from_residual.result _ _ c.from_residual.ensures.1
 
-pub run_good-requires-clause-least : goal.run_good-requires-clause-least
-run_good-requires-clause-least g c κs within = c.requires.workers.0
-
-pub run_good-requires-clause-most : goal.run_good-requires-clause-most
-run_good-requires-clause-most g c κs within = c.requires.workers.1
-
 pub returns : goal.returns
 returns g c =
     let F = c.args.windows.now in
