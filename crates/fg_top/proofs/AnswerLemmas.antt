@@ -57,7 +57,7 @@ unanswered command left written told status none (inr e) = rw e (Keeps-refl writ
 any_bytes : (command : Command) (bytes other : List ℕ) (reply : Reply) → file_of command ≡ None → AnswersBytes command bytes reply → AnswersBytes command other reply
 any_bytes (reads.Frame asked) bytes other reply none is = absurd (no_file files.Frame (sym none))
 any_bytes (reads.Submission asked) bytes other reply none is = absurd (no_file files.Submission (sym none))
-any_bytes (reads.Gen number passes) bytes other reply none is = record { answer = is.answer; no_device = is.no_device }
+any_bytes (reads.Gen number passes) bytes other reply none is = record { answer = is.answer; untold = is.untold }
 any_bytes (reads.Run options trace tight) bytes other reply none is = absurd (no_file files.Frame (sym none))
 any_bytes (reads.Exec options trace) bytes other reply none is = absurd (no_file files.Submission (sym none))
 any_bytes (reads.Summary number passes options) bytes other reply none is = is
@@ -90,9 +90,9 @@ module _ (command : Command) (left : Option (List ℕ)) (reply : Reply) where
 
 -- an answer at rest
 pub rested : (command : Command) (bytes : List ℕ) (answer : Answer) → rest.AnswersBytes command bytes answer → AnswersBytes command bytes (still answer)
-rested (reads.Frame asked) bytes answer is = record { answer = is; no_device = refl }
-rested (reads.Submission asked) bytes answer is = record { answer = is; no_device = refl }
-rested (reads.Gen number passes) bytes answer is = record { answer = is; no_device = refl }
+rested (reads.Frame asked) bytes answer is = record { answer = is; untold = refl }
+rested (reads.Submission asked) bytes answer is = record { answer = is; untold = refl }
+rested (reads.Gen number passes) bytes answer is = record { answer = is; untold = refl }
 rested (reads.Run options trace tight) bytes answer is = absurd is
 rested (reads.Exec options trace) bytes answer is = absurd is
 rested (reads.Summary number passes options) bytes answer is = absurd is

@@ -5,7 +5,7 @@ use Rattle.fg_answer.specs.declared.answer.Answer.{Answer}
 use Rattle.fg_steps.specs.Devices.{Device}
 use Rattle.fg_top.specs.declared.reply.Reply.{Reply}
 
--- no device ran
+-- taps are told nothing
 abbrev pub still : Answer → Reply
 still answer = record { answer = answer; history = None }
 
@@ -13,7 +13,7 @@ still answer = record { answer = answer; history = None }
 abbrev pub ran : Device → List ℕ → Reply
 ran device text = record { answer = done text; history = Some device.history }
 
--- an answer for which no device ran, of which this holds
+-- an answer of which this holds, and of which taps are told nothing
 pub record IsStill (Holds : Answer → Type 0) (reply : Reply) : Type 0 where
   pub answer : Holds reply.answer
-  pub no_device : reply.history ≡ None
+  pub untold : reply.history ≡ None

@@ -17,7 +17,7 @@ pub struct Reply {
     pub history: Option<List<Event>>,
 }
 
-/// An answer for which no device ran.
+/// An answer of which taps are told nothing.
 pub fn still(answer: Answer) -> Reply
     ensures { result ≡ still answer }
 {

@@ -20,10 +20,11 @@ use std::thread::Threads;
 /// Does the whole work of the program for the words after the program's name: reads `input`, writes a text to `output`
 /// and answers the status. No more is read than one byte over the command's limit, 16 MiB of a frame or 32 MiB of a
 /// submission. Where a read fails or memory runs out, nothing is written. Where no read and no write fails, the status
-/// is that of the answer and its whole text is written, unless memory runs out. Where a device ran, the taps are told what it
-/// did, one tap after another, before the text is written: each until it is finished, and then it is moved to the end of
-/// the answer's `spent`, and the place that it had among the taps is put at the end of `places`. Only `run`, `exec`,
-/// `gen --summary`, `flight` and `audit` start threads, and of these `audit` alone does not call the gate.
+/// is that of the answer and its whole text is written, unless memory runs out. Of `run`, `exec`, `gen --summary` and
+/// `flight` the taps are told what the devices did, one tap after another, before the text is written: each until it is
+/// finished, and then it is moved to the end of the answer's `spent`, and the place that it had among the taps is put at the
+/// end of `places`. Of all other commands they are told nothing. Only these four and `audit` start threads, and `audit` does
+/// not call the gate.
 pub fn framec<R: Threads + Wait + Sync, I: Source, O: Sink, G: Gate + Sync>(
     rt: &R,
     alloc: Global,

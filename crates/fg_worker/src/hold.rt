@@ -16,12 +16,12 @@ pub trait Hold {
 
     ghost told: { Self → Option Device };
 
-    /// A hold of the worker of a queue. Where no node is ready and not all are done, it waits in the same hold.
+    /// A hold of the worker of a queue. Where no node is ready and not all are done, one on a shared device waits in the same hold.
     fn turn(&mut self, alloc: Global, own_queue: u32) -> Result<Turn, NoMemory>
         ensures ok { IfOk result (TurnsTo (told self.old) (told self.new) own_queue) }
         ensures err { OnErr result (told self.new ≡ told self.old) };
 
-    /// A hold in which a command ends. It calls nobody: the worker takes its next turn at once, and rings then where it has to.
+    /// A hold in which a command ends. It calls nobody: the worker takes its next turn at once, and calls others then where it has to.
     fn land(&mut self, done: Finished)
         ensures { LandsTo (told self.old) (told self.new) done.node };
 

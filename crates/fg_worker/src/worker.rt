@@ -42,10 +42,10 @@ pub fn work_through<R: Threads + Wait + Sync, H: Hold, G: Gate>(
     unreachable!()
 }
 
-/// The worker of a queue, on a device that others share. In each hold of the lock it makes one event: of the least ready node of
-/// its own queue, else of the other queues in rising order, else a host read. It waits at the bell only where in this hold no
-/// node was ready and not all were done, and answers Ok only where in its last hold all were done. It leaves with nothing begun
-/// of its own, and rings the bell before it does.
+/// The worker of a queue, on a device that others share. A hold of the lock ends the command that it computed, or is a turn: the
+/// event of the least ready node of its own queue, else of the other queues in rising order, else a host read. It waits at the
+/// bell only where in this hold no node was ready and not all were done, and answers Ok only where in its last hold all were
+/// done. It leaves with nothing begun of its own, and rings the bell before it does.
 pub fn work<R: Threads + Wait + Sync, G: Gate>(
     rt: &R,
     alloc: Global,
