@@ -20,10 +20,3 @@ mod words;
 pub use contents::Contents;
 pub use table::Segments;
 pub use tender::{MOVES, Tender};
-
-#[cfg(test)]
-mod plain;
-#[cfg(test)]
-mod step;
-#[cfg(test)]
-mod tests;

@@ -29,6 +29,3 @@ pub use place::{place_text, sum_of_sizes};
 pub use readback::readback_text;
 pub use summary::summary_text;
 pub use trace::trace_text;
-
-#[cfg(test)]
-mod tests;

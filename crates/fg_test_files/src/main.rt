@@ -1,4 +1,4 @@
-//! Tests of both file formats: each member read and written, the first fault of each file.
+//! Tests of both file formats and of printed texts: each member read and written, the first fault of each file, a line of each kind.
 //! The program itself does nothing, and nothing stands on it.
 #![tactic(auto)]
 
@@ -10,6 +10,8 @@ mod framefile;
 mod framefile_texts;
 #[cfg(test)]
 mod opforms;
+#[cfg(test)]
+mod report;
 #[cfg(test)]
 mod shapeforms;
 #[cfg(test)]

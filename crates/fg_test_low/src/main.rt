@@ -1,4 +1,4 @@
-//! Tests of the crates that know no frame and no submission: numbers, names, kernels, lines, reachability, places, bounds, words.
+//! Tests of the crates that know no frame and no submission: numbers, names, kernels, lines, reachability, places, bounds, caches, words.
 //! The program itself does nothing, and nothing stands on it.
 #![tactic(auto)]
 
@@ -10,6 +10,12 @@ mod base_operations;
 mod bits;
 #[cfg(test)]
 mod bound;
+#[cfg(test)]
+mod caches;
+#[cfg(test)]
+mod caches_plain;
+#[cfg(test)]
+mod caches_step;
 #[cfg(test)]
 mod draw;
 #[cfg(test)]

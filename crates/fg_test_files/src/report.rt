@@ -1,8 +1,13 @@
-use super::*;
-use crate::export::add_export;
+//! Printed texts: that the calls find memory, and a row of each kind.
+
 use fg_base::{Event, Leg, Limit, List, Name, NoMemory, Text};
 use fg_checker::Hazard;
-use fg_frame::{FrameFault, Spot};
+use fg_frame::{FrameFault, GoodFrame, well_formed};
+use fg_report::{
+    FlightLine, check_text, cost_text, export_text, flight_text, frame_fault_text, hazard_text,
+    readback_text, sub_fault_text, trace_text,
+};
+use fg_sketch::{SketchError, sketched_frame};
 use fg_subs::SubFault;
 use std::alloc::Global;
 use std::process::Abort;
@@ -42,14 +47,24 @@ fn named(rt: &impl Abort, text: &str) -> Name {
     Name::read(text.as_bytes()).expect(rt, "a name")
 }
 
+// A frame whose one export is a layer of an image.
+fn layered(alloc: Global) -> Result<GoodFrame, SketchError> {
+    match well_formed(
+        alloc,
+        sketched_frame(alloc, "x:im/1 |g w:+im/1 clear:im/1")?,
+    ) {
+        Ok(good) => Ok(good),
+        Err(_) => Err(SketchError::Word),
+    }
+}
+
 #[test]
 fn layers(rt: HostRuntime) -> Result<(), Fail> {
+    let frame = layered(rt.alloc())?;
     let mut text = List::new(rt.alloc());
-    let unit = Spot {
-        name: named(&rt, "im"),
-        layer: Some(1),
-    };
-    add_export(&mut text, &unit, &[5, 7])?;
+    if !frame.exports().is_empty() {
+        export_text(&mut text, &frame, 0, &[5, 7])?;
+    }
     is_printed(&rt, text, b"export im/1 2\n0507\n");
     Ok(())
 }

@@ -2,7 +2,7 @@
 
 ghost use Rattle.std.specs.Prelude.{◌<◌};
 
-use super::step::{Call, Step};
+use crate::caches_step::{Call, Step};
 
 /// A byte of a cache.
 #[derive(Clone, Copy, PartialEq)]

@@ -1,7 +1,7 @@
 use Rattle.std.proofs.Common.{◌≡◌, ◌≤◌, ◌+◌, ◌*◌, length}
-use Rattle.fg_caches.specs.declared.tests.TheConstants.{AGENTS, LARGE, SMALL, EVENTS}
+use Rattle.fg_test_low.specs.declared.caches.TheConstants.{AGENTS, LARGE, SMALL, EVENTS}
 use Rattle.fg_caches.specs.Tables.{size_of, junk_of}
-use Rattle.fg_caches.proofs.tests.rounds.Given as goal
+use Rattle.fg_test_low.proofs.caches.rounds.Given as goal
 
 abbrev pub invariant-loop-k : goal.invariant-loop-k
 invariant-loop-k g l = record {

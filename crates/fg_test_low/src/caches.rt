@@ -2,11 +2,11 @@ ghost use Rattle.std.specs.Prelude.{◌≡◌, ◌<◌, ◌≤◌, ◌+◌, ◌*
 ghost use Rattle.fg_caches.specs.Tables.{size_of, junk_of, InMemory, Keeps};
 ghost use Rattle.fg_caches.specs.Code.Kept.{Knows};
 
-use super::plain::{Byte, Plain};
-use super::step::{Call, Step};
-use super::*;
+use crate::caches_plain::{Byte, Plain};
+use crate::caches_step::{Call, Step};
 use bytes::BytesMut;
 use fg_base::{Event, List, NoMemory};
+use fg_caches::{Contents, Segments, Tender};
 use std::alloc::Global;
 use std::process::Abort;
 use std::test::Fail;
