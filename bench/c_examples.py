@@ -8,7 +8,8 @@ built by its CMakeLists.txt: check_submission has to print the text of `check` f
 a hazard; compile_frame has to print as many barriers as `compile` has for each frame (it is left out where cJSON is not there). Then so
 many random files, most of them wrong somewhere, go to each function: status and text have to be the program's, whatever the room. Four threads
 that make so many calls at one time have to get the text of the first call each time, and where there is valgrind, it must find no invalid
-access and no lost memory in so many calls. A tool that is not there is told; the status is 1 at a difference.
+access and no lost memory in so many calls. A tool that is not there is told; the status is 1 at a difference, or where the library is not
+built.
 """
 
 import argparse
@@ -22,7 +23,7 @@ import tempfile
 from pathlib import Path
 
 import changes
-from c_library import CRATE, LIBRARY, TOP, built, missing
+from c_library import CRATE, LIBRARY, TOP, UNPROVED, built, missing
 from makers import Frame
 
 BUILT = TOP / "crates/framec/out/framec"
@@ -54,7 +55,9 @@ def declared(runs, folder):
     exported = re.findall(r'extern "C" fn (\w+)', (CRATE / "src/exports.rt").read_text(encoding="utf-8"))
     runs.expect("functions of framec.h", sorted(re.findall(r"^int32_t (\w+)\(", header.read_text(encoding="utf-8"), re.M)), sorted(exported))
     runs.expect("functions that are called here", sorted(f"framec_{word}" for word in WORDS), sorted(exported))
-    if shutil.which("c++"):
+    if not shutil.which("c++"):
+        print("left out: c++ (the header in C++)", file=sys.stderr)
+    else:
         source = Path(folder) / "header.cc"
         source.write_text("#include <framec.h>\n", encoding="utf-8")
         runs.expect("framec.h in C++", runs.ran(["c++", "-Wall", "-Wextra", "-Werror", "-fsyntax-only", f"-I{TOP / 'include'}", source])[0], 0)
@@ -63,17 +66,17 @@ def declared(runs, folder):
 def examples(runs, folder, library):
     """The programs of examples/c, by cmake."""
     if not shutil.which("cmake"):
-        print("cmake is not there: the examples in C are not built", file=sys.stderr)
+        print("left out: cmake (the examples in C)", file=sys.stderr)
         return
-    # That of the repository is the one that the README speaks of.
-    made = TOP / "out/c" if library == LIBRARY else Path(folder) / "examples"
+    # Those of the repository are the ones that the README speaks of.
+    made = TOP / "out/c" if library in (LIBRARY, UNPROVED) else Path(folder) / "examples"
     for words in (["cmake", "-S", TOP / "examples/c", "-B", made, f"-DFramec_LIBRARY={library}"], ["cmake", "--build", made]):
         done = subprocess.run([str(word) for word in words], capture_output=True, text=True)
         if done.returncode != 0:
             sys.exit(f"examples/c is not built\n{done.stdout}{done.stderr}")
         for line in done.stdout.splitlines():
             if "left out" in line:
-                print(line.removeprefix("-- "), file=sys.stderr)
+                print("left out: libcjson-dev (compile_frame of the examples in C)", file=sys.stderr)
     for path in sorted([*TOP.glob("examples/submissions/*.json"), *TOP.glob("examples/profile/*.json")]):
         status, text = runs.asked("check", path.read_bytes())
         got = runs.ran([made / "check_submission", path])
@@ -114,7 +117,7 @@ def many_calls(runs, calls, count):
     """Many calls, on four threads, and under valgrind."""
     grind = ["valgrind", "-q", "--error-exitcode=97", "--leak-check=full", "--show-leak-kinds=all", "--errors-for-leak-kinds=all"]
     if not shutil.which("valgrind"):
-        print("valgrind is not there: no call is looked at", file=sys.stderr)
+        print("left out: valgrind (calls from C)", file=sys.stderr)
     frame, program = TOP / "examples/frames/ramp_and_map.json", TOP / "examples/submissions/wrong_owner.json"
     for word, path in [("check", program), *((word, frame) for word in WORDS)]:
         runs.expect(f"{count} calls of framec_{word} on each of four threads", runs.ran([calls, word, path, count, 4])[0], 0)
@@ -130,10 +133,12 @@ def main():
     parser.add_argument("--seed", type=int, default=1)
     parser.add_argument("--calls", type=int, default=1000)
     options = parser.parse_args()
+    if not shutil.which("cc"):
+        print("left out: cc (the examples in C)", file=sys.stderr)
+        return
     lacking = missing(options.library.absolute())
     if lacking:
-        print(f"{lacking}: the examples in C are not built", file=sys.stderr)
-        return
+        sys.exit(f"{lacking}: the examples in C are not built")
     runs = Runs(options.program)
     with tempfile.TemporaryDirectory() as folder:
         declared(runs, folder)

@@ -8,6 +8,7 @@ from pathlib import Path
 TOP = Path(__file__).resolve().parent.parent
 CRATE = TOP / "crates/framec_c"
 LIBRARY = CRATE / "out/libframec_c.a"
+UNPROVED = TOP / "out/unproved/libframec_c.a"
 WARNINGS = ["-std=c99", "-pedantic", "-Wall", "-Wextra", "-Werror"]
 
 

@@ -9,7 +9,7 @@ seed. A frame's `cull` has to begin
 with the line of the table, and so has its `place`; `run` has to print the former line, the culled passes and then what `meaning`
 prints; the frame's canonical text has to be its own canonical text, and to run as the frame does; and what the frame is compiled to has to
 leave the bytes of the exports on the device. A list of frames has to print the same at each depth. Each file of the folders needs a row, and each
-hazard H1 to H9 a file.
+hazard H1 to H9 a file. The stored run of the program, which the gate repeats, is on the example that the README names.
 """
 
 import argparse
@@ -123,6 +123,8 @@ def main():
     for name, row in flights.items():
         runs.flight(FLIGHTS / name, code(row[2]))
     runs.expect("files of examples/flights", {path.name for path in FLIGHTS.iterdir()}, set(flights))
+    stored = (TOP / "crates/framec/stdin").read_bytes()
+    runs.expect("stored run of the program", stored, (FRAMES / "one_fill.json").read_bytes())
     for line in runs.differences:
         print(line, file=sys.stderr)
     print(f"examples: {runs.count} runs, {len(runs.differences)} differences")

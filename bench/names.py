@@ -29,7 +29,7 @@ PAGES = [TOP / "README.md", TOP / "HACKING.md", *sorted(TOP.glob("docs/*.md")), 
 SOURCES = [path for end in ("rt", "antt", "edit") for path in sorted(TOP.glob(f"crates/*/**/*.{end}")) if "out" not in path.parts]
 FILE = re.compile(r"[\w./*-]+\.(?:rt|antt|py|json|md|edit|svg|txt)|(?:docs|bench|examples|crates|specs|src|proofs)/[\w./*-]*")
 # Names of the toolchain, of its library and of other programs, which stand in no source of the repository.
-FOREIGN = set("rt ci cmake Framec FindFramec diff fmt plant tidy compile console RT_JOBS IntoIterator forget bufferImageGranularity minImageTransferGranularity maxTimelineSemaphoreValueDifference VkMemoryRequirements VK_PIPELINE_STAGE_2_NONE VkSubmitInfo2 _mended NAME PROGRAM OTHER CRATE COMMAND FILE UNIT BYTES LAYER K C N".split())
+FOREIGN = set("rt ci cmake Framec FindFramec Framec_LIBRARY diff fmt plant tidy compile console RT_JOBS IntoIterator forget bufferImageGranularity minImageTransferGranularity maxTimelineSemaphoreValueDifference VkMemoryRequirements VK_PIPELINE_STAGE_2_NONE VkSubmitInfo2 _mended NAME PROGRAM OTHER CRATE COMMAND FILE UNIT BYTES LAYER K C N".split())
 
 problems = []
 

@@ -323,7 +323,7 @@ def main():
             path.write_text(text, encoding="utf-8")
     for path in stale:
         print(f"{path} is not what bench/pictures.py draws", file=sys.stderr)
-    print(f"pictures: {len(PICTURES)}, {len(stale)} stale")
+    print(f"pictures: {len(PICTURES)} pictures, {len(stale)} stale")
     sys.exit(1 if stale else 0)
 
 

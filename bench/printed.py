@@ -5,8 +5,8 @@
 
 A fenced block marked `console` has command lines that begin with `$ `, each with its whole text below it: standard output and
 standard error. A line `...` stands for any lines, and `$ echo $?` prints the status of the line before. The lines are run at
-the top of the repository, with the built program in place of `./framec`; one whose program is not there is left out. No other
-block may have a line that begins with `$ `.
+the top of the repository, with the built program in place of `./framec`; one whose program is not there is left out, and told. No
+other block may have a line that begins with `$ `.
 """
 
 import argparse
@@ -87,6 +87,7 @@ def main():
             status = 0
             for number, command, wanted in commands(start, lines):
                 if not can_run(command):
+                    print(f"left out: {command.split()[0]} ({name}:{number})", file=sys.stderr)
                     continue
                 got, status = printed(command, program, status)
                 ran += 1

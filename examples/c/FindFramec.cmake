@@ -1,6 +1,6 @@
 # Finds the compiler as a static library: the target Framec::framec, with its header.
 #
-# Framec_ROOT is the top of a checkout in which the library is built (`rt lib` in crates/framec_c); left out, it is the checkout that this file
+# Framec_ROOT is the top of a checkout in which the library is built (`rt lib` in crates/framec_c, or tools/unproved.py library); left out, it is the checkout that this file
 # is in. The library calls malloc, realloc and free through the toolchain's archive libc_c, which stands beside the command rt.
 get_filename_component(_framec_top "${CMAKE_CURRENT_LIST_DIR}/../.." ABSOLUTE)
 find_program(Framec_RT rt)
@@ -8,7 +8,7 @@ get_filename_component(_framec_rt "${Framec_RT}" REALPATH)
 get_filename_component(_framec_kit "${_framec_rt}/../.." ABSOLUTE)
 
 find_path(Framec_INCLUDE_DIR framec.h HINTS "${Framec_ROOT}/include" "${_framec_top}/include")
-find_library(Framec_LIBRARY framec_c HINTS "${Framec_ROOT}/crates/framec_c/out" "${_framec_top}/crates/framec_c/out")
+find_library(Framec_LIBRARY framec_c HINTS "${Framec_ROOT}/crates/framec_c/out" "${_framec_top}/crates/framec_c/out" "${_framec_top}/out/unproved")
 find_library(Framec_HEAP_LIBRARY libc_c HINTS "${_framec_kit}/c")
 
 include(FindPackageHandleStandardArgs)
