@@ -1,0 +1,63 @@
+#!/usr/bin/env python3
+"""Holds the help texts of ./framec against the docs: gate/help.py
+
+Each command of README.md's table has a help text, which begins with its usage and tells just the options that the table of
+options in docs/FORMATS.md gives it, in the usage and in a line each; `--help` names each command; and what is no such line is left
+to the program. The status is 1 where one does not hold.
+"""
+
+import re
+import subprocess
+import sys
+from pathlib import Path
+
+TOP = Path(__file__).resolve().parent.parent
+
+
+def helped(*words):
+    """What the script that answers prints, or None where it does not answer."""
+    done = subprocess.run([TOP / "tools/help.sh", *words], capture_output=True, text=True)
+    return done.stdout if done.returncode == 0 else None
+
+
+def commands():
+    """The commands of README.md's table."""
+    part = (TOP / "README.md").read_text(encoding="utf-8").split("## Commands\n", 1)[1].split("\n## ", 1)[0]
+    return sorted(set(re.findall(r"^\| `(\w+)", part, re.M)))
+
+
+def options():
+    """The options of each command, by docs/FORMATS.md."""
+    text = (TOP / "docs/FORMATS.md").read_text(encoding="utf-8")
+    found, last = {}, []
+    for option, of in re.findall(r"^\| `(--\w+)[^|]*\| ([^|]*)\|", text, re.M):
+        last = last if of.strip() == "the same" else re.findall(r"`(\w+)", of)
+        for command in last:
+            found.setdefault(command, set()).add(option)
+    return found
+
+
+def main():
+    wrong, count, whole = [], 0, helped("--help") or ""
+    for command in commands():
+        text, wanted = helped(command, "--help") or "", options().get(command, set())
+        usage = text.splitlines()[0] if text else ""
+        for what, holds in {
+            "has a usage": usage.startswith(f"usage: framec {command}"),
+            "has its options in the usage": set(re.findall(r"--\w+", usage)) == wanted,
+            "has a line for each option": set(re.findall(r"^  (--\w+)", text, re.M)) == wanted,
+            "is named by --help": re.search(rf"^  {command} ", whole, re.M) is not None,
+        }.items():
+            count += 1
+            wrong += [] if holds else [f"help of {command}: it is not so that it {what}"]
+    for words in (["--help", "check"], ["nothing", "--help"], ["check", "--version"], ["all", "--help"]):
+        count += 1
+        wrong += [] if helped(*words) is None else [f"{' '.join(words)} is answered"]
+    for line in wrong:
+        print(line, file=sys.stderr)
+    print(f"help: {count} facts, {len(wrong)} that do not hold")
+    sys.exit(1 if wrong else 0)
+
+
+if __name__ == "__main__":
+    main()
