@@ -1,0 +1,114 @@
+#!/usr/bin/env python3
+"""Holds the JSON schemas of docs/schema against the examples and the program: gate/schemas.py [--program PROGRAM]
+
+Each file of examples/ and each text that the program makes of one (`migrate`, `compile`, `auto`) has to be valid by its schema. Each file
+with one member taken away, given twice another kind, or added has to be valid exactly where the program tells no fault of the form (F2,
+F3, G11). It wants Python's package jsonschema, and says so where that is missing. The status is 1 where one does not hold.
+"""
+
+import argparse
+import copy
+import json
+import re
+import subprocess
+import sys
+from pathlib import Path
+
+TOP = Path(__file__).resolve().parent.parent
+# What is put in the place of each member and entry.
+OTHERS = (None, True, -1, 0.5, 4294967296, "", "x/9", [], {}, [0], {"unknown": 1})
+
+# Small files that have nearly every member, of both formats.
+CHANGED = (("frame", "cull", "frames/layers.json"), ("frame", "cull", "frames/one_fill.json"), ("submission", "check", "submissions/wrong_owner_mended.json"))
+
+
+def places(value, path=()):
+    """The path of each member and entry, the file itself first."""
+    yield path
+    entries = value.items() if isinstance(value, dict) else enumerate(value) if isinstance(value, list) else ()
+    for key, inner in entries:
+        yield from places(inner, (*path, key))
+
+
+def without(value, path):
+    """The value without the member or entry."""
+    changed = copy.deepcopy(value)
+    inner = changed
+    for key in path[:-1]:
+        inner = inner[key]
+    del inner[path[-1]]
+    return changed
+
+
+def with_other(value, path, other):
+    """The value with another one in that place."""
+    changed = [copy.deepcopy(value)]
+    inner, keys = changed, (0, *path)
+    for key in keys[:-1]:
+        inner = inner[key]
+    inner[keys[-1]] = copy.deepcopy(other)
+    return changed[0]
+
+
+def changed(value):
+    """The file with each change in one place."""
+    for path in places(value):
+        if path:
+            yield without(value, path)
+        for other in OTHERS:
+            yield with_other(value, path, other)
+
+
+class Holds:
+    def __init__(self, program, validators):
+        self.program, self.validators, self.count, self.wrong = program, validators, 0, []
+
+    def ran(self, word, text):
+        return subprocess.run([self.program, word], input=text, capture_output=True).stdout
+
+    def is_valid(self, what, kind, text):
+        self.count += 1
+        error = next(self.validators[kind].iter_errors(json.loads(text)), None)
+        if error:
+            self.wrong.append(f"{what}: {error.message}"[:300])
+
+    def is_as_read(self, what, kind, word, value):
+        """Valid exactly where the program tells no fault of the form."""
+        self.count += 1
+        told = re.match(rb"fault (F2|F3|G11) ", self.ran(word, json.dumps(value).encode()))
+        if self.validators[kind].is_valid(value) == bool(told):
+            self.wrong.append(f"{what}: the program tells {told and told[0].decode()}, and the schema otherwise: {json.dumps(value)}"[:600])
+
+
+def main():
+    words = argparse.ArgumentParser(description=__doc__, formatter_class=argparse.RawDescriptionHelpFormatter)
+    words.add_argument("--program", default=str(TOP / "crates/framec/out/framec"))
+    program = words.parse_args().program
+    try:
+        import jsonschema
+    except ImportError:
+        print("left out: python3-jsonschema (the schemas)", file=sys.stderr)
+        return
+    validators = {kind: jsonschema.Draft202012Validator(json.loads((TOP / f"docs/schema/{kind}.schema.json").read_text(encoding="utf-8"))) for kind in ("frame", "submission")}
+    holds = Holds(program, validators)
+    frames = sorted(TOP.glob("examples/frames/*.json"))
+    submissions = sorted([*TOP.glob("examples/submissions/*.json"), *TOP.glob("examples/profile/*.json")])
+    for path in frames:
+        text = path.read_bytes()
+        for word, kind in (("migrate", "frame"), ("auto", "frame"), ("compile", "submission")):
+            holds.is_valid(f"{word} < {path.name}", kind, holds.ran(word, text))
+    lines = [line for path in sorted(TOP.glob("examples/flights/*.json")) for line in path.read_bytes().splitlines()]
+    for kind, texts in (("frame", [*(path.read_bytes() for path in frames), *lines]), ("submission", [path.read_bytes() for path in submissions])):
+        for text in texts:
+            holds.is_valid("an example", kind, text)
+    for kind, word, name in CHANGED:
+        for value in changed(json.loads((TOP / "examples" / name).read_bytes())):
+            holds.is_as_read(name, kind, word, value)
+    for line in holds.wrong:
+        print(line, file=sys.stderr)
+    print(f"schemas: {holds.count} files, {len(holds.wrong)} otherwise")
+    sys.exit(1 if holds.wrong else 0)
+
+
+if __name__ == "__main__":
+    main()
