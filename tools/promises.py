@@ -4,8 +4,8 @@
     tools/promises.py [--check]
 
 A public call is a function, or a function of a type or trait, that the lib.rt of its crate hands out by `pub use`; or an
-export for C. For each stand the first sentence of its doc comment and the names of its `ensures` clauses, as the sources have
-them. The crates stand as in crates.txt: those that the program and the library for C are made of.
+export for C. For each stand the first sentence of its doc comment, those behind it that name one of its clauses, and the names of
+its `ensures` clauses. The crates stand as in crates.txt: those that the program and the library for C are made of.
 
 The tables stand between two marker lines; what stands above the first one is written by hand. With --check nothing is
 written: the last line is `promises: N calls, M stale`, and the status is 1 where a line of the tables is stale.
@@ -44,14 +44,16 @@ def plain(text):
     return text
 
 
-def first_sentence(comment):
-    """Up to the first stop behind which a sentence begins; a stop within brackets ends none."""
-    depth = 0
+def sentences(comment):
+    """Each up to a stop behind which a sentence begins, or nothing does; a stop within brackets ends none."""
+    begin, depth = 0, 0
     for at, letter in enumerate(comment):
         depth += (letter == "(") - (letter == ")")
         if letter == "." and not depth and re.match(r" [A-Z`]|$", comment[at + 1 :]):
-            return comment[: at + 1]
-    return comment
+            yield comment[begin : at + 1].strip()
+            begin = at + 1
+    if comment[begin:].strip():
+        yield comment[begin:].strip()
 
 
 def clauses_of(lines, at, indent):
@@ -129,7 +131,9 @@ def clause_cell(call):
 
 def row(call):
     name = f"{call.owner}::{call.name}" if call.owner else call.name
-    said = first_sentence(call.comment).replace("|", "\\|") or (f"As `{call.trait}::{call.name}`." if call.trait else "")
+    parts = list(sentences(call.comment))
+    told = parts[:1] + [part for part in parts[1:] if any(f"`{clause}`" in part for clause in call.clauses)]
+    said = " ".join(told).replace("|", "\\|") or (f"As `{call.trait}::{call.name}`." if call.trait else "")
     return f"| `{name}` | {said} | {clause_cell(call)} |"
 
 
