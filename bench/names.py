@@ -8,9 +8,8 @@ Looked at are README.md, HACKING.md, docs/ and the README.md of each crate, outs
 - A file that is named has to be there; a file of a crate that is named alone, in a crate that its line names, or else the line
   before it in the same section, or in the page's own.
 - A name in backticks has to be a word of the sources.
-- In docs/PROMISES.md each function has to be a function of the row's crates, and each clause one of theirs; in its text a
-  clause, or a field of one, has to be there. Each function that a crate of the product hands out has to be named in a row of
-  its crate, or in a line that names the crate.
+- In the tables of docs/PROMISES.md each call has to be a function of its crate, and each clause one of that crate's; each function
+  that a crate of the product hands out has to be named there. In the page's text a clause, or a field of one, has to be there.
 - A sentence of README.md that says "proved" has to name a clause of docs/PROMISES.md.
 - The table of docs/ARCHITECTURE.md has to have each crate of crates.txt, with what it stands on.
 - docs/MODEL.md has to name each file of definitions but those in a folder Code; files of its reading lists have to be there, with as
@@ -116,51 +115,36 @@ def rows(path):
             yield number, [cell.strip() for cell in re.split(r"(?<!\\)\|", line.strip().strip("|"))]
 
 
-def crates_in(cell):
-    """The crates of a row; where it says "all", every one."""
-    found = [word for word in re.findall(r"\w+", cell) if word in CRATES]
-    return found or list(CRATES)
-
-
-IS_CLAUSE = re.compile(r"[a-z]\w*(?:, [a-z]\w*)*")
-
-
-def promised(cell):
-    """Functions and clauses that the cell of a promise names."""
-    cell = re.sub(r"\([^)]*\)", "", cell)
-    for part in re.split(r";", cell):
-        functions, colon, clauses = part.partition("`:")
-        if colon:
-            names = re.findall(r"[\w:{}, ]+", functions)
-            words = [word.strip() for word in clauses.split(",")]
-        else:
-            inside = re.findall(r"`(\w[\w:]*): ([^`]+)`", part)
-            names, words = [name for name, _ in inside], [word.strip() for _, text in inside for word in text.split(",")]
-        yield [word for name in names for word in re.findall(r"\w+", name)], [word for word in words if re.fullmatch(r"[a-z]\w*", word)]
+def calls_told(path):
+    """The rows that tools/promises.py writes: the crate of the table, the call, and its clauses."""
+    crate = None
+    for number, line in lines_of(path):
+        heading = re.match(r"### (\w+)$", line)
+        crate = heading[1] if heading and heading[1] in CRATES else None if line.startswith("#") else crate
+        found = re.match(r"\| `([\w:]+)` \|.*\| ([^|]*) \|$", line)
+        if crate and found:
+            yield number, crate, found[1].split("::")[-1], re.findall(r"`(\w+)`", found[2])
 
 
 def look_at_promises():
     path = TOP / "docs/PROMISES.md"
     clauses = set()
-    for number, cells in rows(path):
-        if len(cells) != 3 or cells[0] in ("what is promised", "---"):
-            continue
-        crates = crates_in(cells[2])
-        for functions, named in promised(cells[1]):
-            for clause in named:
-                clauses.add(clause)
-                if not any(clause in CLAUSES.get(crate, ()) for crate in crates):
-                    problem(path, number, f"no clause {clause} in {', '.join(crates)}")
-            for function in functions:
-                known = any(function in FUNCTIONS.get(crate, ()) or re.search(rf"\b{function}\b", text) for crate in crates for source, text in TEXTS.items() if crate_of(source) == crate)
-                if not known:
-                    problem(path, number, f"no {function} in {', '.join(crates)}")
-    for _, line in lines_of(path):
-        for group in re.findall(r"\(clauses? ([^)]*)\)", line):
-            clauses |= set(re.findall(r"`(\w+)`", group))
-    for clause in clauses:
-        if clause not in FIELDS and not any(clause in known for known in CLAUSES.values()):
-            problem(path, 1, f"no clause {clause}")
+    for number, crate, call, named in calls_told(path):
+        clauses |= set(named)
+        if call not in FUNCTIONS.get(crate, ()):
+            problem(path, number, f"no {call} in {crate}")
+        for clause in named:
+            if clause not in CLAUSES.get(crate, ()):
+                problem(path, number, f"no clause {clause} in {crate}")
+    of_top = False
+    for number, line in lines_of(path):
+        # by hand: clauses in brackets, and the first two columns of the top call's table
+        of_top = line.startswith("|") and (of_top or line.startswith("| clause | field |"))
+        told = re.findall(r"\(clauses? ([^)]*)\)", line) + (line.split("|")[1:3] if of_top else [])
+        for clause in re.findall(r"`(\w+)`", " ".join(told)):
+            clauses.add(clause)
+            if clause not in FIELDS and not any(clause in known for known in CLAUSES.values()):
+                problem(path, number, f"no clause {clause}")
     return clauses
 
 
@@ -175,11 +159,7 @@ def product():
 
 def look_at_calls():
     path = TOP / "docs/PROMISES.md"
-    named = set()
-    for _, line in lines_of(path):
-        words = {word for code in re.findall(r"`([^`]+)`", line) for word in re.findall(r"\w+", code)}
-        crates = crates_in(line.strip("|").split("|")[-1]) if line.startswith("|") else re.findall(r"\w+", line)
-        named |= {(crate, word) for crate in crates for word in words}
+    named = {(crate, call) for _, crate, call, _ in calls_told(path)}
     for crate in product():
         own = [text for source, text in TEXTS.items() if source.parent == TOP / "crates" / crate / "src" and source.suffix == ".rt"]
         handed = set(re.findall(r"\w+", " ".join(use for text in own for use in re.findall(r"^pub use ([^;]+);", text, re.M))))
