@@ -1,5 +1,5 @@
 #!/usr/bin/env python3
-"""Looks whether what the docs name is there: files, items, clauses, crates and what they stand on.
+"""Looks whether what the docs name is there: files, items, clauses, crates.
 
     bench/names.py [--count]
 
@@ -11,7 +11,7 @@ Looked at are README.md, HACKING.md, docs/ and the README.md of each crate, outs
 - In the tables of docs/PROMISES.md each call has to be a function of its crate, and each clause one of that crate's; each function
   that a crate of the product hands out has to be named there. In the page's text a clause, or a field of one, has to be there.
 - A sentence of README.md that says "proved" has to name a clause of docs/PROMISES.md.
-- The table of docs/ARCHITECTURE.md has to have each crate of crates.txt, with what it stands on.
+- The tables of docs/ARCHITECTURE.md have to have one row for each crate of crates.txt: the crate, and what it does.
 - docs/MODEL.md has to name each file of definitions but those in a folder Code; files of its reading lists have to be there, with as
   many lines as it says, without imports, and the sum of each list, in tens, stands there and in README.md. --count writes the
   lines, and prints the sums.
@@ -184,13 +184,12 @@ def look_at_architecture():
     path = TOP / "docs/ARCHITECTURE.md"
     found = set()
     for number, cells in rows(path):
-        if len(cells) != 3 or cells[0].strip("`") not in CRATES:
-            continue
         crate = cells[0].strip("`")
+        if crate not in CRATES:
+            continue
+        if crate in found or len(cells) != 2:
+            problem(path, number, f"a row for {crate} besides its one row, or with more than what it does")
         found.add(crate)
-        stands_on = {word for word in re.findall(r"\w+", cells[2]) if word in CRATES}
-        if stands_on != CRATES[crate]:
-            problem(path, number, f"{crate} stands on {', '.join(sorted(CRATES[crate])) or 'none'}")
     for crate in sorted(set(CRATES) - found):
         problem(path, 1, f"no row for {crate}")
     for crate in CRATES:

@@ -3,12 +3,13 @@
 
     bench/pictures.py [--check]
 
-The crates come from crates.txt, the passes from examples/frames/deferred.json. With --check nothing is written, and the status
-is 1 where a picture is not what would be drawn.
+The passes come from examples/frames/deferred.json; the crates beside the steps of the pipeline have to stand in crates.txt. With
+--check nothing is written, and the status is 1 where a picture is not what would be drawn.
 """
 
 import argparse
 import json
+import re
 import sys
 from pathlib import Path
 from xml.sax.saxutils import escape
@@ -66,102 +67,78 @@ def reached(edges, start):
     return found
 
 
-def is_for_tests(crate):
-    return crate == "fg_sketch" or crate.startswith("fg_test_")
+def crate_names():
+    """The crates of the repository."""
+    return {line.split(":")[0].split()[0] for line in (TOP / "crates.txt").read_text(encoding="utf-8").splitlines() if ":" in line and not line.startswith("#")}
 
 
-def crate_lines():
-    """The crates of the repository that each of them stands on, without those for tests."""
-    lines = [line.split(":") for line in (TOP / "crates.txt").read_text(encoding="utf-8").splitlines() if ":" in line and not line.startswith("#")]
-    names = [name.split()[0] for name, _ in lines if not is_for_tests(name.split()[0])]
-    return {name.split()[0]: [dep for dep in deps.split() if dep in names] for name, deps in lines if name.split()[0] in names}
-
-
-GROUPS = [
-    ("blue", "frames", {"fg_frame", "fg_versions", "fg_meaning", "fg_pixels", "fg_draw"}),
-    ("rose", "submissions", {"fg_subs", "fg_hb", "fg_view", "fg_ties", "fg_stated", "fg_checker", "fg_reach"}),
-    ("green", "files", {"fg_forms", "fg_opforms", "fg_shapeforms", "fg_framefile", "fg_subfile"}),
-    ("amber", "the program", {"fg_words", "fg_lines", "fg_report", "fg_top", "framec"}),
+# Row by row: a colour, what goes in, and each step with its crates and the commands that end there.
+ROWS = [
+    ("blue", "frame file", [
+        (["JSON, the first", "fault of its form"], ["fg_forms", "fg_framefile"], ""),
+        (["the first broken", "rule, numbers"], ["fg_frame"], "migrate; meaning: fg_meaning"),
+        (["passes that", "somebody sees"], ["fg_versions"], "cull"),
+        (["commands, uses", "in groups"], ["fg_groups"], "auto: fg_auto"),
+        (["what may lie in", "the same bytes"], ["fg_lifetimes"], ""),
+    ]),
+    ("amber", "", [
+        (["offsets in", "one heap"], ["fg_place"], "place; bound: fg_bound"),
+        (["barriers, layouts,", "transfers"], ["fg_turns"], ""),
+        (["items and needs", "in one list"], ["fg_recorder"], ""),
+        (["batches, waits,", "signals"], ["fg_timeline"], ""),
+        (["a sound program,", "perhaps tight"], ["fg_compile", "fg_tight"], "compile"),
+    ]),
+    ("rose", "submission file", [
+        (["JSON, the first", "fault of its form"], ["fg_forms", "fg_subfile"], ""),
+        (["the first broken", "rule, nodes"], ["fg_subs"], ""),
+        (["accesses, order,", "happens-before"], ["fg_view", "fg_hb"], ""),
+        (["H2 to H4;", "H5 to H9"], ["fg_ties", "fg_stated"], ""),
+        (["a sound program,", "or a hazard"], ["fg_checker"], "check"),
+    ]),
+    ("green", "", [
+        (["workers, or", "one thread"], ["fg_worker", "fg_drive"], ""),
+        (["events on a device", "with caches"], ["fg_device", "fg_caches"], "audit: fg_audit"),
+        (["the bytes of", "a command"], ["fg_lanes", "fg_pixels"], ""),
+        (["what the host", "reads"], ["fg_run"], ""),
+        (["the text, and", "the status"], ["fg_report", "fg_top"], "run, exec, flight: fg_fly"),
+    ]),
 ]
 
-def fill_of(crate):
-    return next((fill for fill, _, crates in GROUPS if crate in crates), "plain")
 
-
-def levels(deps):
-    """The crates by the longest way down, lowest first."""
-    depth = {}
-
-    def of(name):
-        if name not in depth:
-            depth[name] = 1 + max((of(dep) for dep in deps[name]), default=-1)
-        return depth[name]
-
-    rows = [[] for _ in range(1 + max(of(name) for name in deps))]
-    for name in deps:
-        rows[depth[name]].append(name)
-    return rows
-
-
-def crates():
-    """Each crate above those that it stands on; a line that others stand for is left out."""
-    deps = crate_lines()
-    direct = {name: [dep for dep in below if not any(dep in reached(deps, other) for other in below)] for name, below in deps.items()}
-    rows = levels(deps)
-    level = {name: k for k, row in enumerate(rows) for name in row}
-    chains = []
-    for name, below in direct.items():
-        for dep in below:
-            bends = [(name, dep, k) for k in range(level[name] - 1, level[dep], -1)]
-            for bend in bends:
-                rows[bend[2]].append(bend)
-            chains.append([name, *bends, dep])
-    beside = {item: [] for row in rows for item in row}
-    for chain in chains:
-        for upper, lower in zip(chain, chain[1:]):
-            beside[upper].append(lower)
-            beside[lower].append(upper)
-    wide, high, gap, between = 112, 30, 50, 18
-    place = {}
-
-    def set_out(row, order):
-        """Puts a row's crates and bends side by side, round the middle."""
-        widths = [wide if isinstance(item, str) else 0 for item in order]
-        left = -(sum(widths) + between * (len(order) - 1)) / 2
-        for item, width in zip(order, widths):
-            place[item] = left + width / 2
-            left += width + between
-
-    for row in rows:
-        set_out(row, sorted(row, key=str))
-    for _ in range(40):
-        for row in [*rows, *reversed(rows)]:
-            wish = {item: sum(place[other] for other in beside[item]) / max(1, len(beside[item])) for item in row}
-            set_out(row, sorted(row, key=lambda item: (wish[item], str(item))))
-    left = min(place.values()) - wide / 2
-    picture = Picture(round(max(place.values()) + wide / 2 - left) + 40, len(rows) * (high + gap) + 46)
-
-    def spot(item):
-        k = level[item] if isinstance(item, str) else item[2]
-        return round(place[item] - left + 20), 20 + (len(rows) - 1 - k) * (high + gap)
-
-    for chain in chains:
-        x, y = spot(chain[0])
-        path = f"M{x} {y + high}"
-        for item in chain[1:]:
-            to_x, to_y = spot(item)
-            turn = (to_y - y - high) // 2
-            path += f" C{x} {y + high + turn} {to_x} {to_y - turn} {to_x} {to_y}"
-            if not isinstance(item, str):
-                path += f" L{to_x} {to_y + high}"
-            x, y = to_x, to_y
-        picture.path(path, head=False, ink=PALE)
-    for name in deps:
-        x, y = spot(name)
-        picture.box(x - wide // 2, y, wide, high, [name], fill_of(name))
-    for k, (fill, word, _) in enumerate([*GROUPS, ("plain", "all of them", set())]):
-        picture.box(20 + k * 130, picture.height - 34, 18, 18, [], fill)
-        picture.text(44 + k * 130, picture.height - 20, word, anchor="start")
+def pipeline():
+    """The way of a file through the crates: a frame to a program, a submission to a program, a program to what is printed."""
+    known = crate_names()
+    left, wide, high, column, row = 132, 166, 78, 200, 128
+    picture = Picture(left + 4 * column + wide + 40, 4 * row + 6)
+    edge = picture.width - 14
+    for r, (fill, source, steps) in enumerate(ROWS):
+        y = 16 + r * row
+        if source:
+            picture.box(12, y + 20, 96, 38, source.split(), "none")
+            picture.line([(108, y + 39), (left - 2, y + 39)])
+        for k, (words, crates, ends) in enumerate(steps):
+            missing = [crate for crate in crates + [word for word in re.findall(r"\w+", ends) if word.startswith("fg_")] if crate not in known]
+            if missing:
+                sys.exit(f"no crate {', '.join(missing)}")
+            x = left + k * column
+            picture.parts.append(f'<rect x="{x}" y="{y}" width="{wide}" height="{high}" rx="5" fill="{FILLS[fill]}" stroke="{LINE}"/>')
+            for j, word in enumerate(words):
+                picture.text(x + wide / 2, y + 21 + 16 * j, word)
+            picture.text(x + wide / 2, y + 64, ", ".join(crates), size=12, weight="bold")
+            if ends:
+                picture.text(x + wide / 2, y + high + 16, ends, size=12, ink=LINE)
+            if k:
+                picture.line([(x - column + wide, y + 39), (x - 2, y + 39)])
+    last = left + 4 * column + wide
+    for r in (0, 2):
+        y = 16 + r * row
+        end = y + row - 20
+        middle = left - 22
+        picture.line([(last, y + 39), (edge, y + 39), (edge, end), (middle, end), (middle, y + row + 39), (left - 2, y + row + 39)])
+    picture.line([(last, 16 + row + 39), (edge, 16 + row + 39), (edge, 16 + 2 * row + 37)])
+    picture.text(12, 16 + 3 * row + 34, "Below a step:", size=12, anchor="start", ink=LINE)
+    picture.text(12, 16 + 3 * row + 50, "the commands", size=12, anchor="start", ink=LINE)
+    picture.text(12, 16 + 3 * row + 66, "that end there", size=12, anchor="start", ink=LINE)
     return picture
 
 
@@ -306,7 +283,7 @@ def byte():
     return picture
 
 
-PICTURES = {"byte": byte, "crates": crates, "deferred": passes, "passed": passed, "transfer": transfer}
+PICTURES = {"byte": byte, "deferred": passes, "passed": passed, "pipeline": pipeline, "transfer": transfer}
 
 
 def main():
