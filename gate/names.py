@@ -1,7 +1,7 @@
 #!/usr/bin/env python3
 """Looks whether what the docs name is there: files, items, clauses, crates.
 
-    bench/names.py [--count]
+    gate/names.py [--count]
 
 Looked at are README.md, HACKING.md, docs/ and the README.md of each crate, outside of fenced blocks.
 
@@ -17,36 +17,31 @@ Looked at are README.md, HACKING.md, docs/ and the README.md of each crate, outs
   lines, and prints the sums.
 """
 
-import argparse
 import re
 import sys
 from pathlib import Path
 
-TOP = Path(__file__).resolve().parent.parent
+sys.path.insert(0, str(Path(__file__).resolve().parent.parent / "tools/lib"))
+from arguments import Arguments
+from repository import TOP, crates, own_crates
+from tally import Tally
 
 PAGES = [TOP / "README.md", TOP / "HACKING.md", *sorted(TOP.glob("docs/*.md")), *sorted(TOP.glob("crates/*/README.md"))]
 SOURCES = [path for end in ("rt", "antt", "edit") for path in sorted(TOP.glob(f"crates/*/**/*.{end}")) if "out" not in path.parts]
-FILE = re.compile(r"[\w./*-]+\.(?:rt|antt|py|json|md|edit|svg|txt)|(?:docs|bench|examples|crates|specs|src|proofs)/[\w./*-]*")
+FILE = re.compile(r"[\w./*-]+\.(?:rt|antt|py|json|md|edit|svg|txt)|\b(?:docs|gate|bench|fuzz|tools|edits|examples|crates|specs|src|proofs)/[\w./*-]*")
 # Names of the toolchain, of its library and of other programs, which stand in no source of the repository.
 FOREIGN = set("rt ci cmake Framec FindFramec Framec_LIBRARY diff fmt plant tidy compile console RT_JOBS IntoIterator forget bufferImageGranularity minImageTransferGranularity maxTimelineSemaphoreValueDifference VkMemoryRequirements VK_PIPELINE_STAGE_2_NONE VkSubmitInfo2 _mended NAME PROGRAM OTHER CRATE COMMAND FILE UNIT BYTES LAYER K C N".split())
 
-problems = []
+tally = Tally("names", "pages")
 
 
 def problem(path, number, text):
-    problems.append(f"{path.relative_to(TOP)}:{number}: {text}")
+    tally.tell(f"{path.relative_to(TOP)}:{number}: {text}")
 
 
-def crate_lines():
-    """Each crate of crates.txt with the crates of the repository that it stands on."""
-    lines = [line.split(":") for line in (TOP / "crates.txt").read_text(encoding="utf-8").splitlines() if ":" in line and not line.startswith("#")]
-    names = {name.split()[0] for name, _ in lines}
-    return {name.split()[0]: {dep for dep in deps.split() if dep in names} for name, deps in lines}
-
-
-CRATES = crate_lines()
+CRATES = {name: set(below) for name, below in own_crates().items()}
 TEXTS = {path: path.read_text(encoding="utf-8") for path in SOURCES}
-WORDS = set(re.findall(r"\w+", "\n".join(TEXTS.values()))) | set(re.findall(r"\w+", (TOP / "crates.txt").read_text(encoding="utf-8"))) | FOREIGN
+WORDS = set(re.findall(r"\w+", "\n".join(TEXTS.values()))) | set().union(*crates().values(), CRATES) | FOREIGN
 for example in TOP.glob("examples/*/*.json"):
     WORDS |= set(re.findall(r"\w+", example.read_text(encoding="utf-8")))
 FILES = {path.name for path in SOURCES}
@@ -85,7 +80,7 @@ def is_file(name, crates, page):
     if "/" in name:
         return any(f"/{path.relative_to(TOP)}".endswith(f"/{name}") for path in SOURCES if not crates or crate_of(path) in crates)
     if name.split(".")[-1] not in ("rt", "antt", "edit"):
-        return any(TOP.glob(f"examples/*/{name}")) or any(TOP.glob(f"*/{name}"))
+        return any(TOP.glob(f"examples/*/{name}")) or any(TOP.glob(f"*/{name}")) or (TOP / "tools/lib" / name).exists()
     return any(path.name == name for path in SOURCES if not crates or crate_of(path) in crates)
 
 
@@ -258,21 +253,19 @@ def count():
 
 
 def main():
-    parser = argparse.ArgumentParser(description=__doc__, formatter_class=argparse.RawDescriptionHelpFormatter)
+    parser = Arguments(__doc__, program=None)
     parser.add_argument("--count", action="store_true")
     if parser.parse_args().count:
         count()
-    for path in PAGES:
-        look_at(path)
-    look_at_readme(look_at_promises())
-    look_at_calls()
-    look_at_architecture()
-    look_at_model()
-    look_at_reading()
-    for line in problems:
-        print(line, file=sys.stderr)
-    print(f"names: {len(PAGES)} pages, {len(problems)} names that are not there")
-    sys.exit(1 if problems else 0)
+    with tally:
+        for path in PAGES:
+            look_at(path)
+            tally.look()
+        look_at_readme(look_at_promises())
+        look_at_calls()
+        look_at_architecture()
+        look_at_model()
+        look_at_reading()
 
 
 if __name__ == "__main__":
