@@ -1,64 +1,34 @@
 #!/usr/bin/env python3
 """Has traces judged by `audit`, as they were printed and with one line changed, dropped, doubled or moved.
 
-    bench/audits.py [--program PROGRAM] [--frames 100] [--seed 1] [--passes 8] [--changes 40]
+    fuzz/audits.py [--program PROGRAM] [--frames 100] [--seed 1] [--passes 8] [--changes 40]
 
-Each random frame is compiled, and its submission executed with 1 and 4 workers, without a seed and with one. What is printed of
-that has to be a run, with the same read-backs. Of each trace so many changed ones are judged too; the verdict has to be the one that
-is told here, from docs/MODEL.md and docs/FORMATS.md. The status is 1 where anything differs.
+Each random frame is compiled, and its submission executed with 1 and 4 workers, without a seed and with one; so is one of which a
+wait, item or signal was taken out and that `check` still accepts; and the frame is run. What is printed of that has to be a run, with
+the same read-backs. Of each trace so many changed ones are judged too; the verdict has to be the one that `tools/lib/traces.py` tells,
+from docs/MODEL.md and docs/FORMATS.md. Told at the end: how many verdicts there were of each kind. The status is 1 where anything differs.
 """
 
-import argparse
+import collections
 import json
 import random
-import subprocess
 import sys
 from pathlib import Path
 
-from compiled import Frame
-from traces import SYNCS, WORDS, Judge, parted, sizes_of
+sys.path.insert(0, str(Path(__file__).resolve().parent.parent / "tools/lib"))
+from arguments import Arguments
+from makers import compiled, packed, thinner
+from sides import answer, kind
+from tally import Tally
+from traces import WORDS, Judge, behind, parted
 
-TOP = Path(__file__).resolve().parent.parent
-BUILT = TOP / "crates/framec/out/framec"
-KINDS = {"begin": ("command",), "sync": SYNCS, "host": ("host",)}
 
-
-class Auditor(Judge):
-    def __init__(self, program):
-        super().__init__(program)
-        self.sizes = sizes_of(program)
-        self.agents = 8 * len(program["queues"])
-
-    def may_move(self, agent, memory, start, length):
-        return agent < self.agents and memory < len(self.sizes) and start + length <= self.sizes[memory]
-
-    def verdict(self, lines):
-        """The line of the first event that is not enabled, or of the least node that is not done; None of a run."""
-        phase, counter = ["idle"] * len(self.nodes), [0] * len(self.program["queues"])
-        for at, line in enumerate(lines):
-            word, *numbers = line.split()
-            numbers = [int(number) for number in numbers]
-            if word in WORDS:
-                enabled = self.may_move(*numbers)
-            elif (n := numbers[0]) >= len(self.nodes):
-                enabled = False
-            elif word == "end":
-                enabled = phase[n] == "begun"
-            else:
-                enabled = self.nodes[n].kind in KINDS[word] and self.is_ready(n, phase, counter)
-            if not enabled:
-                return f"hazard A3 {at}"
-            if word not in WORDS:
-                phase[n] = "begun" if word == "begin" else "done"
-                if self.nodes[n].kind == "signal":
-                    counter[self.nodes[n].queue] = max(counter[self.nodes[n].queue], self.nodes[n].entry["value"])
-        return next((f"hazard A4 {n}" for n, one in enumerate(phase) if one != "done"), None)
-
-    def answer(self, count, lines, readbacks):
-        if count != len(lines):
-            return 2, f"fault A1 {min(count, len(lines)) + 1}\n"
-        hazard = self.verdict(lines)
-        return (1, f"{hazard}\n") if hazard else (0, f"run {count} events\n{readbacks}")
+def told(judge, count, lines, readbacks):
+    """What `audit` has to say of the lines of a trace before which this count stands."""
+    if count != len(lines):
+        return 2, f"fault A1 {min(count, len(lines)) + 1}\n".encode()
+    hazard = judge.verdict(lines)
+    return (1, f"{hazard}\n".encode()) if hazard else (0, f"run {count} events\n".encode() + readbacks)
 
 
 def changed(lines, rng):
@@ -83,49 +53,53 @@ def changed(lines, rng):
     return lines
 
 
-class Runner:
-    def __init__(self, program):
-        self.program, self.audits, self.wrong = program, 0, 0
+class Audits(Tally):
+    def __init__(self, options):
+        super().__init__("audits", "traces")
+        self.program, self.changes = options.program, options.changes
+        self.kinds = collections.Counter()
 
-    def call(self, words, text):
-        done = subprocess.run([self.program, *words], input=text, capture_output=True, timeout=300)
-        return done.returncode, done.stdout.decode()
+    def audit(self, name, submission, lines, count, wanted):
+        got = answer(self.program, "audit", behind(submission, lines, count))
+        self.look()
+        self.kinds[kind(*got)] += 1
+        self.expect(name, got, wanted)
 
-    def audit(self, name, file, count, lines, wanted):
-        text = file + "\n" + "".join(f"{line}\n" for line in (f"events {count}", *lines))
-        found = self.call(["audit"], text.encode())
-        self.audits += 1
-        if found != wanted:
-            self.wrong += 1
-            print(f"{name}: wanted {wanted}, found {found}", flush=True)
+    def trace(self, name, words, text, submission, judge, readbacks, rng):
+        """The trace of a run by these words of this text, and changed ones."""
+        status, printed = answer(self.program, f"{words} --trace", text)
+        lines = parted(printed)[1]
+        if status != 0 or lines is None:
+            self.tell(f"{name}: {words}: status {status}, or another count of events")
+            return
+        self.audit(f"{name}: {words}", submission, lines, len(lines), (0, f"run {len(lines)} events\n".encode() + readbacks))
+        for _ in range(self.changes if lines else 0):
+            other = changed(lines, rng)
+            count = len(lines) if rng.random() < 0.2 else len(other)
+            self.audit(f"{name}: {words}, changed", submission, other, count, told(judge, count, other, readbacks))
+
+    def executed(self, name, options, submission, rng):
+        """The traces of a submission. Its judge and its read-backs are handed back."""
+        judge, readbacks = Judge(json.loads(submission)), answer(self.program, "exec", submission)[1]
+        for words in options:
+            self.trace(name, f"exec {words}", submission, submission, judge, readbacks, rng)
+        return judge, readbacks
 
 
 def main():
-    parser = argparse.ArgumentParser()
-    parser.add_argument("--program", default=str(BUILT))
-    parser.add_argument("--frames", type=int, default=100)
-    parser.add_argument("--seed", type=int, default=1)
-    parser.add_argument("--passes", type=int, default=8)
-    parser.add_argument("--changes", type=int, default=40)
-    args = parser.parse_args()
-    rng, runner, frames = random.Random(args.seed), Runner(args.program), 0
-    while frames < args.frames:
-        status, compiled = runner.call(["compile"], Frame(rng, args.passes).text())
-        if status:
-            continue
-        frames += 1
-        auditor, file = Auditor(json.loads(compiled)), compiled.rstrip("\n")
-        for options in ("--workers 1", "--workers 4", f"--workers 4 --tend {rng.randrange(2**32)}"):
-            head, lines = parted(runner.call(["exec", "--trace", *options.split()], file.encode())[1])
-            readbacks = f"{head}\n" if head else ""
-            runner.audit(f"frame {frames}", file, len(lines), lines, (0, f"run {len(lines)} events\n{readbacks}"))
-            for _ in range(args.changes if lines else 0):
-                other = changed(lines, rng)
-                count = len(lines) if rng.random() < 0.2 else len(other)
-                runner.audit(f"frame {frames}", file, count, other, auditor.answer(count, other, readbacks))
-    print(f"{frames} frames, {runner.audits} traces, {runner.wrong} wrong")
-    return 1 if runner.wrong else 0
+    options = Arguments(__doc__, frames=100, seed=1, passes=8, changes=40).parse_args()
+    rng = random.Random(options.seed)
+    with Audits(options) as audits:
+        for number in range(1, options.frames + 1):
+            text, submission = compiled(options.program, rng, options.passes)
+            name, tended = f"frame {number}", f"--workers 4 --tend {rng.randrange(2**32)}"
+            judge, readbacks = audits.executed(name, ("--workers 1", "--workers 4", tended), submission, rng)
+            audits.trace(name, f"run {tended}", text, submission, judge, readbacks, rng)
+            fewer = thinner(options.program, json.loads(submission), rng)
+            if fewer:
+                audits.executed(f"{name} with less", ("--workers 4", tended), packed(fewer), rng)
+        print(f"{options.frames} frames: " + ", ".join(f"{count} of {sort}" for sort, count in sorted(audits.kinds.items())))
 
 
 if __name__ == "__main__":
-    sys.exit(main())
+    main()

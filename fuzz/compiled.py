@@ -1,60 +1,45 @@
 #!/usr/bin/env python3
-"""Compiles random frames, has the program check what it compiled, and compares the texts with those of another program.
+"""Compiles random frames, and has the program check what it compiled.
 
-    bench/compiled.py [OTHER] [--ours PROGRAM] [--frames 3000] [--seed 1] [--passes 24]
+    fuzz/compiled.py [--program PROGRAM] [--frames 3000] [--seed 1] [--passes 24] [--jobs 4]
 
 The frames have one to four queues of all families, buffers, images and layers of images, exclusive and concurrent, imports, passes
-that nobody sees, whole and partial writes, and operations of each role. Each compiled text has to be accepted by `check`. With another
-program that knows the words `compile` and `place`, its texts have to be the same. Told at the end: how many frames were good, how
-many nodes the largest has, and of how many the heap is smaller than separate memory. The status is 1 where anything differs.
+that nobody sees, whole and partial writes, and operations of each role. Each compiled text has to be accepted by `check`. Told at the
+end: how many frames were good, how many nodes the largest has, and of how many the heap is smaller than separate memory. The status is
+1 at the first text that is not accepted. (`fuzz/fuzz.py` holds such texts against those of another program.)
 """
 
-import argparse
 import random
-import subprocess
 import sys
 from pathlib import Path
 
+sys.path.insert(0, str(Path(__file__).resolve().parent.parent / "tools/lib"))
+from arguments import Arguments
 from makers import Frame
+from sides import Side
+from tally import Tally
 
-TOP = Path(__file__).resolve().parent.parent
 
-
-def ask(program, word, text):
-    done = subprocess.run([program, word], input=text, capture_output=True, check=False)
-    return done.returncode, done.stdout
+def compiled(side, options, number):
+    """How many nodes a good frame is compiled to, and whether its heap is smaller than separate memory."""
+    text = Frame(random.Random(f"{options.seed}/{number}"), options.passes).text()
+    status, submission = side.ask(["compile"], text)
+    if status == 2:
+        return None
+    side.expect(status == 0, f"status {status}", ["compile"], text)
+    status, verdict = side.ask(["check"], submission)
+    side.expect(status == 0, f"what it is compiled to is not accepted: {verdict!r}", ["compile"], text)
+    heap = side.ask(["place"], text)[1].split()
+    return int(verdict.split()[1]), int(heap[1]) < int(heap[3])
 
 
 def main():
-    words = argparse.ArgumentParser(description=__doc__, formatter_class=argparse.RawDescriptionHelpFormatter)
-    words.add_argument("other", nargs="?")
-    words.add_argument("--ours", default=str(TOP / "crates/framec/out/framec"))
-    words.add_argument("--frames", type=int, default=3000)
-    words.add_argument("--seed", type=int, default=1)
-    words.add_argument("--passes", type=int, default=24)
-    asked = words.parse_args()
-    good = most = shared = 0
-    for number in range(asked.frames):
-        frame = Frame(random.Random(f"{asked.seed}/{number}"), asked.passes)
-        text = frame.text()
-        status, compiled = ask(asked.ours, "compile", text)
-        if asked.other:
-            for word in ["compile", "place"]:
-                ours, other = ask(asked.ours, word, text), ask(asked.other, word, text)
-                if ours != other:
-                    print(f"frame {number}: {word} differs\n{text.decode()}\n{ours}\n{other}")
-                    sys.exit(1)
-        if status != 0:
-            continue
-        good += 1
-        status, verdict = ask(asked.ours, "check", compiled)
-        if status != 0:
-            print(f"frame {number}: {verdict.decode()}{text.decode()}")
-            sys.exit(1)
-        most = max(most, int(verdict.split()[1]))
-        heap = ask(asked.ours, "place", text)[1].split()
-        shared += int(heap[1]) < int(heap[3])
-    print(f"{asked.frames} frames, {good} of them good, at most {most} nodes; {shared} with shared memory; no difference")
+    options = Arguments(__doc__, frames=3000, seed=1, passes=24, jobs=4).parse_args()
+    side = Side(options.program)
+    with Tally("compiled", "frames") as tally:
+        found = tally.each(lambda number: compiled(side, options, number), range(options.frames), options.jobs)
+        nodes, shared = zip(*filter(None, found))
+        print(f"{len(nodes)} good frames, at most {max(nodes)} nodes; {sum(shared)} with shared memory")
 
 
 if __name__ == "__main__":

@@ -9,6 +9,9 @@ from tally import Differs
 
 LIMIT = 300
 
+# How the program ends where nothing stops it.
+STATUSES = range(7)
+
 
 def ran(program, words, text=b"", **how):
     """Status, text, and what was said on standard error. A program that does not end has the status None."""
@@ -48,7 +51,9 @@ class Side:
 
     def ask(self, words, text):
         """Our status and text."""
-        return answer(self.programs[0], words, text)
+        ours = answer(self.programs[0], words, text)
+        self.expect(ours[0] in STATUSES, shown(ours), words, text)
+        return ours
 
     def expect(self, holds, what, words, text):
         if not holds:
@@ -76,9 +81,8 @@ class Sides(Side):
 
     def agree(self, words, text, name=None):
         """The status and the text of both programs, which have to be the same. They are counted under the first word, or this name."""
-        ours, other = [answer(program, words, text) for program in self.programs]
-        if ours != other or ours[0] is None:
-            raise Differs(f"ours: {shown(ours)}\nother: {shown(other)}", words, text)
+        ours, other = self.ask(words, text), answer(self.programs[1], words, text)
+        self.expect(ours == other, f"ours: {shown(ours)}\nother: {shown(other)}", words, text)
         with self.lock:
             self.counts[name or words[0], kind(*ours)] += 1
         return ours
