@@ -7,7 +7,7 @@ Looked at are README.md, HACKING.md, docs/ and the README.md of each crate, outs
 
 - A file that is named has to be there; a file of a crate that is named alone, in a crate that its line names, or else the line
   before it in the same section, or in the page's own.
-- A name in backticks has to be a word of the sources.
+- A name in backticks has to be a word of the sources, or a file or folder at the top.
 - In the tables of docs/PROMISES.md each call has to be a function of its crate, and each clause one of that crate's; each function
   that a crate of the product hands out has to be named there. In the page's text a clause, or a field of one, has to be there.
 - A sentence of README.md that says "proved" has to name a clause of docs/PROMISES.md.
@@ -28,6 +28,8 @@ from tally import Tally
 
 PAGES = [TOP / "README.md", TOP / "HACKING.md", *sorted(TOP.glob("docs/*.md")), *sorted(TOP.glob("crates/*/README.md"))]
 SOURCES = [path for end in ("rt", "antt", "edit") for path in sorted(TOP.glob(f"crates/*/**/*.{end}")) if "out" not in path.parts]
+# What a build leaves is there once it was built.
+BUILT = re.compile(r"(?:^|/)out/")
 FILE = re.compile(r"[\w./*-]+\.(?:rt|antt|py|json|md|edit|svg|txt)|\b(?:docs|gate|bench|fuzz|tools|edits|examples|crates|specs|src|proofs)/[\w./*-]*")
 # Names of the toolchain, of its library and of other programs, which stand in no source of the repository.
 FOREIGN = set("rt ci cmake Framec FindFramec Framec_LIBRARY diff fmt plant tidy compile console RT_JOBS IntoIterator forget bufferImageGranularity minImageTransferGranularity maxTimelineSemaphoreValueDifference VkMemoryRequirements VK_PIPELINE_STAGE_2_NONE VkSubmitInfo2 _mended NAME PROGRAM OTHER CRATE COMMAND FILE UNIT BYTES LAYER K C N".split())
@@ -42,6 +44,7 @@ def problem(path, number, text):
 CRATES = {name: set(below) for name, below in own_crates().items()}
 TEXTS = {path: path.read_text(encoding="utf-8") for path in SOURCES}
 WORDS = set(re.findall(r"\w+", "\n".join(TEXTS.values()))) | set().union(*crates().values(), CRATES) | FOREIGN
+WORDS |= {path.name for path in TOP.iterdir()}
 for example in TOP.glob("examples/*/*.json"):
     WORDS |= set(re.findall(r"\w+", example.read_text(encoding="utf-8")))
 FILES = {path.name for path in SOURCES}
@@ -73,7 +76,7 @@ def lines_of(path):
 
 def is_file(name, crates, page):
     """Whether a file is there by its path from the top, from crates/, from a crate or from the page, or by its name in one of these crates."""
-    if "*" in name or "NAME" in name or name in ("specs/", "specs/Code/", "src/", "proofs/"):
+    if "*" in name or "NAME" in name or BUILT.search(name) or name in ("specs/", "specs/Code/", "src/", "proofs/"):
         return True
     if any((top / name).exists() for top in (TOP, TOP / "crates", page.parent, *(TOP / "crates" / crate for crate in crates))):
         return True
@@ -97,7 +100,7 @@ def look_at(path):
             if not is_file(name, crates, path):
                 problem(path, number, f"no file {name}")
         for code in re.findall(r"`([^`]+)`", line):
-            if FILE.search(code) or not re.fullmatch(r"[\w:{}, ./]+", code) or re.search(r"\d", code) and not re.search(r"[a-z_]{3}", code):
+            if FILE.search(code) or BUILT.search(code) or not re.fullmatch(r"[\w:{}, ./]+", code) or re.search(r"\d", code) and not re.search(r"[a-z_]{3}", code):
                 continue
             for word in re.findall(r"[A-Za-z_]\w*", code):
                 if word not in WORDS:
