@@ -13,7 +13,6 @@ import re
 import shutil
 import sys
 import tempfile
-from concurrent.futures import ThreadPoolExecutor
 from pathlib import Path
 
 sys.path.insert(0, str(Path(__file__).resolve().parent.parent / "tools/lib"))
@@ -21,7 +20,7 @@ from arguments import Arguments
 from makers import PERSISTS, packed
 from repository import FRAMES, PROFILE, SUBMISSIONS
 from sides import answer
-from tally import Tally, left_out
+from tally import Tally, by_threads, left_out
 from traces import recorded
 
 LIMIT = 900
@@ -98,8 +97,7 @@ def main():
     if not shutil.which("valgrind"):
         return left_out("valgrind")
     with Checked(options.program) as checked:
-        with ThreadPoolExecutor(options.jobs) as pool:
-            list(pool.map(checked.case, (case for case in cases(options.program) if case[1].startswith(options.only))))
+        by_threads(checked.case, (case for case in cases(options.program) if case[1].startswith(options.only)), options.jobs)
         for group, left in sorted(checked.reachable.items()):
             if not group.startswith("of ") and len(left) > 1:
                 checked.fails(group, b"", f"what is reachable at the end grows: {sorted(left)}")

@@ -16,7 +16,6 @@ import collections
 import json
 import os
 import sys
-from concurrent.futures import ThreadPoolExecutor
 from pathlib import Path
 from subprocess import DEVNULL, PIPE
 
@@ -24,7 +23,7 @@ sys.path.insert(0, str(Path(__file__).resolve().parent.parent / "tools/lib"))
 from arguments import Arguments
 from makers import PERSISTS, generated, packed
 from sides import answer, ran
-from tally import Tally, left_out
+from tally import Tally, by_threads, left_out
 
 MIB = 2**20
 FRAMES = ("run", "run --tight", "run --workers 4 --tend 1", "cull", "place", "bound", "compile", "compile --tight", "meaning", "migrate")
@@ -813,12 +812,12 @@ def look_at(rows, options):
     made = [*frame_rows(frames), *submission_rows(submissions), *(flight_rows() if flies else ()), *word_rows()]
     made = [row for row in made if flies or not str(row.words).startswith("flight")]
     if options.cases:
-        return rows.written(filter(rows.wanted, made), options.cases)
-    with ThreadPoolExecutor(options.jobs) as pool:
-        list(pool.map(rows.row, filter(rows.wanted, made)))
-        if not options.only:
-            reading = [*frames, *submissions, *(["flight"] if flies else []), "gen --number 1", "gen --number 1 --passes 3 --summary"]
-            list(pool.map(rows.end, end_rows(reading)))
+        rows.written(filter(rows.wanted, made), options.cases)
+        return
+    by_threads(rows.row, filter(rows.wanted, made), options.jobs)
+    if not options.only:
+        reading = [*frames, *submissions, *(["flight"] if flies else []), "gen --number 1", "gen --number 1 --passes 3 --summary"]
+        by_threads(rows.end, end_rows(reading), options.jobs)
     if options.large and not options.only:
         for words, text in short_rows(frames, submissions):
             rows.short(words, text)

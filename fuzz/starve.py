@@ -17,7 +17,6 @@ import shutil
 import subprocess
 import sys
 import tempfile
-from concurrent.futures import ThreadPoolExecutor
 from pathlib import Path
 
 sys.path.insert(0, str(Path(__file__).resolve().parent.parent / "tools/lib"))
@@ -25,7 +24,7 @@ from arguments import Arguments
 from makers import BARRIER, PERSISTS, fill, packed, submission
 from repository import FRAMES
 from sides import answer, ran
-from tally import Tally, left_out
+from tally import Tally, by_threads, left_out
 from traces import recorded
 
 LIBRARY = r"""
@@ -188,8 +187,7 @@ class Starved(Tally):
         self.tell(f"{what} of {words}: status {found[0]}, {found[1][:60]!r}, {found[2]}, {found[3][:200]!r}")
 
     def numbered(self, work, count):
-        with ThreadPoolExecutor(self.options.jobs) as pool:
-            return list(pool.map(work, range(1, count + 1)))
+        return by_threads(work, range(1, count + 1), self.options.jobs)
 
     def memory(self, words, data):
         status, text, (requests, _, _, threads), _ = self.ended(words, data)

@@ -4,6 +4,7 @@ import copy
 import json
 
 from sides import answer
+from tally import Differs
 
 SIDE = 8
 FUNS = ["add", "sub", "mul", "and", "or", "xor", "min", "max", "shl", "shr"]
@@ -234,6 +235,8 @@ def compiled(program, rng, passes):
         status, submission = answer(program, "compile", text)
         if status == 0:
             return text, submission
+        if status != 2:
+            raise Differs(f"status {status}", ["compile"], text)
 
 
 def thinner(program, submission, rng):

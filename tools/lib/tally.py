@@ -12,6 +12,16 @@ def left_out(what):
     print(f"left out: {what}", file=sys.stderr, flush=True)
 
 
+def by_threads(work, things, jobs):
+    """The results of the work on each thing, by so many threads. What one of them raises ends all."""
+    with ThreadPoolExecutor(jobs) as pool:
+        try:
+            return list(pool.map(work, things))
+        except BaseException:
+            pool.shutdown(wait=False, cancel_futures=True)
+            raise
+
+
 class Differs(Exception):
     """What is wrong, with the words and the input. The script ends with it."""
 
@@ -58,12 +68,7 @@ class Tally:
             self.look()
             return result
 
-        with ThreadPoolExecutor(jobs) as pool:
-            try:
-                return list(pool.map(done, things))
-            except BaseException:
-                pool.shutdown(wait=False, cancel_futures=True)
-                raise
+        return by_threads(done, things, jobs)
 
     def __enter__(self):
         return self

@@ -126,6 +126,8 @@ class Judge:
         return node.kind != "wait" or counter[node.entry["queue"]] >= node.entry["value"]
 
     def is_enabled(self, word, numbers, phase, counter):
+        if len(numbers) != (4 if word in WORDS else 1):
+            return False
         if word in WORDS:
             agent, memory, start, length = numbers
             return agent < self.agents and memory < len(self.sizes) and start + length <= self.sizes[memory]
@@ -141,9 +143,9 @@ class Judge:
         phase, counter = ["idle"] * len(self.nodes), [0] * len(self.program["queues"])
         at = None
         for place, line in enumerate(lines):
-            word, *numbers = line.split()
-            numbers = [int(number) for number in numbers]
-            if not self.is_enabled(word, numbers, phase, counter):
+            word, *rest = line.split() or [""]
+            numbers = [int(number) for number in rest if number.isdecimal()]
+            if len(numbers) < len(rest) or not self.is_enabled(word, numbers, phase, counter):
                 at = place
                 break
             if word not in WORDS:
