@@ -4,9 +4,9 @@ beside 16 runs of `run`.
 
     bench/windows.py [--program PROGRAM] [--runs 5] [--frames 16] [--shrink 3]
 
-The frame is that of examples/frames/, with images so many times smaller on each side (1, 2, 3 or 6). It takes its last image from a buffer `history`,
-mixes it with its own, and leaves the result there. For each depth one line: the median of the processor time in milliseconds, and that of
-the time by the clock. The exports have to be the same at each depth.
+The frame is that of examples/frames/, with images so many times smaller on each side (1, 2, 3 or 6). It takes its last image from a
+buffer `history`, mixes it with its own, and leaves the result there. For each depth one line: the median of the processor time in
+milliseconds, and that of the time by the clock. The exports have to be the same at each depth.
 """
 
 import json
@@ -54,19 +54,20 @@ def main():
     line = json.dumps(frame(options.shrink)).encode()
     texts = set()
 
-    def one(path, *words):
-        took = well([options.program, *words], path)
-        texts.update({took.text} if words != ("run",) else ())
+    def flown(path, depth):
+        took = well([options.program, "flight", "--persist", "history", "--depth", depth], path)
+        texts.add(took.text)
         return took.processor, took.clock
 
-    def all_of(path):
-        return [sum(column) for column in zip(*(one(path, "run") for _ in range(options.frames)))]
+    def run(path):
+        each = [well([options.program, "run"], path) for _ in range(options.frames)]
+        return sum(one.processor for one in each), sum(one.clock for one in each)
 
     with tempfile.TemporaryDirectory() as folder:
         single, several = written(folder, "frame.json", line), written(folder, "frames.json", b"\n".join([line] * options.frames))
         for depth in "124":
-            told(f"flight, windows of {depth}", options.runs, lambda: one(several, "flight", "--persist", "history", "--depth", depth))
-        told(f"{options.frames} times run", options.runs, lambda: all_of(single))
+            told(f"flight, windows of {depth}", options.runs, lambda: flown(several, depth))
+        told(f"{options.frames} times run", options.runs, lambda: run(single))
     if len(texts) != 1:
         sys.exit("the text depends on the depth")
 
