@@ -23,7 +23,7 @@ from pathlib import Path
 
 sys.path.insert(0, str(Path(__file__).resolve().parent.parent / "tools/lib"))
 from arguments import Arguments
-from repository import TOP, crates, own_crates
+from repository import TOP, crates, product
 from tally import Tally
 
 PAGES = [TOP / "README.md", TOP / "HACKING.md", *sorted(TOP.glob("docs/*.md")), *sorted(TOP.glob("crates/*/README.md"))]
@@ -41,9 +41,9 @@ def problem(path, number, text):
     tally.tell(f"{path.relative_to(TOP)}:{number}: {text}")
 
 
-CRATES = {name: set(below) for name, below in own_crates().items()}
+CRATES = set(crates())
 TEXTS = {path: path.read_text(encoding="utf-8") for path in SOURCES}
-WORDS = set(re.findall(r"\w+", "\n".join(TEXTS.values()))) | set().union(*crates().values(), CRATES) | FOREIGN
+WORDS = set(re.findall(r"\w+", "\n".join(TEXTS.values()))) | set(re.findall(r"\w+", (TOP / "crates.txt").read_text(encoding="utf-8"))) | FOREIGN
 WORDS |= {path.name for path in TOP.iterdir()}
 for example in TOP.glob("examples/*/*.json"):
     WORDS |= set(re.findall(r"\w+", example.read_text(encoding="utf-8")))
@@ -144,15 +144,6 @@ def look_at_promises():
             if clause not in FIELDS and not any(clause in known for known in CLAUSES.values()):
                 problem(path, number, f"no clause {clause}")
     return clauses
-
-
-def product():
-    """The crates that the program and the library for C are made of."""
-    found, left = set(), {"framec", "framec_c"}
-    while left:
-        found |= left
-        left = set().union(*(CRATES[crate] for crate in left)) - found
-    return sorted(found)
 
 
 def look_at_calls():

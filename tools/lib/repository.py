@@ -22,6 +22,16 @@ def own_crates():
     return {name: [other for other in others if other in below] for name, others in below.items()}
 
 
+def product():
+    """The crates that the program and the library for C are made of, in the order of crates.txt."""
+    below = own_crates()
+    found, left = set(), {"framec", "framec_c"}
+    while left:
+        found |= left
+        left = {other for name in left for other in below[name]} - found
+    return [name for name in below if name in found]
+
+
 def is_current(built):
     """Whether it is there, and no source is newer."""
     if not built.exists():
