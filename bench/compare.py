@@ -1,7 +1,7 @@
 #!/usr/bin/env python3
-"""Builds the program, and times it and another one that knows the same words, in turn, on the same frames.
+"""Times the program and another one that knows the same words, in turn, on the same frames.
 
-    bench/compare.py OTHER [--ours PROGRAM] [--runs 15] [--case NAME ..]
+    bench/compare.py --other OTHER [--program PROGRAM] [--runs 15] [--case NAME ..]
 
 First whole commands: `run`, with one worker and with four, `meaning`, `cull`, `place` and `compile` of the deferred frame of
 examples/frames/, `run` of that frame with one more rectangle in each of its draws, so that no image is of one number, `cull` of
@@ -19,16 +19,17 @@ and that of the most memory that the programs took. (The least of many runs is w
 with whatever else the machine does.) The texts of both have to be the same.
 """
 
-import argparse
 import json
 import os
-import subprocess
 import sys
 import tempfile
-import time
 from pathlib import Path
 
-TOP = Path(__file__).resolve().parent.parent
+sys.path.insert(0, str(Path(__file__).resolve().parent.parent / "tools/lib"))
+from arguments import Arguments
+from makers import BARRIER, copied, fill, generated, submission
+from repository import FRAMES
+from timed import is_wanted, timed, written
 
 WIDTH, HEIGHT = 1920, 1080
 
@@ -134,46 +135,11 @@ def drawn(path):
     return made
 
 
-def generated(program):
-    """A frame of 256 passes that the other program makes, each with a side effect; none if it makes none."""
-    done = subprocess.run([program, "gen", "--number", "7", "--passes", "256"], stdin=subprocess.DEVNULL, capture_output=True)
-    if done.returncode != 0:
-        return None
-    made = json.loads(done.stdout)
-    for one in made["passes"]:
-        one["side_effect"] = True
-    return made
-
-
-ALL = {"src_stage": "ALL_COMMANDS", "src_access": "MEMORY_WRITE", "dst_stage": "ALL_COMMANDS", "dst_access": "MEMORY_READ|MEMORY_WRITE"}
-BARRIER = {"item": "global", **ALL}
-FOR_HOST = {"item": "global", **ALL, "dst_stage": "HOST", "dst_access": "HOST_READ"}
-
-
-def fill(piece, word):
-    return {"item": "command", "op": "fill_buffer", "dst": piece, "offset": 0, "size": 256, "word": word}
-
-
-def copy(piece):
-    return {"item": "command", "op": "copy_buffer", "src": 0, "dst": piece, "src_offset": 0, "dst_offset": 0, "size": 256}
-
-
-def submission(items, pieces=1, memories=1):
-    """One queue with these items; the pieces lie in turn in the memories, all at their start."""
-    return {
-        "format": 1,
-        "memories": [{"size": 256}] * memories,
-        "pieces": [{"buffer": 256, "memory": k % memories, "offset": 0} for k in range(pieces)],
-        "queues": [{"family": "graphics", "batches": [{"items": items + [FOR_HOST], "signal": {"value": 1, "stage": "ALL_COMMANDS"}}]}],
-        "readbacks": [0],
-    }
-
-
 def submissions():
     """Name and program."""
     yield "check 19,996 barriers", submission([fill(0, 1)] + [BARRIER] * 19_995)
     yield "check 9,900 fills", submission([item for k in range(9_900) for item in (fill(0, k), BARRIER)])
-    readers = [item for k in range(6_000) for item in (copy(1 + k % 500), BARRIER)]
+    readers = [item for k in range(6_000) for item in (copied(1 + k % 500), BARRIER)]
     yield "check 6,000 readers", submission([fill(0, 1), BARRIER] + readers, 501, 501)
     shared = [item for k in range(9_900) for item in (fill(k % 512, k), BARRIER)]
     yield "check 512 shared pieces", submission(shared + [fill(0, 1), BARRIER], 512, 1)
@@ -183,32 +149,16 @@ def on_one_processor():
     os.sched_setaffinity(0, {max(os.sched_getaffinity(0))})
 
 
-def once(program, words, path, start=None):
-    """Processor time and time by the clock in milliseconds, most memory in KiB, and the text."""
-    with open(path, "rb") as text:
-        began = time.perf_counter()
-        child = subprocess.Popen([program, *words], stdin=text, stdout=subprocess.PIPE, preexec_fn=start)
-        printed = child.stdout.read()
-        child.stdout.close()
-        _, status, usage = os.wait4(child.pid, 0)
-        clock = time.perf_counter() - began
-    child.returncode = os.waitstatus_to_exitcode(status)
-    return ((usage.ru_utime + usage.ru_stime) * 1e3, clock * 1e3), usage.ru_maxrss, (child.returncode, printed)
-
-
 def measured(starts, words, runs, path):
-    """Of each program, started after what stands beside it, the least processor time, the least time by the clock, and its most memory."""
+    """Of each program, started after what stands beside it, the least milliseconds of processor time and by the clock, and its most memory."""
     took = [[] for _ in starts]
-    most = [0 for _ in starts]
-    texts = [None for _ in starts]
     for _ in range(runs):
-        for k, (program, start) in enumerate(starts):
-            times, kib, texts[k] = once(program, words, path, start)
-            took[k].append(times)
-            most[k] = max(most[k], kib)
-    if any(text != texts[0] for text in texts):
-        sys.exit(f"{path}: the programs differ: {texts!r}"[:400])
-    return [[min(ms) for ms in zip(*times)] for times in took], most
+        for own, (program, start) in zip(took, starts):
+            own.append(timed([program, *words], path, preexec_fn=start))
+    ends = {(one.status, one.text) for own in took for one in own}
+    if len(ends) > 1:
+        sys.exit(f"{path}: the programs differ: {sorted(ends)!r}"[:400])
+    return [[1e3 * min(one.processor for one in own), 1e3 * min(one.clock for one in own)] for own in took], [max(one.most for one in own) for own in took]
 
 
 def row(name, own, other, most):
@@ -217,19 +167,12 @@ def row(name, own, other, most):
     print(f"{name:32} {cpu:8.2f} {other_cpu:8.2f} {ratios}", flush=True)
 
 
-def written(folder, name, value):
-    path = os.path.join(folder, name)
-    with open(path, "w", encoding="utf-8") as file:
-        json.dump(value, file)
-    return path
-
-
 ONE, FOUR = (["run", "--workers", count] for count in "14")
 
 
 def commands(folder, other):
     """Name, words and file."""
-    deferred = TOP / "examples/frames/deferred.json"
+    deferred = FRAMES / "deferred.json"
     yield "run deferred, 1", ONE, deferred
     yield "run deferred, 4", FOUR, deferred
     full = written(folder, "drawn.json", drawn(deferred))
@@ -260,33 +203,19 @@ def operations(folder):
         yield f"{name}, run", ONE, idle, busy
 
 
-def built():
-    """The repository's program. Without words it ends with status 3, after it was built where it was not."""
-    if subprocess.run([TOP / "framec"], stdin=subprocess.DEVNULL, stdout=subprocess.DEVNULL).returncode != 3:
-        sys.exit("the program is not built")
-    return str(TOP / "crates/framec/out/framec")
-
-
 def main():
-    parser = argparse.ArgumentParser(description=__doc__, formatter_class=argparse.RawDescriptionHelpFormatter)
-    parser.add_argument("other", metavar="OTHER")
-    parser.add_argument("--ours", metavar="PROGRAM", help="a built program, in place of the repository's")
-    parser.add_argument("--runs", type=int, default=15)
+    parser = Arguments(__doc__, other="must", runs=15)
     parser.add_argument("--case", nargs="*", default=[])
     options = parser.parse_args()
-    programs = [(options.ours or built(), None), (options.other, None)]
-
-    def wanted(name):
-        return not options.case or any(name.startswith(word) for word in options.case)
-
+    programs = [(options.program, None), (options.other, None)]
     print(f"{'case':32} {'ms':>8} {'other':>8} {'ratio':>6} {'clock':>6} {'memory':>6}")
     with tempfile.TemporaryDirectory() as folder:
         for name, words, path in commands(folder, options.other):
-            if wanted(name):
+            if is_wanted(name, options.case):
                 (own, other), most = measured(programs, words, options.runs, path)
                 row(name, own, other, most)
         for name, words, idle_path, busy_path in operations(folder):
-            if wanted(name):
+            if is_wanted(name, options.case):
                 banded = words == ONE and name.startswith(BANDED)
                 starts = [*programs, (options.other, on_one_processor)] if banded else programs
                 idle, _ = measured(starts, words, options.runs, idle_path)

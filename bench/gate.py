@@ -8,32 +8,20 @@ processes twice a second. With --kept, what earlier runs on this machine passed 
 for HACKING.md, dearest crates first. Times depend on the machine and on what else it does.
 """
 
-import argparse
 import os
 import re
 import subprocess
 import sys
-import tempfile
 import time
 from collections import defaultdict
 from pathlib import Path
 
-TOP = Path(__file__).resolve().parent.parent
-TICKS = os.sysconf("SC_CLK_TCK")
+sys.path.insert(0, str(Path(__file__).resolve().parent.parent / "tools/lib"))
+from arguments import Arguments
+from repository import cloned
+from timed import processes
+
 KINDS = ("proof", "tests", "edits")
-
-
-def processes():
-    """Each process: its parent, and its processor seconds with those of the children that it has waited for."""
-    found = {}
-    for path in Path("/proc").glob("[0-9]*/stat"):
-        try:
-            text = path.read_text(encoding="utf-8", errors="replace")
-        except OSError:
-            continue
-        fields = text.rpartition(")")[2].split()
-        found[int(path.parent.name)] = int(fields[1]), sum(int(field) for field in fields[11:15]) / TICKS
-    return found
 
 
 def work_of(process):
@@ -59,8 +47,8 @@ class Sampler:
     def look(self):
         found = processes()
         below = defaultdict(list)
-        for process, (parent, _) in found.items():
-            below[parent].append(process)
+        for process, one in found.items():
+            below[one.parent].append(process)
         todo = [self.root]
         while todo:
             process = todo.pop()
@@ -74,7 +62,8 @@ class Sampler:
             todo += below[process]
 
     def whole(self, process, found, below):
-        return found.get(process, (0, 0))[1] + sum(self.whole(other, found, below) for other in below[process])
+        own = found[process].seconds if process in found else 0
+        return own + sum(self.whole(other, found, below) for other in below[process])
 
     def table(self):
         """Minutes by crate and kind."""
@@ -96,14 +85,11 @@ def printed(minutes):
 
 
 def main():
-    words = argparse.ArgumentParser(description=__doc__.split("\n")[0])
-    words.add_argument("--processors", type=int, default=2)
-    words.add_argument("--kept", action="store_true")
-    words.add_argument("--log", default=os.devnull)
-    given = words.parse_args()
-    with tempfile.TemporaryDirectory() as room, open(given.log, "wb") as log:
-        clone = Path(room) / "repository"
-        subprocess.run(["git", "clone", "-q", TOP, clone], check=True)
+    parser = Arguments(__doc__, program=None, processors=2)
+    parser.add_argument("--kept", action="store_true")
+    parser.add_argument("--log", default=os.devnull)
+    given = parser.parse_args()
+    with cloned() as clone, open(given.log, "wb") as log:
         # What this starts runs where this may run.
         os.sched_setaffinity(0, sorted(os.sched_getaffinity(0))[: given.processors])
         began = time.monotonic()
@@ -119,4 +105,5 @@ def main():
     sys.exit(child.returncode)
 
 
-main()
+if __name__ == "__main__":
+    main()

@@ -15,15 +15,13 @@ whose place it takes. For each call one line: microseconds, the same as part of 
 may be. The status is 1 where one is more.
 """
 
-import argparse
 import os
-import statistics
-import subprocess
 import sys
 from pathlib import Path
 
-TOP = Path(__file__).resolve().parent.parent
-PROGRAM = TOP / "crates/fg_measure/out/fg_measure"
+sys.path.insert(0, str(Path(__file__).resolve().parent.parent / "tools/lib"))
+from arguments import Arguments
+from timed import measure, medians, well
 
 # How often each is done. A table has room for 20,000 stores.
 TIMES = {"copy": 400, "load": 400, "make": 2_000, "put": 2_000, "put-write": 2_000, "write": 200_000, "fill": 200_000}
@@ -55,22 +53,18 @@ SMALL_ROWS = [
 
 def once(program, word, times):
     """Processor time of the user in seconds."""
-    child = subprocess.Popen([program, word, str(times)], stdin=subprocess.DEVNULL, stdout=subprocess.DEVNULL, env={**os.environ, **FRESH})
-    _, status, usage = os.wait4(child.pid, 0)
-    child.returncode = os.waitstatus_to_exitcode(status)
-    if child.returncode != 0:
-        sys.exit(f"{program} {word} {times} ended with status {child.returncode}")
-    return usage.ru_utime
+    return well([program, word, str(times)], env={**os.environ, **FRESH}).user
 
 
 def measured(program, prefix, times, runs):
     """Microseconds of one call of each word."""
-    found = {word: [] for word in times}
-    for _ in range(runs):
-        for word, count in times.items():
-            idle = once(program, prefix + word, 0)
-            found[word].append((once(program, prefix + word, count) - idle) / count * 1e6)
-    return {word: statistics.median(all) for word, all in found.items()}
+
+    def call(word, count):
+        idle = once(program, prefix + word, 0)
+        return [(once(program, prefix + word, count) - idle) / count * 1e6]
+
+    found = medians(runs, [lambda word=word, count=count: call(word, count) for word, count in times.items()])
+    return {word: median for word, (median,) in zip(times, found)}
 
 
 def shown(title, rows, took, copy, bounded=True):
@@ -87,10 +81,7 @@ def shown(title, rows, took, copy, bounded=True):
 
 
 def main():
-    parser = argparse.ArgumentParser(description=__doc__, formatter_class=argparse.RawDescriptionHelpFormatter)
-    parser.add_argument("--runs", type=int, default=5)
-    parser.add_argument("--program", default=str(PROGRAM))
-    options = parser.parse_args()
+    options = Arguments(__doc__, program=measure, runs=5).parse_args()
     whole = measured(options.program, "", TIMES, options.runs)
     over = shown("whole image", ROWS, whole, whole["copy"])
     rounds = measured(options.program, "", dict.fromkeys(SMALL, ROUNDS), options.runs)

@@ -1,5 +1,7 @@
 #!/usr/bin/env python3
-"""Holds the help texts of ./framec against the docs: gate/help.py
+"""Holds the help texts of ./framec against the docs.
+
+    gate/help.py
 
 Each command of README.md's table has a help text, which begins with its usage and tells just the options that the table of
 options in docs/FORMATS.md gives it, in the usage and in a line each; `--help` names each command; and what is no such line is left
@@ -7,17 +9,20 @@ to the program. The status is 1 where one does not hold.
 """
 
 import re
-import subprocess
 import sys
 from pathlib import Path
 
-TOP = Path(__file__).resolve().parent.parent
+sys.path.insert(0, str(Path(__file__).resolve().parent.parent / "tools/lib"))
+from arguments import Arguments
+from repository import TOP
+from sides import answer
+from tally import Tally
 
 
 def helped(*words):
     """What the script that answers prints, or None where it does not answer."""
-    done = subprocess.run([TOP / "tools/help.sh", *words], capture_output=True, text=True)
-    return done.stdout if done.returncode == 0 else None
+    status, text = answer(TOP / "tools/help.sh", words)
+    return text.decode() if status == 0 else None
 
 
 def commands():
@@ -37,26 +42,31 @@ def options():
     return found
 
 
+def look_at(tally, command, wanted, whole):
+    """The help text of a command, which has these options."""
+    text = helped(command, "--help") or ""
+    usage = text.splitlines()[0] if text else ""
+    for what, holds in {
+        "has a usage": usage.startswith(f"usage: framec {command}"),
+        "has its options in the usage": set(re.findall(r"--\w+", usage)) == wanted,
+        "has a line for each option": set(re.findall(r"^  (--\w+)", text, re.M)) == wanted,
+        "is named by --help": re.search(rf"^  {command} ", whole, re.M) is not None,
+    }.items():
+        tally.look()
+        if not holds:
+            tally.tell(f"help of {command}: it is not so that it {what}")
+
+
 def main():
-    wrong, count, whole = [], 0, helped("--help") or ""
-    for command in commands():
-        text, wanted = helped(command, "--help") or "", options().get(command, set())
-        usage = text.splitlines()[0] if text else ""
-        for what, holds in {
-            "has a usage": usage.startswith(f"usage: framec {command}"),
-            "has its options in the usage": set(re.findall(r"--\w+", usage)) == wanted,
-            "has a line for each option": set(re.findall(r"^  (--\w+)", text, re.M)) == wanted,
-            "is named by --help": re.search(rf"^  {command} ", whole, re.M) is not None,
-        }.items():
-            count += 1
-            wrong += [] if holds else [f"help of {command}: it is not so that it {what}"]
-    for words in (["--help", "check"], ["nothing", "--help"], ["check", "--version"], ["all", "--help"]):
-        count += 1
-        wrong += [] if helped(*words) is None else [f"{' '.join(words)} is answered"]
-    for line in wrong:
-        print(line, file=sys.stderr)
-    print(f"help: {count} facts, {len(wrong)} that do not hold")
-    sys.exit(1 if wrong else 0)
+    Arguments(__doc__, program=None).parse_args()
+    with Tally("help", "facts") as tally:
+        known, whole = options(), helped("--help") or ""
+        for command in commands():
+            look_at(tally, command, known.get(command, set()), whole)
+        for words in (["--help", "check"], ["nothing", "--help"], ["check", "--version"], ["all", "--help"]):
+            tally.look()
+            if helped(*words) is not None:
+                tally.tell(f"{' '.join(words)} is answered")
 
 
 if __name__ == "__main__":

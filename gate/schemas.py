@@ -1,20 +1,26 @@
 #!/usr/bin/env python3
-"""Holds the JSON schemas of docs/schema against the examples and the program: gate/schemas.py [--program PROGRAM]
+"""Holds the JSON schemas of docs/schema against the examples and the program.
+
+    gate/schemas.py [--program PROGRAM]
 
 Each file of examples/ and each text that the program makes of one (`migrate`, `compile`, `auto`) has to be valid by its schema. Each file
 with one member taken away, given twice another kind, or added has to be valid exactly where the program tells no fault of the form (F2,
 F3, G11). It wants Python's package jsonschema, and says so where that is missing. The status is 1 where one does not hold.
 """
 
-import argparse
 import copy
 import json
 import re
-import subprocess
 import sys
 from pathlib import Path
 
-TOP = Path(__file__).resolve().parent.parent
+sys.path.insert(0, str(Path(__file__).resolve().parent.parent / "tools/lib"))
+from arguments import Arguments
+from makers import packed
+from repository import FLIGHTS, FRAMES, PROFILE, SUBMISSIONS, TOP
+from sides import answer
+from tally import Tally, left_out
+
 # What is put in the place of each member and entry.
 OTHERS = (None, True, -1, 0.5, 4294967296, "", "x/9", [], {}, [0], {"unknown": 1})
 
@@ -59,55 +65,54 @@ def changed(value):
             yield with_other(value, path, other)
 
 
-class Holds:
+class Holds(Tally):
     def __init__(self, program, validators):
-        self.program, self.validators, self.count, self.wrong = program, validators, 0, []
+        super().__init__("schemas", "files")
+        self.program, self.validators = program, validators
 
     def ran(self, word, text):
-        return subprocess.run([self.program, word], input=text, capture_output=True).stdout
+        return answer(self.program, word, text)[1]
 
     def is_valid(self, what, kind, text):
-        self.count += 1
+        self.look()
         error = next(self.validators[kind].iter_errors(json.loads(text)), None)
         if error:
-            self.wrong.append(f"{what}: {error.message}"[:300])
+            self.tell(f"{what}: {error.message}"[:300])
 
     def is_as_read(self, what, kind, word, value):
         """Valid exactly where the program tells no fault of the form."""
-        self.count += 1
-        told = re.match(rb"fault (F2|F3|G11) ", self.ran(word, json.dumps(value).encode()))
+        self.look()
+        told = re.match(rb"fault (F2|F3|G11) ", self.ran(word, packed(value)))
         if self.validators[kind].is_valid(value) == bool(told):
-            self.wrong.append(f"{what}: the program tells {told and told[0].decode()}, and the schema otherwise: {json.dumps(value)}"[:600])
+            self.tell(f"{what}: the program tells {told and told[0].decode()}, and the schema otherwise: {json.dumps(value)}"[:600])
 
 
-def main():
-    words = argparse.ArgumentParser(description=__doc__, formatter_class=argparse.RawDescriptionHelpFormatter)
-    words.add_argument("--program", default=str(TOP / "crates/framec/out/framec"))
-    program = words.parse_args().program
-    try:
-        import jsonschema
-    except ImportError:
-        print("left out: python3-jsonschema (the schemas)", file=sys.stderr)
-        return
-    validators = {kind: jsonschema.Draft202012Validator(json.loads((TOP / f"docs/schema/{kind}.schema.json").read_text(encoding="utf-8"))) for kind in ("frame", "submission")}
-    holds = Holds(program, validators)
-    frames = sorted(TOP.glob("examples/frames/*.json"))
-    submissions = sorted([*TOP.glob("examples/submissions/*.json"), *TOP.glob("examples/profile/*.json")])
+def look_at(holds):
+    """The examples, what the program makes of them, and changed ones."""
+    frames = sorted(FRAMES.glob("*.json"))
+    submissions = sorted([*SUBMISSIONS.glob("*.json"), *PROFILE.glob("*.json")])
     for path in frames:
         text = path.read_bytes()
         for word, kind in (("migrate", "frame"), ("auto", "frame"), ("compile", "submission")):
             holds.is_valid(f"{word} < {path.name}", kind, holds.ran(word, text))
-    lines = [line for path in sorted(TOP.glob("examples/flights/*.json")) for line in path.read_bytes().splitlines()]
+    lines = [line for path in sorted(FLIGHTS.glob("*.json")) for line in path.read_bytes().splitlines()]
     for kind, texts in (("frame", [*(path.read_bytes() for path in frames), *lines]), ("submission", [path.read_bytes() for path in submissions])):
         for text in texts:
             holds.is_valid("an example", kind, text)
     for kind, word, name in CHANGED:
         for value in changed(json.loads((TOP / "examples" / name).read_bytes())):
             holds.is_as_read(name, kind, word, value)
-    for line in holds.wrong:
-        print(line, file=sys.stderr)
-    print(f"schemas: {holds.count} files, {len(holds.wrong)} otherwise")
-    sys.exit(1 if holds.wrong else 0)
+
+
+def main():
+    program = Arguments(__doc__).parse_args().program
+    try:
+        import jsonschema
+    except ImportError:
+        return left_out("python3-jsonschema (the schemas)")
+    schemas = {kind: json.loads((TOP / f"docs/schema/{kind}.schema.json").read_text(encoding="utf-8")) for kind in ("frame", "submission")}
+    with Holds(program, {kind: jsonschema.Draft202012Validator(schema) for kind, schema in schemas.items()}) as holds:
+        look_at(holds)
 
 
 if __name__ == "__main__":

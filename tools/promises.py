@@ -8,33 +8,24 @@ export for C. For each stand the first sentence of its doc comment, those behind
 its `ensures` clauses. The crates stand as in crates.txt: those that the program and the library for C are made of.
 
 The tables stand between two marker lines; what stands above the first one is written by hand. With --check nothing is
-written: the last line is `promises: N calls, M stale`, and the status is 1 where a line of the tables is stale.
+written, and the status is 1 where a line of the tables is stale.
 """
 
-import argparse
 import difflib
 import re
 import sys
 from pathlib import Path
 
-TOP = Path(__file__).resolve().parent.parent
+sys.path.insert(0, str(Path(__file__).resolve().parent.parent / "tools/lib"))
+from arguments import Arguments
+from repository import TOP, product
+from tally import Tally
+
 PAGE = TOP / "docs/PROMISES.md"
 FIRST, LAST = "<!-- tools/promises.py: begin -->", "<!-- tools/promises.py: end -->"
-TARGETS = ("framec", "framec_c")
 
 ITEM = re.compile(r"( *)(pub )?(?:unsafe )?(?:extern \"C\" )?fn (\w+)")
 CLAUSE = re.compile(r"ensures (?:(\w+) )?\{")
-
-
-def product():
-    """The crates that the program and the library for C are made of, in the order of crates.txt."""
-    lines = [line.split("#")[0].split(":", 1) for line in (TOP / "crates.txt").read_text(encoding="utf-8").splitlines()]
-    stands_on = {line[0].split()[0]: line[1].split() for line in lines if len(line) == 2}
-    found, left = set(), set(TARGETS)
-    while left:
-        found |= left
-        left = {dep for crate in left for dep in stands_on[crate] if dep in stands_on} - found
-    return [crate for crate in stands_on if crate in found]
 
 
 def plain(text):
@@ -148,26 +139,28 @@ def tables():
     return [*lines, ""], count
 
 
+def look_at(tally, old, new):
+    """Tells each line that is not as it would be written."""
+    for sign, line in ((line[0], line[1:]) for line in list(difflib.unified_diff(old, new, n=0, lineterm=""))[2:]):
+        if sign != "@":
+            tally.tell(f"{PAGE.relative_to(TOP)}: {sign}{line}")
+
+
 def main():
-    parser = argparse.ArgumentParser(description=__doc__, formatter_class=argparse.RawDescriptionHelpFormatter)
+    parser = Arguments(__doc__, program=None)
     parser.add_argument("--check", action="store_true")
     is_check = parser.parse_args().check
     page = PAGE.read_text(encoding="utf-8").splitlines()
     if page.count(FIRST) != 1 or page.count(LAST) != 1:
         sys.exit(f"{PAGE.relative_to(TOP)} does not have the two lines {FIRST} and {LAST}")
     begin, end = page.index(FIRST) + 1, page.index(LAST)
-    lines, count = tables()
-    stale = 0
-    for kind, old, old_end, new, new_end in difflib.SequenceMatcher(None, page[begin:end], lines, autojunk=False).get_opcodes():
-        if kind != "equal":
-            stale += max(old_end - old, new_end - new)
-            for sign, text in [("-", line) for line in page[begin:end][old:old_end]] + [("+", line) for line in lines[new:new_end]]:
-                if is_check:
-                    print(f"{PAGE.relative_to(TOP)}: {sign}{text}", file=sys.stderr)
-    if not is_check:
-        PAGE.write_text("\n".join([*page[:begin], *lines, *page[end:]]) + "\n", encoding="utf-8")
-    print(f"promises: {count} calls, {stale} {'stale' if is_check else 'lines written anew'}")
-    sys.exit(1 if is_check and stale else 0)
+    with Tally("promises", "calls") as tally:
+        lines, count = tables()
+        tally.look(count)
+        if is_check:
+            look_at(tally, page[begin:end], lines)
+        else:
+            PAGE.write_text("\n".join([*page[:begin], *lines, *page[end:]]) + "\n", encoding="utf-8")
 
 
 if __name__ == "__main__":

@@ -1,8 +1,8 @@
 #!/usr/bin/env python3
 """Gives the program files, words and ends that no usual producer makes, and compares what it answers with what the docs say.
 
-    bench/hostile.py PROGRAM [--other OTHER] [--only WORD] [--large] [--jobs 4]
-    bench/hostile.py PROGRAM --cases FOLDER [--only WORD]
+    fuzz/hostile.py [--program PROGRAM] [--other OTHER] [--only WORD] [--large] [--jobs 4]
+    fuzz/hostile.py --cases FOLDER [--program PROGRAM] [--only WORD]
 
 A row has words, an input, a status and a text; a broken frame is given to every command that reads one, a broken submission to every
 command that reads one. Where the text of a good file is not told here, it has to be that of OTHER, if one is named, and the status 0.
@@ -12,27 +12,25 @@ Told at the end: how many rows there were of each kind, and which failed. `--cas
 folder, as `rt try --cases` takes it, with the other commands in turn; PROGRAM may be another one that knows the words.
 """
 
-import argparse
 import collections
 import json
 import os
-import subprocess
 import sys
-from concurrent.futures import ThreadPoolExecutor
+from pathlib import Path
+from subprocess import DEVNULL, PIPE
 
-from makers import PERSISTS
+sys.path.insert(0, str(Path(__file__).resolve().parent.parent / "tools/lib"))
+from arguments import Arguments
+from makers import PERSISTS, generated, packed
+from sides import answer, ran
+from tally import Tally, by_threads, left_out
 
-LIMIT = 300
 MIB = 2**20
 FRAMES = ("run", "run --tight", "run --workers 4 --tend 1", "cull", "place", "bound", "compile", "compile --tight", "meaning", "migrate")
 FRAMES += ("auto", "auto --cost")
 SUBMISSIONS = ("check", "exec", "exec --trace --tend 1", "audit")
 
 Row = collections.namedtuple("Row", "kind name words text status printed")
-
-
-def packed(value):
-    return json.dumps(value, separators=(",", ":")).encode()
 
 
 # Frames.
@@ -644,8 +642,7 @@ def large_rows(frames, submissions, flies):
 
 
 def hard_rows(program, submissions):
-    made = subprocess.run([program, "gen", "--number", "7", "--passes", "256"], capture_output=True).stdout
-    seen = packed({**json.loads(made), "passes": [{**one, "side_effect": True} for one in json.loads(made)["passes"]]})
+    seen = packed(generated(program))
     for words in ("compile", "compile --tight", "bound", "place", "auto", "auto --cost", "run --workers 4 --tend 2", "run --tight"):
         yield Row("hard", "256 passes", words, seen, 0, None)
     names = [f"b{k}" for k in range(256)]
@@ -679,33 +676,28 @@ def program_of_memory(size):
 
 def ended(program, words, how):
     """The status of a run whose input or output is of this kind, and what it printed where that is seen."""
-    words, quiet = words.split(" "), {"stderr": subprocess.DEVNULL, "timeout": LIMIT}
+    quiet = {"capture_output": False, "stderr": DEVNULL}
     if how == "no room":
         with open("/dev/full", "wb") as full:
-            return subprocess.run([program, *words], input=TEXT, stdout=full, **quiet).returncode, b""
+            return answer(program, words, TEXT, stdout=full, **quiet)[0], b""
     if how == "no reader":
         into, out = os.pipe()
         os.close(into)
-        status = subprocess.run([program, *words], input=TEXT, stdout=out, **quiet).returncode
+        status = answer(program, words, TEXT, stdout=out, **quiet)[0]
         os.close(out)
         return status, b""
     if how == "output is closed":
-        return subprocess.run(["sh", "-c", 'exec "$0" "$@" >&-', program, *words], input=TEXT, stdout=subprocess.PIPE, **quiet).returncode, b""
+        return answer("sh", ["-c", 'exec "$0" "$@" >&-', program, *words.split()], TEXT)
     if how == "input is closed":
-        done = subprocess.run(["sh", "-c", 'exec "$0" "$@" <&-', program, *words], stdout=subprocess.PIPE, **quiet)
-        return done.returncode, b"" if done.returncode == 2 else done.stdout
+        status, printed = answer("sh", ["-c", 'exec "$0" "$@" <&-', program, *words.split()])
+        return status, b"" if status == 2 else printed
     if how == "output for reading":
         with open("/dev/null", "rb") as file:
-            return subprocess.run([program, *words], input=TEXT, stdout=file, **quiet).returncode, b""
-    if how == "input is a folder":
-        source = os.open("/", os.O_RDONLY)
-    elif how == "input for writing":
-        source = os.open("/dev/null", os.O_WRONLY)
-    else:
-        source = os.open("/dev/null", os.O_RDONLY)
-    done = subprocess.run([program, *words], stdin=source, stdout=subprocess.PIPE, **quiet)
+            return answer(program, words, TEXT, stdout=file, **quiet)[0], b""
+    source = os.open(*{"input is a folder": ("/", os.O_RDONLY), "input for writing": ("/dev/null", os.O_WRONLY)}[how])
+    found = answer(program, words, None, stdin=source, stdout=PIPE, **quiet)
     os.close(source)
-    return done.returncode, done.stdout
+    return found
 
 
 def end_rows(commands):
@@ -743,33 +735,30 @@ def short_rows(frames, submissions):
 # All of them.
 
 
-class Rows:
+class Rows(Tally):
     def __init__(self, options):
+        super().__init__("hostile", "rows")
         self.program, self.other, self.only = options.program, options.other, options.only
-        self.counts, self.failed = collections.Counter(), []
+        self.counts = collections.Counter()
 
-    def answer(self, program, words, text):
-        try:
-            done = subprocess.run([program, *words], input=text, stdout=subprocess.PIPE, stderr=subprocess.PIPE, timeout=LIMIT)
-        except subprocess.TimeoutExpired:
-            return None, b"", b""
-        return done.returncode, done.stdout, done.stderr
+    def counted(self, kind):
+        self.look()
+        with self.lock:
+            self.counts[kind] += 1
 
     def knows(self, words):
-        return self.answer(self.program, words.split(" "), b"")[0] != 3
+        return answer(self.program, words)[0] != 3
 
     def fails(self, kind, name, words, wanted, found):
-        self.failed.append(f"{kind}, {name}: {words}: wanted {wanted!r}, found {found!r}"[:900])
-        print(self.failed[-1], flush=True)
+        self.tell(f"{kind}, {name}: {words}: wanted {wanted!r}, found {found!r}"[:900])
 
     def row(self, row):
-        words = row.words.split(" ") if isinstance(row.words, str) else row.words
-        status, printed, told = self.answer(self.program, words, row.text)
+        status, printed, told = ran(self.program, row.words, row.text)
         wanted = row.status, row.printed.encode() if row.printed is not None else printed, b""
         if row.printed is None and self.other:
-            wanted = (*self.answer(self.other, words, row.text)[:2], b"")
-        self.counts[row.kind] += 1
-        if "--trace" in words and row.printed is None:
+            wanted = (*answer(self.other, row.words, row.text), b"")
+        self.counted(row.kind)
+        if "--trace" in row.words and row.printed is None:
             # Which of the same events comes first is the workers' choice.
             printed, wanted = sorted(printed.split(b"\n")), (wanted[0], sorted(wanted[1].split(b"\n")), b"")
         if (status, printed, told) != wanted:
@@ -778,18 +767,16 @@ class Rows:
     def end(self, row):
         words, how, statuses = row
         found = ended(self.program, words, how)
-        self.counts["ends"] += 1
+        self.counted("ends")
         if found[0] not in statuses or found[1] and found[0] not in (0, 3):
             self.fails("ends", how, words, statuses, found)
 
     def short(self, words, text):
         """In each room the answer is what it is without a limit, or status 6 and no text."""
-        whole = self.answer(self.program, words.split(" "), text)
+        whole = ran(self.program, words, text)
         for room in ROOMS:
-            limited = ["-c", f'ulimit -v {room} && exec "$0" "$@"', self.program, *words.split(" ")]
-            found = self.answer("sh", limited, text)
-            self.counts["little room"] += 1
-            self.counts["little room, status 6"] += found[0] == 6
+            found = ran("sh", ["-c", f'ulimit -v {room} && exec "$0" "$@"', self.program, *words.split()], text)
+            self.counted("little room, status 6" if found[0] == 6 else "little room, as without")
             if found not in (whole, (6, b"", b"")):
                 self.fails("little room", f"{room} KiB", words, "status 6, or as without", (found[0], found[1][:60], found[2][:200]))
 
@@ -800,59 +787,55 @@ class Rows:
             inputs.setdefault((row.kind, row.name), []).append(row)
         for number, rows in enumerate(inputs.values()):
             row = rows[number % len(rows)]
-            words = row.words.split(" ") if isinstance(row.words, str) else row.words
+            words = row.words.split() if isinstance(row.words, str) else row.words
             if any(not isinstance(word, str) or "\n" in word or word == "" for word in words) or len(row.text) > 2 * MIB:
                 continue
             base = os.path.join(folder, f"{number:04}_{row.status}")
-            for suffix, text in (("", row.text), (".args", "".join(f"{word}\n" for word in words).encode())):
+            printed = row.printed.encode() if row.printed is not None else answer(self.program, words, row.text)[1]
+            for suffix, text in (("", row.text), (".args", "".join(f"{word}\n" for word in words).encode()), (".stdout", printed)):
                 with open(base + suffix, "wb") as file:
                     file.write(text)
-            printed = row.printed.encode() if row.printed is not None else self.answer(self.program, words, row.text)[1]
-            with open(base + ".stdout", "wb") as file:
-                file.write(printed)
-            self.counts[row.kind] += 1
+            self.counted(row.kind)
 
     def wanted(self, row):
         return not self.only or self.only in f"{row.kind}, {row.name}, {row.words}"
 
 
-def main():
-    parser = argparse.ArgumentParser(description=__doc__, formatter_class=argparse.RawDescriptionHelpFormatter)
-    parser.add_argument("program", metavar="PROGRAM")
-    parser.add_argument("--other", metavar="OTHER")
-    parser.add_argument("--only", metavar="WORD")
-    parser.add_argument("--large", action="store_true")
-    parser.add_argument("--cases", metavar="FOLDER")
-    parser.add_argument("--jobs", type=int, default=4)
-    options = parser.parse_args()
-    rows = Rows(options)
+def look_at(rows, options):
+    """All rows, or what else the options say."""
     known = {words: rows.knows(words) for words in (*FRAMES, *SUBMISSIONS, "flight")}
     for words, is_known in known.items():
         if not is_known:
-            print(f"left out, since the program does not know it: {words}")
+            left_out(f"{words}, which the program does not know")
     frames, submissions = ([words for words in all if known[words]] for all in (FRAMES, SUBMISSIONS))
     flies = known["flight"]
     made = [*frame_rows(frames), *submission_rows(submissions), *(flight_rows() if flies else ()), *word_rows()]
     made = [row for row in made if flies or not str(row.words).startswith("flight")]
     if options.cases:
         rows.written(filter(rows.wanted, made), options.cases)
-        print(f"{sum(rows.counts.values())} cases written: {dict(rows.counts)}")
         return
-    with ThreadPoolExecutor(options.jobs) as pool:
-        list(pool.map(rows.row, filter(rows.wanted, made)))
-        if not options.only:
-            reading = [*frames, *submissions, *(["flight"] if flies else []), "gen --number 1", "gen --number 1 --passes 3 --summary"]
-            list(pool.map(rows.end, end_rows(reading)))
+    by_threads(rows.row, filter(rows.wanted, made), options.jobs)
+    if not options.only:
+        reading = [*frames, *submissions, *(["flight"] if flies else []), "gen --number 1", "gen --number 1 --passes 3 --summary"]
+        by_threads(rows.end, end_rows(reading), options.jobs)
     if options.large and not options.only:
         for words, text in short_rows(frames, submissions):
             rows.short(words, text)
     if options.large:
         for row in filter(rows.wanted, [*large_rows(frames, submissions, flies), *hard_rows(options.program, submissions)]):
             rows.row(row)
-    for kind, count in rows.counts.items():
-        print(f"{kind}: {count}")
-    print(f"{sum(count for kind, count in rows.counts.items() if ',' not in kind)} rows, {len(rows.failed)} failed")
-    sys.exit(1 if rows.failed else 0)
+
+
+def main():
+    parser = Arguments(__doc__, other="may", jobs=4)
+    parser.add_argument("--only", metavar="WORD")
+    parser.add_argument("--large", action="store_true")
+    parser.add_argument("--cases", metavar="FOLDER")
+    options = parser.parse_args()
+    with Rows(options) as rows:
+        look_at(rows, options)
+        for kind, count in rows.counts.items():
+            print(f"{kind}: {count}")
 
 
 if __name__ == "__main__":

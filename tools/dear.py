@@ -1,23 +1,24 @@
 #!/usr/bin/env python3
 """Lists the functions of a crate by the time that their proofs take, dearest first.
 
-    bench/dear.py CRATE [--test] [--most 25]
+    tools/dear.py CRATE [--test] [--most 25]
 
 Checks the crate from nothing with one job, on a copy of the repository, and takes the time between the lines that `rt check
 --progress` prints as each proof ends. So a function's time is that of its proof with the lemmas that no earlier one read. It is
 processor time of the check's processes, so what else the machine does changes it little.
 """
 
-import argparse
-import os
 import re
 import shutil
 import subprocess
 import sys
-import tempfile
 from pathlib import Path
 
-TOP = Path(__file__).resolve().parent.parent
+sys.path.insert(0, str(Path(__file__).resolve().parent.parent / "tools/lib"))
+from arguments import Arguments
+from repository import copied
+from timed import processes
+
 LINE = re.compile(r"checked (.+), \d+ of \d+")
 
 
@@ -26,11 +27,9 @@ def unbuilt(folder, names):
     return [name for name in names if name == ".git" or (Path(folder).name == "out" and name != "rlib")]
 
 
-def copied(room, crate):
-    """A copy in which the crate has another name, so that nothing is taken from what earlier checks kept of it. The libraries
-    that are built go with it."""
-    top = Path(room) / "copy"
-    shutil.copytree(TOP, top, symlinks=True, ignore=unbuilt)
+def renamed(top, crate):
+    """The folder of the crate in a copy, in which it has another name, so that nothing is taken from what earlier checks kept of it.
+    The libraries that are built go with it."""
     shutil.rmtree(top / "crates" / crate / "out", ignore_errors=True)
     folder = (top / "crates" / crate).rename(top / "crates" / f"timed_{crate}")
     for path in [top / "crates.txt", *folder.rglob("*.rt"), *folder.rglob("*.antt")]:
@@ -41,17 +40,7 @@ def copied(room, crate):
 
 def spent(session):
     """Processor seconds of the processes of a session, and of those that they have waited for."""
-    ticks = 0
-    for path in Path("/proc").glob("[0-9]*/stat"):
-        try:
-            text = path.read_text(encoding="utf-8")
-        except OSError:
-            continue
-        # After the name in parentheses: state, parent, group, session, and from the twelfth on the four times.
-        fields = text.rpartition(")")[2].split()
-        if int(fields[3]) == session:
-            ticks += sum(int(field) for field in fields[11:15])
-    return ticks / os.sysconf("SC_CLK_TCK")
+    return sum(one.seconds for one in processes().values() if one.session == session)
 
 
 def timed(folder, flags):
@@ -72,13 +61,12 @@ def timed(folder, flags):
 
 
 def main():
-    parser = argparse.ArgumentParser(description=__doc__, formatter_class=argparse.RawDescriptionHelpFormatter)
+    parser = Arguments(__doc__, program=None, most=25)
     parser.add_argument("crate", metavar="CRATE")
     parser.add_argument("--test", action="store_true")
-    parser.add_argument("--most", type=int, default=25)
     options = parser.parse_args()
-    with tempfile.TemporaryDirectory() as room:
-        found = timed(copied(room, options.crate), ["--test"] if options.test else [])
+    with copied(unbuilt) as top:
+        found = timed(renamed(top, options.crate), ["--test"] if options.test else [])
     print(f"{len(found)} proofs, {sum(seconds for seconds, _ in found):.0f} s")
     for seconds, name in sorted(found, reverse=True)[: options.most]:
         print(f"{seconds:8.1f}  {name}")

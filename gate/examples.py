@@ -1,7 +1,7 @@
 #!/usr/bin/env python3
 """Runs the program on every file of examples/ and compares what it prints with the tables of docs/EXAMPLES.md.
 
-    bench/examples.py [--program PROGRAM]
+    gate/examples.py [--program PROGRAM]
 
 A submission has to print its hazard with status 1, of `check` and of `exec`, and its twin the other text with status 0; those of
 examples/profile/ are accepted. A submission that is run has to print what the table says, whatever the number of workers and the
@@ -12,18 +12,16 @@ leave the bytes of the exports on the device. A list of frames has to print the 
 hazard H1 to H9 a file. The stored run of the program, which the gate repeats, is on the example that the README names.
 """
 
-import argparse
 import re
-import subprocess
 import sys
 from pathlib import Path
 
-TOP = Path(__file__).resolve().parent.parent
-BUILT = TOP / "crates/framec/out/framec"
-FRAMES = TOP / "examples/frames"
-SUBMISSIONS = TOP / "examples/submissions"
-PROFILE = TOP / "examples/profile"
-FLIGHTS = TOP / "examples/flights"
+sys.path.insert(0, str(Path(__file__).resolve().parent.parent / "tools/lib"))
+from arguments import Arguments
+from repository import FLIGHTS, FRAMES, PROFILE, SUBMISSIONS, TOP
+from sides import answer
+from tally import Tally
+from traces import run_text
 
 
 def rows(heading):
@@ -45,20 +43,14 @@ def nameless(text):
     return re.sub(rb"^(export|readback) \S+ ", b"", text, flags=re.MULTILINE)
 
 
-class Runs:
+class Runs(Tally):
     def __init__(self, program):
+        super().__init__("examples", "runs")
         self.program = program
-        self.count = 0
-        self.differences = []
 
     def run(self, words, text):
-        done = subprocess.run([self.program, *words.split()], input=text, capture_output=True)
-        self.count += 1
-        return done.returncode, done.stdout
-
-    def expect(self, what, got, wanted):
-        if got != wanted:
-            self.differences.append(f"{what}: got {got!r}, wanted {wanted!r}"[:600])
+        self.look()
+        return answer(self.program, words, text)
 
     def submission(self, path, line, status):
         self.expect(f"check < {path.name}", self.run("check", path.read_bytes()), (status, f"{line}\n".encode()))
@@ -83,12 +75,10 @@ class Runs:
         status, placed = self.run("place", text)
         self.expect(f"place < {path.name}", (status, placed.decode().splitlines()[:1]), (0, [heap]))
         status, culled = self.run("cull", text)
-        lines = culled.decode().splitlines()
-        self.expect(f"cull < {path.name}", (status, lines[:1]), (0, [first]))
-        named = [f"culled {line.split()[1]}" for line in lines[1:] if line.endswith(" culled")]
+        self.expect(f"cull < {path.name}", (status, culled.decode().splitlines()[:1]), (0, [first]))
         _, exports = self.run("meaning", text)
         ran = self.run("run", text)
-        self.expect(f"run < {path.name}", ran, (0, "".join(f"{line}\n" for line in [first, *named]).encode() + exports))
+        self.expect(f"run < {path.name}", ran, (0, run_text(culled, exports)))
         _, canonical = self.run("migrate", text)
         self.expect(f"migrate < {path.name}, twice", self.run("migrate", canonical), (0, canonical))
         self.expect(f"run of the canonical text of {path.name}", self.run("run", canonical), ran)
@@ -97,10 +87,8 @@ class Runs:
         self.expect(f"exec of what {path.name} is compiled to", (status, nameless(executed)), (0, nameless(exports)))
 
 
-def main():
-    parser = argparse.ArgumentParser(description=__doc__, formatter_class=argparse.RawDescriptionHelpFormatter)
-    parser.add_argument("--program", default=str(BUILT))
-    runs = Runs(parser.parse_args().program)
+def look_at(runs):
+    """Every row of the tables, and whether each file has one."""
     submissions = {code(row[0]): row for row in rows("Submissions that are wrong")}
     for name, row in submissions.items():
         runs.submission(SUBMISSIONS / name, code(row[2]), 1)
@@ -125,10 +113,11 @@ def main():
     runs.expect("files of examples/flights", {path.name for path in FLIGHTS.iterdir()}, set(flights))
     stored = (TOP / "crates/framec/stdin").read_bytes()
     runs.expect("stored run of the program", stored, (FRAMES / "one_fill.json").read_bytes())
-    for line in runs.differences:
-        print(line, file=sys.stderr)
-    print(f"examples: {runs.count} runs, {len(runs.differences)} differences")
-    sys.exit(1 if runs.differences else 0)
+
+
+def main():
+    with Runs(Arguments(__doc__).parse_args().program) as runs:
+        look_at(runs)
 
 
 if __name__ == "__main__":

@@ -1,7 +1,7 @@
 #!/usr/bin/env python3
 """Changes one small thing in each function of a crate, and lists the changes that no contract refuses.
 
-    bench/mutate.py CRATE.. [--changes 3] [--seed 1] [--jobs 2]
+    tools/mutate.py CRATE.. [--changes 3] [--seed 1] [--jobs 2]
 
 Each round puts one change into each of some functions (another comparison, another constant, a line left out, two arguments
 exchanged) and checks the crate once: the prover judges a function by the contracts of those that it calls, so it judges each
@@ -11,15 +11,15 @@ on a copy of the repository with what was built there, so `rt all check` beforeh
 reader: a change may be right, and where it says "not judged", the prover did not look.
 """
 
-import argparse
 import random
 import re
-import shutil
 import subprocess
-import tempfile
+import sys
 from pathlib import Path
 
-TOP = Path(__file__).resolve().parent.parent
+sys.path.insert(0, str(Path(__file__).resolve().parent.parent / "tools/lib"))
+from arguments import Arguments
+from repository import copied
 
 HEAD = re.compile(r"^([ \t]*)(?:pub(?:\([a-z ]+\))?\s+)?(?:const\s+)?fn\s+(\w+)", re.M)
 
@@ -192,18 +192,13 @@ def mutated(crate, most, jobs):
 
 
 def main():
-    parser = argparse.ArgumentParser(description=__doc__, formatter_class=argparse.RawDescriptionHelpFormatter)
+    parser = Arguments(__doc__, program=None, changes=3, seed=1, jobs=2)
     parser.add_argument("crates", metavar="CRATE", nargs="+")
-    parser.add_argument("--changes", type=int, default=3)
-    parser.add_argument("--seed", type=int, default=1)
-    parser.add_argument("--jobs", type=int, default=2)
     options = parser.parse_args()
-    with tempfile.TemporaryDirectory() as folder:
-        copy = Path(folder) / "copy"
-        shutil.copytree(TOP, copy, symlinks=True)
+    with copied() as top:
         for name in options.crates:
             random.seed(options.seed)
-            mutated(copy / "crates" / name, options.changes, options.jobs)
+            mutated(top / "crates" / name, options.changes, options.jobs)
 
 
 if __name__ == "__main__":

@@ -3,6 +3,9 @@
 import copy
 import json
 
+from sides import answer
+from tally import Differs
+
 SIDE = 8
 FUNS = ["add", "sub", "mul", "and", "or", "xor", "min", "max", "shl", "shr"]
 
@@ -24,6 +27,44 @@ PERSISTS = {
     ],
     "exports": ["c"],
 }
+
+# What stands between any two commands, and before a read by the host.
+ALL = {"src_stage": "ALL_COMMANDS", "src_access": "MEMORY_WRITE", "dst_stage": "ALL_COMMANDS", "dst_access": "MEMORY_READ|MEMORY_WRITE"}
+BARRIER = {"item": "global", **ALL}
+FOR_HOST = {"item": "global", **ALL, "dst_stage": "HOST", "dst_access": "HOST_READ"}
+
+
+def packed(value):
+    """The text of a JSON value without spaces."""
+    return json.dumps(value, separators=(",", ":")).encode()
+
+
+def fill(piece, word):
+    return {"item": "command", "op": "fill_buffer", "dst": piece, "offset": 0, "size": 256, "word": word}
+
+
+def copied(piece):
+    return {"item": "command", "op": "copy_buffer", "src": 0, "dst": piece, "src_offset": 0, "dst_offset": 0, "size": 256}
+
+
+def submission(items, pieces=1, memories=1):
+    """One queue with these items; the pieces lie in turn in the memories, all at their start."""
+    return {
+        "format": 1,
+        "memories": [{"size": 256}] * memories,
+        "pieces": [{"buffer": 256, "memory": k % memories, "offset": 0} for k in range(pieces)],
+        "queues": [{"family": "graphics", "batches": [{"items": items + [FOR_HOST], "signal": {"value": 1, "stage": "ALL_COMMANDS"}}]}],
+        "readbacks": [0],
+    }
+
+
+def generated(program):
+    """A frame of 256 passes that the program makes by its word `gen`, each with a side effect; none if it makes none."""
+    status, text = answer(program, "gen --number 7 --passes 256")
+    made = json.loads(text) if status == 0 else None
+    for one in made["passes"] if made else ():
+        one["side_effect"] = True
+    return made
 
 
 def some_families(rng):
@@ -187,10 +228,21 @@ def some_flight(rng, passes):
     return words, frames
 
 
-def thinner(is_sound, program, rng):
-    """The submission with one wait, item or signal fewer, if one of some that are tried is still sound."""
+def compiled(program, rng, passes):
+    """The text of a frame without a fault, and the submission that the program compiles it to."""
+    while True:
+        text = Frame(rng, passes).text()
+        status, submission = answer(program, "compile", text)
+        if status == 0:
+            return text, submission
+        if status != 2:
+            raise Differs(f"status {status}", ["compile"], text)
+
+
+def thinner(program, submission, rng):
+    """The submission with one wait, item or signal fewer, if one of some that are tried is still accepted by the program."""
     for _ in range(12):
-        other = copy.deepcopy(program)
+        other = copy.deepcopy(submission)
         batches = [batch for queue in other["queues"] for batch in queue["batches"]]
         if not batches:
             return None
@@ -199,6 +251,6 @@ def thinner(is_sound, program, rng):
             batch.pop("signal", None)
         elif batch.get(member):
             batch[member].pop(rng.randrange(len(batch[member])))
-        if other != program and is_sound(json.dumps(other).encode()):
+        if other != submission and answer(program, "check", packed(other))[0] == 0:
             return other
     return None

@@ -1,26 +1,31 @@
 #!/usr/bin/env python3
 """Lets each request for memory of the program fail in turn, and each of its first reads, writes and threads.
 
-    bench/starve.py [--program PROGRAM] [--most 4000] [--calls 40] [--only WORD] [--ends | --memory] [--jobs 1]
+    fuzz/starve.py [--program PROGRAM] [--most 4000] [--calls 40] [--only WORD] [--ends | --memory] [--jobs 1]
 
 A library that is loaded before the C library counts the requests for memory, the reads of standard input, the writes to standard output
 and the threads that are started, and lets the one with a given number fail, or this one and all after it. Reads and writes are of one byte
 where an end fails. For each case the program runs once as it is, and then twice for each request (at most so many): it has to end with
 status 6 and print nothing, or to end and print as the first run did. It runs once for each of its first reads: status 4, nothing is printed,
 and it reads no more. And for each of its first writes: status 5, printed is the front of the text, and it writes no more. A thread that is
-not started changes nothing. One line for each case; the status is 0 where all did. Without PROGRAM the repository's is built.
+not started changes nothing. One line for each case; the status is 0 where all did.
 """
 
-import argparse
 import json
 import os
+import shutil
 import subprocess
 import sys
 import tempfile
-from concurrent.futures import ThreadPoolExecutor
+from pathlib import Path
 
-from compare import BARRIER, TOP, built, fill, submission
-from makers import PERSISTS
+sys.path.insert(0, str(Path(__file__).resolve().parent.parent / "tools/lib"))
+from arguments import Arguments
+from makers import BARRIER, PERSISTS, fill, packed, submission
+from repository import FRAMES
+from sides import answer, ran
+from tally import Tally, by_threads, left_out
+from traces import recorded
 
 LIBRARY = r"""
 #define _GNU_SOURCE
@@ -105,8 +110,8 @@ void _exit(int status) {
 }
 """
 
-EXAMPLES = TOP / "examples/frames"
 WORDS = ("run", "run --tight", "meaning", "cull", "place", "bound", "compile", "compile --tight", "migrate", "auto", "auto --cost")
+
 
 def two_lives():
     """Two buffers that share memory, one after another."""
@@ -131,27 +136,17 @@ def two_lives():
     }
 
 
-def packed(value):
-    return json.dumps(value).encode()
-
-
-def recorded(program, text):
-    """A submission and the trace of a run of it."""
-    printed = subprocess.run([program, "exec", "--trace", "--tend", "1"], input=text, capture_output=True).stdout
-    return text.rstrip() + b"\n" + printed[max(printed.find(b"events"), 0) :]
-
-
 def cases(program):
     """Words and input."""
-    one = (EXAMPLES / "one_fill.json").read_bytes()
-    two = (EXAMPLES / "ramp_and_map.json").read_bytes()
+    one = (FRAMES / "one_fill.json").read_bytes()
+    two = (FRAMES / "ramp_and_map.json").read_bytes()
     for words in WORDS:
         for text in (one, two, packed(two_lives())):
             yield words, text
     yield "run --workers 4 --tend 3", two
     yield "run --trace", one
     for words in ("cull", "place", "bound", "migrate", "auto --cost"):
-        yield words, (EXAMPLES / "deferred.json").read_bytes()
+        yield words, (FRAMES / "deferred.json").read_bytes()
     yield "run", packed({**json.loads(one), "more": 7})
     yield "run", one.rstrip()[:-1]
     yield "gen --number 7 --passes 3", b""
@@ -176,26 +171,23 @@ def cases(program):
     yield "run run", b""
 
 
-class Starved:
+class Starved(Tally):
     def __init__(self, program, library, options):
+        super().__init__("starve", "runs")
         self.program, self.library, self.options = program, library, options
-        self.wrong = self.runs = 0
 
     def ended(self, words, data, **more):
-        """Status, text, and the numbers of requests, reads, writes and threads."""
-        environment = {"LD_PRELOAD": self.library, "STARVE_COUNT": "1", **more}
-        done = subprocess.run([self.program, *words.split()], input=data, capture_output=True, env=environment, timeout=300)
-        said, _, counts = done.stderr.decode(errors="replace").rpartition("\n")
-        self.runs += 1
-        return done.returncode, done.stdout, [int(number) for number in counts.split()] or [0] * 4, said
+        """Status, text, the numbers of requests, reads, writes and threads, and what else was said."""
+        status, text, told = ran(self.program, words, data, env={"LD_PRELOAD": self.library, "STARVE_COUNT": "1", **more})
+        said, _, counts = told.decode(errors="replace").rpartition("\n")
+        self.look()
+        return status, text, [int(number) for number in counts.split()] or [0] * 4, said
 
     def fails(self, words, what, found):
-        self.wrong += 1
-        print(f"{what} of {words}: status {found[0]}, {found[1][:60]!r}, {found[2]}, {found[3][:200]!r}", flush=True)
+        self.tell(f"{what} of {words}: status {found[0]}, {found[1][:60]!r}, {found[2]}, {found[3][:200]!r}")
 
-    def each(self, work, count):
-        with ThreadPoolExecutor(self.options.jobs) as pool:
-            return list(pool.map(work, range(1, count + 1)))
+    def numbered(self, work, count):
+        return by_threads(work, range(1, count + 1), self.options.jobs)
 
     def memory(self, words, data):
         status, text, (requests, _, _, threads), _ = self.ended(words, data)
@@ -209,7 +201,7 @@ class Starved:
             return 0
 
         most = min(requests, self.options.most)
-        without = sum(self.each(at, most)) + sum(self.each(lambda number: at(number, STARVE_ON="1"), most))
+        without = sum(self.numbered(at, most)) + sum(self.numbered(lambda number: at(number, STARVE_ON="1"), most))
         for number in range(1, min(threads, 16) + 1):
             found = self.ended(words, data, STARVE_THREAD=str(number))
             if (found[0], found[1], found[3]) not in ((status, text, ""), (6, b"", "")):
@@ -230,8 +222,8 @@ class Starved:
             if (found[0], found[1], found[2][2], found[3]) != (5, text[: number - 1], number, ""):
                 self.fails(words, f"write {number}", found)
 
-        self.each(read, min(reads, self.options.calls))
-        self.each(write, min(writes, self.options.calls))
+        self.numbered(read, min(reads, self.options.calls))
+        self.numbered(write, min(writes, self.options.calls))
         return f"{reads} reads, {writes} writes"
 
     def case(self, words, data):
@@ -242,25 +234,20 @@ class Starved:
 
 
 def main():
-    parser = argparse.ArgumentParser(description=__doc__, formatter_class=argparse.RawDescriptionHelpFormatter)
-    parser.add_argument("--program")
-    parser.add_argument("--most", type=int, default=4000)
-    parser.add_argument("--calls", type=int, default=40)
+    parser = Arguments(__doc__, most=4000, calls=40, jobs=1)
     parser.add_argument("--only", default="")
     parser.add_argument("--ends", action="store_true")
     parser.add_argument("--memory", action="store_true")
-    parser.add_argument("--jobs", type=int, default=1)
     options = parser.parse_args()
-    program = options.program or built()
+    if not shutil.which("cc"):
+        return left_out("cc (the library that lets calls fail)")
     with tempfile.TemporaryDirectory() as folder:
         library = os.path.join(folder, "starve.so")
         subprocess.run(["cc", "-O1", "-shared", "-fPIC", "-xc", "-", "-o", library, "-ldl"], input=LIBRARY, text=True, check=True)
-        starved = Starved(program, library, options)
-        for words, data in cases(program):
-            if words.startswith(options.only) and (not words or words.startswith("run run") or starved.ended(words, b"")[0] != 3):
-                starved.case(words, data)
-    print(f"{starved.runs} runs, {starved.wrong} wrong")
-    sys.exit(1 if starved.wrong else 0)
+        with Starved(options.program, library, options) as starved:
+            for words, data in cases(options.program):
+                if words.startswith(options.only) and (not words or words.startswith("run run") or answer(options.program, words)[0] != 3):
+                    starved.case(words, data)
 
 
 if __name__ == "__main__":

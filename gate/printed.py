@@ -1,7 +1,7 @@
 #!/usr/bin/env python3
 """Runs each command line that the README and the docs print, and compares what comes with what stands there.
 
-    bench/printed.py [--program PROGRAM]
+    gate/printed.py [--program PROGRAM]
 
 A fenced block marked `console` has command lines that begin with `$ `, each with its whole text below it: standard output and
 standard error. A line `...` stands for any lines, and `$ echo $?` prints the status of the line before. The lines are run at
@@ -9,14 +9,15 @@ the top of the repository, with the built program in place of `./framec`; one wh
 other block may have a line that begins with `$ `.
 """
 
-import argparse
 import shutil
 import subprocess
 import sys
 from pathlib import Path
 
-TOP = Path(__file__).resolve().parent.parent
-BUILT = TOP / "crates/framec/out/framec"
+sys.path.insert(0, str(Path(__file__).resolve().parent.parent / "tools/lib"))
+from arguments import Arguments
+from repository import TOP
+from tally import Tally, left_out
 
 
 def pages():
@@ -73,30 +74,31 @@ def printed(command, program, status):
     return done.stdout.decode(errors="replace").splitlines(), done.returncode
 
 
+def look_at(tally, name, start, lines, program):
+    """The command lines of a block."""
+    status = 0
+    for number, command, wanted in commands(start, lines):
+        if not can_run(command):
+            left_out(f"{command.split()[0]} ({name}:{number})")
+            continue
+        got, status = printed(command, program, status)
+        tally.look()
+        if not is_as_printed(got, wanted):
+            tally.tell(f"{name}:{number}: {command} prints\n" + "\n".join(got[:40]))
+
+
 def main():
-    parser = argparse.ArgumentParser(description=__doc__, formatter_class=argparse.RawDescriptionHelpFormatter)
-    parser.add_argument("--program", default=str(BUILT))
-    program = Path(parser.parse_args().program).resolve()
-    ran, wrong = 0, []
-    for path in pages():
-        name = path.relative_to(TOP)
-        for start, mark, lines in blocks(path):
-            if mark != "console":
-                wrong += [f"{name}:{start}: a command line in a block that is not marked" for line in lines if line.startswith("$ ")]
-                continue
-            status = 0
-            for number, command, wanted in commands(start, lines):
-                if not can_run(command):
-                    print(f"left out: {command.split()[0]} ({name}:{number})", file=sys.stderr)
+    program = Arguments(__doc__).parse_args().program
+    with Tally("printed", "command lines") as tally:
+        for path in pages():
+            name = path.relative_to(TOP)
+            for start, mark, lines in blocks(path):
+                if mark == "console":
+                    look_at(tally, name, start, lines, program)
                     continue
-                got, status = printed(command, program, status)
-                ran += 1
-                if not is_as_printed(got, wanted):
-                    wrong.append(f"{name}:{number}: {command} prints\n" + "\n".join(got[:40]))
-    for line in wrong:
-        print(line, file=sys.stderr)
-    print(f"printed: {ran} command lines, {len(wrong)} differences")
-    sys.exit(1 if wrong else 0)
+                for line in lines:
+                    if line.startswith("$ "):
+                        tally.tell(f"{name}:{start}: a command line in a block that is not marked")
 
 
 if __name__ == "__main__":

@@ -1,20 +1,23 @@
 #!/usr/bin/env python3
 """Draws the pictures of docs/MODEL.md and docs/ARCHITECTURE.md into docs/pictures/.
 
-    bench/pictures.py [--check]
+    gate/pictures.py [--check]
 
 The passes come from examples/frames/deferred.json; the crates beside the steps of the pipeline have to stand in crates.txt. With
 --check nothing is written, and the status is 1 where a picture is not what would be drawn.
 """
 
-import argparse
 import json
 import re
 import sys
 from pathlib import Path
 from xml.sax.saxutils import escape
 
-TOP = Path(__file__).resolve().parent.parent
+sys.path.insert(0, str(Path(__file__).resolve().parent.parent / "tools/lib"))
+from arguments import Arguments
+from repository import FRAMES, TOP, own_crates
+from tally import Tally
+
 FOLDER = TOP / "docs/pictures"
 
 INK, PALE, LINE = "#1c2430", "#8a93a3", "#5b6678"
@@ -67,11 +70,6 @@ def reached(edges, start):
     return found
 
 
-def crate_names():
-    """The crates of the repository."""
-    return {line.split(":")[0].split()[0] for line in (TOP / "crates.txt").read_text(encoding="utf-8").splitlines() if ":" in line and not line.startswith("#")}
-
-
 # Row by row: a colour, what goes in, and each step with its crates and the commands that end there.
 ROWS = [
     ("blue", "frame file", [
@@ -107,7 +105,7 @@ ROWS = [
 
 def pipeline():
     """The way of a file through the crates: a frame to a program, a submission to a program, a program to what is printed."""
-    known = crate_names()
+    known = own_crates()
     left, wide, high, column, row = 132, 166, 78, 200, 128
     picture = Picture(left + 4 * column + wide + 40, 4 * row + 6)
     edge = picture.width - 14
@@ -144,7 +142,7 @@ def pipeline():
 
 def passes():
     """The passes of the deferred frame by queue, what each reads of another, and which are culled."""
-    frame = json.loads((TOP / "examples/frames/deferred.json").read_text(encoding="utf-8"))
+    frame = json.loads((FRAMES / "deferred.json").read_text(encoding="utf-8"))
     maker, edges, depth = {}, {}, {}
     for one in frame["passes"]:
         edges[one["name"]] = sorted({maker[name] for name in one.get("reads", [])})
@@ -287,21 +285,18 @@ PICTURES = {"byte": byte, "deferred": passes, "passed": passed, "pipeline": pipe
 
 
 def main():
-    parser = argparse.ArgumentParser(description=__doc__, formatter_class=argparse.RawDescriptionHelpFormatter)
+    parser = Arguments(__doc__, program=None)
     parser.add_argument("--check", action="store_true")
     check = parser.parse_args().check
     FOLDER.mkdir(exist_ok=True)
-    stale = []
-    for name, draw in PICTURES.items():
-        path, text = FOLDER / f"{name}.svg", draw().svg()
-        if check and (not path.exists() or path.read_text(encoding="utf-8") != text):
-            stale.append(path.relative_to(TOP))
-        if not check:
-            path.write_text(text, encoding="utf-8")
-    for path in stale:
-        print(f"{path} is not what bench/pictures.py draws", file=sys.stderr)
-    print(f"pictures: {len(PICTURES)} pictures, {len(stale)} stale")
-    sys.exit(1 if stale else 0)
+    with Tally("pictures", "pictures") as tally:
+        for name, draw in PICTURES.items():
+            path, text = FOLDER / f"{name}.svg", draw().svg()
+            if not check:
+                path.write_text(text, encoding="utf-8")
+            elif not path.exists() or path.read_text(encoding="utf-8") != text:
+                tally.tell(f"{path.relative_to(TOP)} is not what gate/pictures.py draws")
+            tally.look()
 
 
 if __name__ == "__main__":

@@ -5,7 +5,8 @@ import subprocess
 import sys
 from pathlib import Path
 
-TOP = Path(__file__).resolve().parent.parent
+from repository import TOP, is_current
+
 CRATE = TOP / "crates/framec_c"
 LIBRARY = CRATE / "out/libframec_c.a"
 UNPROVED = TOP / "out/unproved/libframec_c.a"
@@ -26,16 +27,22 @@ def missing(library):
         return "the toolchain's archive liblibc_c.a is not there"
     if not library.exists():
         return f"{library} is not built: `rt lib` in crates/framec_c"
-    newer = [path for folder in ("src", "specs") for path in TOP.glob(f"crates/*/{folder}/**/*") if path.stat().st_mtime > library.stat().st_mtime]
-    if library == LIBRARY and newer:
+    if library == LIBRARY and not is_current(library):
         return f"{library} is older than its sources: `rt lib` in crates/framec_c"
     return None
 
 
-def built(folder, source, library):
-    """The program of one file."""
-    program = Path(folder) / Path(source).stem
-    words = ["cc", "-O2", *WARNINGS, f"-I{TOP / 'include'}", source, library, heap(), "-pthread", "-o", program]
+def current():
+    """The library: the one that is proved, or else one without proofs, which is built where neither is current. None where it is not."""
+    if is_current(LIBRARY):
+        return LIBRARY
+    return UNPROVED if subprocess.run([TOP / "tools/unproved.py", "library"]).returncode == 0 else None
+
+
+def calls(folder, library):
+    """The program of gate/calls.c on this library."""
+    program = Path(folder) / "calls"
+    words = ["cc", "-O2", *WARNINGS, f"-I{TOP / 'include'}", TOP / "gate/calls.c", library, heap(), "-pthread", "-o", program]
     if subprocess.run(words).returncode != 0:
-        sys.exit(f"{source} is not built")
+        sys.exit("gate/calls.c is not built")
     return program

@@ -1,20 +1,7 @@
-#!/usr/bin/env python3
-"""Runs random frames half of whose images are of one number, which the device keeps as that number.
-
-    bench/clears.py [OTHER] [--program PROGRAM] [--frames 500] [--seed 1]
-
-Images are cleared, drawn over, and read by operations of each kind. `run` with 1 and with 4 workers has to print the culled passes
-and what `meaning` prints, which goes the plain way; and so has OTHER's `run`, if it is given. The status is 1 where anything differs.
-"""
-
-import argparse
-import json
-import random
-import sys
+"""Random frames half of whose images are of one number: they are cleared, drawn over, and read by operations of each kind."""
 
 from kernels import image, number, ramp, rectangle
 from makers import FUNS
-from runs import BUILT, Runner, run_head
 
 SIDES = [(6, 4), (3, 2), (12, 8)]
 SCALES = [1, 1, 1, 1, 16]
@@ -111,36 +98,8 @@ class Cleared:
             src = self.rng.choice(bytes_only)[0]
             self.put({"op": "histogram", "src": src, "dst": name}, [src], name)
 
-    def text(self):
+    def value(self):
         resources = [image(*one) for one in self.images] + [{"name": name, "buffer": 1024} for name in self.buffers]
         names = [one["name"] for one in resources]
         exports = self.rng.sample(names, min(len(names), 12))
-        frame = {"format": 1, "queues": self.queues, "resources": resources, "passes": self.passes, "exports": exports}
-        return json.dumps(frame).encode()
-
-
-def main():
-    parser = argparse.ArgumentParser(description=__doc__, formatter_class=argparse.RawDescriptionHelpFormatter)
-    parser.add_argument("other", metavar="OTHER", nargs="?")
-    parser.add_argument("--program", default=str(BUILT))
-    parser.add_argument("--frames", type=int, default=500)
-    parser.add_argument("--seed", type=int, default=1)
-    args = parser.parse_args()
-    rng = random.Random(args.seed)
-    runners = [Runner(program) for program in (args.program, args.other) if program]
-    for k in range(args.frames):
-        text = Cleared(rng).text()
-        wanted = run_head(runners[0], text)
-        for runner in runners:
-            for workers in "14":
-                status, printed = runner.call(["run", "--workers", workers], text)
-                runner.runs += 1
-                if status or printed.rstrip("\n") != wanted:
-                    runner.told(f"frame {k}: {runner.program} run --workers {workers}: status {status}, another text")
-    wrong = sum(runner.wrong for runner in runners)
-    print(f"{args.frames} frames, {sum(runner.runs for runner in runners)} runs, {wrong} wrong")
-    return 1 if wrong else 0
-
-
-if __name__ == "__main__":
-    sys.exit(main())
+        return {"format": 1, "queues": self.queues, "resources": resources, "passes": self.passes, "exports": exports}

@@ -1,13 +1,13 @@
 #!/usr/bin/env python3
 """Looks whether what the docs name is there: files, items, clauses, crates.
 
-    bench/names.py [--count]
+    gate/names.py [--count]
 
 Looked at are README.md, HACKING.md, docs/ and the README.md of each crate, outside of fenced blocks.
 
 - A file that is named has to be there; a file of a crate that is named alone, in a crate that its line names, or else the line
   before it in the same section, or in the page's own.
-- A name in backticks has to be a word of the sources.
+- A name in backticks has to be a word of the sources, or a file or folder at the top.
 - In the tables of docs/PROMISES.md each call has to be a function of its crate, and each clause one of that crate's; each function
   that a crate of the product hands out has to be named there. In the page's text a clause, or a field of one, has to be there.
 - A sentence of README.md that says "proved" has to name a clause of docs/PROMISES.md.
@@ -17,36 +17,34 @@ Looked at are README.md, HACKING.md, docs/ and the README.md of each crate, outs
   lines, and prints the sums.
 """
 
-import argparse
 import re
 import sys
 from pathlib import Path
 
-TOP = Path(__file__).resolve().parent.parent
+sys.path.insert(0, str(Path(__file__).resolve().parent.parent / "tools/lib"))
+from arguments import Arguments
+from repository import TOP, crates, product
+from tally import Tally
 
 PAGES = [TOP / "README.md", TOP / "HACKING.md", *sorted(TOP.glob("docs/*.md")), *sorted(TOP.glob("crates/*/README.md"))]
 SOURCES = [path for end in ("rt", "antt", "edit") for path in sorted(TOP.glob(f"crates/*/**/*.{end}")) if "out" not in path.parts]
-FILE = re.compile(r"[\w./*-]+\.(?:rt|antt|py|json|md|edit|svg|txt)|(?:docs|bench|examples|crates|specs|src|proofs)/[\w./*-]*")
+# What a build leaves is there once it was built.
+BUILT = re.compile(r"(?:^|/)out/")
+FILE = re.compile(r"[\w./*-]+\.(?:rt|antt|py|json|md|edit|svg|txt)|\b(?:docs|gate|bench|fuzz|tools|edits|examples|crates|specs|src|proofs)/[\w./*-]*")
 # Names of the toolchain, of its library and of other programs, which stand in no source of the repository.
 FOREIGN = set("rt ci cmake Framec FindFramec Framec_LIBRARY diff fmt plant tidy compile console RT_JOBS IntoIterator forget bufferImageGranularity minImageTransferGranularity maxTimelineSemaphoreValueDifference VkMemoryRequirements VK_PIPELINE_STAGE_2_NONE VkSubmitInfo2 _mended NAME PROGRAM OTHER CRATE COMMAND FILE UNIT BYTES LAYER K C N".split())
 
-problems = []
+tally = Tally("names", "pages")
 
 
 def problem(path, number, text):
-    problems.append(f"{path.relative_to(TOP)}:{number}: {text}")
+    tally.tell(f"{path.relative_to(TOP)}:{number}: {text}")
 
 
-def crate_lines():
-    """Each crate of crates.txt with the crates of the repository that it stands on."""
-    lines = [line.split(":") for line in (TOP / "crates.txt").read_text(encoding="utf-8").splitlines() if ":" in line and not line.startswith("#")]
-    names = {name.split()[0] for name, _ in lines}
-    return {name.split()[0]: {dep for dep in deps.split() if dep in names} for name, deps in lines}
-
-
-CRATES = crate_lines()
+CRATES = set(crates())
 TEXTS = {path: path.read_text(encoding="utf-8") for path in SOURCES}
 WORDS = set(re.findall(r"\w+", "\n".join(TEXTS.values()))) | set(re.findall(r"\w+", (TOP / "crates.txt").read_text(encoding="utf-8"))) | FOREIGN
+WORDS |= {path.name for path in TOP.iterdir()}
 for example in TOP.glob("examples/*/*.json"):
     WORDS |= set(re.findall(r"\w+", example.read_text(encoding="utf-8")))
 FILES = {path.name for path in SOURCES}
@@ -78,14 +76,14 @@ def lines_of(path):
 
 def is_file(name, crates, page):
     """Whether a file is there by its path from the top, from crates/, from a crate or from the page, or by its name in one of these crates."""
-    if "*" in name or "NAME" in name or name in ("specs/", "specs/Code/", "src/", "proofs/"):
+    if "*" in name or "NAME" in name or BUILT.search(name) or name in ("specs/", "specs/Code/", "src/", "proofs/"):
         return True
     if any((top / name).exists() for top in (TOP, TOP / "crates", page.parent, *(TOP / "crates" / crate for crate in crates))):
         return True
     if "/" in name:
         return any(f"/{path.relative_to(TOP)}".endswith(f"/{name}") for path in SOURCES if not crates or crate_of(path) in crates)
     if name.split(".")[-1] not in ("rt", "antt", "edit"):
-        return any(TOP.glob(f"examples/*/{name}")) or any(TOP.glob(f"*/{name}"))
+        return any(TOP.glob(f"examples/*/{name}")) or any(TOP.glob(f"*/{name}")) or (TOP / "tools/lib" / name).exists()
     return any(path.name == name for path in SOURCES if not crates or crate_of(path) in crates)
 
 
@@ -102,7 +100,7 @@ def look_at(path):
             if not is_file(name, crates, path):
                 problem(path, number, f"no file {name}")
         for code in re.findall(r"`([^`]+)`", line):
-            if FILE.search(code) or not re.fullmatch(r"[\w:{}, ./]+", code) or re.search(r"\d", code) and not re.search(r"[a-z_]{3}", code):
+            if FILE.search(code) or BUILT.search(code) or not re.fullmatch(r"[\w:{}, ./]+", code) or re.search(r"\d", code) and not re.search(r"[a-z_]{3}", code):
                 continue
             for word in re.findall(r"[A-Za-z_]\w*", code):
                 if word not in WORDS:
@@ -146,15 +144,6 @@ def look_at_promises():
             if clause not in FIELDS and not any(clause in known for known in CLAUSES.values()):
                 problem(path, number, f"no clause {clause}")
     return clauses
-
-
-def product():
-    """The crates that the program and the library for C are made of."""
-    found, left = set(), {"framec", "framec_c"}
-    while left:
-        found |= left
-        left = set().union(*(CRATES[crate] for crate in left)) - found
-    return sorted(found)
 
 
 def look_at_calls():
@@ -258,21 +247,19 @@ def count():
 
 
 def main():
-    parser = argparse.ArgumentParser(description=__doc__, formatter_class=argparse.RawDescriptionHelpFormatter)
+    parser = Arguments(__doc__, program=None)
     parser.add_argument("--count", action="store_true")
     if parser.parse_args().count:
         count()
-    for path in PAGES:
-        look_at(path)
-    look_at_readme(look_at_promises())
-    look_at_calls()
-    look_at_architecture()
-    look_at_model()
-    look_at_reading()
-    for line in problems:
-        print(line, file=sys.stderr)
-    print(f"names: {len(PAGES)} pages, {len(problems)} names that are not there")
-    sys.exit(1 if problems else 0)
+    with tally:
+        for path in PAGES:
+            look_at(path)
+            tally.look()
+        look_at_readme(look_at_promises())
+        look_at_calls()
+        look_at_architecture()
+        look_at_model()
+        look_at_reading()
 
 
 if __name__ == "__main__":

@@ -1,33 +1,39 @@
 #!/usr/bin/env python3
 """Gives two programs the same files, most of them wrong somewhere, and stops at the first answer that differs.
 
-    bench/fuzz.py PROGRAM OTHER [--minutes 10] [--cases N] [--seed 1] [--passes 10] [--jobs 4]
+    fuzz/fuzz.py --other OTHER [--program PROGRAM] [--minutes 10] [--cases N] [--first 0] [--seed 1] [--passes 10] [--jobs 4]
 
-Made at random: frames, of both formats and all operations; submissions, by compiling frames, some of them tight; traces that the program
-printed, behind their submissions; lists of frames; numbers of generated frames; and command lines. A file is good, or changed in one place
+Made at random: frames, of both formats and all operations, some with many images of one number; submissions, by compiling frames, some of
+them tight, some with a wait, item or signal fewer; traces that the program printed, behind their submissions; lists of frames, some of whose
+windows break a limit; numbers of generated frames; and command lines. A file is good, or changed in one place
 (a number, a text, a list, an object; or a byte), or cut, or its front spliced to the end of another one, or a part of another one grafted
 into it. Each is given to the commands that read such a file, with random options, and now and then to another one. A command line is one
 that is known with a word changed, dropped, doubled or moved. Status and text have to be the same. A command that one of the programs does
 not know is left out, and told. `--seed` and the number of a case make the case again (`--cases 1 --first NUMBER`), but for the order of the
-events in a trace. Told at the end: how many cases there were, how many of each kind of file and change, and how many answers of each kind
+events in a trace. Told at the end: how many cases there were of each kind of file and change, and how many answers of each kind
 each command gave. The status is 1 at the first difference, whose input is kept.
 """
 
-import argparse
 import collections
 import itertools
 import json
 import random
 import sys
 import time
+from pathlib import Path
 
+sys.path.insert(0, str(Path(__file__).resolve().parent.parent / "tools/lib"))
 import changes
+from arguments import Arguments
+from cleared import Cleared
 from kernels import further
-from makers import Frame, some_flight
-from sides import Sides, each, ended
+from makers import Frame, packed, some_flight, thinner
+from sides import Sides
+from tally import Tally, left_out
 from traces import parted
 
-SIDES = ((8,), (8,), (8, 16, 64))
+# 256 bytes, and more than 4,096, from which on a command costs more than 1.
+SIDES = ((8,), (8,), (8, 16, 64), (8, 40, 64, 96))
 FRAME_WORDS = ("cull", "place", "compile", "meaning", "migrate", "run", "bound", "auto")
 SUBMISSION_WORDS = ("check", "check", "exec")
 # Without `--trace`, since the order of events is the machine's.
@@ -87,6 +93,8 @@ class Fuzz:
         return self.sides.knows(word, f"--{name}", *(["1"] if name in ("workers", "tend") else []))
 
     def frame(self, rng):
+        if rng.random() < 0.1:
+            return Cleared(rng).value()
         frame = Frame(rng, self.options.passes, sides=rng.choice(SIDES)).value()
         if rng.random() < 0.5:
             frame = further(rng, frame, rng.randint(1, 3))
@@ -95,25 +103,29 @@ class Fuzz:
         return frame
 
     def submission(self, rng):
-        """What a frame is compiled to; the frame itself where it has a fault."""
+        """What a frame is compiled to, or a little less than that; the frame itself where it has a fault."""
         frame = self.frame(rng)
         tight = ["--tight"] if ("compile", "tight") in self.known and rng.random() < 0.2 else []
-        status, text = self.sides.ask(["compile", *tight], json.dumps(frame).encode())
-        return json.loads(text) if status == 0 else frame
+        status, text = self.sides.ask(["compile", *tight], packed(frame))
+        if status != 0:
+            return frame
+        program = json.loads(text)
+        fewer = thinner(self.options.program, program, rng) if rng.random() < 0.1 else None
+        return fewer or program
 
     def good(self, rng, kind):
         """The words, the values that stand one on each line, and the lines of a trace behind them."""
         if kind == "frame":
             return None, [self.frame(rng)], []
         if kind == "flight":
-            words, frames = some_flight(rng, self.options.passes)
+            words, frames = some_flight(rng, self.options.passes * rng.choice([1] * 9 + [4]))
             return [*words, "--depth", str(rng.randint(1, 8)), *options_of(rng, "flight", self.known)], frames, []
         program = self.submission(rng)
         if kind == "submission":
             return None, [program], []
-        seed = rng.choice([[], ["--tend", str(rng.randrange(2**32))]])
-        status, printed = self.sides.ask(["exec", "--trace", *seed], json.dumps(program).encode())
-        lines = parted(printed.decode())[1] if status == 0 else None
+        device = options_of(rng, "exec", self.known)
+        status, printed = self.sides.ask(["exec", "--trace", *device], packed(program))
+        lines = parted(printed)[1] if status == 0 else None
         return ["audit"], [program], [f"events {len(lines)}", *lines] if lines is not None else ["events 0"]
 
     def text(self, rng, values, lines):
@@ -156,7 +168,7 @@ class Fuzz:
         words = other_line(rng)
         if any(word not in self.words and word in FRAME_WORDS + ("audit", "flight", "gen") for word in words):
             return
-        text = b"" if any("trace" in word for word in words) else json.dumps(self.frame(rng)).encode()
+        text = b"" if any("trace" in word for word in words) else packed(self.frame(rng))
         self.sides.agree(words, text, "a line")
 
     def case(self, number):
@@ -181,31 +193,22 @@ class Fuzz:
 
 
 def main():
-    parser = argparse.ArgumentParser(description=__doc__, formatter_class=argparse.RawDescriptionHelpFormatter)
-    parser.add_argument("program", metavar="PROGRAM")
-    parser.add_argument("other", metavar="OTHER")
-    parser.add_argument("--minutes", type=float, default=10)
+    parser = Arguments(__doc__, other="must", minutes=10.0, first=0, seed=1, passes=10, jobs=4)
     parser.add_argument("--cases", type=int)
-    parser.add_argument("--first", type=int, default=0)
-    parser.add_argument("--seed", type=int, default=1)
-    parser.add_argument("--passes", type=int, default=10)
-    parser.add_argument("--jobs", type=int, default=4)
     options = parser.parse_args()
     fuzz = Fuzz(Sides(options.program, options.other), options)
     if fuzz.left_out:
-        print("left out, since one program does not know it: " + ", ".join(fuzz.left_out), flush=True)
+        left_out("what one program does not know: " + ", ".join(fuzz.left_out))
     until = time.monotonic() + 60 * options.minutes
-    done = 0
-    for first in itertools.count(options.first, 1000):
-        numbers = range(first, first + min(1000, options.cases - done if options.cases else 1000))
-        done += sum(each(lambda number: time.monotonic() < until and fuzz.case(number) is None, numbers, options.jobs))
-        if time.monotonic() >= until or options.cases and done >= options.cases:
-            break
-    print(f"{done} cases from {options.first} on, seed {options.seed}: no difference")
-    for kind in dict.fromkeys(KINDS):
-        print(f"{kind}: " + ", ".join(f"{count} {way}" for (name, way), count in sorted(fuzz.files.items()) if name == kind))
-    fuzz.sides.told()
+    numbers = itertools.takewhile(lambda number: not options.cases or number < options.first + options.cases, itertools.count(options.first))
+    with Tally("fuzz", "cases") as tally:
+        while time.monotonic() < until and (some := list(itertools.islice(numbers, 200))):
+            tally.each(fuzz.case, some, options.jobs)
+        for kind in dict.fromkeys(KINDS):
+            print(f"{kind}: " + ", ".join(f"{count} {way}" for (name, way), count in sorted(fuzz.files.items()) if name == kind))
+        fuzz.sides.told()
+        print(f"from case {options.first} on, seed {options.seed}")
 
 
 if __name__ == "__main__":
-    ended(main)
+    main()

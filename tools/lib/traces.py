@@ -5,6 +5,8 @@ docs/MODEL.md and docs/FORMATS.md, and not with anything that the program prints
 whether they are the first 256 of the seed, or none without one.
 """
 
+from sides import answer
+
 MOVES = 256
 LONGEST = 4096
 
@@ -16,6 +18,7 @@ STAGE_OF = {
 }
 SYNCS = ("barrier", "wait", "signal")
 WORDS = ("writeback", "fill", "drop")
+KINDS = {"begin": ("command",), "sync": SYNCS, "host": ("host",)}
 
 
 def expanded(mask):
@@ -105,12 +108,16 @@ class Judge:
         self.program = program
         self.nodes = nodes_of(program)
         self.before = before_of(program, self.nodes)
-        self.moves = {}
+        self.sizes = sizes_of(program)
+        self.agents = 8 * len(program["queues"])
+        self.moves = None, []
 
     def moves_by(self, seed):
-        if seed not in self.moves:
-            self.moves = {seed: moves_of(self.program, seed)}
-        return self.moves[seed]
+        known, moves = self.moves
+        if not moves or known != seed:
+            moves = moves_of(self.program, seed)
+            self.moves = seed, moves
+        return moves
 
     def is_ready(self, n, phase, counter):
         node = self.nodes[n]
@@ -118,43 +125,84 @@ class Judge:
             return False
         return node.kind != "wait" or counter[node.entry["queue"]] >= node.entry["value"]
 
+    def is_enabled(self, word, numbers, phase, counter):
+        if len(numbers) != (4 if word in WORDS else 1):
+            return False
+        if word in WORDS:
+            agent, memory, start, length = numbers
+            return agent < self.agents and memory < len(self.sizes) and start + length <= self.sizes[memory]
+        n = numbers[0]
+        if n >= len(self.nodes):
+            return False
+        if word == "end":
+            return phase[n] == "begun"
+        return self.nodes[n].kind in KINDS.get(word, ()) and self.is_ready(n, phase, counter)
+
+    def followed(self, lines):
+        """The place of the first event that is not enabled, or None; and the nodes that are not done."""
+        phase, counter = ["idle"] * len(self.nodes), [0] * len(self.program["queues"])
+        at = None
+        for place, line in enumerate(lines):
+            word, *rest = line.split() or [""]
+            numbers = [int(number) for number in rest if number.isdecimal()]
+            if len(numbers) < len(rest) or not self.is_enabled(word, numbers, phase, counter):
+                at = place
+                break
+            if word not in WORDS:
+                node = self.nodes[numbers[0]]
+                phase[numbers[0]] = "begun" if word == "begin" else "done"
+                if node.kind == "signal":
+                    counter[node.queue] = max(counter[node.queue], node.entry["value"])
+        return at, [n for n, one in enumerate(phase) if one != "done"]
+
     def wrong(self, lines, seed):
         """What is wrong with the lines of a trace, behind `events N`, or None."""
-        phase, counter = ["idle"] * len(self.nodes), [0] * len(self.program["queues"])
-        moves = []
-        for at, line in enumerate(lines):
-            word, *numbers = line.split()
-            if word in WORDS:
-                moves.append(line)
-                continue
-            n = int(numbers[0])
-            if n >= len(self.nodes):
-                return f"line {at}: no node {n}"
-            node = self.nodes[n]
-            if word == "end":
-                enabled = phase[n] == "begun"
-            else:
-                kinds = {"begin": ("command",), "sync": SYNCS, "host": ("host",)}.get(word, ())
-                enabled = node.kind in kinds and self.is_ready(n, phase, counter)
-            if not enabled:
-                return f"line {at}: {line} is not enabled"
-            phase[n] = "begun" if word == "begin" else "done"
-            if node.kind == "signal":
-                counter[node.queue] = max(counter[node.queue], node.entry["value"])
-        left = [n for n, one in enumerate(phase) if one != "done"]
+        at, left = self.followed(lines)
+        if at is not None:
+            return f"line {at}: {lines[at]} is not enabled"
         if left:
             return f"nodes {left} are not done"
-        if moves != self.moves_by(seed):
+        if [line for line in lines if line.startswith(WORDS)] != self.moves_by(seed):
             return f"the moves are not those of seed {seed}"
         return None
 
+    def verdict(self, lines):
+        """What `audit` says of the lines: the hazard of the first event that is not enabled, or of the least node that is not done;
+        None of a run."""
+        at, left = self.followed(lines)
+        return f"hazard A3 {at}" if at is not None else f"hazard A4 {left[0]}" if left else None
 
-def parted(text):
-    """What is printed before the trace, and the lines of the trace; its count has to be theirs."""
-    lines = text.splitlines()
+
+def parted(printed):
+    """What is printed before the trace, and the lines of the trace, or None where its count is not theirs."""
+    lines = printed.decode().splitlines()
     heads = [at for at, line in enumerate(lines) if line.startswith("events ")]
     if not heads:
-        return text, None
+        return printed, None
     at = heads[-1]
     trace = lines[at + 1:]
-    return "\n".join(lines[:at]), trace if lines[at] == f"events {len(trace)}" else None
+    return "".join(f"{line}\n" for line in lines[:at]).encode(), trace if lines[at] == f"events {len(trace)}" else None
+
+
+def behind(submission, lines, count=None):
+    """What `audit` reads: a submission in one line, and behind it the lines of a trace, whose count is told."""
+    events = (f"events {len(lines) if count is None else count}", *lines)
+    return submission.rstrip() + b"\n" + "".join(f"{line}\n" for line in events).encode()
+
+
+def recorded(program, submission):
+    """A submission and the trace of a run of it, as `audit` reads them."""
+    lines = parted(answer(program, "exec --trace --tend 1", submission)[1])[1]
+    return behind(submission, lines or [])
+
+
+def run_text(culled, exports):
+    """What `run` prints of a frame, by what `cull` and `meaning` print of it."""
+    first, *passes = culled.splitlines()
+    named = [b"culled " + line.split()[1] for line in passes if line.endswith(b" culled")]
+    return b"".join(line + b"\n" for line in [first, *named]) + exports
+
+
+def plain_run(program, text):
+    """The same, of what the program answers."""
+    return run_text(*(answer(program, word, text)[1] for word in ("cull", "meaning")))

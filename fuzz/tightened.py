@@ -1,21 +1,24 @@
 #!/usr/bin/env python3
 """Tries to leave out what `compile --tight` has left of the waits of random frames.
 
-    bench/tightened.py PROGRAM [--frames 300] [--seed 1] [--passes 12] [--jobs 4]
+    fuzz/tightened.py [--program PROGRAM] [--frames 300] [--seed 1] [--passes 12] [--jobs 4]
 
 Of each frame the tightened text is what `check` accepts, and its waits are some of those that `compile` prints. Each wait is then left out
 by itself, and of each wait with several stages each stage: `check` has to refuse every such text. `run --tight` has to print what
 `run` prints. The status is 1 at the first text for which this does not hold.
 """
 
-import argparse
 import copy
 import json
 import random
 import sys
+from pathlib import Path
 
-from makers import Frame
-from sides import Sides, each, ended
+sys.path.insert(0, str(Path(__file__).resolve().parent.parent / "tools/lib"))
+from arguments import Arguments
+from makers import Frame, packed
+from sides import Side
+from tally import Tally
 
 
 def waits_of(program):
@@ -50,45 +53,35 @@ def less(program):
             yield from (without_stage(program, place, stage) for stage in stages)
 
 
-def bytes_of(program):
-    return json.dumps(program, separators=(",", ":"), sort_keys=True).encode()
-
-
-def asked(sides, options, number):
+def asked(side, options, number):
     """How many waits the compiled and the tightened program have, and how many texts with less were refused."""
     text = Frame(random.Random(f"{options.seed}/{number}"), options.passes).text()
-    status, compiled = sides.ask(["compile"], text)
+    status, compiled = side.ask(["compile"], text)
     if status != 0:
         return 0, 0, 0
-    status, tight = sides.ask(["compile", "--tight"], text)
-    sides.expect(status == 0, f"status {status}", ["compile", "--tight"], text)
-    sides.expect(sides.ask(["check"], tight)[0] == 0, "not accepted", ["check"], tight)
-    same = sides.ask(["run", "--tight"], text) == sides.ask(["run"], text)
-    sides.expect(same, "another text than that of run", ["run", "--tight"], text)
+    status, tight = side.ask(["compile", "--tight"], text)
+    side.expect(status == 0, f"status {status}", ["compile", "--tight"], text)
+    side.expect(side.ask(["check"], tight)[0] == 0, "not accepted", ["check"], tight)
+    same = side.ask(["run", "--tight"], text) == side.ask(["run"], text)
+    side.expect(same, "another text than that of run", ["run", "--tight"], text)
     program = json.loads(tight)
     refused = 0
-    for candidate in map(bytes_of, less(program)):
-        status, printed = sides.ask(["check"], candidate)
-        sides.expect(status in (1, 2), f"accepted: {printed!r}", ["check"], candidate)
+    for candidate in map(packed, less(program)):
+        status, printed = side.ask(["check"], candidate)
+        side.expect(status in (1, 2), f"accepted: {printed!r}", ["check"], candidate)
         refused += 1
     return len(list(waits_of(json.loads(compiled)))), len(list(waits_of(program))), refused
 
 
 def main():
-    parser = argparse.ArgumentParser(description=__doc__, formatter_class=argparse.RawDescriptionHelpFormatter)
-    parser.add_argument("program", metavar="PROGRAM")
-    parser.add_argument("--frames", type=int, default=300)
-    parser.add_argument("--seed", type=int, default=1)
-    parser.add_argument("--passes", type=int, default=12)
-    parser.add_argument("--jobs", type=int, default=4)
-    options = parser.parse_args()
-    sides = Sides(options.program, options.program)
-    if not sides.knows("compile", "--tight"):
-        sys.exit("the program does not know the words compile --tight")
-    found = each(lambda number: asked(sides, options, number), range(options.frames), options.jobs)
-    given, left, refused = [sum(column) for column in zip(*found)]
-    print(f"{options.frames} frames: {left} of {given} waits are left; {refused} texts with a wait or a stage less, all refused")
+    options = Arguments(__doc__, frames=300, seed=1, passes=12, jobs=4).parse_args()
+    side = Side(options.program)
+    side.needs("compile --tight")
+    with Tally("tightened", "frames") as tally:
+        found = tally.each(lambda number: asked(side, options, number), range(options.frames), options.jobs)
+        given, left, refused = [sum(column) for column in zip(*found)]
+        print(f"{left} of {given} waits are left; {refused} texts with a wait or a stage less, all refused")
 
 
 if __name__ == "__main__":
-    ended(main)
+    main()
