@@ -20,6 +20,8 @@ struct Context {
     std::deque<BoundSet> sets{};
     std::deque<OwnedPipeline> pipelines{};
     std::map<std::string, VkPipeline> kept_pipelines{}; // by what they are made of
+    std::deque<OwnedRenderPass> passes{};
+    std::deque<OwnedFramebuffer> framebuffers{};
     OwnedSampler sampler{};
 
     VkSampler nearest();

@@ -19,6 +19,8 @@ struct Wishes {
     bool color = false;        // a format of colours
     bool samples = false;      // several samples
     bool one_sample = false;
+    bool resolved = false;  // written by a resolve
+    bool operated = false;  // an operation computes with its texels as whole numbers
 };
 
 bool is_depth_layout(VkImageLayout layout) {
@@ -43,7 +45,7 @@ class WishList {
   private:
     void operation(PieceNumber piece, VkImageUsageFlags usage) {
         wishes[piece].usage |= usage;
-        wishes[piece].color = wishes[piece].one_sample = true;
+        wishes[piece].color = wishes[piece].one_sample = wishes[piece].operated = true;
     }
 
     void add(const Barrier &barrier) {
@@ -107,7 +109,7 @@ class WishList {
             break;
         case Role::resolve_write:
             wish.usage |= VK_IMAGE_USAGE_COLOR_ATTACHMENT_BIT;
-            wish.color = wish.one_sample = true;
+            wish.color = wish.one_sample = wish.resolved = true;
             break;
         case Role::blit_read:
         case Role::blit_write:
@@ -119,13 +121,13 @@ class WishList {
     }
 };
 
-VkFormat color_format(const Piece &piece, bool samples) {
-    // Devices have several samples in formats of floating numbers sooner than in those of whole ones.
+// Devices have several samples in formats of floating numbers sooner than in those of whole ones.
+VkFormat color_format(const Piece &piece, bool floating) {
     if (piece.shape == Shape::texture)
-        return samples ? VK_FORMAT_R8G8B8A8_UNORM : VK_FORMAT_R8G8B8A8_UINT;
+        return floating ? VK_FORMAT_R8G8B8A8_UNORM : VK_FORMAT_R8G8B8A8_UINT;
     if (piece.texel == Texel::r8)
-        return samples ? VK_FORMAT_R8_UNORM : VK_FORMAT_R8_UINT;
-    return samples ? VK_FORMAT_R32_SFLOAT : VK_FORMAT_R32_UINT;
+        return floating ? VK_FORMAT_R8_UNORM : VK_FORMAT_R8_UINT;
+    return floating ? VK_FORMAT_R32_SFLOAT : VK_FORMAT_R32_UINT;
 }
 
 VkExtent2D extent_of(const Piece &piece) {
@@ -143,8 +145,10 @@ ImageKind kind_of(const Piece &piece, const Wishes &wish, size_t number) {
         throw Ended(Ending::not_together, name + " is used as a depth attachment and as colours");
     if (wish.samples && wish.one_sample)
         throw Ended(Ending::not_together, name + " is resolved, and used as only an image of one sample can be");
+    if ((wish.samples || wish.resolved) && wish.operated)
+        throw Ended(Ending::not_together, name + " is resolved, and an operation takes its texels as whole numbers");
     ImageKind kind;
-    kind.format = depth ? VK_FORMAT_D32_SFLOAT : color_format(piece, wish.samples);
+    kind.format = depth ? VK_FORMAT_D32_SFLOAT : color_format(piece, wish.samples || wish.resolved);
     kind.extent = extent_of(piece);
     kind.samples = wish.samples ? VK_SAMPLE_COUNT_4_BIT : VK_SAMPLE_COUNT_1_BIT;
     kind.usage = wish.usage;
