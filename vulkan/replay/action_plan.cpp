@@ -125,6 +125,32 @@ bool is_transfer(Role role) {
     }
 }
 
+bool is_of_buffers(Role role) { return role == Role::indirect || role == Role::index || role == Role::vertex || role == Role::uniform; }
+
+bool is_of_images(Role role) {
+    switch (role) {
+    case Role::input:
+    case Role::color:
+    case Role::depth:
+    case Role::depth_read:
+    case Role::blit_read:
+    case Role::blit_write:
+    case Role::resolve_read:
+    case Role::resolve_write:
+    case Role::present:
+        return true;
+    default:
+        return false;
+    }
+}
+
+void test_kind(const Context &context, const Use &use) {
+    const bool image = context.resources.is_image(use.piece);
+    if (image ? is_of_buffers(use.role) : is_of_images(use.role))
+        throw Ended(Ending::refused, "piece " + std::to_string(use.piece) + " is " + (image ? "an image" : "a buffer") +
+                                         ", which has no such use");
+}
+
 Use part_of(Use use, VkPipelineStageFlags2 stages) {
     use.stages &= stages;
     return use;
@@ -137,6 +163,7 @@ ActionPlan plan_of(const Context &context, const Action &action) {
     ActionPlan plan;
     std::vector<Use> indirect;
     for (const Use &use : action.uses) {
+        test_kind(context, use);
         if (is_transfer(use.role)) {
             plan.transfers.push_back(use);
         } else if (use.role == Role::indirect) {

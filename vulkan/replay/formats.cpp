@@ -27,13 +27,28 @@ bool is_depth_layout(VkImageLayout layout) {
     return layout == VK_IMAGE_LAYOUT_DEPTH_STENCIL_ATTACHMENT_OPTIMAL || layout == VK_IMAGE_LAYOUT_DEPTH_STENCIL_READ_ONLY_OPTIMAL;
 }
 
+// What an image has to be made for, so that it may be in a layout.
+VkImageUsageFlags usage_for(VkImageLayout layout) {
+    switch (layout) {
+    case VK_IMAGE_LAYOUT_COLOR_ATTACHMENT_OPTIMAL:
+        return VK_IMAGE_USAGE_COLOR_ATTACHMENT_BIT;
+    case VK_IMAGE_LAYOUT_DEPTH_STENCIL_ATTACHMENT_OPTIMAL:
+    case VK_IMAGE_LAYOUT_DEPTH_STENCIL_READ_ONLY_OPTIMAL:
+        return VK_IMAGE_USAGE_DEPTH_STENCIL_ATTACHMENT_BIT;
+    case VK_IMAGE_LAYOUT_SHADER_READ_ONLY_OPTIMAL:
+        return VK_IMAGE_USAGE_SAMPLED_BIT;
+    default:
+        return 0;
+    }
+}
+
 class WishList {
   public:
     explicit WishList(const Program &program) : wishes(program.pieces.size()) {
-        for (size_t k = 0; k < program.pieces.size(); ++k)
-            for (const auto &layout : {program.pieces[k].initial_layout, program.pieces[k].final_layout})
-                if (layout && is_depth_layout(*layout))
-                    wishes[k].depth_layout = true;
+        for (PieceNumber k = 0; k < program.pieces.size(); ++k)
+            for (const auto &found : {program.pieces[k].initial_layout, program.pieces[k].final_layout})
+                if (found)
+                    layout(k, *found);
         for (const Queue &queue : program.queues)
             for (const Batch &batch : queue.batches)
                 for (const Item &item : batch.items)
@@ -48,9 +63,16 @@ class WishList {
         wishes[piece].color = wishes[piece].one_sample = wishes[piece].operated = true;
     }
 
+    void layout(PieceNumber piece, VkImageLayout found) {
+        wishes[piece].usage |= usage_for(found);
+        wishes[piece].depth_layout |= is_depth_layout(found);
+    }
+
     void add(const Barrier &barrier) {
-        if (barrier.layouts && (is_depth_layout(barrier.layouts->from) || is_depth_layout(barrier.layouts->to)))
-            wishes[barrier.piece].depth_layout = true;
+        if (barrier.layouts) {
+            layout(barrier.piece, barrier.layouts->from);
+            layout(barrier.piece, barrier.layouts->to);
+        }
     }
 
     void add(const Command &command) {
@@ -79,7 +101,7 @@ class WishList {
 
     void add(const Use &use) {
         Wishes &wish = wishes[use.piece];
-        wish.depth_layout |= is_depth_layout(use.layout);
+        layout(use.piece, use.layout);
         switch (use.role) {
         case Role::sampled:
             wish.usage |= VK_IMAGE_USAGE_SAMPLED_BIT;
@@ -151,7 +173,8 @@ ImageKind kind_of(const Piece &piece, const Wishes &wish, size_t number) {
     kind.format = depth ? VK_FORMAT_D32_SFLOAT : color_format(piece, wish.samples || wish.resolved);
     kind.extent = extent_of(piece);
     kind.samples = wish.samples ? VK_SAMPLE_COUNT_4_BIT : VK_SAMPLE_COUNT_1_BIT;
-    kind.usage = wish.usage;
+    // A layout that no format of this kind can be in asks for nothing: what uses it is told by `check`.
+    kind.usage = wish.usage & ~(depth ? VK_IMAGE_USAGE_COLOR_ATTACHMENT_BIT : VK_IMAGE_USAGE_DEPTH_STENCIL_ATTACHMENT_BIT);
     return kind;
 }
 
