@@ -104,6 +104,8 @@ def refused(tables, outcome, group, submission, hazard):
             tables.same[f"{group}: {hazard}, and flagged"] += 1
         else:
             tables.differ(outcome, causes.of_silence(submission, outcome.verdict), f"{hazard}, silent")
+    elif hazard == "H5" and any(answer.others() for answer in outcome.core):
+        tables.same[f"{group}: H5, and a VUID of the layer's other checks"] += 1
     elif seen:
         tables.differ(outcome, causes.of_message(submission, outcome.verdict), f"{hazard}, flagged")
     else:
@@ -121,11 +123,15 @@ class Trial:
     def outcome(self, name, text, verdict=None):
         compiler = self.wide if b'"format":3' in text.replace(b" ", b"") else self.narrow
         verdict = verdict or compiler.check(text)
-        answers = [self.device.replay(text, "--syncval", *order) for order in ORDERS]
         core = []
-        if verdict.startswith("accepted"):
-            core = [self.device.replay(text, "--syncval", "--core")]
-        return Outcome(name, text, verdict, answers, core)
+        if verdict.startswith(("accepted", "hazard H5")):
+            core = self.replays(text, "--core")
+        # A call that breaks a rule of the other checks may be left out of synchronization validation.
+        silent = core and not any(answer.others() for answer in core)
+        return Outcome(name, text, verdict, core if silent else self.replays(text), core)
+
+    def replays(self, text, *more):
+        return [self.device.replay(text, "--syncval", *more, *order) for order in ORDERS]
 
     def each(self, group, make, count):
         """Makes and tells so many outcomes, several at a time."""

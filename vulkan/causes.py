@@ -11,8 +11,9 @@ ATTACHMENTS = {"COLOR_ATTACHMENT_OUTPUT", "EARLY_FRAGMENT_TESTS", "LATE_FRAGMENT
 TESTS = {"EARLY_FRAGMENT_TESTS", "LATE_FRAGMENT_TESTS"}
 
 STUCK = Cause("stuck", "the queues are stuck, so nothing is submitted", SYNCHRONIZATION, "both")
-LAYOUT = Cause("layout", "layouts are tested by the layer's other checks, which name a VUID", "VUIDs of each command", "both")
-ONE_LAYOUT = Cause("general", "the image is in GENERAL, which Vulkan allows there and the profile does not", "VUIDs of each command", "layer")
+RENDERED = Cause(
+    "rendered", "the layer does not test the layout of an attachment that is loaded or cleared and not drawn to", "VUID-vkCmdDraw-None-09600", "check"
+)
 OWNER = Cause("owner", "the layer does not follow which family owns a piece", "7.7.4", "check")
 HALF = Cause("half", "a half of a transfer without the other one in the file", "7.7.4", "profile")
 CONTENTS = Cause("contents", "the layer does not follow which bytes are stored or thrown away", MEMORY, "check")
@@ -29,8 +30,8 @@ STORAGE = Cause(
     "storage", "the layer reports no storage write after a storage write of the same stage", SYNCHRONIZATION, "check"
 )
 READ_AND_WRITE = Cause("read and write", "the layer tests the write alone where a shader reads and writes a resource", SYNCHRONIZATION, "check")
-READ_BETWEEN = Cause(
-    "read between", "the layer tests a write against the reads since the last write, and a read not behind another one", SYNCHRONIZATION, "check"
+BETWEEN = Cause(
+    "between", "the layer tests against the last write and the reads since then, and others touched the bytes between the two", SYNCHRONIZATION, "check"
 )
 OTHER_QUEUE = Cause(
     "other queue", "the layer misses what another queue reads after it waited for this one", SYNCHRONIZATION, "check"
@@ -145,8 +146,8 @@ def by_turns(pair):
     return pair.one_queue() and pair.all(lambda one, other: one.access == other.access == "transition" and one.piece == other.piece)
 
 
-def by_read_between(pair):
-    return any(not access.stores for access in pair.between())
+def by_between(pair):
+    return bool(pair.between())
 
 
 def by_other_queue(pair):
@@ -172,8 +173,14 @@ SILENT = [
     (ATTACHED, by_attached),
     (READ_AND_WRITE, by_read_and_write),
     (OTHER_QUEUE, by_other_queue),
-    (READ_BETWEEN, by_read_between),
+    (BETWEEN, by_between),
 ]
+
+
+def renders(item):
+    """Whether the item is a draw with an attachment."""
+    uses = item.get("uses", []) if isinstance(item, dict) else []
+    return isinstance(item, dict) and (item.get("op") == "draw" or any(use["as"] in ("color", "depth", "depth_read") for use in uses))
 
 
 def of_silence(submission, verdict):
@@ -182,7 +189,7 @@ def of_silence(submission, verdict):
     if number == "H1":
         return STUCK
     if number == "H5":
-        return ONE_LAYOUT if fields[2] == "GENERAL" else LAYOUT
+        return RENDERED if renders(submission.nodes[int(fields[0])].value) else None
     if number in OF_STATE:
         return OF_STATE[number]
     pair = Pair(submission, int(fields[0]), int(fields[1]))

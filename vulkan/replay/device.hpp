@@ -8,6 +8,7 @@
 
 #include <array>
 #include <memory>
+#include <optional>
 #include <set>
 #include <string>
 #include <vector>
@@ -34,6 +35,7 @@ class Instance {
     bool surfaces() const { return has_surfaces; }
 
   private:
+    std::optional<ValidationSettings> settings;
     std::unique_ptr<VkInstance, InstanceDeleter> instance;
     VkDebugUtilsMessengerEXT messenger = VK_NULL_HANDLE;
     bool has_surfaces = false;

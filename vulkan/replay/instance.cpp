@@ -60,7 +60,7 @@ Instance::Instance(const Options &options, Messages &messages) {
     if (options.families)
         setenv("VK_ADD_LAYER_PATH", options.layers.c_str(), 1);
     if (options.syncval)
-        set_up_validation(options.core);
+        settings.emplace(options.core);
     const auto layers = layers_of(options);
     std::vector<const char *> extensions;
     if (options.syncval)

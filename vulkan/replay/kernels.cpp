@@ -22,6 +22,26 @@ VkExtent2D grid_of(const Piece &piece) {
     return piece.is_image() ? VkExtent2D{piece.width, piece.height} : VkExtent2D{static_cast<uint32_t>(piece.bytes / 4), 1};
 }
 
+// The shaders do not look where texels are not.
+void test_fit(const Kernel &kernel, const Program &program) {
+    const Piece &destination = program.pieces[kernel.destination];
+    const bool images = kernel.kind == KernelKind::convert || kernel.kind == KernelKind::box3 || kernel.kind == KernelKind::halve;
+    bool fits = images ? destination.is_image() : true;
+    for (const PieceNumber number : kernel.sources) {
+        const Piece &source = program.pieces[number];
+        const VkExtent2D from = grid_of(source), to = grid_of(destination);
+        if (kernel.kind == KernelKind::histogram) {
+            fits &= source.is_image() && source.texel == Texel::r8 && !destination.is_image() && destination.bytes == 1024;
+        } else if (kernel.kind == KernelKind::halve) {
+            fits &= source.is_image() && from.width == 2 * to.width && from.height == 2 * to.height;
+        } else {
+            fits &= (!images || source.is_image()) && from.width == to.width && from.height == to.height;
+        }
+    }
+    if (!fits || grid_of(destination).width == 0)
+        throw Ended(Ending::refused, "the operation does not fit its pieces");
+}
+
 uint32_t groups(uint32_t texels, uint32_t side) { return (texels + side - 1) / side; }
 
 VkPipeline pipeline_of(Context &context, const std::string &text, const BoundSet &set) {
@@ -37,6 +57,7 @@ VkPipeline pipeline_of(Context &context, const std::string &text, const BoundSet
 } // namespace
 
 void record(Context &context, VkCommandBuffer commands, const Kernel &kernel) {
+    test_fit(kernel, context.program);
     std::vector<Binding> bindings;
     for (const PieceNumber source : kernel.sources)
         bindings.push_back(binding_of(context, source, false));

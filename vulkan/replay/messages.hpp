@@ -3,6 +3,7 @@
 
 #include <vulkan/vulkan.h>
 
+#include <filesystem>
 #include <map>
 #include <mutex>
 #include <string>
@@ -26,7 +27,16 @@ class Messages {
     std::map<std::pair<std::string, std::string>, unsigned> counts;
 };
 
-// Writes the settings of the layer into a file of its own and names it to the layer.
-void set_up_validation(bool core);
+// The settings of the layer, in a file that it finds by the environment and that goes with this object.
+class ValidationSettings {
+  public:
+    explicit ValidationSettings(bool core);
+    ~ValidationSettings();
+    ValidationSettings(const ValidationSettings &) = delete;
+    ValidationSettings &operator=(const ValidationSettings &) = delete;
+
+  private:
+    std::filesystem::path file;
+};
 
 } // namespace replay
