@@ -30,6 +30,8 @@ TOP = Path(__file__).resolve().parent.parent
 MISSING = 5
 ORDERS = ((), ("--reverse",))
 STUCK, NOT_TOGETHER = 6, 8
+# Hazards on which the layer's other checks have rules: layouts, and acquires without a release.
+OTHER_CHECKS = ("hazard H5", "hazard H7")
 
 # What is known of one submission: its name, what `check` says, and what the replays of both orders came to.
 Outcome = collections.namedtuple("Outcome", "name text verdict answers core")
@@ -64,6 +66,9 @@ def flagged(answers):
 def tell(tables, outcome, group):
     """Sorts one outcome into the tables."""
     hazard = outcome.verdict.split()[1] if outcome.verdict.startswith("hazard") else None
+    if hazard is None and not outcome.verdict.startswith("accepted"):
+        tables.fail(outcome, f"check says {outcome.verdict!r}")
+        return
     statuses = {answer.status for answer in outcome.answers}
     if statuses == {NOT_TOGETHER}:
         tables.same[f"{group}: uses that Vulkan cannot make together"] += 1
@@ -104,8 +109,8 @@ def refused(tables, outcome, group, submission, hazard):
             tables.same[f"{group}: {hazard}, and flagged"] += 1
         else:
             tables.differ(outcome, causes.of_silence(submission, outcome.verdict), f"{hazard}, silent")
-    elif hazard == "H5" and any(answer.others() for answer in outcome.core):
-        tables.same[f"{group}: H5, and a VUID of the layer's other checks"] += 1
+    elif any(answer.others() for answer in outcome.core):
+        tables.same[f"{group}: {hazard}, and a VUID of the layer's other checks"] += 1
     elif seen:
         tables.differ(outcome, causes.of_message(submission, outcome.verdict), f"{hazard}, flagged")
     else:
@@ -124,7 +129,7 @@ class Trial:
         compiler = self.wide if b'"format":3' in text.replace(b" ", b"") else self.narrow
         verdict = verdict or compiler.check(text)
         core = []
-        if verdict.startswith(("accepted", "hazard H5")):
+        if verdict.startswith(("accepted", *OTHER_CHECKS)):
             core = self.replays(text, "--core")
         # A call that breaks a rule of the other checks may be left out of synchronization validation.
         silent = core and not any(answer.others() for answer in core)
@@ -138,7 +143,7 @@ class Trial:
         with ThreadPoolExecutor(self.options.jobs) as pool:
             for outcome in pool.map(make, range(count)):
                 tell(self.tables, outcome, group)
-                if outcome.verdict.startswith("accepted") and '"format": 3' not in group:
+                if outcome.verdict.startswith("accepted"):
                     self.bytes_equal(outcome, group)
         print(f"{group}: {count}", flush=True)
 

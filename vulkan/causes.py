@@ -12,17 +12,17 @@ TESTS = {"EARLY_FRAGMENT_TESTS", "LATE_FRAGMENT_TESTS"}
 
 STUCK = Cause("stuck", "the queues are stuck, so nothing is submitted", SYNCHRONIZATION, "both")
 RENDERED = Cause(
-    "rendered", "the layer does not test the layout of an attachment that is loaded or cleared and not drawn to", "VUID-vkCmdDraw-None-09600", "check"
+    "rendered", "the layer does not test the layout of an attachment under dynamic rendering", "VUID-vkCmdBeginRendering-pRenderingInfo-09588 and -09592", "check"
 )
 OWNER = Cause("owner", "the layer does not follow which family owns a piece", "7.7.4", "check")
-HALF = Cause("half", "a half of a transfer without the other one in the file", "7.7.4", "profile")
+HALF = Cause("half", "a release whose acquire is not in the file, which Vulkan allows", "7.7.4", "layer")
 CONTENTS = Cause("contents", "the layer does not follow which bytes are stored or thrown away", MEMORY, "check")
 RELEASED = Cause(
     "released", "a command touches what was released: an owner to `check`, to the layer a transition in no order", "7.7.4", "both"
 )
 
-HOST = Cause("host", "the layer knows no reads by the host", SYNCHRONIZATION + ", section Host Write Ordering Guarantees", "check")
-OUTSIDE = Cause("outside", "the layer does not know who takes a piece over", "no file of Vulkan's says it", "profile")
+HOST = Cause("host", "the layer knows no reads by the host", SYNCHRONIZATION, "check")
+OUTSIDE = Cause("outside", "the layer does not know who takes a piece over behind the file", "the file alone says it", "check")
 ALIAS = Cause("alias", "the layer does not see that an image shares memory with another piece", MEMORY, "check")
 PARTS = Cause("parts", "the commands touch other bytes of one piece, and the profile takes pieces whole", SYNCHRONIZATION, "layer")
 TRANSFER = Cause("transfer", "to the layer a transfer of a buffer, or one without a change of layout, is no access", "7.7.4", "check")
@@ -49,7 +49,7 @@ AFTER_HOST = Cause(
     "after host", "a signal comes after what leads to HOST by the profile, and after its own stages alone by the standard", "7.4.1", "layer"
 )
 
-OF_STATE = {"H6": OWNER, "H7": HALF, "H8": CONTENTS, "H9": CONTENTS}
+OF_STATE = {"H6": OWNER, "H8": CONTENTS, "H9": CONTENTS}
 
 
 def names(mask):
@@ -190,6 +190,8 @@ def of_silence(submission, verdict):
         return STUCK
     if number == "H5":
         return RENDERED if renders(submission.nodes[int(fields[0])].value) else None
+    if number == "H7":
+        return HALF if submission.nodes[int(fields[0])].kind == "release" else None
     if number in OF_STATE:
         return OF_STATE[number]
     pair = Pair(submission, int(fields[0]), int(fields[1]))

@@ -91,7 +91,9 @@ Device::Device(const Instance &instance, const Program &program) : physical_devi
     family_properties.resize(count);
     vkGetPhysicalDeviceQueueFamilyProperties(physical_device, &count, family_properties.data());
     choose_families(program);
-    create(instance, program);
+    std::vector<float> priorities;
+    create(queue_infos(program, priorities), wanted_extensions(instance));
+    take_queues(program);
 }
 
 void Device::choose_families(const Program &program) {
@@ -107,7 +109,8 @@ void Device::choose_families(const Program &program) {
     }
 }
 
-void Device::create(const Instance &instance, const Program &program) {
+// `priorities` is where the infos point to.
+std::vector<VkDeviceQueueCreateInfo> Device::queue_infos(const Program &program, std::vector<float> &priorities) const {
     std::map<uint32_t, uint32_t> counts;
     for (const Queue &queue : program.queues)
         ++counts[family_index(queue.family)];
@@ -121,11 +124,26 @@ void Device::create(const Instance &instance, const Program &program) {
             throw Ended(Ending::refused, "the device has fewer than " + std::to_string(count) + " queues in family " +
                                              std::to_string(family) + "; --families shows eight");
     }
-    const std::vector<float> priorities(most, 1.0F);
-    std::vector<VkDeviceQueueCreateInfo> queue_infos;
+    priorities.assign(most, 1.0F);
+    std::vector<VkDeviceQueueCreateInfo> infos;
     for (const auto &[family, count] : counts)
-        queue_infos.push_back({VK_STRUCTURE_TYPE_DEVICE_QUEUE_CREATE_INFO, nullptr, 0, family, count, priorities.data()});
+        infos.push_back({VK_STRUCTURE_TYPE_DEVICE_QUEUE_CREATE_INFO, nullptr, 0, family, count, priorities.data()});
+    return infos;
+}
 
+std::vector<const char *> Device::wanted_extensions(const Instance &instance) {
+    const auto there = extensions_of(physical_device);
+    std::vector<const char *> names;
+    load_none = there.contains(VK_EXT_LOAD_STORE_OP_NONE_EXTENSION_NAME);
+    if (load_none)
+        names.push_back(VK_EXT_LOAD_STORE_OP_NONE_EXTENSION_NAME);
+    // Its layout for presenting is one of the file's.
+    if (instance.surfaces() && there.contains(VK_KHR_SWAPCHAIN_EXTENSION_NAME))
+        names.push_back(VK_KHR_SWAPCHAIN_EXTENSION_NAME);
+    return names;
+}
+
+void Device::create(const std::vector<VkDeviceQueueCreateInfo> &queue_infos, const std::vector<const char *> &extensions) {
     VkPhysicalDeviceFeatures there{};
     vkGetPhysicalDeviceFeatures(physical_device, &there);
     enabled = wanted_features(there);
@@ -135,30 +153,23 @@ void Device::create(const Instance &instance, const Program &program) {
     newest.maintenance4 = VK_TRUE; // shaders of 1.3 say their workgroups in a way that wants it
     auto newer = blank<VkPhysicalDeviceVulkan12Features>(VK_STRUCTURE_TYPE_PHYSICAL_DEVICE_VULKAN_1_2_FEATURES, &newest);
     newer.timelineSemaphore = VK_TRUE;
-
-    const auto extensions = extensions_of(physical_device);
-    std::vector<const char *> names;
-    load_none = extensions.contains(VK_EXT_LOAD_STORE_OP_NONE_EXTENSION_NAME);
-    if (load_none)
-        names.push_back(VK_EXT_LOAD_STORE_OP_NONE_EXTENSION_NAME);
-    // Its layout for presenting is one of the file's.
-    if (instance.surfaces() && extensions.contains(VK_KHR_SWAPCHAIN_EXTENSION_NAME))
-        names.push_back(VK_KHR_SWAPCHAIN_EXTENSION_NAME);
     auto info = blank<VkDeviceCreateInfo>(VK_STRUCTURE_TYPE_DEVICE_CREATE_INFO, &newer);
     info.queueCreateInfoCount = static_cast<uint32_t>(queue_infos.size());
     info.pQueueCreateInfos = queue_infos.data();
-    info.enabledExtensionCount = static_cast<uint32_t>(names.size());
-    info.ppEnabledExtensionNames = names.data();
+    info.enabledExtensionCount = static_cast<uint32_t>(extensions.size());
+    info.ppEnabledExtensionNames = extensions.data();
     info.pEnabledFeatures = &enabled;
     VkDevice made = VK_NULL_HANDLE;
     succeed(vkCreateDevice(physical_device, &info, nullptr, &made), "vkCreateDevice");
     device.reset(made);
+}
 
+void Device::take_queues(const Program &program) {
     std::map<uint32_t, uint32_t> given;
     for (const Queue &queue : program.queues) {
         const uint32_t family = family_index(queue.family);
         VkQueue handle = VK_NULL_HANDLE;
-        vkGetDeviceQueue(made, family, given[family]++, &handle);
+        vkGetDeviceQueue(device.get(), family, given[family]++, &handle);
         queues.push_back(handle);
     }
 }

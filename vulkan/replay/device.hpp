@@ -58,7 +58,10 @@ class Device {
 
   private:
     void choose_families(const Program &program);
-    void create(const Instance &instance, const Program &program);
+    std::vector<VkDeviceQueueCreateInfo> queue_infos(const Program &program, std::vector<float> &priorities) const;
+    std::vector<const char *> wanted_extensions(const Instance &instance);
+    void create(const std::vector<VkDeviceQueueCreateInfo> &queue_infos, const std::vector<const char *> &extensions);
+    void take_queues(const Program &program);
 
     VkPhysicalDevice physical_device = VK_NULL_HANDLE;
     VkPhysicalDeviceProperties properties{};

@@ -42,6 +42,33 @@ VkPipelineDepthStencilStateCreateInfo depth_state(bool there, bool writes) {
     return info;
 }
 
+VkPipelineMultisampleStateCreateInfo sample_state(VkSampleCountFlagBits samples) {
+    auto info = blank<VkPipelineMultisampleStateCreateInfo>(VK_STRUCTURE_TYPE_PIPELINE_MULTISAMPLE_STATE_CREATE_INFO);
+    info.rasterizationSamples = samples;
+    return info;
+}
+
+// Every colour attachment is written whole; a logic operation is for all of them.
+struct Blending {
+    Blending(size_t colors, std::optional<VkLogicOp> logic) : logic(logic) {
+        VkPipelineColorBlendAttachmentState written{};
+        written.colorWriteMask = VK_COLOR_COMPONENT_R_BIT | VK_COLOR_COMPONENT_G_BIT | VK_COLOR_COMPONENT_B_BIT | VK_COLOR_COMPONENT_A_BIT;
+        attachments.assign(colors, written);
+    }
+
+    VkPipelineColorBlendStateCreateInfo info() const {
+        auto made = blank<VkPipelineColorBlendStateCreateInfo>(VK_STRUCTURE_TYPE_PIPELINE_COLOR_BLEND_STATE_CREATE_INFO);
+        made.logicOpEnable = logic ? VK_TRUE : VK_FALSE;
+        made.logicOp = logic.value_or(VK_LOGIC_OP_COPY);
+        made.attachmentCount = static_cast<uint32_t>(attachments.size());
+        made.pAttachments = attachments.data();
+        return made;
+    }
+
+    std::optional<VkLogicOp> logic;
+    std::vector<VkPipelineColorBlendAttachmentState> attachments;
+};
+
 } // namespace
 
 OwnedPipeline GraphicsPipeline::make(VkDevice device) const {
@@ -55,17 +82,10 @@ OwnedPipeline GraphicsPipeline::make(VkDevice device) const {
     viewport.viewportCount = viewport.scissorCount = 1;
     auto raster = blank<VkPipelineRasterizationStateCreateInfo>(VK_STRUCTURE_TYPE_PIPELINE_RASTERIZATION_STATE_CREATE_INFO);
     raster.lineWidth = 1.0F;
-    auto sampling = blank<VkPipelineMultisampleStateCreateInfo>(VK_STRUCTURE_TYPE_PIPELINE_MULTISAMPLE_STATE_CREATE_INFO);
-    sampling.rasterizationSamples = samples;
+    const auto sampling = sample_state(samples);
     const auto tests = depth_state(depth != VK_FORMAT_UNDEFINED, depth_writes);
-    VkPipelineColorBlendAttachmentState written{};
-    written.colorWriteMask = VK_COLOR_COMPONENT_R_BIT | VK_COLOR_COMPONENT_G_BIT | VK_COLOR_COMPONENT_B_BIT | VK_COLOR_COMPONENT_A_BIT;
-    const std::vector<VkPipelineColorBlendAttachmentState> blends(colors.size(), written);
-    auto blend = blank<VkPipelineColorBlendStateCreateInfo>(VK_STRUCTURE_TYPE_PIPELINE_COLOR_BLEND_STATE_CREATE_INFO);
-    blend.logicOpEnable = logic ? VK_TRUE : VK_FALSE;
-    blend.logicOp = logic.value_or(VK_LOGIC_OP_COPY);
-    blend.attachmentCount = static_cast<uint32_t>(blends.size());
-    blend.pAttachments = blends.data();
+    const Blending blending(colors.size(), logic);
+    const auto blend = blending.info();
     const VkDynamicState states[] = {VK_DYNAMIC_STATE_VIEWPORT, VK_DYNAMIC_STATE_SCISSOR};
     auto dynamic = blank<VkPipelineDynamicStateCreateInfo>(VK_STRUCTURE_TYPE_PIPELINE_DYNAMIC_STATE_CREATE_INFO);
     dynamic.dynamicStateCount = 2;
