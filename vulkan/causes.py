@@ -21,6 +21,13 @@ RELEASED = Cause(
     "released", "a command touches what was released: an owner to `check`, to the layer a transition in no order", "7.7.4", "both"
 )
 
+AT_RELEASE = Cause(
+    "at release",
+    "the layer makes the transition of a transfer at the release too, and wants the store before it available there; the profile makes it at the acquire",
+    "7.7.4",
+    "layer",
+)
+
 HOST = Cause("host", "the layer knows no reads by the host", SYNCHRONIZATION, "check")
 OUTSIDE = Cause("outside", "the layer does not know who takes a piece over behind the file", "the file alone says it", "check")
 ALIAS = Cause("alias", "the layer does not see that an image shares memory with another piece", MEMORY, "check")
@@ -217,6 +224,8 @@ def of_message(submission, verdict):
     """Why the layer reports a hazard where `check` finds none of H2 to H4; None where no cause is found."""
     if verdict.startswith("hazard") and touches_released(submission, int(verdict.split()[2])):
         return RELEASED
+    if releases_unavailable(submission):
+        return AT_RELEASE
     if leads_to_host(submission):
         return AFTER_HOST
     if submission.wide and semaphores(submission, "signal"):
@@ -224,6 +233,18 @@ def of_message(submission, verdict):
     if submission.wide and semaphores(submission, "wait"):
         return WAIT
     return None
+
+
+def releases_unavailable(submission):
+    """Whether a release changes a layout and does not make the last store before it available."""
+    last = {}
+    for k, node in enumerate(submission.nodes):
+        if node.kind == "release" and node.value.get("from") != node.value.get("to"):
+            store = last.get((node.queue, node.value["piece"]))
+            if store and not names(node.value["src_access"]) & {store.access, "MEMORY_WRITE", "SHADER_WRITE"}:
+                return True
+        last |= {(node.queue, access.piece): access for access in submission.accesses(k) if access.stores}
+    return False
 
 
 def touches_released(submission, node):
