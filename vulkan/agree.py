@@ -5,11 +5,11 @@
 
 Each file of examples/submissions and examples/profile, the submissions of random frames and of frames of `gen`, and random
 submissions of format 3 are replayed in two orders of submission, the lowest queue first and the highest one. Where `check`
-accepts them the layer has to give no message at all, its other checks included, and of formats 1 and 2 the bytes have to be
-those of `exec`. What `check` refuses is replayed under synchronization validation alone. Every difference gets a cause that is
-computed from the file; the script prints them with their counts, and its status is 1 where a difference has none, where bytes
-differ, or where fewer than half of the random programs with H2 to H4 are flagged by both. With `--tree` the replay runs in a tree of another distribution, by chroot.
-Status 5: something is not installed or not built, and the script says what.
+accepts them the layer has to give no message at all, its other checks included, and where no action is in the file the bytes
+have to be those of `exec`. What `check` refuses is replayed under synchronization validation alone. Every difference gets a cause that is
+computed from the file; the script prints them with their counts. Its status is 1 where a difference has none, where bytes
+differ, or where fewer than half of the random programs with H2 to H4 are flagged by both. With `--tree` the replay runs in a
+tree of another distribution, by chroot. Status 5: something is not installed or not built, and the script says what.
 """
 
 import argparse
@@ -126,14 +126,16 @@ class Trial:
         self.tables = Tables(options.kept)
 
     def outcome(self, name, text, verdict=None):
-        compiler = self.wide if b'"format":3' in text.replace(b" ", b"") else self.narrow
-        verdict = verdict or compiler.check(text)
+        verdict = verdict or self.compiler_of(text).check(text)
         core = []
         if verdict.startswith(("accepted", *OTHER_CHECKS)):
             core = self.replays(text, "--core")
         # A call that breaks a rule of the other checks may be left out of synchronization validation.
         silent = core and not any(answer.others() for answer in core)
         return Outcome(name, text, verdict, core if silent else self.replays(text), core)
+
+    def compiler_of(self, text):
+        return self.wide if json.loads(text)["format"] == 3 else self.narrow
 
     def replays(self, text, *more):
         return [self.device.replay(text, "--syncval", *more, *order) for order in ORDERS]
@@ -148,10 +150,10 @@ class Trial:
         print(f"{group}: {count}", flush=True)
 
     def bytes_equal(self, outcome, group):
-        """Of formats 1 and 2, where nothing is an action, the read-backs are those of `exec`."""
+        """Where nothing is an action, the read-backs are those of `exec`."""
         if b'"action"' in outcome.text:
             return
-        _, printed = self.narrow.ask(["exec"], outcome.text)
+        _, printed = self.compiler_of(outcome.text).ask(["exec"], outcome.text)
         for answer in outcome.answers:
             if answer.readbacks != printed:
                 self.tables.fail(outcome, "other bytes than exec's")
