@@ -1,7 +1,9 @@
 """Random submissions of format 3: actions with uses of all roles, and the dependencies that they need."""
 
-BUFFER_ROLES = ["indirect", "index", "vertex", "uniform", "sampled", "storage_read", "storage_write", "storage", "copy_read", "copy_write", "clear_write"]
-COLOR_ROLES = ["sampled", "input", "storage_read", "storage_write", "storage", "color", "copy_read", "copy_write", "blit_read", "blit_write", "clear_write"]
+STORAGE_ROLES = ["storage_read", "storage_write", "storage"]
+COPY_ROLES = ["copy_read", "copy_write"]
+BUFFER_ROLES = ["indirect", "index", "vertex", "uniform", "sampled", *STORAGE_ROLES, *COPY_ROLES, "clear_write"]
+COLOR_ROLES = ["sampled", "input", *STORAGE_ROLES, "color", *COPY_ROLES, "blit_read", "blit_write", "clear_write"]
 DEPTH_ROLES = ["sampled", "depth", "depth_read", "copy_read", "copy_write"]
 SAMPLES_ROLES = ["color", "resolve_read"]
 TARGET_ROLES = ["color", "resolve_write", "blit_read"]
@@ -126,7 +128,8 @@ class Writer:
         role = rng.choice(roles)
         use = {"piece": part.number, "as": role}
         if role in SHADERS:
-            use["stage"] = rng.choice(["VERTEX_SHADER", "FRAGMENT_SHADER"]) if family == "graphics" and rng.random() < 0.8 else "COMPUTE_SHADER"
+            graphics = family == "graphics" and rng.random() < 0.8
+            use["stage"] = rng.choice(["VERTEX_SHADER", "FRAGMENT_SHADER"]) if graphics else "COMPUTE_SHADER"
         if role in STORES and role not in ("storage", "storage_write"):
             use["keeps"] = part.full and rng.random() < 0.5
         loads = use.get("keeps", role != "storage_write")

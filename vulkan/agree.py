@@ -117,6 +117,13 @@ def refused(tables, outcome, group, submission, hazard):
         tables.differ(outcome, causes.of_silence(submission, outcome.verdict), f"{hazard}, silent")
 
 
+def print_row(outcome):
+    """What `check` and the layer say of one file; by its other checks where it is asked for them."""
+    hazards = {name for answer in outcome.answers for name, _ in answer.hazards()}
+    others = {name for answer in outcome.core for name, _ in answer.others()}
+    print(f"| {outcome.name} | {outcome.verdict} | {', '.join(sorted(hazards | others))} |")
+
+
 class Trial:
     """Asks `check` and the device of submissions."""
 
@@ -145,6 +152,8 @@ class Trial:
         with ThreadPoolExecutor(self.options.jobs) as pool:
             for outcome in pool.map(make, range(count)):
                 tell(self.tables, outcome, group)
+                if group == "examples":
+                    print_row(outcome)
                 if outcome.verdict.startswith("accepted"):
                     self.bytes_equal(outcome, group)
         print(f"{group}: {count}", flush=True)

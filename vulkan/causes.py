@@ -10,20 +10,25 @@ MEMORY = "Vulkan 1.3, chapter Resource Creation, section Memory Aliasing"
 ATTACHMENTS = {"COLOR_ATTACHMENT_OUTPUT", "EARLY_FRAGMENT_TESTS", "LATE_FRAGMENT_TESTS"}
 TESTS = {"EARLY_FRAGMENT_TESTS", "LATE_FRAGMENT_TESTS"}
 
-STUCK = Cause("stuck", "the queues are stuck, so nothing is submitted", SYNCHRONIZATION, "both")
 RENDERED = Cause(
-    "rendered", "the layer does not test the layout of an attachment under dynamic rendering", "VUID-vkCmdBeginRendering-pRenderingInfo-09588 and -09592", "check"
+    "rendered",
+    "the layer does not test the layout of an attachment under dynamic rendering",
+    "VUID-vkCmdBeginRendering-pRenderingInfo-09588 and -09592",
+    "check",
 )
 OWNER = Cause("owner", "the layer does not follow which family owns a piece", "7.7.4", "check")
 HALF = Cause("half", "a release whose acquire is not in the file, which Vulkan allows", "7.7.4", "layer")
 CONTENTS = Cause("contents", "the layer does not follow which bytes are stored or thrown away", MEMORY, "check")
 RELEASED = Cause(
-    "released", "a command touches what was released: an owner to `check`, to the layer a transition in no order", "7.7.4", "both"
+    "released",
+    "a command touches what was released: an owner to `check`, to the layer a transition in no order",
+    "7.7.4",
+    "both",
 )
 
 AT_RELEASE = Cause(
     "at release",
-    "the layer makes the transition of a transfer at the release too, and wants the store before it available there; the profile makes it at the acquire",
+    "the layer has the transition of a transfer at the release too, where the store is not available; the profile has it at the acquire",
     "7.7.4",
     "layer",
 )
@@ -33,27 +38,40 @@ OUTSIDE = Cause("outside", "the layer does not know who takes a piece over behin
 ALIAS = Cause("alias", "the layer does not see that an image shares memory with another piece", MEMORY, "check")
 PARTS = Cause("parts", "the commands touch other bytes of one piece, and the profile takes pieces whole", SYNCHRONIZATION, "layer")
 TRANSFER = Cause("transfer", "to the layer a transfer of a buffer, or one without a change of layout, is no access", "7.7.4", "check")
-STORAGE = Cause(
-    "storage", "the layer reports no storage write after a storage write of the same stage", SYNCHRONIZATION, "check"
+STORAGE = Cause("storage", "the layer reports no storage write after a storage write of the same stage", SYNCHRONIZATION, "check")
+READ_AND_WRITE = Cause(
+    "read and write",
+    "the layer tests the write alone where a shader reads and writes a resource",
+    SYNCHRONIZATION,
+    "check",
 )
-READ_AND_WRITE = Cause("read and write", "the layer tests the write alone where a shader reads and writes a resource", SYNCHRONIZATION, "check")
 BETWEEN = Cause(
-    "between", "the layer tests against the last write and the reads since then, and others touched the bytes between the two", SYNCHRONIZATION, "check"
+    "between",
+    "the layer tests against the last write and the reads since then, and others touched the bytes between the two",
+    SYNCHRONIZATION,
+    "check",
 )
-OTHER_QUEUE = Cause(
-    "other queue", "the layer misses what another queue reads after it waited for this one", SYNCHRONIZATION, "check"
-)
-DEPTH = Cause("depth", "the layer keeps no depth test's read in LATE, and tests a store in LATE against the load alone", "8.6", "check")
+OTHER_QUEUE = Cause("other queue", "the layer misses what another queue reads after it waited for this one", SYNCHRONIZATION, "check")
+DEPTH = Cause("depth", "the layer keeps no read of a depth test in LATE, and tests a store in LATE against the load alone", "8.6", "check")
 ATTACHED = Cause(
-    "attached", "the layer takes attachment accesses of one queue as ordered; the standard those of one rendering", "Vulkan 1.3, chapter Render Pass", "check"
+    "attached",
+    "the layer takes attachment accesses of one queue as ordered; the standard those of one rendering",
+    "Vulkan 1.3, chapter Render Pass",
+    "check",
 )
-TURNS = Cause(
-    "turns", "two transitions of one image on one queue are in submission order by the standard", "7.1.1", "layer"
+TURNS = Cause("turns", "two transitions of one image on one queue are in submission order by the standard", "7.1.1", "layer")
+SIGNAL = Cause(
+    "signal",
+    "a signal makes all in its scope available, logically earlier stages too; the layer takes the named ones",
+    "7.4.1",
+    "check",
 )
-SIGNAL = Cause("signal", "a signal makes all in its scope available, logically earlier stages too; the layer takes the named ones", "7.4.1", "check")
 WAIT = Cause("wait", "a wait makes memory visible to logically later stages too; the layer has it so for reads alone", "7.4.2", "check")
 AFTER_HOST = Cause(
-    "after host", "a signal comes after what leads to HOST by the profile, and after its own stages alone by the standard", "7.4.1", "layer"
+    "after host",
+    "a signal comes after what leads to HOST by the profile, and after its own stages alone by the standard",
+    "7.4.1",
+    "layer",
 )
 
 OF_STATE = {"H6": OWNER, "H8": CONTENTS, "H9": CONTENTS}
@@ -193,8 +211,6 @@ def renders(item):
 def of_silence(submission, verdict):
     """Why the layer says nothing where `check` names a hazard; None where no cause is found."""
     number, *fields = verdict.split()[1:]
-    if number == "H1":
-        return STUCK
     if number == "H5":
         return RENDERED if renders(submission.nodes[int(fields[0])].value) else None
     if number == "H7":

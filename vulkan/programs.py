@@ -10,8 +10,6 @@ sys.path.insert(0, str(pathlib.Path(__file__).resolve().parent.parent / "bench")
 
 from makers import Frame  # noqa: E402
 
-GRAPHICS_STAGES = ["VERTEX_SHADER", "FRAGMENT_SHADER"]
-EVERY = {"src_stage": "ALL_COMMANDS", "src_access": "MEMORY_READ|MEMORY_WRITE", "dst_stage": "ALL_COMMANDS", "dst_access": "MEMORY_READ|MEMORY_WRITE"}
 MASKS = ("src_stage", "src_access", "dst_stage", "dst_access")
 
 

@@ -61,8 +61,8 @@ Words image_words(const ImageKind &kind, const Use &use, size_t number, size_t i
         return {binding_text(number) + "uniform " + letter + "sampler2D" + suffix + " " + name + ";\n",
                 read_value(kind, "texelFetch(" + name + ", ivec2(0), 0)"), ""};
     if (use.role == Role::input)
-        return {binding_text(number, ", input_attachment_index = " + std::to_string(input)) + "uniform " + letter + "subpassInput" + suffix +
-                    " " + name + ";\n",
+        return {binding_text(number, ", input_attachment_index = " + std::to_string(input)) + "uniform " + letter + "subpassInput" +
+                    suffix + " " + name + ";\n",
                 read_value(kind, "subpassLoad(" + name + (several ? ", 0)" : ")")), ""};
     const std::string access = use.role == Role::storage_read ? "readonly " : use.role == Role::storage_write ? "writeonly " : "";
     const std::string place = "(" + name + ", ivec2(0)" + (several ? ", 0" : "");
@@ -153,8 +153,8 @@ std::string shader_text(const Context &context, const std::vector<Use> &uses, Vk
         loads += "    sum += attribute" + std::to_string(k) + ";\n";
     }
     for (size_t k = 0; k < colors.size(); ++k)
-        text += "layout(location = " + std::to_string(k) + ") out " + (colors[k] == Channel::unsigned_integer ? "uvec4" : "vec4") + " color" +
-                std::to_string(k) + ";\n";
+        text += "layout(location = " + std::to_string(k) + ") out " + (colors[k] == Channel::unsigned_integer ? "uvec4" : "vec4") +
+                " color" + std::to_string(k) + ";\n";
     return text + declarations + "void main() {\n    uint sum = 0;\n" + loads + stored + ending_of(stage, colors) + "}\n";
 }
 

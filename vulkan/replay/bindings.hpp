@@ -4,7 +4,6 @@
 #include "resources.hpp"
 #include "shaders.hpp"
 
-#include <list>
 #include <string>
 #include <vector>
 

@@ -25,7 +25,8 @@ std::string destination_text(size_t number, const Operand &operand) {
     const std::string binding = "layout(set = 0, binding = " + std::to_string(number);
     if (operand.image)
         return binding + (operand.bytes ? ", r8ui" : ", r32ui") +
-               ") writeonly uniform uimage2D destination;\nvoid store(ivec2 at, uint value) { imageStore(destination, at, uvec4(value & mask)); }\n";
+               ") writeonly uniform uimage2D destination;\n"
+               "void store(ivec2 at, uint value) { imageStore(destination, at, uvec4(value & mask)); }\n";
     return binding + ", std430) writeonly buffer Destination { uint words[]; } destination;\n"
                      "void store(ivec2 at, uint value) { destination.words[at.x] = value; }\n";
 }

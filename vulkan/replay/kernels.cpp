@@ -62,8 +62,8 @@ void record(Context &context, VkCommandBuffer commands, const Kernel &kernel) {
     for (const PieceNumber source : kernel.sources)
         bindings.push_back(binding_of(context, source, false));
     bindings.push_back(binding_of(context, kernel.destination, true));
-    const BoundSet &set =
-        context.sets.emplace_back(context.device.get(), bindings, VK_SHADER_STAGE_COMPUTE_BIT, static_cast<uint32_t>(sizeof(KernelConstants)));
+    constexpr auto bytes = static_cast<uint32_t>(sizeof(KernelConstants));
+    const BoundSet &set = context.sets.emplace_back(context.device.get(), bindings, VK_SHADER_STAGE_COMPUTE_BIT, bytes);
     const VkPipeline pipeline = pipeline_of(context, kernel_text(kernel, context.program), set);
 
     const Piece &destination = context.program.pieces[kernel.destination];

@@ -13,7 +13,7 @@ namespace replay {
 
 namespace {
 
-// Handles differ from run to run, and the layer counts its commands and objects.
+// Handles differ from run to run, and from object to object.
 std::string without_handles(const std::string &text) {
     static const std::regex handle("0x[0-9a-f]+"), spaces("\\s+");
     return std::regex_replace(std::regex_replace(text, handle, "0x"), spaces, " ");

@@ -88,5 +88,4 @@ struct Program {
     bool wide = false; // of format 3
 };
 
-
 } // namespace replay

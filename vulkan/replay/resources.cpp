@@ -151,7 +151,8 @@ void Resources::bind_memory(uint32_t memory, const std::vector<PieceNumber> &pie
             bind_together(memory, {piece}, {0}, note);
     } else {
         if (places.placing == Placing::spread)
-            note("memory " + std::to_string(memory) + ": the device wants more bytes than the file has; pieces are spread, and the same ones overlap");
+            note("memory " + std::to_string(memory) + ": the device wants more bytes than the file has; " +
+                 "pieces are spread, and the same ones overlap");
         bind_together(memory, pieces, places.starts, note);
     }
     for (size_t k = 0; k < pieces.size(); ++k)
