@@ -2,6 +2,7 @@
 """Compares `check` and `exec` with Vulkan's software device under Khronos' synchronization validation.
 
     vulkan/agree.py --program FRAMEC [--wide PROGRAM] [--build out/vulkan] [--tree TREE] [--frames 300] [--unsound 500] [--actions 300]
+    vulkan/agree.py --program FRAMEC [--wide PROGRAM] [--build out/vulkan] [--tree TREE] --files FILE...
 
 Each file of examples/submissions and examples/profile, the submissions of random frames and of frames of `gen`, and random
 submissions of format 3 are replayed in two orders of submission, the lowest queue first and the highest one. Where `check`
@@ -32,6 +33,8 @@ ORDERS = ((), ("--reverse",))
 STUCK, NOT_TOGETHER = 6, 8
 # Hazards on which the layer's other checks have rules: layouts, and acquires without a release.
 OTHER_CHECKS = ("hazard H5", "hazard H7")
+# Groups of files with names, which are told one by one.
+NAMED = ("examples", "given files")
 
 # What is known of one submission: its name, what `check` says, and what the replays of both orders came to.
 Outcome = collections.namedtuple("Outcome", "name text verdict answers core")
@@ -152,7 +155,7 @@ class Trial:
         with ThreadPoolExecutor(self.options.jobs) as pool:
             for outcome in pool.map(make, range(count)):
                 tell(self.tables, outcome, group)
-                if group == "examples":
+                if group in NAMED:
                     print_row(outcome)
                 if outcome.verdict.startswith("accepted"):
                     self.bytes_equal(outcome, group)
@@ -171,9 +174,11 @@ class Trial:
     def rng(self, *words):
         return random.Random("/".join(map(str, (self.options.seed, *words))))
 
+    def files(self, group, files):
+        self.each(group, lambda k: self.outcome(f"{files[k].parent.name}/{files[k].stem}", files[k].read_bytes()), len(files))
+
     def examples(self):
-        files = sorted(one for folder in ("submissions", "profile") for one in (TOP / "examples" / folder).glob("*.json"))
-        self.each("examples", lambda k: self.outcome(f"{files[k].parent.name}/{files[k].stem}", files[k].read_bytes()), len(files))
+        self.files("examples", sorted(one for folder in ("submissions", "profile") for one in (TOP / "examples" / folder).glob("*.json")))
 
     def frames(self):
         half = self.options.frames // 2
@@ -228,7 +233,7 @@ def flagged_by_both(tables):
     for group in sorted({group for group, _ in tables.random}):
         both, all_of_them = tables.random[(group, "flagged")], tables.random[(group, "flagged")] + tables.random[(group, "silent")]
         print(f"{group}: {both} of {all_of_them} with H2 to H4 are flagged by both")
-        enough = enough and (group == "examples" or 2 * both >= all_of_them)
+        enough = enough and (group in NAMED or 2 * both >= all_of_them)
     return enough
 
 
@@ -243,6 +248,7 @@ def main():
     parser.add_argument("--actions", type=int, default=300)
     parser.add_argument("--seed", type=int, default=1)
     parser.add_argument("--jobs", type=int, default=2)
+    parser.add_argument("--files", type=Path, nargs="+", default=[], help="compare these submission files, and nothing else")
     parser.add_argument("--kept", type=Path, default=Path("/tmp"), help="where files with an unexplained difference are kept")
     options = parser.parse_args()
     try:
@@ -252,10 +258,13 @@ def main():
         sys.exit(MISSING)
     trial = Trial(options, device)
     print(f"validation layer {device.layer_version()}", flush=True)
-    trial.examples()
-    trial.frames()
-    trial.unsound()
-    trial.actions()
+    if options.files:
+        trial.files("given files", options.files)
+    else:
+        trial.examples()
+        trial.frames()
+        trial.unsound()
+        trial.actions()
     print_tables(trial.tables)
     enough = flagged_by_both(trial.tables)
     print(f"{trial.tables.wrong} without a cause")

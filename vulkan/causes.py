@@ -275,6 +275,7 @@ def touches_released(submission, node):
 ASKED = {
     "VUID-vkCmdCopyBuffer-pRegions-00117": "source and destination of a copy do not overlap",
     "VUID-VkImageMemoryBarrier2-oldLayout-01197": "a barrier names the layout that the image is in",
+    "VUID-vkCmdCopyImage-srcImageLayout-01917": "in PRESENT_SRC_KHR no image is copied; here a copy stands for presenting",
 }
 
 
@@ -297,9 +298,16 @@ def names_another_layout(submission):
     return False
 
 
+def presents(submission):
+    """Whether the presentation engine reads an image."""
+    uses = [use for node in submission.nodes if node.kind == "command" for use in node.value.get("uses", [])]
+    return any(use["as"] == "present" for use in uses)
+
+
 LESS = {
     "VUID-vkCmdCopyBuffer-pRegions-00117": copies_in_place,
     "VUID-VkImageMemoryBarrier2-oldLayout-01197": names_another_layout,
+    "VUID-vkCmdCopyImage-srcImageLayout-01917": presents,
 }
 
 
