@@ -4,13 +4,14 @@
     vulkan/agree.py --program FRAMEC [--wide PROGRAM] [--build out/vulkan] [--tree TREE] [--frames 300] [--unsound 500] [--actions 300]
     vulkan/agree.py --program FRAMEC [--wide PROGRAM] [--build out/vulkan] [--tree TREE] --files FILE...
 
-Each file of examples/submissions and examples/profile, the submissions of random frames and of frames of `gen`, and random
-submissions of format 3 are replayed in two orders of submission, the lowest queue first and the highest one. Where `check`
-accepts them the layer has to give no message at all, its other checks included, and where no action is in the file the bytes
-have to be those of `exec`. What `check` refuses is replayed under synchronization validation alone. Every difference gets a cause that is
-computed from the file; the script prints them with their counts. Its status is 1 where a difference has none, where bytes
-differ, or where fewer than half of the random programs with H2 to H4 are flagged by both. With `--tree` the replay runs in a
-tree of another distribution, by chroot. Status 5: something is not installed or not built, and the script says what.
+Each file of examples/submissions and examples/profile, the submissions of examples/frames, of random frames and of frames of
+`gen`, and random submissions of format 3 are replayed in two orders of submission, the lowest queue first and the highest one.
+Where `check` accepts them the layer has to give no message at all, its other checks included, and where no action is in the file
+the bytes have to be those of `exec`. What `check` refuses is replayed under synchronization validation alone, but for hazards on
+which the other checks have rules. Every difference gets a cause that is computed from the file; the script prints them with their
+counts. Its status is 1 where a difference has none, where bytes differ, or where fewer than half of the random programs with H2
+to H4 are flagged by both. With `--tree` the replay runs in a tree of another distribution, by chroot. Status 5: something is not
+installed or not built, and the script says what.
 """
 
 import argparse
@@ -33,6 +34,7 @@ ORDERS = ((), ("--reverse",))
 STUCK, NOT_TOGETHER = 6, 8
 # Hazards on which the layer's other checks have rules: layouts, and acquires without a release.
 OTHER_CHECKS = ("hazard H5", "hazard H7")
+STAGES = ("examples", "frames", "unsound", "actions")
 # Groups of files with names, which are told one by one.
 NAMED = ("examples", "given files")
 
@@ -175,10 +177,17 @@ class Trial:
         return random.Random("/".join(map(str, (self.options.seed, *words))))
 
     def files(self, group, files):
-        self.each(group, lambda k: self.outcome(f"{files[k].parent.name}/{files[k].stem}", files[k].read_bytes()), len(files))
+        """Submission files, and frame files, which are compiled."""
+
+        def read(k):
+            name, text = f"{files[k].parent.name}/{files[k].stem}", files[k].read_bytes()
+            return self.outcome(name, self.narrow.ask(["compile"], text)[1].encode() if "passes" in json.loads(text) else text)
+
+        self.each(group, read, len(files))
 
     def examples(self):
-        self.files("examples", sorted(one for folder in ("submissions", "profile") for one in (TOP / "examples" / folder).glob("*.json")))
+        folders = ("submissions", "profile", "frames")
+        self.files("examples", sorted(one for folder in folders for one in (TOP / "examples" / folder).glob("*.json")))
 
     def frames(self):
         half = self.options.frames // 2
@@ -248,6 +257,7 @@ def main():
     parser.add_argument("--actions", type=int, default=300)
     parser.add_argument("--seed", type=int, default=1)
     parser.add_argument("--jobs", type=int, default=2)
+    parser.add_argument("--stages", nargs="+", choices=STAGES, default=STAGES)
     parser.add_argument("--files", type=Path, nargs="+", default=[], help="compare these submission files, and nothing else")
     parser.add_argument("--kept", type=Path, default=Path("/tmp"), help="where files with an unexplained difference are kept")
     options = parser.parse_args()
@@ -261,10 +271,8 @@ def main():
     if options.files:
         trial.files("given files", options.files)
     else:
-        trial.examples()
-        trial.frames()
-        trial.unsound()
-        trial.actions()
+        for stage in options.stages:
+            getattr(trial, stage)()
     print_tables(trial.tables)
     enough = flagged_by_both(trial.tables)
     print(f"{trial.tables.wrong} without a cause")
