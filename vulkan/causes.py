@@ -2,7 +2,7 @@
 
 import collections
 
-# `right`: whose word the standard supports, as far as the two differ.
+# `right`: whose word the standard supports; `both` where each names a fault of the file, `open` where no sentence of it was found.
 Cause = collections.namedtuple("Cause", "name text where right")
 
 SYNCHRONIZATION = "Vulkan 1.3, chapter Synchronization and Cache Control"
@@ -37,7 +37,7 @@ HOST = Cause("host", "the layer knows no reads by the host", SYNCHRONIZATION, "c
 OUTSIDE = Cause("outside", "the layer does not know who takes a piece over behind the file", "the file alone says it", "check")
 ALIAS = Cause("alias", "the layer does not see that an image shares memory with another piece", MEMORY, "check")
 PARTS = Cause("parts", "the commands touch other bytes of one piece, and the profile takes pieces whole", SYNCHRONIZATION, "layer")
-TRANSFER = Cause("transfer", "to the layer a transfer of a buffer, or one without a change of layout, is no access", "7.7.4", "check")
+TRANSFER = Cause("transfer", "to the layer a transfer of a buffer, or one without a change of layout, is no access", "7.7.4", "open")
 STORAGE = Cause("storage", "the layer reports no storage write after a storage write of the same stage", SYNCHRONIZATION, "check")
 READ_AND_WRITE = Cause(
     "read and write",
