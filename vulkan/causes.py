@@ -10,10 +10,10 @@ MEMORY = "Vulkan 1.3, chapter Resource Creation, section Memory Aliasing"
 ATTACHMENTS = {"COLOR_ATTACHMENT_OUTPUT", "EARLY_FRAGMENT_TESTS", "LATE_FRAGMENT_TESTS"}
 TESTS = {"EARLY_FRAGMENT_TESTS", "LATE_FRAGMENT_TESTS"}
 
-RENDERED = Cause(
-    "rendered",
-    "the layer does not test the layout of an attachment under dynamic rendering",
-    "VUID-vkCmdBeginRendering-pRenderingInfo-09588 and -09592",
+LAYOUT = Cause(
+    "layout",
+    "the layer tests no layout of an attachment under dynamic rendering, and none of an image that is resolved",
+    "VUID-vkCmdBeginRendering-pRenderingInfo-09588 and -09592, VUID-vkCmdResolveImage-srcImageLayout-00260 and -dstImageLayout-00262",
     "check",
 )
 OWNER = Cause("owner", "the layer does not follow which family owns a piece", "7.7.4", "check")
@@ -202,17 +202,21 @@ SILENT = [
 ]
 
 
-def renders(item):
-    """Whether the item is a draw with an attachment."""
-    uses = item.get("uses", []) if isinstance(item, dict) else []
-    return isinstance(item, dict) and (item.get("op") == "draw" or any(use["as"] in ("color", "depth", "depth_read") for use in uses))
+UNTESTED_LAYOUTS = ("color", "depth", "depth_read", "resolve_read", "resolve_write")
+
+
+def renders(item, piece):
+    """Whether the piece is an attachment of the command, or resolved by it."""
+    uses = [use for use in item.get("uses", []) if use["piece"] == piece]
+    return item.get("op") == "draw" or any(use["as"] in UNTESTED_LAYOUTS for use in uses)
 
 
 def of_silence(submission, verdict):
     """Why the layer says nothing where `check` names a hazard; None where no cause is found."""
     number, *fields = verdict.split()[1:]
     if number == "H5":
-        return RENDERED if renders(submission.nodes[int(fields[0])].value) else None
+        node = submission.nodes[int(fields[0])]
+        return LAYOUT if node.kind == "command" and renders(node.value, int(fields[1])) else None
     if number == "H7":
         return HALF if submission.nodes[int(fields[0])].kind == "release" else None
     if number in OF_STATE:
