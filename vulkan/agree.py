@@ -225,6 +225,14 @@ class Trial:
         self.each("programs with actions that are unsound", make_unsound, self.options.actions)
 
 
+def is_json(file):
+    try:
+        json.loads(file.read_bytes())
+    except (OSError, ValueError):
+        return False
+    return True
+
+
 def print_tables(tables):
     print("\n| what both say | programs |\n|---|---|")
     for what, count in sorted(tables.same.items()):
@@ -261,6 +269,9 @@ def main():
     parser.add_argument("--files", type=Path, nargs="+", default=[], help="compare these submission files, and nothing else")
     parser.add_argument("--kept", type=Path, default=Path("/tmp"), help="where files with an unexplained difference are kept")
     options = parser.parse_args()
+    for file in options.files:
+        if not is_json(file):
+            parser.error(f"{file} is no file with a JSON value")
     try:
         device = Device(options.build, options.tree)
     except Missing as missing:
