@@ -18,6 +18,7 @@ import argparse
 import collections
 import json
 import random
+import shutil
 import sys
 from concurrent.futures import ThreadPoolExecutor
 from pathlib import Path
@@ -209,7 +210,15 @@ class Trial:
 
         self.each("random programs that are unsound", make, self.options.unsound)
 
+    def takes_actions(self):
+        empty = {"format": 3, "memories": [], "pieces": [], "queues": [{"family": "graphics", "batches": []}], "readbacks": []}
+        return self.wide.check(text_of(empty)).startswith("accepted")
+
     def actions(self):
+        if not self.takes_actions():
+            print("programs with actions: none is tried, since no program here takes format 3 (--wide)")
+            return
+
         def program(rng):
             return text_of(Writer(rng, 8).program())
 
@@ -257,7 +266,7 @@ def flagged_by_both(tables):
 def main():
     parser = argparse.ArgumentParser(description=__doc__, formatter_class=argparse.RawDescriptionHelpFormatter)
     parser.add_argument("--program", required=True, help="a framec, for formats 1 and 2")
-    parser.add_argument("--wide", help="one whose check takes format 3; else no actions are tried unless PROGRAM takes them")
+    parser.add_argument("--wide", help="one whose check takes format 3, where PROGRAM does not")
     parser.add_argument("--build", default=TOP / "out/vulkan")
     parser.add_argument("--tree")
     parser.add_argument("--frames", type=int, default=300)
@@ -273,6 +282,9 @@ def main():
         if not is_json(file):
             parser.error(f"{file} is no file with a JSON value")
     try:
+        for program in (options.program, options.wide or options.program):
+            if not shutil.which(program):
+                raise Missing(f"{program} (no program)")
         device = Device(options.build, options.tree)
     except Missing as missing:
         print(f"missing:\n{missing}", file=sys.stderr)
