@@ -1,0 +1,182 @@
+#include "families.hpp"
+
+#include <algorithm>
+#include <vector>
+
+namespace families {
+
+namespace {
+
+constexpr std::array<VkQueueFlags, family_count> flags_of_families = {
+    VK_QUEUE_GRAPHICS_BIT | VK_QUEUE_COMPUTE_BIT | VK_QUEUE_TRANSFER_BIT,
+    VK_QUEUE_COMPUTE_BIT | VK_QUEUE_TRANSFER_BIT,
+    VK_QUEUE_TRANSFER_BIT,
+};
+
+VkQueueFamilyProperties of_the_device(VkPhysicalDevice device) {
+    uint32_t count = 0;
+    const auto queue_families = instance_of(device).queue_families;
+    queue_families(device, &count, nullptr);
+    std::vector<VkQueueFamilyProperties> own(count);
+    queue_families(device, &count, own.data());
+    return own.at(0);
+}
+
+VkQueueFamilyProperties shown(VkPhysicalDevice device, uint32_t family) {
+    VkQueueFamilyProperties properties = of_the_device(device);
+    properties.queueFlags = flags_of_families.at(family);
+    properties.queueCount = queues_of_a_family;
+    return properties;
+}
+
+DeviceTable &device_of_queue(VkQueue queue) { return *reinterpret_cast<Queue *>(queue)->device; }
+
+bool is_transfer(uint32_t from, uint32_t to) { return from != to && from != VK_QUEUE_FAMILY_IGNORED && to != VK_QUEUE_FAMILY_IGNORED; }
+
+// A release does nothing but order what is before it; an acquire makes the layout change of both.
+struct Halves {
+    uint32_t family;
+    std::vector<VkMemoryBarrier2> global;
+    std::vector<VkBufferMemoryBarrier2> buffers;
+    std::vector<VkImageMemoryBarrier2> images;
+
+    template <typename Barrier> void add(std::vector<Barrier> &kept, Barrier barrier) {
+        const bool transfer = is_transfer(barrier.srcQueueFamilyIndex, barrier.dstQueueFamilyIndex);
+        if (transfer && barrier.srcQueueFamilyIndex == family) {
+            global.push_back({VK_STRUCTURE_TYPE_MEMORY_BARRIER_2, nullptr, barrier.srcStageMask, barrier.srcAccessMask,
+                              VK_PIPELINE_STAGE_2_ALL_COMMANDS_BIT, VK_ACCESS_2_MEMORY_READ_BIT | VK_ACCESS_2_MEMORY_WRITE_BIT});
+            return;
+        }
+        if (transfer) {
+            barrier.srcStageMask = VK_PIPELINE_STAGE_2_ALL_COMMANDS_BIT;
+            barrier.srcAccessMask = VK_ACCESS_2_MEMORY_READ_BIT | VK_ACCESS_2_MEMORY_WRITE_BIT;
+        }
+        barrier.srcQueueFamilyIndex = barrier.dstQueueFamilyIndex = VK_QUEUE_FAMILY_IGNORED;
+        kept.push_back(barrier);
+    }
+};
+
+uint32_t family_of(DeviceTable &table, VkCommandBuffer buffer) {
+    const std::lock_guard guard(table.lock);
+    return table.buffer_families.at(buffer);
+}
+
+} // namespace
+
+void VKAPI_CALL queue_family_properties(VkPhysicalDevice device, uint32_t *count, VkQueueFamilyProperties *properties) {
+    if (properties == nullptr) {
+        *count = family_count;
+        return;
+    }
+    *count = std::min(*count, family_count);
+    for (uint32_t family = 0; family < *count; ++family)
+        properties[family] = shown(device, family);
+}
+
+void VKAPI_CALL queue_family_properties2(VkPhysicalDevice device, uint32_t *count, VkQueueFamilyProperties2 *properties) {
+    if (properties == nullptr) {
+        *count = family_count;
+        return;
+    }
+    *count = std::min(*count, family_count);
+    for (uint32_t family = 0; family < *count; ++family)
+        properties[family].queueFamilyProperties = shown(device, family);
+}
+
+void VKAPI_CALL get_queue(VkDevice device, uint32_t family, uint32_t index, VkQueue *queue) {
+    *queue = reinterpret_cast<VkQueue>(&device_of(device).queues.at(family).at(index));
+}
+
+void VKAPI_CALL get_queue2(VkDevice device, const VkDeviceQueueInfo2 *info, VkQueue *queue) {
+    get_queue(device, info->queueFamilyIndex, info->queueIndex, queue);
+}
+
+VkResult VKAPI_CALL submit(VkQueue queue, uint32_t count, const VkSubmitInfo *submits, VkFence fence) {
+    DeviceTable &table = device_of_queue(queue);
+    const std::lock_guard guard(table.lock);
+    return table.submit(table.queue, count, submits, fence);
+}
+
+VkResult VKAPI_CALL submit2(VkQueue queue, uint32_t count, const VkSubmitInfo2 *submits, VkFence fence) {
+    DeviceTable &table = device_of_queue(queue);
+    const std::lock_guard guard(table.lock);
+    return table.submit2(table.queue, count, submits, fence);
+}
+
+VkResult VKAPI_CALL wait_idle(VkQueue queue) {
+    DeviceTable &table = device_of_queue(queue);
+    const std::lock_guard guard(table.lock);
+    return table.wait_idle(table.queue);
+}
+
+VkResult VKAPI_CALL create_pool(VkDevice device, const VkCommandPoolCreateInfo *info, const VkAllocationCallbacks *allocator,
+                                VkCommandPool *pool) {
+    DeviceTable &table = device_of(device);
+    VkCommandPoolCreateInfo below = *info;
+    below.queueFamilyIndex = 0;
+    const VkResult result = table.create_pool(device, &below, allocator, pool);
+    if (result == VK_SUCCESS) {
+        const std::lock_guard guard(table.lock);
+        table.pool_families[*pool] = info->queueFamilyIndex;
+    }
+    return result;
+}
+
+void VKAPI_CALL destroy_pool(VkDevice device, VkCommandPool pool, const VkAllocationCallbacks *allocator) {
+    DeviceTable &table = device_of(device);
+    {
+        const std::lock_guard guard(table.lock);
+        table.pool_families.erase(pool);
+    }
+    table.destroy_pool(device, pool, allocator);
+}
+
+VkResult VKAPI_CALL allocate(VkDevice device, const VkCommandBufferAllocateInfo *info, VkCommandBuffer *buffers) {
+    DeviceTable &table = device_of(device);
+    const VkResult result = table.allocate(device, info, buffers);
+    if (result == VK_SUCCESS) {
+        const std::lock_guard guard(table.lock);
+        for (uint32_t k = 0; k < info->commandBufferCount; ++k)
+            table.buffer_families[buffers[k]] = table.pool_families.at(info->commandPool);
+    }
+    return result;
+}
+
+VkResult VKAPI_CALL create_buffer(VkDevice device, const VkBufferCreateInfo *info, const VkAllocationCallbacks *allocator,
+                                  VkBuffer *buffer) {
+    VkBufferCreateInfo below = *info;
+    below.sharingMode = VK_SHARING_MODE_EXCLUSIVE;
+    below.queueFamilyIndexCount = 0;
+    return device_of(device).create_buffer(device, &below, allocator, buffer);
+}
+
+VkResult VKAPI_CALL create_image(VkDevice device, const VkImageCreateInfo *info, const VkAllocationCallbacks *allocator, VkImage *image) {
+    VkImageCreateInfo below = *info;
+    below.sharingMode = VK_SHARING_MODE_EXCLUSIVE;
+    below.queueFamilyIndexCount = 0;
+    return device_of(device).create_image(device, &below, allocator, image);
+}
+
+void VKAPI_CALL barrier2(VkCommandBuffer buffer, const VkDependencyInfo *info) {
+    DeviceTable &table = device_of(buffer);
+    Halves below{family_of(table, buffer), {info->pMemoryBarriers, info->pMemoryBarriers + info->memoryBarrierCount}, {}, {}};
+    for (uint32_t k = 0; k < info->bufferMemoryBarrierCount; ++k)
+        below.add(below.buffers, info->pBufferMemoryBarriers[k]);
+    for (uint32_t k = 0; k < info->imageMemoryBarrierCount; ++k)
+        below.add(below.images, info->pImageMemoryBarriers[k]);
+    VkDependencyInfo changed = *info;
+    changed.memoryBarrierCount = static_cast<uint32_t>(below.global.size());
+    changed.pMemoryBarriers = below.global.data();
+    changed.bufferMemoryBarrierCount = static_cast<uint32_t>(below.buffers.size());
+    changed.pBufferMemoryBarriers = below.buffers.data();
+    changed.imageMemoryBarrierCount = static_cast<uint32_t>(below.images.size());
+    changed.pImageMemoryBarriers = below.images.data();
+    table.barrier2(buffer, &changed);
+}
+
+// What stands in index and indirect buffers is anybody's guess, so the device is never asked to follow it.
+void VKAPI_CALL draw_nothing_indirect(VkCommandBuffer, VkBuffer, VkDeviceSize, uint32_t, uint32_t) {}
+void VKAPI_CALL draw_nothing_indexed(VkCommandBuffer, uint32_t, uint32_t, uint32_t, int32_t, uint32_t) {}
+void VKAPI_CALL dispatch_nothing_indirect(VkCommandBuffer, VkBuffer, VkDeviceSize) {}
+
+} // namespace families
