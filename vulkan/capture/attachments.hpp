@@ -1,0 +1,21 @@
+#pragma once
+#include "commands.hpp"
+
+// How attachments are used by load and store operation.
+
+struct AttachmentOperations {
+    VkAttachmentLoadOp load;
+    VkAttachmentStoreOp store;
+};
+
+bool is_read_only(VkImageLayout layout);
+
+// The use of an attachment of colours.
+Touch color_attachment(const ImageRange &range, VkImageLayout layout, VkAttachmentLoadOp load);
+// Uses of a depth and stencil attachment: one where both aspects are used alike.
+void add_depth_attachment(std::vector<Touch> &touches, const ImageRange &range, VkImageLayout depth_layout, VkImageLayout stencil_layout,
+                          const AttachmentOperations &depth, const AttachmentOperations &stencil);
+
+// The parts of a range that are of depth, and of stencil.
+ImageRange depth_part(const ImageRange &range);
+ImageRange stencil_part(const ImageRange &range);
