@@ -4,9 +4,15 @@
 #include "capture.hpp"
 #include "table.hpp"
 
+// The next layer's functions of an instance. They are asked for when it is made: later the loader
+// answers with the first layer's.
 struct InstanceLayer {
     VkInstance instance = VK_NULL_HANDLE;
     PFN_vkGetInstanceProcAddr next = nullptr;
+    PFN_vkDestroyInstance destroy = nullptr;
+    PFN_vkEnumerateDeviceExtensionProperties extensions = nullptr;
+    PFN_vkGetPhysicalDeviceFeatures2 features = nullptr;
+    PFN_vkGetPhysicalDeviceQueueFamilyProperties families = nullptr;
 };
 
 struct Queue {

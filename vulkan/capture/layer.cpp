@@ -26,8 +26,17 @@ InstanceLayer instance_of(const void *dispatchable) {
     return found == instances.end() ? InstanceLayer{} : found->second;
 }
 
-template <class Function> Function next_of(const InstanceLayer &layer, const char *name) {
-    return reinterpret_cast<Function>(layer.next(layer.instance, name));
+InstanceLayer layer_of(VkInstance instance, PFN_vkGetInstanceProcAddr next) {
+    InstanceLayer layer{instance, next, nullptr, nullptr, nullptr, nullptr};
+    const auto find = [&]<class Function>(Function &function, const char *name) {
+        if (function == nullptr) function = reinterpret_cast<Function>(next(instance, name));
+    };
+    find(layer.destroy, "vkDestroyInstance");
+    find(layer.extensions, "vkEnumerateDeviceExtensionProperties");
+    find(layer.features, "vkGetPhysicalDeviceFeatures2");
+    find(layer.features, "vkGetPhysicalDeviceFeatures2KHR");
+    find(layer.families, "vkGetPhysicalDeviceQueueFamilyProperties");
+    return layer;
 }
 
 // Extensions whose use cannot be seen: descriptors and commands in plain memory, and the host
@@ -58,14 +67,14 @@ VKAPI_ATTR VkResult VKAPI_CALL CreateInstance(const VkInstanceCreateInfo *info, 
     const VkResult result = create(info, allocator, instance);
     if (result == VK_SUCCESS) {
         const std::unique_lock lock(tables);
-        instances[key_word(*instance)] = {*instance, next};
+        instances[key_word(*instance)] = layer_of(*instance, next);
     }
     return result;
 }
 
 VKAPI_ATTR void VKAPI_CALL DestroyInstance(VkInstance instance, const VkAllocationCallbacks *allocator) {
     if (instance == nullptr) return;
-    const auto destroy = next_of<PFN_vkDestroyInstance>(instance_of(instance), "vkDestroyInstance");
+    const auto destroy = instance_of(instance).destroy;
     {
         const std::unique_lock lock(tables);
         instances.erase(key_word(instance));
@@ -74,11 +83,10 @@ VKAPI_ATTR void VKAPI_CALL DestroyInstance(VkInstance instance, const VkAllocati
 }
 
 std::vector<VkQueueFlags> families_of(const InstanceLayer &layer, VkPhysicalDevice physical) {
-    const auto ask = next_of<PFN_vkGetPhysicalDeviceQueueFamilyProperties>(layer, "vkGetPhysicalDeviceQueueFamilyProperties");
     uint32_t count = 0;
-    ask(physical, &count, nullptr);
+    layer.families(physical, &count, nullptr);
     std::vector<VkQueueFamilyProperties> properties(count);
-    ask(physical, &count, properties.data());
+    layer.families(physical, &count, properties.data());
     std::vector<VkQueueFlags> flags;
     for (const auto &family : properties) flags.push_back(family.queueFlags);
     return flags;
@@ -121,8 +129,7 @@ VKAPI_ATTR void VKAPI_CALL DestroyDevice(VkDevice device, const VkAllocationCall
 
 VKAPI_ATTR VkResult VKAPI_CALL EnumerateDeviceExtensionProperties(VkPhysicalDevice physical, const char *layer_name,
                                                                   uint32_t *count, VkExtensionProperties *properties) {
-    const auto ask =
-        next_of<PFN_vkEnumerateDeviceExtensionProperties>(instance_of(physical), "vkEnumerateDeviceExtensionProperties");
+    const auto ask = instance_of(physical).extensions;
     if (layer_name != nullptr) return ask(physical, layer_name, count, properties);
     uint32_t all = 0;
     VkResult result = ask(physical, nullptr, &all, nullptr);
@@ -164,10 +171,7 @@ void hide_features(void *chain) {
 }
 
 VKAPI_ATTR void VKAPI_CALL GetPhysicalDeviceFeatures2(VkPhysicalDevice physical, VkPhysicalDeviceFeatures2 *features) {
-    const InstanceLayer layer = instance_of(physical);
-    auto ask = next_of<PFN_vkGetPhysicalDeviceFeatures2>(layer, "vkGetPhysicalDeviceFeatures2");
-    if (ask == nullptr) ask = next_of<PFN_vkGetPhysicalDeviceFeatures2>(layer, "vkGetPhysicalDeviceFeatures2KHR");
-    ask(physical, features);
+    instance_of(physical).features(physical, features);
     hide_features(features->pNext);
 }
 
