@@ -30,7 +30,8 @@ FileBarrier order_alone(const Masks &masks) {
 
 Resolver::Resolver(Capture &capture, const Pieces &pieces) : capture(capture), pieces(pieces) {
     for (const Piece &piece : pieces.all()) {
-        contents.push_back(!piece.image || std::string(layout_word(piece.layout, piece.linear)) != "UNDEFINED");
+        layouts.push_back(layout_word(piece.layout, piece.linear));
+        contents.push_back(!piece.image || layouts.back() != "UNDEFINED");
     }
     struct Turn {
         uint64_t turn;
@@ -211,8 +212,14 @@ std::vector<FileBarrier> Resolver::barriers_of(const Barrier &barrier, VkQueueFl
     return made;
 }
 
-void Resolver::note_contents(const FileBarrier &barrier) {
-    if (barrier.kind == FileBarrier::Kind::image && barrier.from == "UNDEFINED") contents[barrier.piece] = false;
+// A transition from the layout that a piece is in keeps nothing where nothing is in it. Vulkan allows
+// it; the format has it as a load, so it is said as one that discards.
+void Resolver::follow(FileBarrier &barrier) {
+    if (barrier.from.empty() || barrier.from == barrier.to) return;
+    const bool keeps_nothing = barrier.kind == FileBarrier::Kind::image && !contents[barrier.piece] && barrier.from == layouts[barrier.piece];
+    if (keeps_nothing) barrier.from = "UNDEFINED";
+    if (barrier.from == "UNDEFINED") contents[barrier.piece] = false;
+    layouts[barrier.piece] = barrier.to;
 }
 
 void Resolver::add(std::vector<FileItem> &out, const DependencyItem &item, VkQueueFlags family) {
@@ -225,7 +232,7 @@ void Resolver::add(std::vector<FileItem> &out, const DependencyItem &item, VkQue
                 if (made.kind != FileBarrier::Kind::image || made.from == made.to) continue;
                 made.masks = {};
             }
-            note_contents(made);
+            follow(made);
             const bool is_there = std::ranges::find(dependency.barriers, made) != dependency.barriers.end();
             if (!is_there && !orders_nothing(made)) dependency.barriers.push_back(std::move(made));
         }

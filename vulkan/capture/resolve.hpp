@@ -58,12 +58,14 @@ class Resolver {
     void set_families(FileBarrier &made, const Families &told, VkQueueFlags family) const;
     std::vector<FileBarrier> over_pieces(const FileBarrier &model, const std::vector<size_t> &found);
     Masks said(const Masks &masks, std::vector<FileBarrier> &beside) const;
-    void note_contents(const FileBarrier &barrier);
+    void follow(FileBarrier &barrier);
 
     Capture &capture;
     const Pieces &pieces;
     std::vector<std::vector<std::vector<FileItem>>> resolved;
+    // Of each piece, while the items are gone through: whether something is in it, and its layout.
     std::vector<bool> contents;
+    std::vector<std::string> layouts;
     uint64_t number = 0;
     uint32_t actions = 0;
     bool left_out = false;

@@ -111,15 +111,20 @@ class Writer {
   public:
     explicit Writer(Capture &capture) : capture(capture), pieces(capture), resolver(capture, pieces) {
         for (const Piece &piece : pieces.all()) memories.try_emplace(piece.memory, memories.size());
+        for (const auto kind : {FileQueue::Kind::device, FileQueue::Kind::presentation}) {
+            for (size_t queue = 0; queue < capture.queues().size(); ++queue) {
+                if (capture.queues()[queue].kind == kind) order.push_back(queue);
+            }
+        }
+        numbers.resize(order.size());
+        for (size_t place = 0; place < order.size(); ++place) numbers[order[place]] = place;
     }
 
     std::string text() {
         std::string file = "{\"format\": 3,\n\"memories\": " + memories_text();
         file += ",\n\"pieces\": " + list(pieces.all(), " ", [&](const Piece &piece) { return piece_text(piece); });
         file += ",\n\"queues\": [";
-        for (size_t queue = 0; queue < capture.queues().size(); ++queue) {
-            file.append(queue == 0 ? "\n " : ",\n ").append(queue_text(queue));
-        }
+        for (const size_t queue : order) file.append(queue == order.front() ? "\n " : ",\n ").append(queue_text(queue));
         return file + "],\n\"readbacks\": []}\n";
     }
 
@@ -154,7 +159,7 @@ class Writer {
         for (size_t batch = 0; batch < queue.batches.size(); ++batch) {
             batches.append(batch == 0 ? "\n  " : ",\n  ").append(batch_text(number, batch));
         }
-        const std::string name = queue.name.empty() ? "queue " + std::to_string(number) : queue.name;
+        const std::string name = queue.name.empty() ? "queue " + std::to_string(numbers[number]) : queue.name;
         return Object().text("family", family_word(queue.family)).raw("batches", between('[', batches, ']')).name(name).str();
     }
 
@@ -166,8 +171,8 @@ class Writer {
         const SaidMask stages = said_mask(batch.signal_stages, 0, Side::source, capture.other_stages);
         nodes += waits.size() + items.size() + 1;
         Object object;
-        object.raw("waits", list(waits, "   ", [](const FileWait &wait) {
-            return Object().number("queue", wait.point.queue).number("value", wait.point.value).text("stage", stage_words(wait.stages)).str();
+        object.raw("waits", list(waits, "   ", [&](const FileWait &wait) {
+            return Object().number("queue", numbers[wait.point.queue]).number("value", wait.point.value).text("stage", stage_words(wait.stages)).str();
         }));
         object.raw("items", list(items, "   ", [](const std::string &text) { return text; }));
         const auto signalled = stages.stages == 0 ? VkPipelineStageFlags2{VK_PIPELINE_STAGE_2_ALL_COMMANDS_BIT} : stages.stages;
@@ -209,6 +214,8 @@ class Writer {
     Pieces pieces;
     Resolver resolver;
     std::map<const Memory *, size_t> memories;
+    // The queues as the file has them, those of the device first, and their numbers there.
+    std::vector<size_t> order, numbers;
 };
 
 bool store(const std::string &path, const std::string &text) {
