@@ -16,8 +16,10 @@ bool throws_away(VkAttachmentLoadOp load) { return load == VK_ATTACHMENT_LOAD_OP
 
 Touch depth_attachment(const ImageRange &range, VkImageLayout layout, const AttachmentOperations &operations) {
     const bool stores_nothing = operations.store == VK_ATTACHMENT_STORE_OP_NONE && !throws_away(operations.load);
-    const Role role = is_read_only(layout) || stores_nothing ? Role::depth_read : Role::depth;
-    return {range, role, 0, layout, throws_away(operations.load)};
+    Touch touch{range, Role::depth, 0, layout, throws_away(operations.load), nullptr};
+    if (stores_nothing || is_read_only(layout)) touch.role = Role::depth_read;
+    if (!stores_nothing && is_read_only(layout)) touch.remark = "depth or stencil stored in a layout for reading: taken as read alone";
+    return touch;
 }
 
 }  // namespace
@@ -37,7 +39,7 @@ ImageRange depth_part(const ImageRange &range) { return part(range, VK_IMAGE_ASP
 ImageRange stencil_part(const ImageRange &range) { return part(range, VK_IMAGE_ASPECT_STENCIL_BIT); }
 
 Touch color_attachment(const ImageRange &range, VkImageLayout layout, VkAttachmentLoadOp load) {
-    return {range, Role::color, 0, layout, throws_away(load)};
+    return {range, Role::color, 0, layout, throws_away(load), nullptr};
 }
 
 void add_depth_attachment(std::vector<Touch> &touches, const ImageRange &range, VkImageLayout depth_layout, VkImageLayout stencil_layout,

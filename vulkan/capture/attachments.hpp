@@ -8,6 +8,10 @@ struct AttachmentOperations {
     VkAttachmentStoreOp store;
 };
 
+// What the format cannot say of renderings.
+constexpr const char *clears_a_part = "renderings that clear a part of an attachment: taken as clearing the whole";
+constexpr const char *resolves_depth = "resolves of depth or stencil: left out";
+
 bool is_read_only(VkImageLayout layout);
 
 // The use of an attachment of colours.

@@ -18,6 +18,8 @@ struct Touch {
     VkPipelineStageFlags2 stages = 0;
     VkImageLayout layout = VK_IMAGE_LAYOUT_UNDEFINED;
     bool whole = false;
+    // What the format cannot say of it; counted where it is in the file.
+    const char *remark = nullptr;
 };
 
 struct Masks {
@@ -81,7 +83,8 @@ struct Dispatch {
 };
 struct BeginRendering {
     std::vector<Touch> attachments;
-    bool resumes = false, partial = false;
+    bool resumes = false;
+    std::vector<const char *> remarks;
 };
 struct EndRendering {
     bool suspends = false;
@@ -89,7 +92,7 @@ struct EndRendering {
 struct BeginRenderPass {
     Ref<const RenderPass> pass;
     std::vector<Ref<ImageView>> attachments;
-    bool partial = false;
+    std::vector<const char *> remarks;
 };
 struct NextSubpass {};
 struct EndRenderPass {};

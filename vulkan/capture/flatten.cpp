@@ -116,6 +116,7 @@ void Flattener::push(DependencyItem item) {
 void Flattener::push(ActionItem item) {
     for (const Touch &touch : item.touches) {
         if (const auto *image = std::get_if<ImageRange>(&touch.where)) capture.see(image->image);
+        if (touch.remark != nullptr) capture.summary.count(touch.remark);
     }
     if (!item.touches.empty()) items.push_back(std::move(item));
 }
@@ -145,6 +146,8 @@ void Flattener::visit(const Dispatch &command) {
     push(std::move(action));
 }
 
+void Flattener::finish() { close_rendering(); }
+
 void Flattener::open_rendering() {
     rendering = ActionItem{};
     draws = 0;
@@ -158,7 +161,7 @@ void Flattener::close_rendering() {
 }
 
 void Flattener::visit(const BeginRendering &command) {
-    if (command.partial) capture.summary.count("renderings that clear a part of an attachment: taken as clearing the whole");
+    for (const char *remark : command.remarks) capture.summary.count(remark);
     if (command.resumes && rendering) return;
     open_rendering();
     rendering->touches = command.attachments;
@@ -169,7 +172,7 @@ void Flattener::visit(const EndRendering &command) {
 }
 
 void Flattener::visit(const BeginRenderPass &command) {
-    if (command.partial) capture.summary.count("renderings that clear a part of an attachment: taken as clearing the whole");
+    for (const char *remark : command.remarks) capture.summary.count(remark);
     pass = Pass{command.pass.get(), &command.attachments, 0, {}, {}, {}};
     for (const auto &attachment : command.pass->attachments) pass->now.push_back({0, attachment.initial, attachment.stencil_initial});
     pass->used.assign(pass->now.size(), false);
@@ -322,7 +325,7 @@ void Flattener::add_attachments(const RenderPass::Subpass &subpass) {
     }
     const auto &resolve = subpass.depth_resolve;
     if (resolve.attachment != VK_ATTACHMENT_UNUSED && view(resolve.attachment) != nullptr) {
-        capture.summary.count("resolves of depth: left out");
+        capture.summary.count(resolves_depth);
     }
 }
 
@@ -331,7 +334,7 @@ void Flattener::add_vertex_buffers(const Bound &bound, std::vector<Touch> &touch
     for (const uint32_t binding : dynamic ? bound.dynamic_vertex_bindings : bound.pipeline->vertex_bindings) {
         const auto found = bound.vertex_buffers.find(binding);
         if (found == bound.vertex_buffers.end() || !found->second.buffer || found->second.size == 0) continue;
-        touches.push_back({found->second, Role::vertex, 0, VK_IMAGE_LAYOUT_UNDEFINED, false});
+        touches.push_back({found->second, Role::vertex, 0, VK_IMAGE_LAYOUT_UNDEFINED, false, nullptr});
     }
 }
 
@@ -364,6 +367,6 @@ void Flattener::add_binding(const Bound &bound, const BindingUse &use, std::vect
         if (is_dynamic(descriptor.type) && dynamic < slot.dynamic_offsets.size()) offset = slot.dynamic_offsets[dynamic++];
         const auto role = role_of(descriptor.type, use);
         const auto place = place_of(descriptor, offset);
-        if (role && leads_somewhere(place)) touches.push_back({place, *role, stages, descriptor.layout, false});
+        if (role && leads_somewhere(place)) touches.push_back({place, *role, stages, descriptor.layout, false, nullptr});
     }
 }

@@ -10,6 +10,8 @@ class Flattener {
   public:
     Flattener(Capture &capture, std::vector<Item> &items) : capture(capture), items(items) {}
     void add(const Recording &recording);
+    // The submission ends, and with it a rendering that nobody resumed.
+    void finish();
 
   private:
     struct Pass {

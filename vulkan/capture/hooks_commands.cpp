@@ -104,7 +104,7 @@ void bind_index_buffer(Device &layer, VkCommandBuffer commandBuffer, VkBuffer ha
 }
 
 void touch(std::vector<Touch> &touches, const BufferRange &range, Role role) {
-    if (range.buffer && range.size > 0) touches.push_back({range, role, 0, VK_IMAGE_LAYOUT_UNDEFINED, false});
+    if (range.buffer && range.size > 0) touches.push_back({range, role, 0, VK_IMAGE_LAYOUT_UNDEFINED, false, nullptr});
 }
 
 // The indices of a draw whose first one and number are known.

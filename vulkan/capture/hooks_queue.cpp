@@ -138,6 +138,7 @@ Point capture_submission(Device &layer, size_t queue, const Submission &submissi
         flattener.add(*buffer->recording);
         apply_layouts(*buffer->recording);
     }
+    flattener.finish();
     return signal_all(layer.capture, queue, submission.signals);
 }
 
@@ -204,7 +205,7 @@ void add_presentation_read(Capture &capture, Batch &batch, const Ref<Image> &ima
         std::ranges::fill(image->layouts, VK_IMAGE_LAYOUT_PRESENT_SRC_KHR);
     }
     capture.see(image);
-    ActionItem action{"present", {Touch{whole_image(image), Role::present, 0, VK_IMAGE_LAYOUT_PRESENT_SRC_KHR, false}}};
+    ActionItem action{"present", {Touch{whole_image(image), Role::present, 0, VK_IMAGE_LAYOUT_PRESENT_SRC_KHR, false, nullptr}}};
     batch.items.push_back(std::move(action));
 }
 

@@ -40,7 +40,8 @@ class Attachments {
     }
 
     void note_area(const ImageRange &range, VkAttachmentLoadOp load) {
-        made.partial |= load == VK_ATTACHMENT_LOAD_OP_CLEAR && !covers(info.renderArea, extent_of(range));
+        const bool is_part = load == VK_ATTACHMENT_LOAD_OP_CLEAR && !covers(info.renderArea, extent_of(range));
+        if (is_part) made.remarks.push_back(clears_a_part);
     }
 
     void add_color(const VkRenderingAttachmentInfo &color) {
@@ -66,13 +67,8 @@ class Attachments {
         if (of_depth.image && of_stencil.image == of_depth.image) both.aspects |= of_stencil.aspects;
         add_depth_attachment(made.attachments, both, depth.imageLayout, stencil.imageLayout, {depth.loadOp, depth.storeOp},
                              {stencil.loadOp, stencil.storeOp});
-        add_depth_resolve(depth);
-        add_depth_resolve(stencil);
-    }
-
-    void add_depth_resolve(const VkRenderingAttachmentInfo &from) {
-        const ImageRange range = from.resolveMode == VK_RESOLVE_MODE_NONE ? ImageRange{} : range_of_view(from.resolveImageView);
-        if (range.image) made.attachments.push_back(color_attachment(range, from.resolveImageLayout, VK_ATTACHMENT_LOAD_OP_DONT_CARE));
+        const bool resolves = depth.resolveMode != VK_RESOLVE_MODE_NONE || stencil.resolveMode != VK_RESOLVE_MODE_NONE;
+        if (resolves) made.remarks.push_back(resolves_depth);
     }
 
     Device &layer;
@@ -107,8 +103,9 @@ void begin_pass(Device &layer, VkCommandBuffer commandBuffer, const VkRenderPass
     if (!buffer || !pass) return;
     buffer->pass = pass;
     buffer->pass_attachments = views_of(layer, info);
-    const bool partial = clears_partly(*pass, buffer->pass_attachments, info.renderArea);
-    record(*buffer, BeginRenderPass{pass, buffer->pass_attachments, partial});
+    BeginRenderPass begin{pass, buffer->pass_attachments, {}};
+    if (clears_partly(*pass, buffer->pass_attachments, info.renderArea)) begin.remarks.push_back(clears_a_part);
+    record(*buffer, std::move(begin));
 }
 
 void end_pass(Device &layer, VkCommandBuffer commandBuffer) {

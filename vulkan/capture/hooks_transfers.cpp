@@ -17,11 +17,11 @@ class TransferCall {
 
     void buffer(VkBuffer handle, VkDeviceSize offset, VkDeviceSize size, Role role) {
         const BufferRange range = range_of(layer.objects.buffers.find(handle), offset, size);
-        if (range.buffer && range.size > 0) transfer.touches.push_back({range, role, 0, VK_IMAGE_LAYOUT_UNDEFINED, true});
+        if (range.buffer && range.size > 0) transfer.touches.push_back({range, role, 0, VK_IMAGE_LAYOUT_UNDEFINED, true, nullptr});
     }
 
     void image(const ImageRange &range, Role role, VkImageLayout layout, bool whole) {
-        if (range.image && range.mips > 0 && range.layers > 0) transfer.touches.push_back({range, role, 0, layout, whole});
+        if (range.image && range.mips > 0 && range.layers > 0) transfer.touches.push_back({range, role, 0, layout, whole, nullptr});
     }
 
     Ref<Image> find(VkImage handle) const { return layer.objects.images.find(handle); }

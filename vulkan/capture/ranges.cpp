@@ -69,12 +69,14 @@ ImageRange whole_image(const Ref<Image> &image) {
 
 ImageRange range_of(const Ref<Image> &image, const VkImageSubresourceRange &range) {
     if (!image) return {};
+    // Views and copies may name slices of a three-dimensional image as layers; it has one.
+    const bool slices = image->extent.depth > 1;
     return {image,
             aspect_mask(*image, range.aspectMask),
             range.baseMipLevel,
             clipped(range.baseMipLevel, range.levelCount, image->mips),
-            range.baseArrayLayer,
-            clipped(range.baseArrayLayer, range.layerCount, image->layers)};
+            slices ? 0 : range.baseArrayLayer,
+            slices ? 1 : clipped(range.baseArrayLayer, range.layerCount, image->layers)};
 }
 
 ImageRange range_of(const Ref<Image> &image, const VkImageSubresourceLayers &layers) {

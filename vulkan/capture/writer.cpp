@@ -1,9 +1,7 @@
 #include "writer.hpp"
 
-#include <chrono>
 #include <cstdio>
 #include <fstream>
-#include <memory>
 
 #include "capture.hpp"
 #include "resolve.hpp"
@@ -231,6 +229,20 @@ void tell(const Capture &capture) {
     }
 }
 
+void tell_limit(const char *what, uint64_t number, uint64_t most) {
+    if (number <= most) return;
+    std::fprintf(stderr, "framec capture: %llu %s are more than the %llu of the format: capture less\n",
+                 static_cast<unsigned long long>(number), what, static_cast<unsigned long long>(most));
+}
+
+void tell_limits(const Capture &capture, const Writer &writer, size_t bytes) {
+    constexpr uint64_t most_queues = 8, most_pieces = 4096, most_nodes = 65536, most_bytes = 32 << 20;
+    tell_limit("queues", capture.queues().size(), most_queues);
+    tell_limit("pieces", writer.piece_count(), most_pieces);
+    tell_limit("nodes", writer.nodes, most_nodes);
+    tell_limit("bytes", bytes, most_bytes);
+}
+
 }  // namespace
 
 void write_file(Capture &capture) {
@@ -248,5 +260,6 @@ void write_file(Capture &capture) {
         std::fprintf(stderr, "framec capture: there is no dependency %llu to leave out\n",
                      static_cast<unsigned long long>(*settings()->left_out));
     }
+    tell_limits(capture, writer, text.size());
     tell(capture);
 }
