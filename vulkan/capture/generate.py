@@ -61,6 +61,10 @@ HARMLESS_STARTS = ("vkCmdSet", "vkCmdPushConstants", "vkCmdWriteTimestamp", "vkC
                    "vkCmdResetQueryPool", "vkCmdInsertDebugUtilsLabel", "vkCmdDebugMarker", "vkCmdClearAttachments")
 NOT_HARMLESS = ("vkCmdSetEvent", "vkCmdSetDescriptorBufferOffsets")
 
+# Commands of a device that an instance extension has: a layer below may have none for the device, and leads to it by the
+# instance alone. Nothing needs them, so they end here then.
+OF_INSTANCE_EXTENSIONS = ("vkCmdBeginDebugUtilsLabelEXT", "vkCmdEndDebugUtilsLabelEXT", "vkSetDebugUtilsObjectNameEXT")
+
 DISPATCHABLE = ("VkDevice", "VkQueue", "VkCommandBuffer")
 
 
@@ -161,6 +165,9 @@ def wrapper(command, moment):
     lines = [head, f"    Device &layer = device_of({command.names[0]});"]
     call = f"layer.next.{command.member}({command.arguments()})"
     answers = command.result != "void"
+    if command.name in OF_INSTANCE_EXTENSIONS:
+        ended = "VK_SUCCESS" if answers else "void()"
+        call = f"layer.next.{command.member} == nullptr ? {ended} : {call}"
     if moment == AROUND:
         lines.append(f"    return hook::{command.hook}(layer, layer.next.{command.member}, {command.arguments()});")
     elif moment == AFTER:
