@@ -130,6 +130,7 @@ APPLICATIONS = [
                 rate_command=ffmpeg(60, "-vf", "libplacebo=w=320:h=180"), rate_frames=60),
     Application("FFmpeg blur", ffmpeg(12, *BLUR), 20, 20, unit="submissions", rate_command=ffmpeg(60, *BLUR), rate_frames=60),
     Application("OpenGL by zink, shadow", glmark2("shadow", 1), 5, 3, environment=ZINK, rate=FPS, rate_command=glmark2("shadow", 3)),
+    Application("OpenGL by zink, its first frames", glmark2("shadow", 1), 0, 2, environment=ZINK),
     Application("OpenGL by zink, terrain", glmark2("terrain", 4), 1, 2, environment=ZINK),
 ]
 

@@ -46,6 +46,10 @@ void Capture::start() {
 bool Capture::complete() const { return running() && counted >= settings()->first + settings()->count; }
 
 void Capture::finish() {
+    if (now == State::before && counted > 0 && !claimed) {
+        std::fprintf(stderr, "framec capture: the program ended before %s %llu: nothing is written\n", unit_name(),
+                     static_cast<unsigned long long>(settings()->first));
+    }
     if (!running()) return;
     const uint64_t got = counted - settings()->first;
     if (got < settings()->count) {

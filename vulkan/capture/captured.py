@@ -103,7 +103,16 @@ def uses_text(node, piece):
     return ", ".join(parts)
 
 
-def text_of(program, node, piece):
+def last_barrier(nodes, action, piece):
+    """The barrier of a piece that stands last before an action of the same queue."""
+    if not action.action:
+        return None
+    before = [node for node in nodes if node.queue == action.queue and node.number < action.number and not node.action]
+    own = [node for node in before if node.kind == "item" and node.entry.get("piece") == piece]
+    return own[-1] if own else None
+
+
+def text_of(node, piece):
     """A node in a few words."""
     if node.action:
         return f"{node.entry['name']} ({uses_text(node, piece)})"
@@ -130,7 +139,10 @@ def explain(program, verdict):
         return None
     cause = cause_of(program, *pair, shared[0])
     name = program["pieces"][shared[0]]["name"]
-    text = " / ".join(text_of(program, node, shared[0]) for node in pair)
+    text = " / ".join(text_of(node, shared[0]) for node in pair)
+    last = last_barrier(nodes, pair[1], shared[0])
+    if last is not None and last is not pair[0]:
+        text += f", behind {text_of(last, shared[0])}"
     return Explanation(cause, f"{name}: {text}") if cause else None
 
 
