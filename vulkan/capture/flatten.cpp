@@ -155,7 +155,8 @@ void Flattener::open_rendering() {
 
 void Flattener::close_rendering() {
     if (!rendering) return;
-    rendering->name = name_of("rendering of " + std::to_string(draws) + (draws == 1 ? " draw" : " draws"));
+    // Draws that follow each other with the same bound are recorded once.
+    rendering->name = name_of("rendering of " + std::to_string(draws) + (draws == 1 ? " distinct draw" : " distinct draws"));
     push(std::move(*rendering));
     rendering.reset();
 }
