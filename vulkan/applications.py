@@ -2,15 +2,16 @@
 """Captures frames of programs of the distribution, checks them, and prints the tables of docs/VULKAN.md.
 
     vulkan/applications.py TREE --check PROGRAM [--out DIR] [--only NAME ..] [--runs 3] [--display 91]
-                           [--without rates|syncval|left-out ..]
+                           [--replay PROGRAM] [--without rates|syncval|left-out ..]
 
 TREE is what vulkan/tree.sh has set up, and PROGRAM a `framec` whose `check` takes format 3. The capture layer is built inside the
 tree. Each program runs on Mesa's software device, with Xvfb or without a window system, and is captured; its file is checked. Where
 that finds a hazard its cause is looked up in the file; a hazard without a known cause is told, and the script ends with status 1. Where the
 file is accepted each of its dependencies is left out of a copy in turn; one that matters is then left out by the capture layer
 itself (FRAMEC_CAPTURE_LEAVE_OUT), which `check` has to find. Khronos' validation layer runs below the capture layer with
-synchronization validation alone, and its distinct messages between the first and the last captured frame are told. Frame rates are
-medians of runs that alternate: without the layer, with the layer and nothing asked for, with every frame recorded.
+synchronization validation alone, and its distinct messages between the first and the last captured frame are told. With --replay, the
+path of a framec-replay inside the tree, each file is replayed under that layer too. Frame rates are medians of runs that alternate:
+without the layer, with the layer and nothing asked for, with every frame recorded.
 
 Ends with status 0 where all is as told, 1 where something was not captured, not explained or not found, 2 where something is missing.
 """
@@ -224,6 +225,7 @@ class Result:
     explanation: captured.Explanation = None
     behind: str = ""
     messages: str = ""
+    replayed: str = ""
     mattering: list = field(default_factory=list)
     left_out: str = ""
     rates: dict = field(default_factory=dict)
@@ -236,12 +238,13 @@ class Result:
 class Trial:
     """The whole of it."""
 
-    def __init__(self, tree, check, out, runs, without):
+    def __init__(self, tree, check, out, runs, without, replay):
         self.tree = tree
         self.check_program = check
         self.out = out
         self.runs = runs
         self.without = without
+        self.replay_program = replay
         self.wrong = []
 
     def check(self, text):
@@ -271,6 +274,8 @@ class Trial:
         self.judge(result)
         if "syncval" not in self.without:
             self.ask_validation(result)
+        if self.replay_program is not None:
+            self.replay(result)
         if result.accepted and "left-out" not in self.without:
             self.leave_out(result)
         return result
@@ -298,6 +303,18 @@ class Trial:
         own = re.findall(r"(?:SYNC-HAZARD|VUID)[\w-]+", inside.group(0)) if inside else []
         every = re.findall(r"\[ ((?:SYNC-HAZARD|VUID)[\w-]+) \]", printed)
         result.messages = f"{counted(own)}; whole run: {counted(every)}"
+
+    def replay(self, result):
+        """What the validation layer says where the file itself is replayed."""
+        (self.tree.path / WORK / "replay.json").write_text(result.file.read_text())
+        words = ["chroot", self.tree.path, "env", f"VK_ICD_FILENAMES={DEVICE}", self.replay_program, "--families", "--syncval",
+                 f"/{WORK}/replay.json"]
+        done = subprocess.run(words, capture_output=True, text=True)
+        if done.returncode not in (0, 1):
+            last = (done.stderr.strip().splitlines() or [""])[-1]
+            result.replayed = f"status {done.returncode}: {last}"
+            return
+        result.replayed = counted(re.findall(r"^message \d+ (\S+)", done.stdout, re.MULTILINE))
 
     def leave_out(self, result):
         """Finds which dependencies matter, and has the layer leave out the first of them."""
@@ -343,16 +360,16 @@ def counted(messages):
 
 
 def print_verdicts(results):
-    print("| program | taken | queues, pieces, nodes | bytes | check s | `check` | the validation layer, in these frames; whole run |")
-    print("|---|---|---|---|---|---|---|")
+    print("| program | taken | queues, pieces, nodes | bytes | check s | `check` | the validation layer, in these frames; whole run | the layer, file replayed |")
+    print("|---|---|---|---|---|---|---|---|")
     for result in results:
         if result.program is None:
-            print(f"| {result.application.name} | {result.application.taken()} | | | | not captured | |")
+            print(f"| {result.application.name} | {result.application.taken()} | | | | not captured | | |")
             continue
         size = result.file.stat().st_size
         parts = (f"{len(result.program['queues'])}, {len(result.program['pieces'])}, {len(captured.nodes_of(result.program))}")
         print(f"| {result.application.name} | {result.application.taken()} | {parts} | {size:,} | {result.seconds:.3f} | {result.verdict} | "
-              f"{result.messages} |")
+              f"{result.messages} | {result.replayed} |")
 
 
 def print_hazards(results):
@@ -406,12 +423,13 @@ def main():
     parser.add_argument("--only", nargs="*", default=[])
     parser.add_argument("--runs", type=int, default=3)
     parser.add_argument("--display", type=int, default=91)
+    parser.add_argument("--replay", help="the path of a framec-replay inside the tree")
     parser.add_argument("--without", nargs="*", default=[], choices=["rates", "syncval", "left-out"])
     args = parser.parse_args()
     args.out.mkdir(parents=True, exist_ok=True)
     chosen = [application for application in APPLICATIONS if not args.only or any(word in application.name for word in args.only)]
     tree = Tree(args.tree.resolve(), args.display)
-    trial = Trial(tree, args.check.resolve(), args.out, args.runs, args.without)
+    trial = Trial(tree, args.check.resolve(), args.out, args.runs, args.without, args.replay)
     server = None
     try:
         tree.prepare()

@@ -1,4 +1,4 @@
-// Submissions, presentation, and what the host waits for.
+// Submissions, acquires and presentation.
 
 #include <algorithm>
 #include <span>
@@ -8,14 +8,9 @@
 #include "hooks.hpp"
 #include "ranges.hpp"
 #include "recorder.hpp"
+#include "semaphores.hpp"
 
 namespace {
-
-struct SemaphoreUse {
-    Ref<Semaphore> semaphore;
-    uint64_t value = 0;
-    VkPipelineStageFlags2 stages = VK_PIPELINE_STAGE_2_ALL_COMMANDS_BIT;
-};
 
 // One submission, by whichever call.
 struct Submission {
@@ -90,17 +85,6 @@ void add_wait(Batch &batch, const SemaphoreUse &wait) {
     }
 }
 
-void set_signal(const SemaphoreUse &signal, const Points &points) {
-    if (!signal.semaphore) return;
-    if (!signal.semaphore->timeline) {
-        signal.semaphore->last = points;
-    } else if (points.empty()) {
-        signal.semaphore->before = std::max(signal.semaphore->before, signal.value);
-    } else {
-        signal.semaphore->signals.emplace_back(signal.value, points);
-    }
-}
-
 // The signals of a batch by their stages; the last one is of all commands, for fences and
 // whatever waits for the queue.
 Point signal_all(Capture &capture, size_t queue, const std::vector<SemaphoreUse> &signals) {
@@ -120,13 +104,6 @@ Point signal_all(Capture &capture, size_t queue, const std::vector<SemaphoreUse>
         }
     }
     return last;
-}
-
-size_t device_queue(Device &layer, VkQueue handle) {
-    const auto queue = layer.objects.queues.find(handle);
-    const uint32_t family = queue ? queue->family : 0;
-    const std::string name = queue ? queue->name : "";
-    return layer.capture.queue_of(key_of(handle), FileQueue::Kind::device, name, layer.capture.families.at(family));
 }
 
 Point capture_submission(Device &layer, size_t queue, const Submission &submission) {
@@ -251,27 +228,6 @@ void acquire(Device &layer, VkResult result, VkSwapchainKHR handle, VkSemaphore 
     if (const auto fence = layer.objects.fences.find(fence_handle)) fence->points = points;
 }
 
-void host_waited_for(Device &layer, VkFence handle) {
-    if (const auto fence = layer.objects.fences.find(handle)) layer.capture.host_knows(fence->points);
-}
-
-// All signals of a timeline up to a value that the host has seen.
-void host_saw(Capture &capture, const Ref<Semaphore> &semaphore, uint64_t value) {
-    if (!semaphore) return;
-    for (const auto &[reached, points] : semaphore->signals) {
-        if (reached <= value) capture.host_knows(points);
-    }
-    if (const Points *points = semaphore->reaching(value); points != nullptr && value > semaphore->before) capture.host_knows(*points);
-}
-
-uint64_t value_of(Device &layer, VkSemaphore semaphore) {
-    uint64_t value = 0;
-    const auto ask = layer.next.GetSemaphoreCounterValue != nullptr ? layer.next.GetSemaphoreCounterValue
-                                                                    : layer.next.GetSemaphoreCounterValueKHR;
-    if (ask != nullptr) ask(layer.handle, semaphore, &value);
-    return value;
-}
-
 }  // namespace
 
 namespace hook {
@@ -317,101 +273,6 @@ void AcquireNextImageKHR(Device &layer, VkResult result, VkDevice, VkSwapchainKH
 
 void AcquireNextImage2KHR(Device &layer, VkResult result, VkDevice, const VkAcquireNextImageInfoKHR *info, uint32_t *pImageIndex) {
     acquire(layer, result, info->swapchain, info->semaphore, info->fence, *pImageIndex);
-}
-
-void CreateFence(Device &layer, VkResult result, VkDevice, const VkFenceCreateInfo *, const VkAllocationCallbacks *, VkFence *pFence) {
-    if (result == VK_SUCCESS) layer.objects.fences.add(*pFence, std::make_shared<Fence>());
-}
-
-void DestroyFence(Device &layer, VkDevice, VkFence fence, const VkAllocationCallbacks *) { layer.objects.fences.remove(fence); }
-
-void ResetFences(Device &layer, VkDevice, uint32_t fenceCount, const VkFence *pFences) {
-    for (const VkFence handle : std::span(pFences, fenceCount)) {
-        if (const auto fence = layer.objects.fences.find(handle)) fence->points.clear();
-    }
-}
-
-void WaitForFences(Device &layer, VkResult result, VkDevice device, uint32_t fenceCount, const VkFence *pFences, VkBool32 waitAll, uint64_t) {
-    if (result != VK_SUCCESS || !layer.capture.running()) return;
-    for (const VkFence fence : std::span(pFences, fenceCount)) {
-        const bool known = waitAll || fenceCount == 1 || layer.next.GetFenceStatus(device, fence) == VK_SUCCESS;
-        if (known) host_waited_for(layer, fence);
-    }
-}
-
-void GetFenceStatus(Device &layer, VkResult result, VkDevice, VkFence fence) {
-    if (result == VK_SUCCESS && layer.capture.running()) host_waited_for(layer, fence);
-}
-
-void CreateSemaphore(Device &layer, VkResult result, VkDevice, const VkSemaphoreCreateInfo *pCreateInfo, const VkAllocationCallbacks *,
-                     VkSemaphore *pSemaphore) {
-    if (result != VK_SUCCESS) return;
-    auto semaphore = std::make_shared<Semaphore>();
-    const auto *type = in_chain<VkSemaphoreTypeCreateInfo>(pCreateInfo->pNext, VK_STRUCTURE_TYPE_SEMAPHORE_TYPE_CREATE_INFO);
-    semaphore->timeline = type != nullptr && type->semaphoreType == VK_SEMAPHORE_TYPE_TIMELINE;
-    semaphore->before = semaphore->timeline ? type->initialValue : 0;
-    layer.objects.semaphores.add(*pSemaphore, semaphore);
-}
-
-void DestroySemaphore(Device &layer, VkDevice, VkSemaphore semaphore, const VkAllocationCallbacks *) {
-    layer.objects.semaphores.remove(semaphore);
-}
-
-void WaitSemaphores(Device &layer, VkResult result, VkDevice, const VkSemaphoreWaitInfo *pWaitInfo, uint64_t) {
-    if (result != VK_SUCCESS || !layer.capture.running()) return;
-    const bool all = pWaitInfo->semaphoreCount == 1 || !(pWaitInfo->flags & VK_SEMAPHORE_WAIT_ANY_BIT);
-    for (uint32_t place = 0; place < pWaitInfo->semaphoreCount; ++place) {
-        const VkSemaphore handle = pWaitInfo->pSemaphores[place];
-        const uint64_t value = pWaitInfo->pValues[place];
-        if (all || value_of(layer, handle) >= value) host_saw(layer.capture, layer.objects.semaphores.find(handle), value);
-    }
-}
-
-void GetSemaphoreCounterValue(Device &layer, VkResult result, VkDevice, VkSemaphore semaphore, uint64_t *pValue) {
-    if (result != VK_SUCCESS || !layer.capture.running()) return;
-    if (const auto found = layer.objects.semaphores.find(semaphore)) {
-        for (const auto &[reached, points] : found->signals) {
-            if (reached <= *pValue) layer.capture.host_knows(points);
-        }
-    }
-}
-
-void SignalSemaphore(Device &layer, VkResult result, VkDevice, const VkSemaphoreSignalInfo *pSignalInfo) {
-    if (result != VK_SUCCESS) return;
-    const auto semaphore = layer.objects.semaphores.find(pSignalInfo->semaphore);
-    set_signal({semaphore, pSignalInfo->value}, layer.capture.running() ? layer.capture.known_to_host() : Points{});
-}
-
-void QueueWaitIdle(Device &layer, VkResult result, VkQueue queue) {
-    if (result != VK_SUCCESS || !layer.capture.running()) return;
-    layer.capture.host_knows(layer.capture.all_of(device_queue(layer, queue)));
-}
-
-void DeviceWaitIdle(Device &layer, VkResult result, VkDevice) {
-    if (result == VK_SUCCESS && layer.capture.running()) layer.capture.host_knows(layer.capture.all_of_device());
-}
-
-static void set_name(Device &layer, VkObjectType type, uint64_t handle, const char *name) {
-    const std::string text = name != nullptr ? name : "";
-    const auto give = [&](const auto &object) {
-        if (object) object->name = text;
-    };
-    switch (type) {
-    case VK_OBJECT_TYPE_DEVICE_MEMORY: return give(layer.objects.memories.find(handle));
-    case VK_OBJECT_TYPE_BUFFER: return give(layer.objects.buffers.find(handle));
-    case VK_OBJECT_TYPE_IMAGE: return give(layer.objects.images.find(handle));
-    case VK_OBJECT_TYPE_QUEUE: return give(layer.objects.queues.find(handle));
-    default: return;
-    }
-}
-
-void SetDebugUtilsObjectNameEXT(Device &layer, VkResult, VkDevice, const VkDebugUtilsObjectNameInfoEXT *pNameInfo) {
-    set_name(layer, pNameInfo->objectType, pNameInfo->objectHandle, pNameInfo->pObjectName);
-}
-
-// The older extension counts kinds of objects as the newer ones do, as far as they have names here.
-void DebugMarkerSetObjectNameEXT(Device &layer, VkResult, VkDevice, const VkDebugMarkerObjectNameInfoEXT *pNameInfo) {
-    set_name(layer, static_cast<VkObjectType>(pNameInfo->objectType), pNameInfo->object, pNameInfo->pObjectName);
 }
 
 }  // namespace hook
