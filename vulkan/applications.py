@@ -10,8 +10,8 @@ that finds a hazard its cause is looked up in the file; a hazard without a known
 file is accepted each of its dependencies is left out of a copy in turn; one that matters is then left out by the capture layer
 itself (FRAMEC_CAPTURE_LEAVE_OUT), which `check` has to find. Khronos' validation layer runs below the capture layer with
 synchronization validation alone, and its distinct messages between the first and the last captured frame are told. With --replay, the
-path of a framec-replay inside the tree, each file is replayed under that layer too. Frame rates are medians of runs that alternate:
-without the layer, with the layer and nothing asked for, with every frame recorded.
+path of a framec-replay inside the tree, each file is replayed under that layer too. Frame rates are medians and bests of runs that
+alternate: without the layer, with the layer and nothing asked for, with every frame recorded.
 
 Ends with status 0 where all is as told, 1 where something was not captured, not explained or not found, 2 where something is missing.
 """
@@ -342,14 +342,14 @@ class Trial:
         return float(found.group(1)) if found else 0.0
 
     def rates(self, application):
-        """Median rates of runs that alternate."""
+        """The rates of runs that alternate."""
         never = {"FRAMEC_CAPTURE": f"4000000000,1,/{WORK}/never.json"}
         kinds = {"without": ((), {}), "not asked": ((LAYER,), {}), "recorded": ((LAYER,), never)}
         found = {kind: [] for kind in kinds}
         for _ in range(self.runs):
             for kind, (layers, capture) in kinds.items():
                 found[kind].append(self.rate(application, layers, capture))
-        return {kind: statistics.median(values) for kind, values in found.items()}
+        return found
 
 
 def counted(messages):
@@ -397,13 +397,23 @@ def print_told(results):
 
 
 def print_rates(results):
-    print("\n| program | frames a second without the layer | layer, not asked | of that without | every frame recorded | of that without |")
-    print("|---|---|---|---|---|---|")
+    print("\n| program | runs | frames a second without the layer: median, best | layer, not asked | of that without | every frame recorded | "
+          "of that without |")
+    print("|---|---|---|---|---|---|---|")
     for result in results:
         if not result.rates:
             continue
-        plain, idle, recorded = (result.rates[kind] for kind in ("without", "not asked", "recorded"))
-        print(f"| {result.application.name} | {plain:.1f} | {idle:.1f} | {idle / plain:.2f} | {recorded:.1f} | {recorded / plain:.2f} |")
+        plain = result.rates["without"]
+        cells = [f"{statistics.median(plain):.1f}, {max(plain):.1f}"]
+        for kind in ("not asked", "recorded"):
+            own = result.rates[kind]
+            cells.append(f"{statistics.median(own):.1f}, {max(own):.1f}")
+            cells.append(f"{share(own, plain, statistics.median):.2f}, {share(own, plain, max):.2f}")
+        print(f"| {result.application.name} | {len(plain)} | {' | '.join(cells)} |")
+
+
+def share(own, plain, of):
+    return of(own) / of(plain) if of(plain) else 0.0
 
 
 def measure(trial, results):
@@ -411,7 +421,7 @@ def measure(trial, results):
         if result.application.rate is None and result.application.rate_frames is None:
             continue
         result.rates = trial.rates(result.application)
-        if result.rates["recorded"] < result.rates["without"] / 2:
+        if share(result.rates["recorded"], result.rates["without"], statistics.median) < 0.5:
             trial.wrong.append(f"{result.application.name}: less than half its rate while it is recorded")
 
 
