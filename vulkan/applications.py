@@ -81,7 +81,7 @@ class Application:
         return f"{self.unit} {self.first} to {last}" if self.count > 1 else f"{self.unit[:-1]} {self.first}"
 
 
-def vkmark(scene, system="xcb", seconds=1):
+def vkmark(scene, system="xcb", seconds=3):
     return ["vkmark", "--winsys", system, "-s", "400x300", "-b", f"{scene}:duration={seconds}"]
 
 
@@ -113,10 +113,10 @@ BLUR = ("-filter_hw_device", "v", "-vf", "format=yuv420p,hwupload,avgblur_vulkan
 
 APPLICATIONS = [
     Application("vkcube", ["vkcube", "--c", "60"], 20, 4, rate_command=["vkcube", "--c", "600"], rate_frames=600),
-    Application("vkmark texture", vkmark("texture"), 20, 2, rate=FPS),
-    Application("vkmark shading", vkmark("shading"), 20, 2, rate=FPS),
-    Application("vkmark desktop", vkmark("desktop"), 20, 2, rate=FPS),
-    Application("vkmark texture, headless", vkmark("texture", "headless"), 20, 2, rate=FPS),
+    Application("vkmark texture", vkmark("texture"), 5, 2, rate=FPS),
+    Application("vkmark shading", vkmark("shading"), 5, 2, rate=FPS),
+    Application("vkmark desktop", vkmark("desktop"), 5, 2, rate=FPS),
+    Application("vkmark texture, headless", vkmark("texture", "headless"), 5, 2, rate=FPS),
     Application("mpv", mpv(60), 20, 4, rate_command=mpv(60), rate_frames=60),
     Application("mpv, its first frames", mpv(20), 1, 3),
     Application("SDL GPU, spinning cube", [SPINNING_CUBE], 20, 4, environment={"SDL_GPU_DRIVER": "vulkan"}, ends=False, rate=SDL_FPS),
@@ -130,8 +130,8 @@ APPLICATIONS = [
     Application("FFmpeg libplacebo", ffmpeg(12, "-vf", "libplacebo=w=320:h=180"), 40, 20, unit="submissions",
                 rate_command=ffmpeg(60, "-vf", "libplacebo=w=320:h=180"), rate_frames=60),
     Application("FFmpeg blur", ffmpeg(12, *BLUR), 20, 20, unit="submissions", rate_command=ffmpeg(60, *BLUR), rate_frames=60),
-    Application("OpenGL by zink, shadow", glmark2("shadow", 1), 5, 3, environment=ZINK, rate=FPS, rate_command=glmark2("shadow", 3)),
-    Application("OpenGL by zink, its first frames", glmark2("shadow", 1), 0, 2, environment=ZINK),
+    Application("OpenGL by zink, shadow", glmark2("shadow", 3), 5, 3, environment=ZINK, rate=FPS, rate_command=glmark2("shadow", 3)),
+    Application("OpenGL by zink, its first frames", glmark2("shadow", 3), 0, 2, environment=ZINK),
     Application("OpenGL by zink, terrain", glmark2("terrain", 4), 1, 2, environment=ZINK),
 ]
 
