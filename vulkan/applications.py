@@ -100,7 +100,7 @@ def ffmpeg(frames, *filters):
 
 
 def gstreamer(*sink):
-    return ["gst-launch-1.0", "-q", "videotestsrc", "num-buffers=90", "!", "video/x-raw,width=320,height=240", "!", "vulkanupload", "!",
+    return ["gst-launch-1.0", "-q", "videotestsrc", "num-buffers=300", "!", "video/x-raw,width=320,height=240", "!", "vulkanupload", "!",
             "vulkancolorconvert", "!", *sink]
 
 
