@@ -1,0 +1,244 @@
+// Copies, blits, resolves, fills and clears.
+
+#include <algorithm>
+#include <span>
+
+#include "formats.hpp"
+#include "hooks.hpp"
+#include "ranges.hpp"
+#include "recorder.hpp"
+
+namespace {
+
+// One transfer call while its regions are gone through.
+class TransferCall {
+  public:
+    TransferCall(Device &layer, const char *call) : layer(layer), transfer{call, {}} {}
+
+    void buffer(VkBuffer handle, VkDeviceSize offset, VkDeviceSize size, Role role) {
+        const BufferRange range = range_of(layer.objects.buffers.find(handle), offset, size);
+        if (range.buffer && range.size > 0) transfer.touches.push_back({range, role, 0, VK_IMAGE_LAYOUT_UNDEFINED, true, nullptr});
+    }
+
+    void image(const ImageRange &range, Role role, VkImageLayout layout, bool whole) {
+        if (range.image && range.mips > 0 && range.layers > 0) transfer.touches.push_back({range, role, 0, layout, whole, nullptr});
+    }
+
+    Ref<Image> find(VkImage handle) const { return layer.objects.images.find(handle); }
+
+    void record_in(VkCommandBuffer commandBuffer) { record(layer, commandBuffer, std::move(transfer)); }
+
+  private:
+    Device &layer;
+    Transfer transfer;
+};
+
+VkExtent3D mip_extent(const Image &image, uint32_t mip) {
+    const auto halved = [&](uint32_t side) { return std::max(side >> mip, 1U); };
+    return {halved(image.extent.width), halved(image.extent.height), halved(image.extent.depth)};
+}
+
+bool covers(const Ref<Image> &image, uint32_t mip, const VkOffset3D &offset, const VkExtent3D &extent) {
+    if (!image || offset.x != 0 || offset.y != 0 || offset.z != 0) return false;
+    const VkExtent3D all = mip_extent(*image, mip);
+    return extent.width >= all.width && extent.height >= all.height && extent.depth >= all.depth;
+}
+
+VkExtent3D extent_between(const VkOffset3D &one, const VkOffset3D &other) {
+    const auto length = [](int32_t from, int32_t to) { return static_cast<uint32_t>(std::abs(to - from)); };
+    return {length(one.x, other.x), length(one.y, other.y), length(one.z, other.z)};
+}
+
+VkOffset3D lower(const VkOffset3D &one, const VkOffset3D &other) {
+    return {std::min(one.x, other.x), std::min(one.y, other.y), std::min(one.z, other.z)};
+}
+
+uint64_t blocks(uint32_t texels, uint32_t side) { return (texels + side - 1) / side; }
+
+// From the first to the last byte of a buffer that a copy to or from an image touches.
+template <class Region> VkDeviceSize bytes_of(const Ref<Image> &image, const Region &region) {
+    if (!image) return 0;
+    const Block block = block_of(image->format, region.imageSubresource.aspectMask);
+    if (block.bytes == 0) return VK_WHOLE_SIZE;
+    const VkExtent3D &extent = region.imageExtent;
+    const uint64_t row = blocks(region.bufferRowLength != 0 ? region.bufferRowLength : extent.width, block.width);
+    const uint64_t rows = blocks(region.bufferImageHeight != 0 ? region.bufferImageHeight : extent.height, block.height);
+    const uint64_t slices = std::max<uint64_t>(extent.depth, std::min(region.imageSubresource.layerCount, image->layers));
+    const uint64_t last_row = blocks(extent.height, block.height) - 1;
+    return (((slices - 1) * rows + last_row) * row + blocks(extent.width, block.width)) * block.bytes;
+}
+
+template <class Region>
+void copy_buffer(Device &layer, VkCommandBuffer commandBuffer, VkBuffer from, VkBuffer to, std::span<const Region> regions) {
+    TransferCall call(layer, "copy of a buffer");
+    for (const Region &region : regions) {
+        call.buffer(from, region.srcOffset, region.size, Role::copy_read);
+        call.buffer(to, region.dstOffset, region.size, Role::copy_write);
+    }
+    call.record_in(commandBuffer);
+}
+
+struct Images {
+    VkImage from;
+    VkImageLayout from_layout;
+    VkImage to;
+    VkImageLayout to_layout;
+};
+
+template <class Region>
+void copy_or_resolve(Device &layer, VkCommandBuffer commandBuffer, const char *name, const Images &images, Role read, Role write,
+                     std::span<const Region> regions) {
+    TransferCall call(layer, name);
+    const auto from = call.find(images.from), to = call.find(images.to);
+    for (const Region &region : regions) {
+        call.image(range_of(from, region.srcSubresource), read, images.from_layout, false);
+        call.image(range_of(to, region.dstSubresource), write, images.to_layout,
+                   covers(to, region.dstSubresource.mipLevel, region.dstOffset, region.extent));
+    }
+    call.record_in(commandBuffer);
+}
+
+template <class Region>
+void blit(Device &layer, VkCommandBuffer commandBuffer, const Images &images, std::span<const Region> regions) {
+    TransferCall call(layer, "blit");
+    const auto from = call.find(images.from), to = call.find(images.to);
+    for (const Region &region : regions) {
+        const VkOffset3D *corners = region.dstOffsets;
+        call.image(range_of(from, region.srcSubresource), Role::blit_read, images.from_layout, false);
+        call.image(range_of(to, region.dstSubresource), Role::blit_write, images.to_layout,
+                   covers(to, region.dstSubresource.mipLevel, lower(corners[0], corners[1]), extent_between(corners[0], corners[1])));
+    }
+    call.record_in(commandBuffer);
+}
+
+template <class Region>
+void buffer_to_image(Device &layer, VkCommandBuffer commandBuffer, VkBuffer from, VkImage to, VkImageLayout layout,
+                     std::span<const Region> regions) {
+    TransferCall call(layer, "copy of a buffer to an image");
+    const auto image = call.find(to);
+    for (const Region &region : regions) {
+        call.buffer(from, region.bufferOffset, bytes_of(image, region), Role::copy_read);
+        call.image(range_of(image, region.imageSubresource), Role::copy_write, layout,
+                   covers(image, region.imageSubresource.mipLevel, region.imageOffset, region.imageExtent));
+    }
+    call.record_in(commandBuffer);
+}
+
+template <class Region>
+void image_to_buffer(Device &layer, VkCommandBuffer commandBuffer, VkImage from, VkImageLayout layout, VkBuffer to,
+                     std::span<const Region> regions) {
+    TransferCall call(layer, "copy of an image to a buffer");
+    const auto image = call.find(from);
+    for (const Region &region : regions) {
+        call.image(range_of(image, region.imageSubresource), Role::copy_read, layout, false);
+        call.buffer(to, region.bufferOffset, bytes_of(image, region), Role::copy_write);
+    }
+    call.record_in(commandBuffer);
+}
+
+void clear(Device &layer, VkCommandBuffer commandBuffer, VkImage handle, VkImageLayout layout,
+           std::span<const VkImageSubresourceRange> ranges) {
+    TransferCall call(layer, "clear of an image");
+    const auto image = call.find(handle);
+    for (const VkImageSubresourceRange &range : ranges) call.image(range_of(image, range), Role::clear_write, layout, true);
+    call.record_in(commandBuffer);
+}
+
+template <class Region> std::span<const Region> regions_of(const Region *regions, uint32_t count) { return {regions, count}; }
+
+}  // namespace
+
+namespace hook {
+
+void CmdCopyBuffer(Device &layer, VkCommandBuffer commandBuffer, VkBuffer srcBuffer, VkBuffer dstBuffer, uint32_t regionCount,
+                   const VkBufferCopy *pRegions) {
+    copy_buffer(layer, commandBuffer, srcBuffer, dstBuffer, regions_of(pRegions, regionCount));
+}
+
+void CmdCopyBuffer2(Device &layer, VkCommandBuffer commandBuffer, const VkCopyBufferInfo2 *info) {
+    copy_buffer(layer, commandBuffer, info->srcBuffer, info->dstBuffer, regions_of(info->pRegions, info->regionCount));
+}
+
+void CmdCopyImage(Device &layer, VkCommandBuffer commandBuffer, VkImage srcImage, VkImageLayout srcImageLayout, VkImage dstImage,
+                  VkImageLayout dstImageLayout, uint32_t regionCount, const VkImageCopy *pRegions) {
+    copy_or_resolve(layer, commandBuffer, "copy of an image", {srcImage, srcImageLayout, dstImage, dstImageLayout}, Role::copy_read,
+                    Role::copy_write, regions_of(pRegions, regionCount));
+}
+
+void CmdCopyImage2(Device &layer, VkCommandBuffer commandBuffer, const VkCopyImageInfo2 *info) {
+    copy_or_resolve(layer, commandBuffer, "copy of an image", {info->srcImage, info->srcImageLayout, info->dstImage, info->dstImageLayout},
+                    Role::copy_read, Role::copy_write, regions_of(info->pRegions, info->regionCount));
+}
+
+void CmdResolveImage(Device &layer, VkCommandBuffer commandBuffer, VkImage srcImage, VkImageLayout srcImageLayout, VkImage dstImage,
+                     VkImageLayout dstImageLayout, uint32_t regionCount, const VkImageResolve *pRegions) {
+    copy_or_resolve(layer, commandBuffer, "resolve", {srcImage, srcImageLayout, dstImage, dstImageLayout}, Role::resolve_read,
+                    Role::resolve_write, regions_of(pRegions, regionCount));
+}
+
+void CmdResolveImage2(Device &layer, VkCommandBuffer commandBuffer, const VkResolveImageInfo2 *info) {
+    copy_or_resolve(layer, commandBuffer, "resolve", {info->srcImage, info->srcImageLayout, info->dstImage, info->dstImageLayout},
+                    Role::resolve_read, Role::resolve_write, regions_of(info->pRegions, info->regionCount));
+}
+
+void CmdBlitImage(Device &layer, VkCommandBuffer commandBuffer, VkImage srcImage, VkImageLayout srcImageLayout, VkImage dstImage,
+                  VkImageLayout dstImageLayout, uint32_t regionCount, const VkImageBlit *pRegions, VkFilter) {
+    blit(layer, commandBuffer, {srcImage, srcImageLayout, dstImage, dstImageLayout}, regions_of(pRegions, regionCount));
+}
+
+void CmdBlitImage2(Device &layer, VkCommandBuffer commandBuffer, const VkBlitImageInfo2 *info) {
+    blit(layer, commandBuffer, {info->srcImage, info->srcImageLayout, info->dstImage, info->dstImageLayout},
+         regions_of(info->pRegions, info->regionCount));
+}
+
+void CmdCopyBufferToImage(Device &layer, VkCommandBuffer commandBuffer, VkBuffer srcBuffer, VkImage dstImage, VkImageLayout dstImageLayout,
+                          uint32_t regionCount, const VkBufferImageCopy *pRegions) {
+    buffer_to_image(layer, commandBuffer, srcBuffer, dstImage, dstImageLayout, regions_of(pRegions, regionCount));
+}
+
+void CmdCopyBufferToImage2(Device &layer, VkCommandBuffer commandBuffer, const VkCopyBufferToImageInfo2 *info) {
+    buffer_to_image(layer, commandBuffer, info->srcBuffer, info->dstImage, info->dstImageLayout,
+                    regions_of(info->pRegions, info->regionCount));
+}
+
+void CmdCopyImageToBuffer(Device &layer, VkCommandBuffer commandBuffer, VkImage srcImage, VkImageLayout srcImageLayout, VkBuffer dstBuffer,
+                          uint32_t regionCount, const VkBufferImageCopy *pRegions) {
+    image_to_buffer(layer, commandBuffer, srcImage, srcImageLayout, dstBuffer, regions_of(pRegions, regionCount));
+}
+
+void CmdCopyImageToBuffer2(Device &layer, VkCommandBuffer commandBuffer, const VkCopyImageToBufferInfo2 *info) {
+    image_to_buffer(layer, commandBuffer, info->srcImage, info->srcImageLayout, info->dstBuffer,
+                    regions_of(info->pRegions, info->regionCount));
+}
+
+void CmdFillBuffer(Device &layer, VkCommandBuffer commandBuffer, VkBuffer dstBuffer, VkDeviceSize dstOffset, VkDeviceSize size, uint32_t) {
+    TransferCall call(layer, "fill of a buffer");
+    call.buffer(dstBuffer, dstOffset, size, Role::clear_write);
+    call.record_in(commandBuffer);
+}
+
+void CmdUpdateBuffer(Device &layer, VkCommandBuffer commandBuffer, VkBuffer dstBuffer, VkDeviceSize dstOffset, VkDeviceSize dataSize,
+                     const void *) {
+    TransferCall call(layer, "update of a buffer");
+    call.buffer(dstBuffer, dstOffset, dataSize, Role::clear_write);
+    call.record_in(commandBuffer);
+}
+
+void CmdCopyQueryPoolResults(Device &layer, VkCommandBuffer commandBuffer, VkQueryPool, uint32_t, uint32_t queryCount, VkBuffer dstBuffer,
+                             VkDeviceSize dstOffset, VkDeviceSize stride, VkQueryResultFlags) {
+    TransferCall call(layer, "copy of query results");
+    call.buffer(dstBuffer, dstOffset, std::max<VkDeviceSize>(stride * queryCount, sizeof(uint32_t)), Role::copy_write);
+    call.record_in(commandBuffer);
+}
+
+void CmdClearColorImage(Device &layer, VkCommandBuffer commandBuffer, VkImage image, VkImageLayout imageLayout, const VkClearColorValue *,
+                        uint32_t rangeCount, const VkImageSubresourceRange *pRanges) {
+    clear(layer, commandBuffer, image, imageLayout, regions_of(pRanges, rangeCount));
+}
+
+void CmdClearDepthStencilImage(Device &layer, VkCommandBuffer commandBuffer, VkImage image, VkImageLayout imageLayout,
+                               const VkClearDepthStencilValue *, uint32_t rangeCount, const VkImageSubresourceRange *pRanges) {
+    clear(layer, commandBuffer, image, imageLayout, regions_of(pRanges, rangeCount));
+}
+
+}  // namespace hook
