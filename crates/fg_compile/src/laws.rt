@@ -1,13 +1,7 @@
 //! The law of the compiler.
 
-ghost use Rattle.std.specs.Prelude.{List, Bool};
 ghost use Rattle.fg_compile.specs.Right.{IsRightFor};
-ghost use Rattle.fg_frame.specs.Good.{IsGood};
-ghost use Rattle.fg_frame.specs.Numbered.{NumberedFrame};
-ghost use Rattle.fg_place.specs.Placing.{Places};
-ghost use Rattle.fg_recorder.specs.Recorded.{IsCompiled};
-ghost use Rattle.fg_subs.specs.declared.program.Program.{Program};
-ghost use Rattle.fg_versions.specs.Culled.{AreKept};
+ghost use Rattle.fg_recorder.specs.Recorded.{OfRecorded};
 
 use fg_compiled::sound_program_law;
 use fg_declared::declared_laws;
@@ -17,7 +11,7 @@ use fg_valid::faultless_law;
 /// What is compiled of a good frame's kept passes is right for the frame: it breaks no rule, is sound, and leaves the bytes
 /// that the frame means. It does nothing.
 pub fn compile_law()
-    ensures { (frame : NumberedFrame) (kept : List Bool) (places : Places) (program : Program) → IsGood frame → AreKept frame kept → IsCompiled frame kept places program → IsRightFor frame program }
+    ensures { OfRecorded (λ frame kept places program. IsRightFor frame program) }
 {
     faultless_law();
     sound_program_law();

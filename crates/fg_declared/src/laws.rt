@@ -7,10 +7,9 @@ ghost use Rattle.fg_faithful.specs.Laws.{IsReadMeant};
 ghost use Rattle.fg_frame.specs.Good.{IsGood};
 ghost use Rattle.fg_frame.specs.Numbered.{NumberedFrame};
 ghost use Rattle.fg_place.specs.Placing.{Places};
-ghost use Rattle.fg_recorder.specs.Recorded.{IsCompiled};
+ghost use Rattle.fg_recorder.specs.Recorded.{IsCompiled, OfRecorded};
 ghost use Rattle.fg_subs.specs.FirstFault.{first_fault};
 ghost use Rattle.fg_subs.specs.declared.program.Program.{Program};
-ghost use Rattle.fg_versions.specs.Culled.{AreKept};
 
 use fg_cut::cut_laws;
 use fg_faithful::meaning_laws;
@@ -21,7 +20,7 @@ use fg_recorder::script_laws;
 /// nodes run (`means`). It does nothing.
 pub fn declared_laws()
     ensures ordered { (frame : NumberedFrame) (kept : List Bool) (places : Places) (program : Program) → IsGood frame → IsCompiled frame kept places program → HasDeclaredOrder frame kept program }
-    ensures means { (frame : NumberedFrame) (kept : List Bool) (places : Places) (program : Program) → IsGood frame → AreKept frame kept → IsCompiled frame kept places program → first_fault program ≡ None → IsSound program → IsReadMeant frame program }
+    ensures means { OfRecorded (λ frame kept places program. first_fault program ≡ None → IsSound program → IsReadMeant frame program) }
 {
     script_laws();
     cut_laws();

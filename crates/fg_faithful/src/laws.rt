@@ -8,7 +8,7 @@ ghost use Rattle.fg_frame.specs.Good.{IsGood};
 ghost use Rattle.fg_frame.specs.Numbered.{NumberedFrame};
 ghost use Rattle.fg_groups.specs.Groups.{grouping};
 ghost use Rattle.fg_place.specs.Placing.{Places};
-ghost use Rattle.fg_recorder.specs.Recorded.{IsCompiled};
+ghost use Rattle.fg_recorder.specs.Recorded.{IsCompiled, OfRecorded};
 ghost use Rattle.fg_subs.specs.FirstFault.{first_fault};
 ghost use Rattle.fg_subs.specs.declared.program.Program.{Program};
 ghost use Rattle.fg_versions.specs.Culled.{AreKept};
@@ -27,8 +27,8 @@ pub fn meaning_laws()
     ensures culled { (frame : NumberedFrame) (kept : List Bool) → IsGood frame → AreKept frame kept → KeptSuffice frame kept }
     ensures long { (frame : NumberedFrame) (kept : List Bool) → IsGood frame → AreKept frame kept → AreAsLong frame }
     ensures readbacks { (frame : NumberedFrame) (kept : List Bool) (places : Places) (program : Program) → IsCompiled frame kept places program → length program.readbacks ≡ length frame.exports }
-    ensures declared { (frame : NumberedFrame) (kept : List Bool) (places : Places) (program : Program) → IsGood frame → AreKept frame kept → IsCompiled frame kept places program → (order : List ℕ) → ops_in program order ≡ declared_ops (grouping frame kept) → ReadsMeaning frame program order }
-    ensures means { (frame : NumberedFrame) (kept : List Bool) (places : Places) (program : Program) → IsGood frame → AreKept frame kept → IsCompiled frame kept places program → first_fault program ≡ None → IsSound program → (declared : List ℕ) → InDeclaredOrder frame kept program declared → IsReadMeant frame program }
+    ensures declared { OfRecorded (λ frame kept places program. (order : List ℕ) → ops_in program order ≡ declared_ops (grouping frame kept) → ReadsMeaning frame program order) }
+    ensures means { OfRecorded (λ frame kept places program. first_fault program ≡ None → IsSound program → (declared : List ℕ) → InDeclaredOrder frame kept program declared → IsReadMeant frame program) }
 {
     device_laws();
     event_laws();

@@ -4,4 +4,5 @@ pub mod Exported
 pub mod Flight
 pub mod Flights
 pub mod Fly
+pub mod Laws
 pub mod Refusals

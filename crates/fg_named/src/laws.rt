@@ -1,29 +1,28 @@
 //! The laws of declared windows.
 
-ghost use Rattle.std.specs.Prelude.{◌≡◌, ◌<◌, ◌*◌, ℕ, List, None, length, map};
+ghost use Rattle.std.specs.Prelude.{◌≡◌, ℕ, List, None, map};
 ghost use Rattle.fg_frame.specs.FirstFault.{first_fault};
 ghost use Rattle.fg_frame.specs.Limits.{limit_broken};
 ghost use Rattle.fg_frame.specs.Numbered.{numbered};
 ghost use Rattle.fg_frame.specs.Repeats.{first_repeat};
-ghost use Rattle.fg_frame.specs.declared.frame.QueueDecl.{QueueDecl};
 ghost use Rattle.fg_frame.specs.declared.frame.Resource.{Resource};
-ghost use Rattle.fg_named.specs.Declared.{Declared, flown_of, holder_in};
-ghost use Rattle.fg_named.specs.Together.{AreHeldIn, AreImports, FlyDeclared};
+ghost use Rattle.fg_named.specs.Declared.{flown_of, holder_in};
+ghost use Rattle.fg_named.specs.Laws.{EachDeclared, EachDeclaredInTurn, OfDeclared};
+ghost use Rattle.fg_named.specs.Together.{AreHeldIn, AreImports};
 ghost use Rattle.fg_named.specs.WindowFrame.{window_frame};
-ghost use Rattle.fg_window.specs.InTurn.{MeansInTurn, frames_in, held_before};
 ghost use Rattle.fg_window.specs.Means.{MeansTheSame};
 ghost use Rattle.fg_window.specs.Together.{FlyTogether};
 ghost use Rattle.fg_window.specs.Window.{window};
 
-/// Different persisting names are held by different resources. The numbers of a declared window are the window of its frames' numbers, and these can be compiled together. A window that
-/// breaks no limit has no fault, and it means what its frames mean one after another. So it is for each window of one depth,
-/// and for all of them one after another. It does nothing.
+/// Different persisting names are held by different resources. The numbers of a declared window are the window of its frames'
+/// numbers, and these can be compiled together. A window that breaks no limit has no fault, and it means what its frames mean one
+/// after another. So it is for each window of one depth, and for all of them one after another. It does nothing.
 pub fn named_laws()
     ensures held { (rs : List Resource) (sizes : List ℕ) (persist : List (List ℕ)) → first_repeat persist ≡ None → AreImports rs sizes persist → AreHeldIn rs sizes (map (holder_in rs) persist) }
-    ensures numbers { (queues : List QueueDecl) (sizes : List ℕ) (ds : List Declared) (held : List (List ℕ)) → FlyDeclared queues sizes ds held → numbered (window_frame queues ds held) ≡ window (map (λ q. q.family) queues) (map flown_of ds) held }
-    ensures together { (queues : List QueueDecl) (sizes : List ℕ) (ds : List Declared) (held : List (List ℕ)) → FlyDeclared queues sizes ds held → FlyTogether (map (λ q. q.family) queues) sizes (map flown_of ds) held }
-    ensures faultless { (queues : List QueueDecl) (sizes : List ℕ) (ds : List Declared) (held : List (List ℕ)) → FlyDeclared queues sizes ds held → limit_broken (window_frame queues ds held) ≡ None → first_fault (window_frame queues ds held) ≡ None }
-    ensures means { (queues : List QueueDecl) (sizes : List ℕ) (ds : List Declared) (held : List (List ℕ)) → FlyDeclared queues sizes ds held → limit_broken (window_frame queues ds held) ≡ None → MeansTheSame (map (λ q. q.family) queues) (map flown_of ds) held }
-    ensures each { (queues : List QueueDecl) (sizes : List ℕ) (ds : List Declared) (held : List (List ℕ)) → FlyDeclared queues sizes ds held → (depth w : ℕ) → 0 < depth → w * depth < length ds → FlyDeclared queues sizes (frames_in depth ds w) (held_before depth (map flown_of ds) held w) }
-    ensures in_turn { (queues : List QueueDecl) (sizes : List ℕ) (ds : List Declared) (held : List (List ℕ)) → FlyDeclared queues sizes ds held → (depth w : ℕ) → 0 < depth → w * depth < length ds → limit_broken (window_frame queues (frames_in depth ds w) (held_before depth (map flown_of ds) held w)) ≡ None → MeansInTurn (map (λ q. q.family) queues) depth (map flown_of ds) held w }
+    ensures numbers { OfDeclared (λ queues sizes ds held. numbered (window_frame queues ds held) ≡ window (map (λ q. q.family) queues) (map flown_of ds) held) }
+    ensures together { OfDeclared (λ queues sizes ds held. FlyTogether (map (λ q. q.family) queues) sizes (map flown_of ds) held) }
+    ensures faultless { OfDeclared (λ queues sizes ds held. limit_broken (window_frame queues ds held) ≡ None → first_fault (window_frame queues ds held) ≡ None) }
+    ensures means { OfDeclared (λ queues sizes ds held. limit_broken (window_frame queues ds held) ≡ None → MeansTheSame (map (λ q. q.family) queues) (map flown_of ds) held) }
+    ensures each { OfDeclared EachDeclared }
+    ensures in_turn { OfDeclared EachDeclaredInTurn }
 {}

@@ -1,5 +1,6 @@
 -- The submissions of a frame.
 use Rattle.std.specs.Prelude.{◌≡◌, ℕ, List, Bool}
+use Rattle.fg_frame.specs.Good.{IsGood}
 use Rattle.fg_frame.specs.Numbered.{NumberedFrame}
 use Rattle.fg_groups.specs.Groups.{grouping}
 use Rattle.fg_groups.specs.Placed.{sizes}
@@ -12,6 +13,7 @@ use Rattle.fg_recorder.specs.Script.{script}
 use Rattle.fg_subs.specs.declared.program.Program.{Program}
 use Rattle.fg_timeline.specs.Batches.{queues}
 use Rattle.fg_turns.specs.Under.{Heap}
+use Rattle.fg_versions.specs.Culled.{AreKept}
 
 -- where the placed units begin, with the pairs of them that may share bytes
 abbrev pub heap_with : (ℕ → ℕ → Bool) → Places → Heap
@@ -35,3 +37,10 @@ pub record IsCompiled (frame : NumberedFrame) (kept : List Bool) (places : Place
   pub is_ordered : IsOrdered (grouping frame kept) ordered
   pub least : IsLeast (sizes (grouping frame kept)) ordered places
   pub recorded : program ≡ recorded frame kept ordered places
+
+-- so it is of all that is compiled of the kept passes of a good frame
+abbrev pub OfRecorded : (NumberedFrame → List Bool → Places → Program → Type 0) → Type 0
+OfRecorded Law =
+    (frame : NumberedFrame) (kept : List Bool) (places : Places) (program : Program)
+    → IsGood frame → AreKept frame kept → IsCompiled frame kept places program
+    → Law frame kept places program

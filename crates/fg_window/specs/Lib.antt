@@ -2,6 +2,7 @@ pub mod Flown
 pub mod Held
 pub mod InTurn
 pub mod Joins
+pub mod Laws
 pub mod Means
 pub mod Moved
 pub mod Small
