@@ -16,7 +16,7 @@ use crate::place::place_frame;
 use fg_base::NoMemory;
 use fg_frame::GoodFrame;
 use fg_framefile::FrameReadEnd;
-use fg_stages::good_frame;
+use fg_stages::valid_frame;
 use fg_words::FrameCommand;
 use std::alloc::Global;
 
@@ -29,7 +29,7 @@ pub fn answer_frame_file(
     ensures file { IfOk result (AnswersFrameFile asked (frame_file bytes.now)) }
     ensures has_text { IfOk result (λ answer. HasText answer.status) }
 {
-    match good_frame(alloc, bytes) {
+    match valid_frame(alloc, bytes) {
         Ok(good) => answer_frame(alloc, asked, &good),
         Err(FrameReadEnd::Refused(fault)) => refusal(alloc, &fault),
         Err(FrameReadEnd::NoMemory) => Err(NoMemory),

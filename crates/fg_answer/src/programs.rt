@@ -2,7 +2,6 @@
 
 ghost use Rattle.std.specs.Prelude.{◌≡◌, IfOk, IfErr};
 ghost use Rattle.fg_checker.specs.Sound.{IsSound};
-ghost use Rattle.fg_subfile.specs.Files.{ProgramGives};
 ghost use Rattle.fg_answer.specs.Answers.{AnswersProgram, AnswersProgramFile};
 ghost use Rattle.fg_answer.specs.Statuses.{HasText};
 ghost use Rattle.fg_stages.specs.Files.{program_file};
@@ -13,8 +12,9 @@ use crate::answer::{Answer, done, program_refusal};
 use fg_base::NoMemory;
 use fg_checker::{CheckEnd, Checked, Hazard, check};
 use fg_report::{check_text, hazard_text};
-use fg_subfile::{SubReadEnd, read_program};
-use fg_subs::{ShapeEnd, Shaped, shape};
+use fg_stages::valid_program;
+use fg_subfile::SubReadEnd;
+use fg_subs::Shaped;
 use fg_words::SubmissionCommand;
 use std::alloc::Global;
 
@@ -27,7 +27,7 @@ pub fn answer_program_file(
     ensures file { IfOk result (AnswersProgramFile asked (program_file bytes.now)) }
     ensures has_text { IfOk result (λ answer. HasText answer.status) }
 {
-    match shaped(alloc, bytes) {
+    match valid_program(alloc, bytes) {
         Ok(program) => answer_program(alloc, asked, program),
         Err(SubReadEnd::Refused(fault)) => program_refusal(alloc, &fault),
         Err(SubReadEnd::NoMemory) => Err(NoMemory),
@@ -80,15 +80,4 @@ fn rejection(alloc: Global, hazard: &Hazard) -> Result<Answer, NoMemory>
         status: Status::Rejected,
         text: hazard_text(alloc, hazard)?,
     })
-}
-
-/// The program that bytes are, or their first fault.
-pub fn shaped(alloc: Global, bytes: &[u8]) -> Result<Shaped, SubReadEnd>
-    ensures { ProgramGives result (program_file bytes.now) }
-{
-    match shape(alloc, read_program(alloc, bytes)?) {
-        Ok(shaped) => Ok(shaped),
-        Err(ShapeEnd::Refused(fault, _)) => Err(SubReadEnd::Refused(fault)),
-        Err(ShapeEnd::NoMemory(_)) => Err(SubReadEnd::NoMemory),
-    }
 }

@@ -82,3 +82,6 @@ is_there false x = refl
 -- equal options that are there hold equal values
 pub some_same : {X : Type 0} {a b : X} → Some a ≡ Some b → a ≡ b
 some_same e = cc
+
+pub none_some : {X : Type 0} {x : X} → None ≡ Some x → ⊥
+none_some e = cc

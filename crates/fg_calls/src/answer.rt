@@ -57,7 +57,7 @@ pub fn answer_of<R: Threads + Wait + Sync, G: Gate + Sync>(
 }
 
 /// Whether a command line gives this status and this text for a file.
-pub fn gives<R: Threads + Wait + Sync>(
+pub fn is_given<R: Threads + Wait + Sync>(
     rt: &R,
     alloc: Global,
     line: &str,

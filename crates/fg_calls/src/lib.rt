@@ -3,7 +3,9 @@
 
 mod answer;
 mod call;
+mod given;
 
-pub use answer::{Answer, answer_from, answer_of, gives};
+pub use answer::{Answer, answer_from, answer_of, is_given};
 pub use call::{status_of, words_of};
+pub use given::gives;
 pub use fg_top::{Ended, Status, at_rest, framec};

@@ -4,6 +4,7 @@ use Rattle.std.specs.Prelude.{◌||◌, not, nat_lt, Option}
 use Rattle.std.specs.List.{range_with_len, list_all}
 use Rattle.std.proofs.lemmas.Bool.{false≢true, ltb-true}
 use Rattle.std.proofs.lemmas.Option.{slice_get_within}
+use Rattle.fg_base.proofs.Absence.{none_some}
 use Rattle.fg_base.specs.declared.op.Op.TheVariants.{FillBuffer}
 use Rattle.fg_base.specs.declared.shape.Family.TheVariants.{Graphics}
 use Rattle.fg_base.specs.declared.shape.Shape.TheVariants.{Buffer}
@@ -80,9 +81,6 @@ unfolding band low_bytes
 host_sevens = refl
 
 -- IT IS SOUND
-
-none_some : {X : Type 0} {x : X} → None ≡ Some x → ⊥
-none_some e = cc
 
 abbrev V : View
 V = view_of sample

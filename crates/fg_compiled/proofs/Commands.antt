@@ -6,6 +6,7 @@ use Rattle.std.proofs.lemmas.Bool.{cases_lt, false≢true}
 use Rattle.std.proofs.lemmas.List.{get_or-append-add, get_or-map, get_or_past, get_or_append_left, length-append, length-map}
 use Rattle.std.proofs.lemmas.List.Elements.{All-append}
 use Rattle.std.proofs.lemmas.Option.{get_or_from_slice_get}
+use Rattle.fg_base.proofs.Absence.{none_some}
 use Rattle.fg_base.proofs.Lists.{entry_of}
 use Rattle.fg_base.specs.InPlace.{in_place}
 use Rattle.fg_base.specs.Operands.{operands_of, mapped}
@@ -34,9 +35,6 @@ pub data Sort (G : Grouping) (command : Command) : Type 0 where
 
 -- EACH COMMAND
 
-none_some : (k : ℕ) → None ≡ Some k → ⊥
-none_some k e = cc
-
 -- a copy is not in place
 copy_apart : (shape : Shape) (src dst : ℕ) → (src == dst) ≡ false → in_place (copy_out shape src dst) ≡ false
 copy_apart (Buffer size) src dst e = ap (λ b. b || false) e
@@ -52,7 +50,7 @@ copy_whole shapes (Buffer size) src dst from to = ap (λ s. size == bytes_of s) 
 copy_whole shapes (Image width height texel) src dst from to = ap₂ (λ a b. bytes_of a == bytes_of b) from to ∙ eq-eqb (bytes_of (Image width height texel)) (bytes_of (Image width height texel)) refl
 
 pub export_whole : (G : Grouping) (command : Command) (k : ℕ) → Sort G command → command.export ≡ Some k → is_whole (mapped (shape_at G.shapes) command.op) ≡ true
-export_whole G command k (a_pass none operands apart) is = absurd (none_some k (sym none ∙ is))
+export_whole G command k (a_pass none operands apart) is = absurd (none_some (sym none ∙ is))
 export_whole G command k (a_copy j unit shape below lt e op from to) is = ap (λ o. is_whole (mapped (shape_at G.shapes) o)) op ∙ copy_whole (shape_at G.shapes) shape unit (length G.imports + j) from to
 
 module _ (frame : NumberedFrame) (kept : List Bool) where

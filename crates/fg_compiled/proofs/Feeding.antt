@@ -7,7 +7,7 @@ use Rattle.std.proofs.lemmas.Bool.{and_parts, cases_order, false≢true}
 use Rattle.std.proofs.lemmas.List.{get_or_append_left, length-map}
 use Rattle.std.proofs.lemmas.List.Folds.{list_any_at}
 use Rattle.std.proofs.lemmas.Option.{get_or_from_slice_get, slice_get-map}
-use Rattle.fg_base.proofs.Absence.{some_same}
+use Rattle.fg_base.proofs.Absence.{none_some, some_same}
 use Rattle.fg_base.proofs.Lists.{entry_of}
 use Rattle.fg_base.proofs.Operands.{mapped_same}
 use Rattle.fg_base.specs.Operands.{destination_of, mapped, operands_of, touches}
@@ -73,9 +73,6 @@ unloaded f (Histogram src dst) e = refl
 unloaded f (Draw dst None rects) e = absurd (false≢true e)
 unloaded f (Draw dst (Some value) rects) e = refl
 
-none_some : {X : Type 0} (x : X) → None ≡ Some x → ⊥
-none_some x e = cc
-
 touched_by : (shapes : List Shape) (op : Op ℕ) (t : Touch) (r : ℕ) → Contains (touches_of shapes op) t → t.what ≡ r → touches r op ≡ true
 touched_by shapes op t r among is =
     let h = touch_operand shapes op t among in
@@ -128,7 +125,7 @@ module _ (frame : NumberedFrame) (kept : List Bool) (good : IsGood frame) where
         let full = whole_there D.command S (ap (λ (x : Command). is_whole (mapped (shape_at (shapes_in frame)) x.op)) same ∙ whole) in
         let touch : D.touch ≡ destination_touch (grouping frame kept).shapes D.command.op = alike (grouping frame kept).shapes D.command.op (not_in_place (grouping frame kept) D.command S) D.touch (destination_touch (grouping frame kept).shapes D.command.op) D.among (destination_there (grouping frame kept).shapes D.command.op) (D.unit ∙ sym own) in
         let nothing : load_access D.touch.role D.touch.whole ≡ None = ap (λ (t : Touch). load_access t.role t.whole) touch ∙ ap (load_access (destination_role D.command.op)) full ∙ unloaded (shape_at (grouping frame kept).shapes) D.command.op full in
-        none_some D.so.0 (sym nothing ∙ D.so.1)
+        none_some (sym nothing ∙ D.so.1)
 
     pub stored_before : (d : ℕ) × (d < c) × DoesTo (grouping frame kept) d r Stores
     stored_before = go started

@@ -5,6 +5,7 @@ use Rattle.std.specs.Prelude.{is_some, unwrap_or}
 use Rattle.std.proofs.lemmas.Bool.{cases_Bool, false≢true, le-leb, or_left}
 use Rattle.std.proofs.lemmas.List.{get_or_past}
 use Rattle.std.proofs.lemmas.List.Elements.{Contains-get_or}
+use Rattle.fg_base.proofs.Absence.{none_some}
 use Rattle.fg_base.proofs.Lists.{entry_of, one}
 use Rattle.fg_base.specs.Shapes.{is_image, shape_at}
 use Rattle.fg_bits.specs.Roles.{role_layout}
@@ -52,9 +53,6 @@ use Rattle.fg_view.specs.declared.access.Access.{Access}
 use Rattle.fg_view.specs.declared.access.AccessKind.{AccessKind}
 use Rattle.fg_view.specs.declared.access.AccessKind.TheVariants as access_kinds
 use Rattle.fg_view.specs.declared.access.Agent.TheVariants as agent
-
-none_some : (l : Layout) → None ≡ Some l → ⊥
-none_some l e = cc
 
 release_wants : (kind : AccessKind) → is_release kind ≡ true → wanted kind ≡ None
 release_wants (access_kinds.Load a layout) e = absurd (false≢true e)
@@ -160,7 +158,7 @@ module _ (G : Grouping) (heap : Heap) (P : Program) (S : IsSet G heap P) where
       let buffer : has_piece G r ≡ true = or_left (is_readback G r) (is_touched G r) (le-leb (length G.imports) r (omega arith)) in
       let what : T.touch.what ≡ r = count_same (has_piece G) T.touch.what r (touch_has G heap P S c C.command T.touch C.there T.there) buffer (sym (touch_piece (shapes_of P) C.command.queue (moved (piece_of G) T.touch) a T.is) ∙ on) in
       let plain : is_image (shape_at G.shapes T.touch.what) ≡ false = ap (λ n. is_image (shape_at G.shapes n)) what ∙ S.buffers k X.known in
-      none_some l (sym (ap (λ b. if b then Some (role_layout T.touch.role) else None) plain) ∙ sym (touched_wanted G heap P S c C.command C.there a T) ∙ w)
+      none_some (sym (ap (λ b. if b then Some (role_layout T.touch.role) else None) plain) ∙ sym (touched_wanted G heap P S c C.command C.there a T) ∙ w)
 
   member_layout : (c g : ℕ) (a : Access) (l : Layout) → OfMember F V N c g a → wanted a.kind ≡ Some l → IsMemberOf G c g → (g < length G.groups) × (own_layout g ≡ Some l)
   member_layout c g a l O w (of_group lt M) =
@@ -225,8 +223,8 @@ module _ (G : Grouping) (heap : Heap) (P : Program) (S : IsSet G heap P) where
   spot_image x g a l (at_member {c = c} e m) w =
       let M = member_layout c g a l m w (member_cases G heap P S c g m.member) in
       record { low = M.0; image = sym (unit_image g M.0) ∙ ap is_some M.1 }
-  spot_image x g a l (at_release e r) w = absurd (none_some l (sym (release_wants a.kind r.release) ∙ w))
-  spot_image x g a l (at_reader e r) w = absurd (none_some l (sym (read_wants g a r) ∙ w))
+  spot_image x g a l (at_release e r) w = absurd (none_some (sym (release_wants a.kind r.release) ∙ w))
+  spot_image x g a l (at_reader e r) w = absurd (none_some (sym (read_wants g a r) ∙ w))
 
   -- a first group has none before it
   first_alone : (g i : ℕ) → First F g i → i < length G.groups → has_uses (earlier G i) ≡ false

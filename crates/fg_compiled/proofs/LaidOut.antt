@@ -7,7 +7,7 @@ use Rattle.std.proofs.lemmas.Bool.{false≢true, or_parts}
 use Rattle.std.proofs.lemmas.List.{get_or_default}
 use Rattle.std.proofs.lemmas.List.Elements.{All-nil, All-append, All-contains, Contains-get_or}
 use Rattle.std.proofs.lemmas.List.Folds.{list_any-append}
-use Rattle.fg_base.proofs.Absence.{some_same}
+use Rattle.fg_base.proofs.Absence.{none_some, some_same}
 use Rattle.fg_base.proofs.Lists.{one}
 use Rattle.fg_base.specs.Shapes.{is_image, shape_at}
 use Rattle.fg_base.specs.declared.role.Role.{Role}
@@ -65,10 +65,7 @@ pub record IsKnownFor (shape : Shape) (layout : Option Layout) : Type 0 where
   pub known : (l : Layout) → layout ≡ Some l → is_undefined l ≡ false
 
 for_role : (shape : Shape) (role : Role) → IsKnownFor shape (layout_wanted shape role)
-for_role (Buffer size) role = record { image = refl; known = λ l e. absurd (none_some l e) }
-  where
-    none_some : (l : Layout) → None ≡ Some l → ⊥
-    none_some l e = cc
+for_role (Buffer size) role = record { image = refl; known = λ l e. absurd (none_some e) }
 for_role (Image width height texel) role = record { image = refl; known = λ l e. ap is_undefined (sym (some_same e)) ∙ role-layout role }
 
 -- GROUPS

@@ -3,7 +3,7 @@ use Rattle.std.proofs.Common.{◌≡◌, ℕ, suc, ◌+◌, ◌<◌, true, false
 use Rattle.std.specs.List.{Contains}
 use Rattle.std.specs.Option.{option_map_or}
 use Rattle.std.proofs.lemmas.Bool.{false≢true, le-leb, or_left}
-use Rattle.fg_base.proofs.Absence.{some_same}
+use Rattle.fg_base.proofs.Absence.{none_some, some_same}
 use Rattle.fg_base.proofs.Lists.{entry_of}
 use Rattle.fg_base.specs.Operands.{destination_of}
 use Rattle.fg_base.specs.Touches.{destination_role, destination_touch, touches_of}
@@ -83,9 +83,6 @@ copy_role : (shape : Shape) (src dst : ℕ) → destination_role (copy_out shape
 copy_role (Buffer size) src dst = refl
 copy_role (Image width height texel) src dst = refl
 
-none_some : (k : ℕ) → None ≡ Some k → ⊥
-none_some k e = cc
-
 module _ (G : Grouping) (heap : Heap) (P : Program) (S : IsSet G heap P) where
   abbrev F : Plan
   F = plan_of G heap
@@ -159,7 +156,7 @@ module _ (G : Grouping) (heap : Heap) (P : Program) (S : IsSet G heap P) where
 
   -- it is on the buffer of the export
   pub copied_to : (k c : ℕ) (C : Copies G k c) → Sort G C.command → (destination_of C.command.op ≡ length G.imports + k) × (destination_role C.command.op ≡ CopyWrite)
-  copied_to k c C (a_pass none operands apart) = absurd (none_some k (sym none ∙ C.export))
+  copied_to k c C (a_pass none operands apart) = absurd (none_some (sym none ∙ C.export))
   copied_to k c C (a_copy j unit shape below lt is op from to) =
       let same : j ≡ k = some_same (sym is ∙ C.export) in
       (ap destination_of op ∙ copy_destination shape unit (length G.imports + j) ∙ ap (λ n. length G.imports + n) same, ap destination_role op ∙ copy_role shape unit (length G.imports + j))

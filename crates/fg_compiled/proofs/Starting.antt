@@ -5,7 +5,7 @@ use Rattle.std.specs.Prelude.{unwrap_or}
 use Rattle.std.proofs.lemmas.Bool.{cases_Bool, cases_order, false≢true, le-leb, or_left}
 use Rattle.std.proofs.lemmas.List.Elements.{Contains-get_or}
 use Rattle.std.proofs.lemmas.List.Folds.{list_any_at}
-use Rattle.fg_base.proofs.Absence.{some_same}
+use Rattle.fg_base.proofs.Absence.{none_some, some_same}
 use Rattle.fg_base.proofs.Lists.{entry_of}
 use Rattle.fg_base.specs.Touches.{destination_touch, touches_of}
 use Rattle.fg_base.specs.declared.role.Role.{Role}
@@ -193,10 +193,7 @@ module _ (G : Grouping) (heap : Heap) (P : Program) (S : IsSet G heap P) (fed : 
       let role : T.touch.role ≡ CopyWrite = ap (λ (t : Touch). t.role) same ∙ to.1 in
       let whole : T.touch.whole ≡ true = ap (λ (t : Touch). t.whole) same ∙ export_whole G C.command j sort C.export in
       let L = load_touch C.command.queue T.touch a T.is k in
-      none_some L.0 (ap (λ w. load_access CopyWrite w) (sym whole) ∙ ap (λ x. load_access x T.touch.whole) (sym role) ∙ L.1)
-    where
-      none_some : (n : ℕ) → None ≡ Some n → ⊥
-      none_some n e = cc
+      none_some (ap (λ w. load_access CopyWrite w) (sym whole) ∙ ap (λ x. load_access x T.touch.whole) (sym role) ∙ L.1)
 
   -- TRANSITIONS
 

@@ -1,6 +1,7 @@
 -- The facts of a plan can all be met: a fill, a barrier for the host, a signal and the host's read.
 use Rattle.std.proofs.Common.{◌≡◌, ◌⊎◌, inl, inr, ℕ, zero, suc, ◌+◌, ◌-◌, ◌<◌, ◌==◌, ◌&&◌, true, false, [], ◌∷◌, slice_get, Some, None, refl, sym, ap, ◌∙◌, subst, ⊎_elim, eq-eqb, eqb-true, arith}
 use Rattle.std.proofs.lemmas.Bool.{and_parts, false≢true}
+use Rattle.fg_base.proofs.Absence.{none_some}
 use Rattle.fg_base.specs.declared.shape.Family.TheVariants.{Graphics}
 use Rattle.fg_base.specs.declared.shape.Shape.TheVariants.{Buffer}
 use Rattle.fg_bits.specs.Stages.{clear, expand, host}
@@ -59,9 +60,6 @@ abbrev N : Nodes
 N = record { command = λ c. 0; turn = λ h. 1; turned = λ h. h == 1; alias = λ h. 1; release = λ g. 2; released = λ g. false; reader = λ h. 3 }
 
 -- WHAT IS THERE
-
-none_some : {X : Type 0} {x : X} → None ≡ Some x → ⊥
-none_some e = cc
 
 first_is : (a b : Access) (i : ℕ) → slice_get (a ∷ []) i ≡ Some b → b ≡ a
 first_is a b zero e = cc

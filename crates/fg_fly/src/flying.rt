@@ -11,12 +11,11 @@ use crate::held::hold;
 use crate::outcome::Outcome;
 use crate::plan::FlightPlan;
 use crate::print::add_window;
-use fg_base::{Event, Gate, List, NoMemory, Text};
+use fg_base::{Event, Gate, List, NoMemory, RunOptions, Text};
 use fg_device::Device;
 use fg_flight::{Windows, flight_laws};
 use fg_frame::GoodFrame;
 use fg_run::run_good;
-use fg_words::Options;
 use std::alloc::Global;
 use std::sync::Wait;
 use std::thread::Threads;
@@ -46,7 +45,7 @@ fn begun(alloc: Global, windows: &Windows<'_>) -> Result<Flying, NoMemory>
 fn run_window<R: Threads + Wait + Sync, G: Gate + Sync>(
     rt: &R,
     alloc: Global,
-    options: Options,
+    options: RunOptions,
     windows: &Windows<'_>,
     w: u32,
     held: &List<Option<List<u8>>>,

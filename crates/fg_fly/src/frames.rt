@@ -10,7 +10,7 @@ use crate::refusal::Refusal;
 use fg_base::{List, NoMemory};
 use fg_frame::GoodFrame;
 use fg_framefile::FrameReadEnd;
-use fg_stages::good_frame;
+use fg_stages::valid_frame;
 use std::alloc::Global;
 
 /// Why there are no frames.
@@ -31,7 +31,7 @@ impl From<NoMemory> for FileEnd {
 fn frame_at(alloc: Global, frame: u32, line: &[u8]) -> Result<GoodFrame, FileEnd>
     ensures { Gives (in_line frame (frame_file line.now)) result }
 {
-    match good_frame(alloc, line) {
+    match valid_frame(alloc, line) {
         Ok(good) => Ok(good),
         Err(FrameReadEnd::Refused(fault)) => {
             Err(FileEnd::Refused(Refusal::Frame { frame, fault }))

@@ -1,13 +1,12 @@
 //! How frames are to fly.
 
-use fg_base::Name;
-use fg_words::Options;
+use fg_base::{Name, RunOptions};
 
 /// How the frames of a file are to fly.
 #[derive(Clone, Copy)]
 pub struct FlightPlan<'a> {
     /// How what each window is compiled to is run on its device.
-    pub options: Options,
+    pub options: RunOptions,
     /// The names under which bytes persist from one frame to the next: at most 16, all different.
     pub persist: &'a [Name],
     /// How many frames are compiled together at most, 1 to 8.

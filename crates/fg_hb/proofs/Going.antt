@@ -1,6 +1,7 @@
 -- The greedy order, one node more.
 use Rattle.std.proofs.Common.{◌≡◌, ◌⊎◌, inl, inr, ℕ, zero, suc, ◌+◌, ◌-◌, ◌<◌, ◌≤◌, Bool, true, false, ◌||◌, ◌&&◌, ◌==◌, nat_lt, not, Option, Some, None, is_none, List, [], ◌∷◌, ◌++◌, length, get_or, slice_set, length-set, get_or-set_same, get_or-set_other, refl, sym, ap, ◌∙◌, subst, ⊎_elim, eq-eqb, eqb-true, arith}
 use Rattle.std.proofs.lemmas.Bool.{cases_lt, cases_eq, cases_Bool, and_parts, and_from, or_cases, or_left, or_right, or_parts, ltb-true, ltb-false, lt-ltb, le-ltb, ne_eqb}
+use Rattle.fg_base.proofs.Absence.{none_some}
 use Rattle.fg_base.proofs.Booleans.{clash}
 use Rattle.fg_hb.specs.Edges.{is_at}
 use Rattle.fg_hb.proofs.Steps.{Needs, add, nothing, Available, Greedy, placed_by, LeastWalk, NoWalk, greedy-whole, greedy-stuck}
@@ -86,9 +87,6 @@ module _ (Q : Queues) (queues count : ℕ) (M : Numbered Q queues count) (next l
         (λ h. sym (ap (λ o. taken Q.queue next o) m) ∙ h)
         (or_cases (not (Q.waits n)) (taken Q.queue next (Q.met n)) inside.1)
       where
-        none_some : None ≡ Some x → ⊥
-        none_some e = cc
-
         not_true : (b : Bool) → not b ≡ true → b ≡ false
         not_true false e = refl
         not_true true e = absurd (clash e)

@@ -5,12 +5,11 @@ ghost use Rattle.fg_steps.specs.Devices.{Device};
 ghost use Rattle.fg_steps.specs.Runs.{Runs};
 ghost use Rattle.fg_run.specs.Runs.{HasRun};
 
-use fg_base::{Gate, NoMemory};
+use fg_base::{Gate, NoMemory, RunOptions};
 use fg_checker::Checked;
 use fg_device::Device;
 use fg_drive::{drive, tended};
 use fg_steps::{device_laws, event_laws};
-use fg_words::Options;
 use fg_worker::{moves_of, run_workers};
 use std::alloc::Global;
 use std::sync::Wait;
@@ -66,7 +65,7 @@ pub fn run_program<R: Threads + Wait + Sync, G: Gate + Sync>(
     rt: &R,
     alloc: Global,
     program: &Checked,
-    options: Options,
+    options: RunOptions,
     gate: &G,
 ) -> Result<Device, NoMemory>
     ensures { IfOk result (HasRun program.now.program options.tend) }

@@ -5,11 +5,10 @@ ghost use Rattle.fg_frame.specs.Numbered.{numbered};
 ghost use Rattle.fg_run.specs.FrameRuns.{RunsOn};
 
 use crate::program::run_program;
-use fg_base::{Gate, NoMemory};
+use fg_base::{Gate, NoMemory, RunOptions};
 use fg_device::Device;
 use fg_frame::GoodFrame;
 use fg_stages::compiled;
-use fg_words::Options;
 use std::alloc::Global;
 use std::sync::Wait;
 use std::thread::Threads;
@@ -18,7 +17,7 @@ use std::thread::Threads;
 pub fn run_good<R: Threads + Wait + Sync, G: Gate + Sync>(
     rt: &R,
     alloc: Global,
-    options: Options,
+    options: RunOptions,
     tight: bool,
     good: &GoodFrame,
     gate: &G,

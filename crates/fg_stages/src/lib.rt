@@ -5,4 +5,4 @@ mod compile;
 mod files;
 
 pub use compile::compiled;
-pub use files::good_frame;
+pub use files::{valid_frame, valid_program};

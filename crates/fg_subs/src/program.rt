@@ -108,7 +108,8 @@ impl Memory {
 }
 
 impl Item {
-    fn copy(&self, alloc: Global) -> Result<Item, NoMemory>
+    /// A copy; want of memory is the one refusal.
+    pub fn copy(&self, alloc: Global) -> Result<Item, NoMemory>
         ensures { IfOk result (λ item. item ≡ self.now) }
     {
         Ok(match self {

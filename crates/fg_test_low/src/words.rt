@@ -1,5 +1,5 @@
-use fg_base::Name;
-use fg_words::{Command, Options, command_of};
+use fg_base::{Name, RunOptions};
+use fg_words::{Command, command_of};
 use std::alloc::{AllocError, Global};
 use std::process::Abort;
 use std::test::Fail;
@@ -24,7 +24,7 @@ const COMMANDS: [(&str, &str); 18] = [
     ("auto --cost", "Frame(Auto { cost: true })"),
     (
         "run --trace --tight --workers 3",
-        "Run { options: Options { workers: 3, tend: None }, trace: true, tight: true }",
+        "Run { options: RunOptions { workers: 3, tend: None }, trace: true, tight: true }",
     ),
     ("meaning", "Frame(Meaning)"),
     ("migrate", "Frame(Migrate)"),
@@ -41,15 +41,15 @@ const COMMANDS: [(&str, &str); 18] = [
     ),
     (
         "gen --summary --number 1",
-        "Summary { number: 1, passes: 64, options: Options { workers: 2, tend: None } }",
+        "Summary { number: 1, passes: 64, options: RunOptions { workers: 2, tend: None } }",
     ),
     (
         "gen --number 1 --passes 2 --workers 16 --summary",
-        "Summary { number: 1, passes: 2, options: Options { workers: 16, tend: None } }",
+        "Summary { number: 1, passes: 2, options: RunOptions { workers: 16, tend: None } }",
     ),
     (
         "--tend 0 --summary gen --workers 1 --number 1",
-        "Summary { number: 1, passes: 64, options: Options { workers: 1, tend: Some(0) } }",
+        "Summary { number: 1, passes: 64, options: RunOptions { workers: 1, tend: Some(0) } }",
     ),
 ];
 
@@ -196,7 +196,7 @@ fn flies(
     rt: &impl Abort,
     alloc: Global,
     line: &str,
-    wanted: Options,
+    wanted: RunOptions,
     names: &str,
     layers: u32,
 ) -> Result<(), Fail> {
@@ -237,7 +237,7 @@ fn lines_that_run(rt: HostRuntime) -> Result<(), Fail> {
     let alloc = rt.alloc();
     for (line, workers, tend, trace) in &RUNS {
         let options = format!(in alloc;
-            "options: Options {{ workers: {workers}, tend: {tend:?} }}, trace: {trace}"
+            "options: RunOptions {{ workers: {workers}, tend: {tend:?} }}, trace: {trace}"
         )?;
         let exec = format!(in alloc; "Exec {{ {options} }}")?;
         is_read_as(&rt, alloc, line, exec.as_str())?;
@@ -252,7 +252,7 @@ fn lines_that_run(rt: HostRuntime) -> Result<(), Fail> {
 fn lines_that_fly(rt: HostRuntime) -> Result<(), Fail> {
     let alloc = rt.alloc();
     for (line, workers, tend, names, depth) in &FLIGHTS {
-        let options = Options {
+        let options = RunOptions {
             workers: *workers,
             tend: *tend,
         };

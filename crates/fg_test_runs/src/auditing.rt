@@ -1,9 +1,8 @@
 //! Recorded runs, judged.
 
 use crate::executing::{FILL, FILL_TEXT};
-use crate::given::gives;
 use fg_base::{IdleGate, List, NoMemory};
-use fg_calls::{Status, answer_of};
+use fg_calls::{Status, answer_of, gives};
 use std::alloc::Global;
 use std::sync::Wait;
 use std::test::Fail;

@@ -1,9 +1,8 @@
 //! A small deferred renderer at 1920 by 1080, with 24 passes on three queues.
 
 use crate::auditing::is_audited;
-use crate::given::gives;
 use fg_base::{IdleGate, NoMemory};
-use fg_calls::{Status, answer_of};
+use fg_calls::{Status, answer_of, gives};
 use std::alloc::{AllocError, Global};
 use std::process::Abort;
 use std::sync::Wait;

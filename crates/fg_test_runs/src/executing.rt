@@ -1,8 +1,7 @@
 //! Frames and submissions, run on a device.
 
-use crate::given::gives;
 use fg_base::{IdleGate, NoMemory};
-use fg_calls::{Status, answer_of};
+use fg_calls::{Status, answer_of, gives};
 use std::alloc::Global;
 use std::sync::Wait;
 use std::test::Fail;

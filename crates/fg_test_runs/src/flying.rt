@@ -1,7 +1,6 @@
 //! Frames that fly, and files of frames that do not.
 
-use crate::given::gives;
-use fg_calls::Status;
+use fg_calls::{Status, gives};
 use std::alloc::{AllocError, Global};
 use std::test::Fail;
 

@@ -1,7 +1,6 @@
 //! Frames from numbers.
 
-use crate::given::gives;
-use fg_calls::Status;
+use fg_calls::{Status, gives};
 use std::test::Fail;
 
 const ONE_PASS: &str =

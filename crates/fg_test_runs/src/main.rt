@@ -15,7 +15,6 @@ mod flying;
 #[cfg(test)]
 mod generating;
 #[cfg(test)]
-mod given;
 #[cfg(test)]
 mod meeting;
 #[cfg(test)]

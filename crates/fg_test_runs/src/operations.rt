@@ -1,8 +1,7 @@
 //! Frames of every operation, run and meant.
 
-use crate::given::gives;
 use fg_base::NoMemory;
-use fg_calls::{Status, gives as is_given};
+use fg_calls::{Status, gives, is_given};
 use std::alloc::{AllocError, Global};
 use std::sync::Wait;
 use std::test::Fail;

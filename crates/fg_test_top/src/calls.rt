@@ -1,8 +1,7 @@
 //! The worked rows of the top call, over sources and sinks in memory.
 
-use crate::given::gives;
 use fg_base::{IdleGate, List, MemorySink, NoMemory, Source, SteadySource, Taken};
-use fg_calls::{Status, answer_from, at_rest, words_of};
+use fg_calls::{Status, answer_from, at_rest, gives, words_of};
 use std::alloc::Global;
 use std::sync::Wait;
 use std::test::Fail;

@@ -1,7 +1,6 @@
 //! Submissions, checked.
 
-use crate::given::gives;
-use fg_calls::Status;
+use fg_calls::{Status, gives};
 use std::test::Fail;
 
 // Two pieces over the same memory, one of its own, an import and an image.

@@ -1,8 +1,7 @@
 //! Passes on the queues that are chosen for them.
 
 use crate::calls::FILL;
-use crate::given::gives;
-use fg_calls::Status;
+use fg_calls::{Status, gives};
 use std::test::Fail;
 
 // Frames, the lines of `auto --cost`, and the texts of `auto`.

@@ -13,7 +13,6 @@ mod compiling;
 #[cfg(test)]
 mod ends;
 #[cfg(test)]
-mod given;
 #[cfg(test)]
 mod placing;
 #[cfg(test)]

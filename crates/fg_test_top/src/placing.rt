@@ -1,7 +1,6 @@
 //! Where transient resources lie, and how much memory they need at least.
 
-use crate::given::gives;
-use fg_calls::Status;
+use fg_calls::{Status, gives};
 use std::test::Fail;
 
 // Frames, and the lines of `place` and of `bound`.

@@ -1,7 +1,6 @@
 //! Submissions without the waits that they do not need.
 
-use crate::given::gives;
-use fg_calls::Status;
+use fg_calls::{Status, gives};
 use std::test::Fail;
 
 // An image goes from a compute queue to a graphics queue.

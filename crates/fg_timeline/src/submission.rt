@@ -21,19 +21,6 @@ pub(crate) struct Submission {
     items: List<Item>,
 }
 
-fn copy_of(alloc: Global, item: &Item) -> Result<Item, NoMemory>
-    ensures { IfOk result (λ copy. copy ≡ item.now) }
-{
-    Ok(match item {
-        Item::Command(op) => Item::Command(op.copy(alloc)?),
-        Item::Global(masks) => Item::Global(*masks),
-        Item::BufferBarrier(piece, masks) => Item::BufferBarrier(*piece, *masks),
-        Item::ImageBarrier(piece, layouts, masks) => Item::ImageBarrier(*piece, *layouts, *masks),
-        Item::Release(transfer) => Item::Release(*transfer),
-        Item::Acquire(transfer) => Item::Acquire(*transfer),
-    })
-}
-
 impl Submission {
     pub(crate) fn new(alloc: Global) -> Submission
         ensures { result ≡ nothing }
@@ -139,7 +126,7 @@ impl Submission {
         ensures closed { OnOk result (get_or signals.now.signalled at false ≡ true → IsClosed self.new) }
     {
         self.wait_for_needs(alloc, needs, &signals.values, count)?;
-        self.item(copy_of(alloc, item)?)?;
+        self.item(item.copy(alloc)?)?;
         if signals.signalled[at] {
             self.signal(
                 alloc,

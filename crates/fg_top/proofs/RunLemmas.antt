@@ -14,16 +14,16 @@ use Rattle.fg_top.specs.Headline.{RunsFrame, SummarizesFrame}
 use Rattle.fg_top.specs.Replies.{ran}
 use Rattle.fg_top.specs.Summaries.{summary_of}
 use Rattle.fg_top.specs.Texts.{traced}
-use Rattle.fg_words.specs.declared.options.Options.{Options}
+use Rattle.fg_base.specs.declared.run_options.RunOptions.{RunOptions}
 
-pub runs_frame : (options : Options) (trace tight : Bool) (frame : Frame) (kept : List Bool) (places : Places) (program : Program) (d : Device) (text : List ℕ) → Compiles tight (numbered frame) kept places program → HasRun program options.tend d → text ≡ run_text frame kept ++ (exports_text frame (read_by d) ++ traced trace d.history) → RunsFrame options trace tight frame (ran d text)
+pub runs_frame : (options : RunOptions) (trace tight : Bool) (frame : Frame) (kept : List Bool) (places : Places) (program : Program) (d : Device) (text : List ℕ) → Compiles tight (numbered frame) kept places program → HasRun program options.tend d → text ≡ run_text frame kept ++ (exports_text frame (read_by d) ++ traced trace d.history) → RunsFrame options trace tight frame (ran d text)
 runs_frame options trace tight frame kept places program d text compiles has is = record {
   device = d;
   run = runs_on options.tend tight (numbered frame) kept places program d compiles has;
   whole = ap (ran d) is;
 }
 
-pub summarizes_frame : (options : Options) (frame : Frame) (kept : List Bool) (places : Places) (program : Program) (d : Device) (text : List ℕ) → Compiles false (numbered frame) kept places program → HasRun program options.tend d → text ≡ summary_of (numbered frame) kept places program (read_by d) → SummarizesFrame options frame (ran d text)
+pub summarizes_frame : (options : RunOptions) (frame : Frame) (kept : List Bool) (places : Places) (program : Program) (d : Device) (text : List ℕ) → Compiles false (numbered frame) kept places program → HasRun program options.tend d → text ≡ summary_of (numbered frame) kept places program (read_by d) → SummarizesFrame options frame (ran d text)
 summarizes_frame options frame kept places program d text compiles has is = record {
   device = d;
   run = runs_on options.tend false (numbered frame) kept places program d compiles has;

@@ -22,13 +22,13 @@ use Rattle.fg_top.specs.Replies.{IsStill, still}
 use Rattle.fg_top.specs.declared.reply.Reply.{Reply}
 use Rattle.fg_words.specs.declared.command.Command.{Command}
 use Rattle.fg_words.specs.declared.command.Command.TheVariants as reads
-use Rattle.fg_words.specs.declared.options.Options.{Options}
+use Rattle.fg_base.specs.declared.run_options.RunOptions.{RunOptions}
 
-abbrev pub RunsFile : Options → Bool → Bool → Result Frame FrameFault → Reply → Type 0
+abbrev pub RunsFile : RunOptions → Bool → Bool → Result Frame FrameFault → Reply → Type 0
 RunsFile options trace tight (Ok frame) reply = RunsFrame options trace tight frame reply
 RunsFile options trace tight (Err fault) reply = reply ≡ still (refusal fault)
 
-abbrev pub ExecutesFile : Options → Bool → Result Program SubFault → Reply → Type 0
+abbrev pub ExecutesFile : RunOptions → Bool → Result Program SubFault → Reply → Type 0
 ExecutesFile options trace (Ok program) reply = Executes options trace program reply ⊎ IsStill (Rejects program) reply
 ExecutesFile options trace (Err fault) reply = reply ≡ still (program_refusal fault)
 

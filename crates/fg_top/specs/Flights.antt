@@ -7,7 +7,7 @@ use Rattle.fg_fly.specs.declared.outcome.Outcome.{Outcome}
 use Rattle.fg_fly.specs.declared.outcome.Outcome.TheVariants.{Flown, Refused}
 use Rattle.fg_top.specs.Replies.{still}
 use Rattle.fg_top.specs.declared.reply.Reply.{Reply}
-use Rattle.fg_words.specs.declared.options.Options.{Options}
+use Rattle.fg_base.specs.declared.run_options.RunOptions.{RunOptions}
 
 -- the text of all frames, and taps are told of all devices, one after another; or why the frames do not fly
 abbrev pub reply_of : Outcome → Reply
@@ -15,7 +15,7 @@ reply_of (Flown text history) = record { answer = done text; history = Some hist
 reply_of (Refused text) = still (record { status = statuses.Refused; text = text })
 
 -- frames, one on each line, that fly together, or do not
-pub record FliesBytes (options : Options) (persist : List (List ℕ)) (depth : ℕ) (bytes : List ℕ) (reply : Reply) : Type 0 where
+pub record FliesBytes (options : RunOptions) (persist : List (List ℕ)) (depth : ℕ) (bytes : List ℕ) (reply : Reply) : Type 0 where
   pub outcome : Outcome
   pub flies : FliesFile options.tend persist depth bytes outcome
   pub whole : reply ≡ reply_of outcome

@@ -13,22 +13,22 @@ use Rattle.fg_run.specs.Runs.{HasRun, read_by}
 use Rattle.fg_top.specs.Summaries.{summary_of}
 use Rattle.fg_top.specs.Texts.{readbacks_text, traced}
 use Rattle.fg_top.specs.declared.reply.Reply.{Reply}
-use Rattle.fg_words.specs.declared.options.Options.{Options}
+use Rattle.fg_base.specs.declared.run_options.RunOptions.{RunOptions}
 
 -- The culled passes are named, and for each export stand the bytes that the compiled submissions have left on a device.
-pub record RunsFrame (options : Options) (trace tight : Bool) (frame : Frame) (reply : Reply) : Type 0 where
+pub record RunsFrame (options : RunOptions) (trace tight : Bool) (frame : Frame) (reply : Reply) : Type 0 where
   pub device : Device
   pub run : RunsOn options.tend tight (numbered frame) device
   pub whole : reply ≡ ran device (run_text frame run.kept ++ (exports_text frame (read_by device) ++ traced trace device.history))
 
 -- The same in numbers.
-pub record SummarizesFrame (options : Options) (frame : Frame) (reply : Reply) : Type 0 where
+pub record SummarizesFrame (options : RunOptions) (frame : Frame) (reply : Reply) : Type 0 where
   pub device : Device
   pub run : RunsOn options.tend false (numbered frame) device
   pub whole : reply ≡ ran device (summary_of (numbered frame) run.kept run.places run.program (read_by device))
 
 -- For each read-back of a sound program stand the bytes that it has left on a device.
-pub record Executes (options : Options) (trace : Bool) (program : Program) (reply : Reply) : Type 0 where
+pub record Executes (options : RunOptions) (trace : Bool) (program : Program) (reply : Reply) : Type 0 where
   pub sound : IsSound program
   pub device : Device
   pub has_run : HasRun program options.tend device

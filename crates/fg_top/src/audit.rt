@@ -14,12 +14,13 @@ ghost use Rattle.fg_answer.specs.Statuses.{HasText};
 ghost use Rattle.fg_top.specs.Texts.{readbacks_text};
 
 use crate::readbacks::add_readbacks;
-use fg_answer::{Answer, Status, checked, done, program_refusal, shaped};
+use fg_answer::{Answer, Status, checked, done, program_refusal};
 use fg_audit::{TraceEnd, Verdict, audit, read_trace, recording_in};
 use fg_base::{Event, NoMemory};
 use fg_checker::Checked;
 use fg_device::Device;
 use fg_report::{AuditLine, audit_text};
+use fg_stages::valid_program;
 use fg_subfile::SubReadEnd;
 use fg_subs::Shaped;
 use std::alloc::Global;
@@ -131,7 +132,7 @@ pub fn audit_file<R: Threads + Sync>(
     ensures has_text { IfOk result (λ answer. HasText answer.status) }
 {
     let recording = recording_in(bytes);
-    match shaped(alloc, recording.submission) {
+    match valid_program(alloc, recording.submission) {
         Ok(program) => audit_trace(rt, alloc, program, recording.trace),
         Err(SubReadEnd::Refused(fault)) => program_refusal(alloc, &fault),
         Err(SubReadEnd::NoMemory) => Err(NoMemory),

@@ -11,13 +11,13 @@ ghost use Rattle.fg_answer.specs.Plain.{Rejects};
 
 use crate::readbacks::exec_text;
 use crate::reply::{Reply, ran, still};
-use fg_answer::{checked, program_refusal, shaped};
-use fg_base::{Gate, NoMemory};
+use fg_answer::{checked, program_refusal};
+use fg_base::{Gate, NoMemory, RunOptions};
 use fg_checker::Checked;
 use fg_run::run_program;
+use fg_stages::valid_program;
 use fg_subfile::SubReadEnd;
 use fg_subs::Shaped;
-use fg_words::Options;
 use std::alloc::Global;
 use std::sync::Wait;
 use std::thread::Threads;
@@ -26,7 +26,7 @@ use std::thread::Threads;
 fn execute_checked<R: Threads + Wait + Sync, G: Gate + Sync>(
     rt: &R,
     alloc: Global,
-    options: Options,
+    options: RunOptions,
     trace: bool,
     program: &Checked,
     gate: &G,
@@ -43,7 +43,7 @@ fn execute_checked<R: Threads + Wait + Sync, G: Gate + Sync>(
 fn execute_program<R: Threads + Wait + Sync, G: Gate + Sync>(
     rt: &R,
     alloc: Global,
-    options: Options,
+    options: RunOptions,
     trace: bool,
     program: Shaped,
     gate: &G,
@@ -61,7 +61,7 @@ fn execute_program<R: Threads + Wait + Sync, G: Gate + Sync>(
 pub fn execute_file<R: Threads + Wait + Sync, G: Gate + Sync>(
     rt: &R,
     alloc: Global,
-    options: Options,
+    options: RunOptions,
     trace: bool,
     bytes: &[u8],
     gate: &G,
@@ -69,7 +69,7 @@ pub fn execute_file<R: Threads + Wait + Sync, G: Gate + Sync>(
     ensures file { IfOk result (ExecutesFile options trace (program_file bytes.now)) }
     ensures has_text { IfOk result (λ reply. HasText reply.answer.status) }
 {
-    match shaped(alloc, bytes) {
+    match valid_program(alloc, bytes) {
         Ok(program) => execute_program(rt, alloc, options, trace, program, gate),
         Err(SubReadEnd::Refused(fault)) => Ok(still(program_refusal(alloc, &fault)?)),
         Err(SubReadEnd::NoMemory) => Err(NoMemory),

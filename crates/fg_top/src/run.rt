@@ -13,13 +13,12 @@ ghost use Rattle.fg_versions.specs.Culled.{AreKept};
 use crate::readbacks::frame_text;
 use crate::reply::{Reply, ran, still};
 use fg_answer::refusal;
-use fg_base::{Gate, NoMemory};
+use fg_base::{Gate, NoMemory, RunOptions};
 use fg_compile::Compiled;
 use fg_frame::GoodFrame;
 use fg_framefile::FrameReadEnd;
 use fg_run::run_program;
-use fg_stages::{compiled, good_frame};
-use fg_words::Options;
+use fg_stages::{compiled, valid_frame};
 use std::alloc::Global;
 use std::sync::Wait;
 use std::thread::Threads;
@@ -28,7 +27,7 @@ use std::thread::Threads;
 fn run_compiled<R: Threads + Wait + Sync, G: Gate + Sync>(
     rt: &R,
     alloc: Global,
-    options: Options,
+    options: RunOptions,
     trace: bool,
     good: &GoodFrame,
     made: &Compiled,
@@ -48,7 +47,7 @@ fn run_compiled<R: Threads + Wait + Sync, G: Gate + Sync>(
 fn run_frame<R: Threads + Wait + Sync, G: Gate + Sync>(
     rt: &R,
     alloc: Global,
-    options: Options,
+    options: RunOptions,
     trace: bool,
     tight: bool,
     good: &GoodFrame,
@@ -65,7 +64,7 @@ fn run_frame<R: Threads + Wait + Sync, G: Gate + Sync>(
 pub fn run_file<R: Threads + Wait + Sync, G: Gate + Sync>(
     rt: &R,
     alloc: Global,
-    options: Options,
+    options: RunOptions,
     trace: bool,
     tight: bool,
     bytes: &[u8],
@@ -74,7 +73,7 @@ pub fn run_file<R: Threads + Wait + Sync, G: Gate + Sync>(
     ensures file { IfOk result (RunsFile options trace tight (frame_file bytes.now)) }
     ensures has_text { IfOk result (λ reply. HasText reply.answer.status) }
 {
-    match good_frame(alloc, bytes) {
+    match valid_frame(alloc, bytes) {
         Ok(good) => run_frame(rt, alloc, options, trace, tight, &good, gate),
         Err(FrameReadEnd::Refused(fault)) => Ok(still(refusal(alloc, &fault)?)),
         Err(FrameReadEnd::NoMemory) => Err(NoMemory),

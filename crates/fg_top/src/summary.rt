@@ -16,7 +16,7 @@ ghost use Rattle.fg_versions.specs.Culled.{AreKept};
 
 use crate::reply::{Reply, ran};
 use crate::totals::{Total, total_of};
-use fg_base::{Gate, NoMemory, Text};
+use fg_base::{Gate, NoMemory, RunOptions, Text};
 use fg_compile::Compiled;
 use fg_device::Device;
 use fg_faithful::meaning_laws;
@@ -27,7 +27,6 @@ use fg_report::{sum_of_sizes, summary_text};
 use fg_run::run_program;
 use fg_stages::compiled;
 use fg_versions::{Kept, versions_of};
-use fg_words::Options;
 use std::alloc::Global;
 use std::sync::Wait;
 use std::thread::Threads;
@@ -53,7 +52,7 @@ fn kept_count(good: &GoodFrame, kept: &Kept) -> u32
 }
 
 // The bytes of all exports of a frame whose program a device has run.
-fn exported(good: &GoodFrame, made: &Compiled, device: &Device, options: Options) -> Total
+fn exported(good: &GoodFrame, made: &Compiled, device: &Device, options: RunOptions) -> Total
     requires compiles { Compiles false (numbered good.now) made.now.kept made.now.placement made.now.program.program }
     requires has_run { HasRun made.now.program.program options.tend device.now }
     ensures { IsTotal (read_by device.now) (length (numbered good.now).exports) result }
@@ -85,7 +84,7 @@ fn text_of(alloc: Global, good: &GoodFrame, made: &Compiled, total: Total) -> Re
 fn summarize_compiled<R: Threads + Wait + Sync, G: Gate + Sync>(
     rt: &R,
     alloc: Global,
-    options: Options,
+    options: RunOptions,
     good: &GoodFrame,
     made: &Compiled,
     gate: &G,
@@ -103,7 +102,7 @@ fn summarize_compiled<R: Threads + Wait + Sync, G: Gate + Sync>(
 fn summarize_frame<R: Threads + Wait + Sync, G: Gate + Sync>(
     rt: &R,
     alloc: Global,
-    options: Options,
+    options: RunOptions,
     good: &GoodFrame,
     gate: &G,
 ) -> Result<Reply, NoMemory>
@@ -120,7 +119,7 @@ pub fn summarize<R: Threads + Wait + Sync, G: Gate + Sync>(
     alloc: Global,
     number: u32,
     passes: u32,
-    options: Options,
+    options: RunOptions,
     gate: &G,
 ) -> Result<Reply, NoMemory>
     requires some { 1 ≤ passes }

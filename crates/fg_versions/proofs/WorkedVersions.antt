@@ -1,5 +1,6 @@
 -- Worked rows: the versions of a small frame, and what is culled of it.
 use Rattle.std.proofs.Common.{◌≡◌, ℕ, zero, suc, ◌<◌, List, [], ◌∷◌, true, false, Option, Some, None, refl, sym, subst, slice_index_or, arith}
+use Rattle.fg_base.proofs.Absence.{none_some}
 use Rattle.fg_base.specs.declared.shape.Family.TheVariants.{Graphics}
 use Rattle.fg_frame.specs.Numbered.{NumberedFrame}
 use Rattle.fg_frame.specs.Units.{Unit}
@@ -77,9 +78,6 @@ module _ (any : Unit) where
 
   false_true : false ≡ true → ⊥
   false_true e = cc
-
-  none_some : ◌≡◌ {A = Option ℕ} None (Some 0) → ⊥
-  none_some e = cc
 
   no_maker : (u k : ℕ) → k < 1 → slice_index_or (0 ∷ []) k u ≡ u → latest_maker (all_versions idle u) ≡ Some 0 → ⊥
   no_maker u zero lt is last = none_some (subst (λ x. latest_maker (all_versions idle x) ≡ Some 0) (sym is) last)

@@ -2,7 +2,7 @@
 use Rattle.std.proofs.Common.{◌≡◌, ◌⊎◌, inl, inr, ℕ, zero, suc, ◌<◌, ◌≤◌, List, [], ◌∷◌, length, get_or, Option, Some, None, option_map, refl, sym, ap, ◌∙◌, subst, arith}
 use Rattle.std.specs.Prelude.{slice_get}
 use Rattle.std.proofs.lemmas.Option.{slice_get_cases, slice_get_within}
-use Rattle.fg_base.proofs.Absence.{some_same}
+use Rattle.fg_base.proofs.Absence.{none_some, some_same}
 use Rattle.fg_waits.proofs.Thinned.{Thins}
 
 -- both are there, and stand to each other, or neither
@@ -21,9 +21,6 @@ pub record Embedded {X : Type 0} (May : X → Type 0) (Stands : X → X → Type
   pub forth : (y n : ℕ) → down y ≡ Some n → up n ≡ y
   pub alike : (n : ℕ) → Both Stands (slice_get given (up n)) (slice_get xs n)
   pub gone : (y : ℕ) → down y ≡ None → (x : X) × (slice_get given y ≡ Some x) × May x
-
-none_some : {X : Type 0} {x : X} → None ≡ Some x → ⊥
-none_some e = cc
 
 -- WITH ONE ENTRY MORE THAT IS LEFT OUT
 

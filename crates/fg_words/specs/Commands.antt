@@ -11,7 +11,7 @@ use Rattle.fg_words.specs.declared.command.Command.TheVariants as commands
 use Rattle.fg_words.specs.declared.command.FrameCommand.TheVariants as frames
 use Rattle.fg_words.specs.declared.command.SubmissionCommand.TheVariants as submissions
 use Rattle.fg_words.specs.declared.given.Given.{Given}
-use Rattle.fg_words.specs.declared.options.Options.{Options}
+use Rattle.fg_base.specs.declared.run_options.RunOptions.{RunOptions}
 use Rattle.fg_words.specs.declared.word.Word.{Word}
 use Rattle.fg_words.specs.declared.word.Word.TheVariants.{Cull, Place, Bound, Compile, Auto, Meaning, Migrate, Check, Gen, Run, Exec, Flight, Audit}
 
@@ -60,7 +60,7 @@ command_in rows = option_and_then (command_with rows) (first_of (codes "command"
 
 -- BOUNDS
 
-abbrev pub HasWorkers : Options → Type 0
+abbrev pub HasWorkers : RunOptions → Type 0
 HasWorkers options = (1 ≤ options.workers) × (options.workers ≤ 16)
 
 abbrev pub HasPasses : ℕ → Type 0

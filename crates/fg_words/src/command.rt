@@ -1,7 +1,6 @@
 //! The commands.
 
-use crate::Options;
-use fg_base::{List, Name};
+use fg_base::{List, Name, RunOptions};
 
 /// A command that the program has, by what it reads and what it needs.
 #[derive(Debug, Drop)]
@@ -17,7 +16,7 @@ pub enum Command {
     },
     /// Runs a frame on a device, and prints what it exports.
     Run {
-        options: Options,
+        options: RunOptions,
         /// The events of the device are printed too.
         trace: bool,
         /// Waits, and stages of waits, that its submissions do not need are left out.
@@ -25,7 +24,7 @@ pub enum Command {
     },
     /// Runs a submission on a device, and prints what the host reads.
     Exec {
-        options: Options,
+        options: RunOptions,
         /// The events of the device are printed too.
         trace: bool,
     },
@@ -33,11 +32,11 @@ pub enum Command {
     Summary {
         number: u32,
         passes: u32,
-        options: Options,
+        options: RunOptions,
     },
     /// Runs several frames on devices, so many of them compiled together, and prints what they export.
     Flight {
-        options: Options,
+        options: RunOptions,
         /// The names under which bytes persist from one frame to the next.
         persist: List<Name>,
         /// How many frames are compiled together at most, 1 to 8.

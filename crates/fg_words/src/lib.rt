@@ -12,4 +12,3 @@ mod word;
 
 pub use command::{Command, FrameCommand, SubmissionCommand};
 pub use line::command_of;
-pub use options::Options;

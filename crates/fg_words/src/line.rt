@@ -9,9 +9,10 @@ ghost use Rattle.fg_words.specs.declared.command.Command.TheVariants as commands
 
 use crate::given::{Given, given_in, text_in};
 use crate::matching::{Unmatched, matches};
+use crate::options::run_options;
 use crate::persist::persist_in;
 use crate::word::{Word, word_of};
-use crate::{Command, FrameCommand, Options, SubmissionCommand};
+use crate::{Command, FrameCommand, SubmissionCommand};
 use clap::ArgMatches;
 use fg_base::{List, Name, NoMemory};
 use std::alloc::Global;
@@ -114,7 +115,7 @@ fn generating(given: Given, number: u32) -> Option<Command>
         ..given
     };
     if given.summary {
-        let options = Options::of(given);
+        let options = run_options(given);
         unless_more(
             without_options(rest),
             Command::Summary {
@@ -140,7 +141,7 @@ fn flying(given: Given, persist: Option<List<Name>>) -> Option<Command>
     unless_more(
         rest,
         Command::Flight {
-            options: Options::of(given),
+            options: run_options(given),
             persist: persist?,
             depth: given.depth.unwrap_or(2),
         },
@@ -156,7 +157,7 @@ fn of_frame(rest: Given, asked: FrameCommand) -> Option<Command>
 fn command_of_word(word: Word, given: Given, persist: Option<List<Name>>) -> Option<Command>
     ensures { result ≡ command_of_word word given persist }
 {
-    let options = Options::of(given);
+    let options = run_options(given);
     let trace = given.trace;
     let tight = given.tight;
     let cost = given.cost;

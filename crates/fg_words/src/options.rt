@@ -1,28 +1,18 @@
-//! How a program is run on a device.
+//! How a line asks for a program to be run.
 
 ghost use Rattle.std.specs.Prelude.{◌≡◌};
 ghost use Rattle.fg_words.specs.Options.{options_in};
 
 use crate::given::Given;
+use fg_base::RunOptions;
 
-/// How a program is run on a device.
-#[derive(Clone, Copy, Debug, PartialEq, Eq)]
-pub struct Options {
-    /// How many workers run it, 1 to 16.
-    pub workers: u32,
-    /// The seed of the cache moves that are made meanwhile; without one none are made.
-    pub tend: Option<u64>,
-}
-
-impl Options {
-    /// The options of a line; two workers where none are asked for.
-    pub(crate) fn of(given: Given) -> Options
-        ensures { result ≡ options_in given }
-    {
-        Options {
-            workers: given.workers.unwrap_or(2),
-            tend: seed_of(given.tend),
-        }
+/// How the program is to be run; by two workers where the line asks for none.
+pub(crate) fn run_options(given: Given) -> RunOptions
+    ensures { result ≡ options_in given }
+{
+    RunOptions {
+        workers: given.workers.unwrap_or(2),
+        tend: seed_of(given.tend),
     }
 }
 
