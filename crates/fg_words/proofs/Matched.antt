@@ -1,6 +1,5 @@
 -- What `clap` finds on a line, and what that is.
 use Rattle.std.proofs.Common.{◌≡◌, ◌∙◌, true, List, [], ◌∷◌, Option, None, codes, sym, ap, subst, inl, inr}
-use Rattle.std.specs.Prelude.{IfOk, Result, Ok, Err}
 use Rattle.clap.specs.Faults.{is_simple_and_free}
 use Rattle.clap.specs.Simple.{is_simple}
 use Rattle.clap.specs.Words.{App, HasKind, HasMatchesOf, Kinds, Row, Text, fault_of, found_of, kind_of, matches_of, rows_of}
@@ -38,7 +37,3 @@ pub line_refused : (words line : List Text) → line ≡ codes "framec" ∷ word
 line_refused words line is refused =
     let whole : List Text = codes "framec" ∷ words in
     sym (none_refused (fault_of framec whole) (command_in (matches_of framec whole)) (λ none. refused (subst IsLine (sym is) none)))
-
-pub if_ok : {X E : Type 0} {P Q : X → Type 0} (r : Result X E) → ((x : X) → P x → Q x) → IfOk r P → IfOk r Q
-if_ok (Ok x) f p = f x p
-if_ok (Err e) f p = tt

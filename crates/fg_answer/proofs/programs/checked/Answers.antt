@@ -1,7 +1,7 @@
 use Rattle.std.proofs.Common.{subst}
+use Rattle.fg_base.proofs.Results.{if_ok}
 use Rattle.fg_checker.specs.Verdicts.{Ends}
 use Rattle.fg_answer.proofs.programs.checked.Goals as goal
-use Rattle.fg_words.proofs.Matched.{if_ok}
 
 pub returns-in-Err-Refused-clause-err : goal.returns-in-Err-Refused-clause-err
 returns-in-Err-Refused-clause-err c =

@@ -1,6 +1,6 @@
+use Rattle.fg_base.proofs.Results.{if_ok}
 use Rattle.fg_run.proofs.RunLemmas.{has_run}
 use Rattle.fg_run.proofs.program.has_run.Goals as goal
-use Rattle.fg_words.proofs.Matched.{if_ok}
 
 pub returns : goal.returns
 returns c =

@@ -1,7 +1,7 @@
+use Rattle.fg_base.proofs.Results.{if_ok}
 use Rattle.fg_frame.specs.Numbered.{numbered}
 use Rattle.fg_run.proofs.RunLemmas.{runs_on}
 use Rattle.fg_run.proofs.run.run_good.Goals as goal
-use Rattle.fg_words.proofs.Matched.{if_ok}
 
 pub returns : goal.returns
 returns g c =

@@ -1,6 +1,6 @@
+use Rattle.fg_base.proofs.Results.{if_ok}
 use Rattle.fg_top.proofs.AuditLemmas.{few_events, judges}
 use Rattle.fg_top.proofs.audit.judge.Goals as goal
-use Rattle.fg_words.proofs.Matched.{if_ok}
 
 pub verdict_answer-requires-clause-few : goal.verdict_answer-requires-clause-few
 verdict_answer-requires-clause-few g c = few_events c.args.program.now.program c.args.events.now c.in_ok-verdict.verdict c.requires.few c.in_ok-verdict.ensures.says

@@ -1,10 +1,10 @@
 use Rattle.std.proofs.Common.{◌++◌, ap, length, ◌∙◌}
+use Rattle.fg_base.proofs.Results.{if_ok}
 use Rattle.fg_run.specs.Runs.{read_by}
 use Rattle.fg_subs.specs.declared.program.Program.{Program}
 use Rattle.fg_top.proofs.exec.execute_checked.Goals as goal
 use Rattle.fg_top.specs.Replies.{ran}
 use Rattle.fg_top.specs.Texts.{readbacks_text, traced}
-use Rattle.fg_words.proofs.Matched.{if_ok}
 
 pub returns-clause-program : goal.returns-clause-program
 returns-clause-program g c =

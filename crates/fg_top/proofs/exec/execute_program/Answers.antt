@@ -1,9 +1,9 @@
 use Rattle.std.proofs.Common.{subst, sym, inl}
+use Rattle.fg_base.proofs.Results.{if_ok}
 use Rattle.fg_checker.specs.Sound.{IsSound}
 use Rattle.fg_subs.specs.declared.program.Program.{Program}
 use Rattle.fg_top.proofs.exec.execute_program.Goals as goal
 use Rattle.fg_top.specs.Headline.{Executes}
-use Rattle.fg_words.proofs.Matched.{if_ok}
 
 pub execute_checked-requires-clause-sound : goal.execute_checked-requires-clause-sound
 execute_checked-requires-clause-sound g c κs lives = subst IsSound (sym c.in-Ok.ensures.ok.0) c.in-Ok.ensures.ok.1

@@ -1,8 +1,8 @@
 use Rattle.std.proofs.Common.{sym, subst}
+use Rattle.fg_base.proofs.Results.{if_ok}
 use Rattle.fg_top.proofs.RunLemmas.{runs_frame}
 use Rattle.fg_top.proofs.run.run_compiled.Goals as goal
 use Rattle.fg_top.specs.Headline.{RunsFrame}
-use Rattle.fg_words.proofs.Matched.{if_ok}
 
 pub returns-clause-frame : goal.returns-clause-frame
 returns-clause-frame g c tight compiles =

@@ -1,11 +1,11 @@
 use Rattle.std.proofs.Common.{sym, subst}
+use Rattle.fg_base.proofs.Results.{if_ok}
 use Rattle.fg_frame.specs.Numbered.{numbered}
 use Rattle.fg_top.proofs.RunLemmas.{summarizes_frame}
 use Rattle.fg_top.proofs.SummaryLemmas.{summary_is}
 use Rattle.fg_top.proofs.summary.summarize_compiled.Goals as goal
 use Rattle.fg_top.specs.Headline.{SummarizesFrame}
 use Rattle.fg_run.specs.Runs.{read_by}
-use Rattle.fg_words.proofs.Matched.{if_ok}
 
 pub returns-clause-frame : goal.returns-clause-frame
 returns-clause-frame g c =

@@ -1,5 +1,6 @@
 use Rattle.std.proofs.Common.{Bor, ℕ, List, Err, map, string_bytes, subst}
-use Rattle.fg_words.proofs.Matched.{if_ok, line_read, line_refused}
+use Rattle.fg_base.proofs.Results.{if_ok}
+use Rattle.fg_words.proofs.Matched.{line_read, line_refused}
 use Rattle.fg_words.proofs.line.command_of.Goals as goal
 use Rattle.fg_words.specs.Lines.{Matches}
 use Rattle.fg_words.specs.declared.matching.Unmatched.{Unmatched}
