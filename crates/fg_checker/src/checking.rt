@@ -13,12 +13,15 @@ use fg_hb::{Drain, direct, drain_of};
 use fg_subs::{Program, Shaped};
 use std::alloc::Global;
 use std::sync::Arc;
+use thiserror::Error;
 
 /// Why a program was not taken.
-#[derive(Debug, Drop)]
+#[derive(Debug, Drop, Error)]
 pub enum CheckEnd {
     /// The first hazard, and the program itself.
+    #[error("the submission is not sound")]
     Refused(Hazard, Shaped),
+    #[error("memory ran out")]
     NoMemory,
 }
 

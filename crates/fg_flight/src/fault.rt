@@ -4,6 +4,7 @@ ghost use Rattle.std.specs.Prelude.{◌≡◌};
 ghost use Rattle.fg_flight.specs.declared.fault.FlightEnd.TheVariants as ends;
 
 use fg_base::{Limit, Name, NoMemory};
+use thiserror::Error;
 
 /// The first reason for which frames are not compiled together.
 #[derive(Clone, Copy, Debug)]
@@ -17,9 +18,11 @@ pub enum FlightFault {
 }
 
 /// Why there are no windows.
-#[derive(Clone, Copy, Debug)]
+#[derive(Clone, Copy, Debug, Error)]
 pub enum FlightEnd {
+    #[error("the frames cannot fly together")]
     Refused(FlightFault),
+    #[error("memory ran out")]
     NoMemory,
 }
 

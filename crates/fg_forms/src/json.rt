@@ -11,13 +11,16 @@ use fg_base::{List, NoMemory, Text};
 use serde_json::Value;
 use std::alloc::Global;
 use std::str;
+use thiserror::Error;
 
 /// Why bytes gave no JSON value.
-#[derive(Clone, Copy, Debug, PartialEq, Eq)]
+#[derive(Clone, Copy, Debug, PartialEq, Eq, Error)]
 pub enum JsonEnd {
+    #[error("memory ran out")]
     NoMemory,
     /// The bytes are not UTF-8, are no JSON text, nest deeper than 127 levels, or have a number that no finite float is
     /// near.
+    #[error("the bytes are no JSON text")]
     NotJson,
 }
 

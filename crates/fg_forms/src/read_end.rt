@@ -4,13 +4,16 @@ ghost use Rattle.std.specs.Prelude.{◌≡◌};
 ghost use Rattle.fg_forms.specs.declared.read_end.ReadEnd.TheVariants as ends;
 
 use fg_base::{NoMemory, Path};
+use thiserror::Error;
 
 /// Why a value was not read.
-#[derive(Debug, Drop)]
+#[derive(Debug, Drop, Error)]
 pub enum ReadEnd {
     /// Memory ran out, or a list has more entries than a path can name: a position is at most 2^32 - 1.
+    #[error("memory ran out")]
     NoMemory,
     /// The first fault is at this path.
+    #[error("a value has not the form that its file asks for")]
     Refused(Path),
 }
 

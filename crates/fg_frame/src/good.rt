@@ -25,6 +25,7 @@ use crate::{Frame, FrameFault, Sharing, Spot, Write};
 use fg_base::{Broken, Family, List, NoMemory, Op, Shape};
 use std::alloc::Global;
 use std::marker::Model;
+use thiserror::Error;
 
 /// What is computed once for a frame.
 #[derive(Debug, Drop)]
@@ -61,9 +62,11 @@ impl Model for GoodFrame {
 }
 
 /// Why a frame was not taken, and the frame itself.
-#[derive(Debug, Drop)]
+#[derive(Debug, Drop, Error)]
 pub enum FrameEnd {
+    #[error("the frame breaks a rule")]
     Refused(FrameFault, Frame),
+    #[error("memory ran out")]
     NoMemory(Frame),
 }
 

@@ -12,11 +12,14 @@ use fg_forms::{JsonEnd, NumberForm, Place, ReadEnd, Reader, object, read_json, r
 use fg_frame::{Frame, FrameFault};
 use serde_json::Value;
 use std::alloc::Global;
+use thiserror::Error;
 
 /// Why bytes gave no frame.
-#[derive(Debug, Drop)]
+#[derive(Debug, Drop, Error)]
 pub enum FrameReadEnd {
+    #[error("the bytes are no frame")]
     Refused(FrameFault),
+    #[error("memory ran out")]
     NoMemory,
 }
 

@@ -10,11 +10,14 @@ use fg_forms::{JsonEnd, Place, ReadEnd, Reader, read_json};
 use fg_subs::{Program, SubFault};
 use serde_json::Value;
 use std::alloc::Global;
+use thiserror::Error;
 
 /// Why bytes gave no program.
-#[derive(Debug, Drop)]
+#[derive(Debug, Drop, Error)]
 pub enum SubReadEnd {
+    #[error("the bytes are no submission")]
     Refused(SubFault),
+    #[error("memory ran out")]
     NoMemory,
 }
 

@@ -19,6 +19,7 @@ use crate::{Entry, Program, SubFault};
 use fg_base::{Broken, List, NoMemory, Shape};
 use std::alloc::Global;
 use std::marker::Model;
+use thiserror::Error;
 
 /// A program that breaks no rule, with its nodes in the order of their numbers: queue by queue in the order of submission,
 /// and then the host reads.
@@ -42,9 +43,11 @@ impl Model for Shaped {
 }
 
 /// Why a program was not taken, and the program itself.
-#[derive(Debug, Drop)]
+#[derive(Debug, Drop, Error)]
 pub enum ShapeEnd {
+    #[error("the submission breaks a rule")]
     Refused(SubFault, Program),
+    #[error("memory ran out")]
     NoMemory(Program),
 }
 
