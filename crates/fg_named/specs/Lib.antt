@@ -1,7 +1,7 @@
 pub mod Declared
+pub mod DeclaredLaws
 pub mod Exports
 pub mod Joins
-pub mod Laws
 pub mod Names
 pub mod Passes
 pub mod Resources

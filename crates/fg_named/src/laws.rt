@@ -7,7 +7,7 @@ ghost use Rattle.fg_frame.specs.Numbered.{numbered};
 ghost use Rattle.fg_frame.specs.Repeats.{first_repeat};
 ghost use Rattle.fg_frame.specs.declared.frame.Resource.{Resource};
 ghost use Rattle.fg_named.specs.Declared.{flown_of, holder_in};
-ghost use Rattle.fg_named.specs.Laws.{EachDeclared, EachDeclaredInTurn, OfDeclared};
+ghost use Rattle.fg_named.specs.DeclaredLaws.{EachDeclared, EachDeclaredInTurn, OfDeclared};
 ghost use Rattle.fg_named.specs.Together.{AreHeldIn, AreImports};
 ghost use Rattle.fg_named.specs.WindowFrame.{window_frame};
 ghost use Rattle.fg_window.specs.Means.{MeansTheSame};
