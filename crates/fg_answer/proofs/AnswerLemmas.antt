@@ -18,7 +18,7 @@ use Rattle.fg_framefile.specs.Files.{frame_of, frame_text}
 use Rattle.fg_place.specs.Placing.{Places}
 use Rattle.fg_subfile.specs.Files as submissions
 use Rattle.fg_subfile.specs.Files.{program_of, program_text}
-use Rattle.fg_subs.specs.FirstFault as subs
+use Rattle.fg_subs.specs.FirstFault as programs
 use Rattle.fg_subs.specs.declared.program.Program.{Program}
 use Rattle.fg_words.specs.declared.command.Command.{Command}
 
@@ -29,10 +29,10 @@ migrated frame text whole is again good ended = record {
 }
 
 -- a program without a fault is read from its text and a line end
-read_again : (program : Program) (text : List ℕ) → program_of text ≡ Ok program → subs.first_fault program ≡ None → program_file (text ++ 10 ∷ []) ≡ Ok program
-read_again program text again faultless = ap (if_read subs.first_fault) (again_line submissions.file_of refl text program again) ∙ ap (unless_broken program) faultless
+read_again : (program : Program) (text : List ℕ) → program_of text ≡ Ok program → programs.first_fault program ≡ None → program_file (text ++ 10 ∷ []) ≡ Ok program
+read_again program text again faultless = ap (if_read programs.first_fault) (again_line submissions.file_of refl text program again) ∙ ap (unless_broken program) faultless
 
-pub compiled : (tight : Bool) (frame : Frame) (kept : List Bool) (places : Places) (program : Program) (text whole : List ℕ) → Compiles tight (numbered frame) kept places program → text ≡ program_text program → (subs.first_fault program ≡ None → program_of text ≡ Ok program) → whole ≡ text ++ 10 ∷ [] → CompilesFrame tight frame (done whole)
+pub compiled : (tight : Bool) (frame : Frame) (kept : List Bool) (places : Places) (program : Program) (text whole : List ℕ) → Compiles tight (numbered frame) kept places program → text ≡ program_text program → (programs.first_fault program ≡ None → program_of text ≡ Ok program) → whole ≡ text ++ 10 ∷ [] → CompilesFrame tight frame (done whole)
 compiled tight frame kept places program text whole is written again ended = record {
   kept = kept;
   places = places;

@@ -13,7 +13,7 @@ use Rattle.fg_place.specs.Placing.{IsLeast}
 use Rattle.fg_report.proofs.Places.{as_many}
 use Rattle.fg_report.specs.BoundLines.{bound_text}
 use Rattle.fg_answer.specs.Answers.{BoundsFrame}
-use Rattle.fg_answer.specs.Code.Stages.{AreBoundLines, AreGrouped, IsHeap}
+use Rattle.fg_answer.specs.Internal.Stages.{AreBoundLines, AreGrouped, IsHeap}
 use Rattle.fg_answer.specs.Plain.{done}
 
 -- the certificate names placed units

@@ -9,7 +9,7 @@ use Rattle.fg_frame.specs.declared.frame.Frame.{Frame}
 use Rattle.fg_meaning.specs.Meaning.{meaning}
 use Rattle.fg_answer.specs.Answers.{MeansFrame}
 use Rattle.fg_answer.specs.Plain.{done}
-use Rattle.fg_answer.specs.Code.Stages.{bytes_in}
+use Rattle.fg_answer.specs.Internal.Stages.{bytes_in}
 use Rattle.fg_stages.specs.Exports.{exports_text}
 
 -- what the exported units hold is printed

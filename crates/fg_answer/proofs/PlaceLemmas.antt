@@ -12,7 +12,7 @@ use Rattle.fg_place.specs.Placing.{Places, IsLeast}
 use Rattle.fg_report.specs.PlaceLines.{place_text}
 use Rattle.fg_answer.specs.Answers.{PlacesFrame}
 use Rattle.fg_answer.specs.Plain.{done}
-use Rattle.fg_answer.specs.Code.Stages.{AreGrouped, ArePlaced, ArePlaceLines}
+use Rattle.fg_answer.specs.Internal.Stages.{AreGrouped, ArePlaced, ArePlaceLines}
 
 -- the placed units have an offset each
 pub as_many : (G : Grouping) (places : Places) → ArePlaced G places → length places.offsets ≡ length (placed G)

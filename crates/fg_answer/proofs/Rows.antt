@@ -11,7 +11,7 @@ use Rattle.fg_frame.specs.Numbered.{numbered}
 use Rattle.fg_frame.specs.declared.frame.Frame.{Frame}
 use Rattle.fg_frame.specs.declared.frame.Spot.{Spot}
 use Rattle.fg_meaning.specs.Meaning.{all_bytes}
-use Rattle.fg_answer.specs.Code.Stages.{bytes_in}
+use Rattle.fg_answer.specs.Internal.Stages.{bytes_in}
 use Rattle.fg_stages.specs.Exports.{exports_text}
 
 whole : Spot

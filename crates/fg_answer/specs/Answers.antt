@@ -33,8 +33,8 @@ use Rattle.fg_report.specs.KeptLines.{cull_text}
 use Rattle.fg_report.specs.PlaceLines.{place_text}
 use Rattle.fg_subfile.specs.Files.{program_text}
 use Rattle.fg_subs.specs.Entries.{entries_of}
-use Rattle.fg_subs.specs.Faults as subs
-use Rattle.fg_subs.specs.declared.fault.SubFault.{SubFault}
+use Rattle.fg_subs.specs.Faults as programs
+use Rattle.fg_subs.specs.declared.fault.ProgramFault.{ProgramFault}
 use Rattle.fg_subs.specs.declared.program.Program.{Program}
 use Rattle.fg_versions.specs.Culled.{AreKept, Culled}
 use Rattle.fg_words.specs.declared.command.Command.{Command}
@@ -47,7 +47,7 @@ use Rattle.fg_words.specs.declared.command.SubmissionCommand.TheVariants.{Check}
 -- the answer to more bytes than a file may have
 abbrev pub over_input : File → Answer
 over_input files.Frame = refusal (over_limit Input [])
-over_input files.Submission = program_refusal (subs.over_limit Input [])
+over_input files.Submission = program_refusal (programs.over_limit Input [])
 
 -- the exports, with the bytes that they have after all passes
 pub record MeansFrame (frame : Frame) (answer : Answer) : Type 0 where
@@ -156,7 +156,7 @@ pub record Accepts (program : Program) (answer : Answer) : Type 0 where
 abbrev pub AnswersProgram : SubmissionCommand → Program → Answer → Type 0
 AnswersProgram Check program answer = Accepts program answer ⊎ Rejects program answer
 
-abbrev pub AnswersProgramFile : SubmissionCommand → Result Program SubFault → Answer → Type 0
+abbrev pub AnswersProgramFile : SubmissionCommand → Result Program ProgramFault → Answer → Type 0
 AnswersProgramFile asked (Ok program) answer = AnswersProgram asked program answer
 AnswersProgramFile asked (Err fault) answer = answer ≡ program_refusal fault
 

@@ -1,6 +1,6 @@
 pub mod Answers
 pub mod AtRest
-pub mod Code
+pub mod Internal
 pub mod Inputs
 pub mod Plain
 pub mod Statuses

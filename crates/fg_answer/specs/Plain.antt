@@ -3,9 +3,9 @@ use Rattle.std.specs.Prelude.{◌≡◌, ℕ, List}
 use Rattle.fg_checker.specs.Verdicts.{Unsound}
 use Rattle.fg_checker.specs.declared.hazard.Hazard.{Hazard}
 use Rattle.fg_frame.specs.declared.fault.FrameFault.{FrameFault}
-use Rattle.fg_report.specs.Faults.{frame_fault_text, sub_fault_text}
+use Rattle.fg_report.specs.Faults.{frame_fault_text, program_fault_text}
 use Rattle.fg_report.specs.Hazards.{hazard_text}
-use Rattle.fg_subs.specs.declared.fault.SubFault.{SubFault}
+use Rattle.fg_subs.specs.declared.fault.ProgramFault.{ProgramFault}
 use Rattle.fg_subs.specs.declared.program.Program.{Program}
 use Rattle.fg_answer.specs.declared.answer.Answer.{Answer}
 use Rattle.fg_answer.specs.declared.status.Status.TheVariants.{Done, Rejected, Refused}
@@ -17,8 +17,8 @@ done text = record { status = Done; text = text }
 abbrev pub refusal : FrameFault → Answer
 refusal fault = record { status = Refused; text = frame_fault_text fault }
 
-abbrev pub program_refusal : SubFault → Answer
-program_refusal fault = record { status = Refused; text = sub_fault_text fault }
+abbrev pub program_refusal : ProgramFault → Answer
+program_refusal fault = record { status = Refused; text = program_fault_text fault }
 
 abbrev pub rejection : Hazard → Answer
 rejection hazard = record { status = Rejected; text = hazard_text hazard }

@@ -6,8 +6,8 @@ ghost use Rattle.fg_answer.specs.Plain.{done, refusal, program_refusal};
 use crate::Status;
 use fg_base::{NoMemory, Text};
 use fg_frame::FrameFault;
-use fg_report::{frame_fault_text, sub_fault_text};
-use fg_subs::SubFault;
+use fg_report::{frame_fault_text, program_fault_text};
+use fg_subs::ProgramFault;
 use std::alloc::Global;
 
 /// A status, and the whole text that goes with it.
@@ -40,11 +40,11 @@ pub fn refusal(alloc: Global, fault: &FrameFault) -> Result<Answer, NoMemory>
 }
 
 /// The answer to a submission with a fault.
-pub fn program_refusal(alloc: Global, fault: &SubFault) -> Result<Answer, NoMemory>
+pub fn program_refusal(alloc: Global, fault: &ProgramFault) -> Result<Answer, NoMemory>
     ensures { IfOk result (λ answer. answer ≡ program_refusal fault.now) }
 {
     Ok(Answer {
         status: Status::Refused,
-        text: sub_fault_text(alloc, fault)?,
+        text: program_fault_text(alloc, fault)?,
     })
 }

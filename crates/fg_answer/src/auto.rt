@@ -8,14 +8,14 @@ ghost use Rattle.fg_report.specs.CostLines.{cost_text};
 use crate::answer::{Answer, done};
 use fg_auto::{Choice, choose};
 use fg_base::{NoMemory, Text};
-use fg_frame::GoodFrame;
+use fg_frame::ValidFrame;
 use fg_framefile::write_frame;
 use fg_lines::Lines;
 use fg_report::cost_text;
 use std::alloc::Global;
 
 /// The answer to the command on a good frame.
-pub fn auto_frame(alloc: Global, good: &GoodFrame) -> Result<Answer, NoMemory>
+pub fn auto_frame(alloc: Global, good: &ValidFrame) -> Result<Answer, NoMemory>
     ensures frame { IfOk result (ChoosesQueues good.now) }
     ensures has_text { IfOk result (λ answer. HasText answer.status) }
 {
@@ -33,7 +33,7 @@ fn cost_line(alloc: Global, choice: &Choice) -> Result<Text, NoMemory>
 }
 
 /// The answer to the command with `--cost`.
-pub fn cost_frame(alloc: Global, good: &GoodFrame) -> Result<Answer, NoMemory>
+pub fn cost_frame(alloc: Global, good: &ValidFrame) -> Result<Answer, NoMemory>
     ensures frame { IfOk result (CostsFrame good.now) }
     ensures has_text { IfOk result (λ answer. HasText answer.status) }
 {

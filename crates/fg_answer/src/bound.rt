@@ -5,14 +5,14 @@ ghost use Rattle.fg_frame.specs.Numbered.{numbered};
 ghost use Rattle.fg_groups.specs.Placed.{sizes};
 ghost use Rattle.fg_place.specs.Pairs.{has};
 ghost use Rattle.fg_answer.specs.Answers.{BoundsFrame};
-ghost use Rattle.fg_answer.specs.Code.Stages.{AreBoundLines, AreGrouped, IsHeap};
+ghost use Rattle.fg_answer.specs.Internal.Stages.{AreBoundLines, AreGrouped, IsHeap};
 ghost use Rattle.fg_answer.specs.Statuses.{HasText};
 
 use crate::answer::{Answer, done};
 use crate::groups::kept_groups;
 use fg_base::{NoMemory, Text};
 use fg_bound::bound_of;
-use fg_frame::GoodFrame;
+use fg_frame::ValidFrame;
 use fg_groups::Groups;
 use fg_lifetimes::ordered;
 use fg_place::{Pairs, place};
@@ -31,7 +31,7 @@ fn heap_of(alloc: Global, groups: &Groups, ordered: &Pairs) -> Result<u32, NoMem
 #[tactic(auto, using(crate::proofs::BoundLemmas::chosen_placed, crate::proofs::PlaceLemmas::known_units))]
 fn bound_lines(
     alloc: Global,
-    good: &GoodFrame,
+    good: &ValidFrame,
     groups: &Groups,
     ordered: &Pairs,
     heap: u32,
@@ -45,7 +45,7 @@ fn bound_lines(
 }
 
 #[tactic(auto, using(fg_report::proofs::Places::as_many))]
-fn bound_answer(alloc: Global, good: &GoodFrame, groups: &Groups) -> Result<Answer, NoMemory>
+fn bound_answer(alloc: Global, good: &ValidFrame, groups: &Groups) -> Result<Answer, NoMemory>
     requires { AreGrouped (numbered good.now) groups.now }
     ensures frame { IfOk result (BoundsFrame good.now) }
     ensures has_text { IfOk result (λ answer. HasText answer.status) }
@@ -56,7 +56,7 @@ fn bound_answer(alloc: Global, good: &GoodFrame, groups: &Groups) -> Result<Answ
 }
 
 /// The answer to the command on a good frame.
-pub fn bound_frame(alloc: Global, good: &GoodFrame) -> Result<Answer, NoMemory>
+pub fn bound_frame(alloc: Global, good: &ValidFrame) -> Result<Answer, NoMemory>
     ensures frame { IfOk result (BoundsFrame good.now) }
     ensures has_text { IfOk result (λ answer. HasText answer.status) }
 {

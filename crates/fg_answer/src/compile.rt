@@ -6,14 +6,14 @@ ghost use Rattle.fg_answer.specs.Statuses.{HasText};
 
 use crate::answer::{Answer, done};
 use fg_base::NoMemory;
-use fg_frame::GoodFrame;
+use fg_frame::ValidFrame;
 use fg_lines::Lines;
 use fg_stages::compiled;
 use fg_subfile::write_program;
 use std::alloc::Global;
 
 /// The answer to the command on a good frame.
-pub fn compile_frame(alloc: Global, good: &GoodFrame, tight: bool) -> Result<Answer, NoMemory>
+pub fn compile_frame(alloc: Global, good: &ValidFrame, tight: bool) -> Result<Answer, NoMemory>
     ensures frame { IfOk result (CompilesFrame tight good.now) }
     ensures has_text { IfOk result (λ answer. HasText answer.status) }
 {

@@ -8,13 +8,13 @@ ghost use Rattle.fg_versions.specs.Culled.{AreKept};
 
 use crate::answer::{Answer, done};
 use fg_base::NoMemory;
-use fg_frame::GoodFrame;
+use fg_frame::ValidFrame;
 use fg_report::cull_text;
 use fg_versions::{Kept, cull, versions_of};
 use std::alloc::Global;
 
 /// Which passes of a frame are kept.
-pub fn kept_of(alloc: Global, good: &GoodFrame) -> Result<Kept, NoMemory>
+pub fn kept_of(alloc: Global, good: &ValidFrame) -> Result<Kept, NoMemory>
     ensures { IfOk result (AreKept (numbered good.now)) }
 {
     let versions = versions_of(alloc, good)?;
@@ -23,7 +23,7 @@ pub fn kept_of(alloc: Global, good: &GoodFrame) -> Result<Kept, NoMemory>
 
 /// The answer to the command on a good frame.
 #[tactic(auto, using(crate::proofs::KeptLemmas::one_each))]
-pub fn cull_frame(alloc: Global, good: &GoodFrame) -> Result<Answer, NoMemory>
+pub fn cull_frame(alloc: Global, good: &ValidFrame) -> Result<Answer, NoMemory>
     ensures frame { IfOk result (CullsFrame good.now) }
     ensures has_text { IfOk result (λ answer. HasText answer.status) }
 {

@@ -8,7 +8,7 @@ ghost use Rattle.fg_answer.specs.Statuses.{HasText};
 use crate::answer::{Answer, program_refusal, refusal};
 use fg_base::{Limit, List, NoMemory};
 use fg_frame::FrameFault;
-use fg_subs::SubFault;
+use fg_subs::ProgramFault;
 use fg_words::Command;
 use std::alloc::Global;
 
@@ -51,6 +51,6 @@ pub fn over_input(alloc: Global, file: File) -> Result<Answer, NoMemory>
     let place = List::new(alloc);
     match file {
         File::Frame => refusal(alloc, &FrameFault::over_limit(Limit::Input, place)),
-        File::Submission => program_refusal(alloc, &SubFault::over_limit(Limit::Input, place)),
+        File::Submission => program_refusal(alloc, &ProgramFault::over_limit(Limit::Input, place)),
     }
 }

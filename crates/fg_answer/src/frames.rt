@@ -14,8 +14,8 @@ use crate::meaning::mean_frame;
 use crate::migrate::migrate_frame;
 use crate::place::place_frame;
 use fg_base::NoMemory;
-use fg_frame::GoodFrame;
-use fg_framefile::FrameReadEnd;
+use fg_frame::ValidFrame;
+use fg_framefile::FrameReadError;
 use fg_stages::valid_frame;
 use fg_words::FrameCommand;
 use std::alloc::Global;
@@ -31,12 +31,12 @@ pub fn answer_frame_file(
 {
     match valid_frame(alloc, bytes) {
         Ok(good) => answer_frame(alloc, asked, &good),
-        Err(FrameReadEnd::Refused(fault)) => refusal(alloc, &fault),
-        Err(FrameReadEnd::NoMemory) => Err(NoMemory),
+        Err(FrameReadError::Refused(fault)) => refusal(alloc, &fault),
+        Err(FrameReadError::NoMemory) => Err(NoMemory),
     }
 }
 
-fn answer_frame(alloc: Global, asked: FrameCommand, good: &GoodFrame) -> Result<Answer, NoMemory>
+fn answer_frame(alloc: Global, asked: FrameCommand, good: &ValidFrame) -> Result<Answer, NoMemory>
     ensures frame { IfOk result (AnswersFrame asked good.now) }
     ensures has_text { IfOk result (λ answer. HasText answer.status) }
 {

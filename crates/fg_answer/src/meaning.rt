@@ -3,18 +3,18 @@
 ghost use Rattle.std.specs.Prelude.{◌≡◌, ◌<◌, ◌++◌, IfOk, OnOk, length};
 ghost use Rattle.fg_frame.specs.Numbered.{numbered};
 ghost use Rattle.fg_answer.specs.Answers.{MeansFrame};
-ghost use Rattle.fg_answer.specs.Code.Stages.{bytes_in};
+ghost use Rattle.fg_answer.specs.Internal.Stages.{bytes_in};
 ghost use Rattle.fg_answer.specs.Statuses.{HasText};
 ghost use Rattle.fg_stages.specs.Exports.{exports_text};
 
 use crate::answer::{Answer, done};
 use fg_base::{List, NoMemory, Text};
-use fg_frame::GoodFrame;
+use fg_frame::ValidFrame;
 use fg_meaning::{Exports, exports_of};
 use fg_report::export_text;
 use std::alloc::Global;
 
-fn add_all(text: &mut Text, good: &GoodFrame, exports: &Exports) -> Result<(), NoMemory>
+fn add_all(text: &mut Text, good: &ValidFrame, exports: &Exports) -> Result<(), NoMemory>
     requires count { length exports.now ≡ length (numbered good.now).units }
     ensures { OnOk result (text.new ≡ text.old ++ exports_text good.now (bytes_in good.now exports.now)) }
 {
@@ -24,7 +24,7 @@ fn add_all(text: &mut Text, good: &GoodFrame, exports: &Exports) -> Result<(), N
     Ok(())
 }
 
-fn exports_text(alloc: Global, good: &GoodFrame, exports: &Exports) -> Result<Text, NoMemory>
+fn exports_text(alloc: Global, good: &ValidFrame, exports: &Exports) -> Result<Text, NoMemory>
     requires count { length exports.now ≡ length (numbered good.now).units }
     ensures { IfOk result (λ text. text ≡ exports_text good.now (bytes_in good.now exports.now)) }
 {
@@ -34,7 +34,7 @@ fn exports_text(alloc: Global, good: &GoodFrame, exports: &Exports) -> Result<Te
 }
 
 /// The answer to the command on a good frame.
-pub fn mean_frame(alloc: Global, good: &GoodFrame) -> Result<Answer, NoMemory>
+pub fn mean_frame(alloc: Global, good: &ValidFrame) -> Result<Answer, NoMemory>
     ensures frame { IfOk result (MeansFrame good.now) }
     ensures has_text { IfOk result (λ answer. HasText answer.status) }
 {

@@ -6,13 +6,13 @@ ghost use Rattle.fg_answer.specs.Statuses.{HasText};
 
 use crate::answer::{Answer, done};
 use fg_base::NoMemory;
-use fg_frame::GoodFrame;
+use fg_frame::ValidFrame;
 use fg_framefile::write_frame;
 use fg_lines::Lines;
 use std::alloc::Global;
 
 /// The answer to the command on a good frame.
-pub fn migrate_frame(alloc: Global, good: &GoodFrame) -> Result<Answer, NoMemory>
+pub fn migrate_frame(alloc: Global, good: &ValidFrame) -> Result<Answer, NoMemory>
     ensures frame { IfOk result (MigratesFrame good.now) }
     ensures has_text { IfOk result (λ answer. HasText answer.status) }
 {

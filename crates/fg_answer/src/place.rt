@@ -3,13 +3,13 @@
 ghost use Rattle.std.specs.Prelude.{IfOk};
 ghost use Rattle.fg_frame.specs.Numbered.{numbered};
 ghost use Rattle.fg_answer.specs.Answers.{PlacesFrame};
-ghost use Rattle.fg_answer.specs.Code.Stages.{AreGrouped, ArePlaced, ArePlaceLines};
+ghost use Rattle.fg_answer.specs.Internal.Stages.{AreGrouped, ArePlaced, ArePlaceLines};
 ghost use Rattle.fg_answer.specs.Statuses.{HasText};
 
 use crate::answer::{Answer, done};
 use crate::groups::kept_groups;
 use fg_base::{NoMemory, Text};
-use fg_frame::GoodFrame;
+use fg_frame::ValidFrame;
 use fg_groups::Groups;
 use fg_lifetimes::ordered;
 use fg_place::{Placement, place};
@@ -25,7 +25,7 @@ fn places_of(alloc: Global, groups: &Groups) -> Result<Placement, NoMemory>
 }
 
 #[tactic(auto, using(crate::proofs::PlaceLemmas::as_many, crate::proofs::PlaceLemmas::known_units))]
-fn place_lines(alloc: Global, good: &GoodFrame, groups: &Groups) -> Result<Text, NoMemory>
+fn place_lines(alloc: Global, good: &ValidFrame, groups: &Groups) -> Result<Text, NoMemory>
     requires { AreGrouped (numbered good.now) groups.now }
     ensures { IfOk result (ArePlaceLines good.now groups.now) }
 {
@@ -33,7 +33,7 @@ fn place_lines(alloc: Global, good: &GoodFrame, groups: &Groups) -> Result<Text,
     place_text(alloc, good, groups, &placement)
 }
 
-fn place_answer(alloc: Global, good: &GoodFrame, groups: &Groups) -> Result<Answer, NoMemory>
+fn place_answer(alloc: Global, good: &ValidFrame, groups: &Groups) -> Result<Answer, NoMemory>
     requires { AreGrouped (numbered good.now) groups.now }
     ensures frame { IfOk result (PlacesFrame good.now) }
     ensures has_text { IfOk result (λ answer. HasText answer.status) }
@@ -42,7 +42,7 @@ fn place_answer(alloc: Global, good: &GoodFrame, groups: &Groups) -> Result<Answ
 }
 
 /// The answer to the command on a good frame.
-pub fn place_frame(alloc: Global, good: &GoodFrame) -> Result<Answer, NoMemory>
+pub fn place_frame(alloc: Global, good: &ValidFrame) -> Result<Answer, NoMemory>
     ensures frame { IfOk result (PlacesFrame good.now) }
     ensures has_text { IfOk result (λ answer. HasText answer.status) }
 {

@@ -10,11 +10,11 @@ ghost use Rattle.fg_answer.specs.Plain.{Rejects, rejection};
 use crate::Status;
 use crate::answer::{Answer, done, program_refusal};
 use fg_base::NoMemory;
-use fg_checker::{CheckEnd, Checked, Hazard, check};
+use fg_checker::{CheckError, Checked, Hazard, check};
 use fg_report::{check_text, hazard_text};
 use fg_stages::valid_program;
-use fg_subfile::SubReadEnd;
-use fg_subs::Shaped;
+use fg_subfile::ProgramReadError;
+use fg_subs::ValidProgram;
 use fg_words::SubmissionCommand;
 use std::alloc::Global;
 
@@ -29,15 +29,15 @@ pub fn answer_program_file(
 {
     match valid_program(alloc, bytes) {
         Ok(program) => answer_program(alloc, asked, program),
-        Err(SubReadEnd::Refused(fault)) => program_refusal(alloc, &fault),
-        Err(SubReadEnd::NoMemory) => Err(NoMemory),
+        Err(ProgramReadError::Refused(fault)) => program_refusal(alloc, &fault),
+        Err(ProgramReadError::NoMemory) => Err(NoMemory),
     }
 }
 
 fn answer_program(
     alloc: Global,
     asked: SubmissionCommand,
-    program: Shaped,
+    program: ValidProgram,
 ) -> Result<Answer, NoMemory>
     ensures program { IfOk result (AnswersProgram asked program) }
     ensures has_text { IfOk result (λ answer. HasText answer.status) }
@@ -48,7 +48,7 @@ fn answer_program(
 }
 
 // Sound or not.
-fn check_program(alloc: Global, program: Shaped) -> Result<Answer, NoMemory>
+fn check_program(alloc: Global, program: ValidProgram) -> Result<Answer, NoMemory>
     ensures checked { IfOk result (AnswersProgram SubmissionCommand.Check program) }
     ensures has_text { IfOk result (λ answer. HasText answer.status) }
 {
@@ -60,15 +60,15 @@ fn check_program(alloc: Global, program: Shaped) -> Result<Answer, NoMemory>
 }
 
 /// The program, where it is sound, or else the answer to it.
-pub fn checked(alloc: Global, program: Shaped) -> Result<Checked, Result<Answer, NoMemory>>
+pub fn checked(alloc: Global, program: ValidProgram) -> Result<Checked, Result<Answer, NoMemory>>
     ensures ok { IfOk result (λ checked. (checked.program ≡ program) × IsSound program) }
     ensures err { IfErr result (λ end. IfOk end (Rejects program)) }
     ensures has_text { IfErr result (λ end. IfOk end (λ answer. HasText answer.status)) }
 {
     match check(alloc, program) {
         Ok(checked) => Ok(checked),
-        Err(CheckEnd::Refused(hazard, _)) => Err(rejection(alloc, &hazard)),
-        Err(CheckEnd::NoMemory) => Err(Err(NoMemory)),
+        Err(CheckError::Refused(hazard, _)) => Err(rejection(alloc, &hazard)),
+        Err(CheckError::NoMemory) => Err(Err(NoMemory)),
     }
 }
 

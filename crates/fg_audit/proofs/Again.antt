@@ -8,11 +8,11 @@ use Rattle.std.proofs.lemmas.Fmt.{decimal_digit, decimal_by_steps, decimal_is_Is
 use Rattle.std.proofs.lemmas.List.{length-append, take_at, drop_at}
 use Rattle.std.proofs.lemmas.Str.Parse.{digit_from_value}
 use Rattle.fg_audit.specs.Again.{HasNumbers, HaveNumbers}
-use Rattle.fg_audit.specs.Lines.{count_of, cut_at, cut_in, place_of, digits_after, event_of, is_digit, longer, number_of, range_of}
+use Rattle.fg_audit.specs.TraceLines.{count_of, cut_at, cut_in, place_of, digits_after, event_of, is_digit, longer, number_of, range_of}
 use Rattle.fg_audit.specs.Trace.{Told, after_event, counted_events, events_from, first_event, lined_events, told, trace_of}
-use Rattle.fg_audit.specs.declared.trace.TraceEnd.{TraceEnd}
-use Rattle.fg_audit.specs.declared.trace.TraceEnd.TheVariants.{Text}
-use Rattle.fg_audit.specs.declared.lines.Range.{Range}
+use Rattle.fg_audit.specs.declared.trace.TraceError.{TraceError}
+use Rattle.fg_audit.specs.declared.trace.TraceError.TheVariants.{Text}
+use Rattle.fg_audit.specs.declared.trace_lines.AgentRange.{AgentRange}
 use Rattle.fg_base.specs.declared.event.Event.{Event}
 use Rattle.fg_base.specs.declared.event.Event.TheVariants.{Begin, End, Sync, WriteBack, Fill, DropLine, Host}
 use Rattle.fg_report.specs.Hazards.{number_field, two_numbers}
@@ -118,9 +118,9 @@ event_again (Begin n) small = rw (cut_found 32 (codes "begin") (decimal n) ((ref
 event_again (End n) small = rw (cut_found 32 (codes "end") (decimal n) ((refl, (refl, (refl, tt))))) (node_told End n small)
 event_again (Sync n) small = rw (cut_found 32 (codes "sync") (decimal n) ((refl, (refl, (refl, (refl, tt)))))) (node_told Sync n small)
 event_again (Host n) small = rw (cut_found 32 (codes "host") (decimal n) ((refl, (refl, (refl, (refl, tt)))))) (node_told Host n small)
-event_again (WriteBack a m s l) (sa, sm, ss, sl) = rw (cut_found 32 (codes "writeback") (four a m s l) ((refl, (refl, (refl, (refl, (refl, (refl, (refl, (refl, (refl, tt))))))))))) (ap (option_map (λ (r : Range). WriteBack r.agent r.memory r.start r.len)) (range_again a m s l sa sm ss sl))
-event_again (Fill a m s l) (sa, sm, ss, sl) = rw (cut_found 32 (codes "fill") (four a m s l) ((refl, (refl, (refl, (refl, tt)))))) (ap (option_map (λ (r : Range). Fill r.agent r.memory r.start r.len)) (range_again a m s l sa sm ss sl))
-event_again (DropLine a m s l) (sa, sm, ss, sl) = rw (cut_found 32 (codes "drop") (four a m s l) ((refl, (refl, (refl, (refl, tt)))))) (ap (option_map (λ (r : Range). DropLine r.agent r.memory r.start r.len)) (range_again a m s l sa sm ss sl))
+event_again (WriteBack a m s l) (sa, sm, ss, sl) = rw (cut_found 32 (codes "writeback") (four a m s l) ((refl, (refl, (refl, (refl, (refl, (refl, (refl, (refl, (refl, tt))))))))))) (ap (option_map (λ (r : AgentRange). WriteBack r.agent r.memory r.start r.len)) (range_again a m s l sa sm ss sl))
+event_again (Fill a m s l) (sa, sm, ss, sl) = rw (cut_found 32 (codes "fill") (four a m s l) ((refl, (refl, (refl, (refl, tt)))))) (ap (option_map (λ (r : AgentRange). Fill r.agent r.memory r.start r.len)) (range_again a m s l sa sm ss sl))
+event_again (DropLine a m s l) (sa, sm, ss, sl) = rw (cut_found 32 (codes "drop") (four a m s l) ((refl, (refl, (refl, (refl, tt)))))) (ap (option_map (λ (r : AgentRange). DropLine r.agent r.memory r.start r.len)) (range_again a m s l sa sm ss sl))
 
 -- LINES
 
@@ -164,7 +164,7 @@ line_again event rest has =
 
 -- TRACES
 
-abbrev line_then : ℕ → ℕ → Option Told → Result (List Event) TraceEnd
+abbrev line_then : ℕ → ℕ → Option Told → Result (List Event) TraceError
 line_then n k line = elim line [ None ↦ Err (Text k) | Some told ↦ after_event told.event (events_from n (suc k) told.rest) ]
 
 all_again : (events : List Event) (k : ℕ) → HaveNumbers events → events_from (length events) k (flat_map event_line events) ≡ Ok events
@@ -187,9 +187,9 @@ counted_again n text le = rw (le-ltb 65536 n le) refl
 pub read_again : (events : List Event) → length events ≤ 65536 → HaveNumbers events → trace_of (trace_text events) ≡ Ok events
 read_again events few have =
     let n = length events in
-    let lines = flat_map event_line events in
-    ap trace_of (append_assoc (codes "events " ++ decimal n) (codes "\n") lines)
-    ∙ ap lined_events (cut_found 10 (codes "events " ++ decimal n) lines (first_free n (omega (arith, few))))
-    ∙ ap (λ count. counted_events count lines) (first_line n (omega (arith, few)))
-    ∙ counted_again n lines few
+    let trace_lines = flat_map event_line events in
+    ap trace_of (append_assoc (codes "events " ++ decimal n) (codes "\n") trace_lines)
+    ∙ ap lined_events (cut_found 10 (codes "events " ++ decimal n) trace_lines (first_free n (omega (arith, few))))
+    ∙ ap (λ count. counted_events count trace_lines) (first_line n (omega (arith, few)))
+    ∙ counted_again n trace_lines few
     ∙ all_again events 1 have

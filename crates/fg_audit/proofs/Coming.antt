@@ -4,7 +4,7 @@ use Rattle.std.specs.Option.{option_map_or}
 use Rattle.std.proofs.Math.Seq.{take-length, drop-length}
 use Rattle.std.proofs.lemmas.List.{get_or_default}
 use Rattle.std.proofs.lemmas.Option.{slice_get-get_or}
-use Rattle.fg_audit.specs.Code.Following.{at_place, came, goes, Follows}
+use Rattle.fg_audit.specs.Internal.Following.{at_place, came, goes, Follows}
 use Rattle.fg_audit.specs.Runs.{IsFirstStray}
 use Rattle.fg_audit.specs.Verdicts.{ran}
 use Rattle.fg_base.specs.declared.event.Event.{Event}

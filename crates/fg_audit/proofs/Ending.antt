@@ -4,7 +4,7 @@ use Rattle.std.specs.Option.{option_map_or}
 use Rattle.std.proofs.lemmas.Bool.{and_parts}
 use Rattle.std.proofs.lemmas.List.Folds.{list_any-append}
 use Rattle.std.proofs.lemmas.Option.{slice_get-get_or}
-use Rattle.fg_audit.specs.Code.Following.{ends, is_ended}
+use Rattle.fg_audit.specs.Internal.Following.{ends, is_ended}
 use Rattle.fg_audit.specs.Verdicts.{ran}
 use Rattle.fg_base.specs.declared.event.Event.{Event}
 use Rattle.fg_base.specs.declared.event.Event.TheVariants.{Begin, End, Sync, WriteBack, Fill, DropLine, Host}

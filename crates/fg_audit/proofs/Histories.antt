@@ -16,7 +16,7 @@ use Rattle.fg_device.proofs.Facts.{memory_small}
 use Rattle.fg_device.proofs.Keeping.{begun_is, ready_inside, ready_idle}
 use Rattle.fg_device.proofs.Lefts.{first_events, left_put}
 use Rattle.fg_device.proofs.Moved.{IsMove, is_move}
-use Rattle.fg_device.specs.Code.Rooms.{events_left, left_of}
+use Rattle.fg_device.specs.Internal.Rooms.{events_left, left_of}
 use Rattle.fg_hb.specs.Edges.{is_sync, is_host}
 use Rattle.fg_hb.specs.Nodes.{entry_node}
 use Rattle.fg_steps.proofs.Control.{put_other, still_begun}
@@ -35,7 +35,7 @@ use Rattle.fg_subs.specs.Entries.{entries_of}
 use Rattle.fg_subs.specs.FirstFault.{first_broken}
 use Rattle.fg_subs.specs.Limits.{memory_bytes}
 use Rattle.fg_subs.specs.Obeys.{IsSmall}
-use Rattle.fg_subs.specs.Paths.{told}
+use Rattle.fg_subs.specs.Paths.{fault_of}
 use Rattle.fg_subs.specs.declared.program.Memory.TheVariants.{Plain}
 use Rattle.fg_subs.specs.declared.program.Program.{Program}
 use Rattle.fg_view.specs.Views.{view_of}
@@ -172,5 +172,5 @@ module _ (program : Program) (fill : ℕ) (events : List Event) (came : AreEnabl
 
 pub histories_are_read : HistoriesAreRead
 histories_are_read d faultless came moves =
-    let small = is_small d.program (map_none told (first_broken d.program) faultless) in
+    let small = is_small d.program (map_none fault_of (first_broken d.program) faultless) in
     read_again d.history (short d.program d.fill d.history came small moves) (numbers d.program d.fill d.history came small)

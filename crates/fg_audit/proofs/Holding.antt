@@ -5,7 +5,7 @@ use Rattle.std.proofs.lemmas.Bool.{cases_eq, false≢true, eq-eqb, eqb-true, ltb
 use Rattle.std.proofs.lemmas.List.Quantifiers.{position-Some}
 use Rattle.std.proofs.lemmas.List.Sums.{sum_by-append, sum_by-cons, sum_by-swap_remove}
 use Rattle.fg_base.proofs.Absence.{position-none}
-use Rattle.fg_audit.specs.Code.Following.{one_if, held_of, Holds, Lands}
+use Rattle.fg_audit.specs.Internal.Following.{one_if, held_of, Holds, Lands}
 use Rattle.fg_device.specs.declared.job.Command.{Command}
 use Rattle.fg_steps.specs.Devices.{Device, state_of, view_in}
 use Rattle.fg_steps.specs.States.{is_begun, put}

@@ -2,7 +2,7 @@
 use Rattle.std.proofs.Common.{◌≡◌, ℕ, ◌<◌, ◌==◌, ◌&&◌, List, [], ◌∷◌, ◌++◌, length, slice_index_or, Bool, true, false, Some, if◌then◌else◌, refl, sym, ap, ◌∙◌, subst, ⊎_elim, arith}
 use Rattle.std.specs.List.{position, swap_remove}
 use Rattle.std.proofs.lemmas.Bool.{and_parts, cases_Bool, false≢true}
-use Rattle.fg_audit.specs.Code.Following.{came, goes, held_of, Follows, Holds, Lands, Quiet}
+use Rattle.fg_audit.specs.Internal.Following.{came, goes, held_of, Follows, Holds, Lands, Quiet}
 use Rattle.fg_audit.proofs.Holding.{ended_less, found_own, found_there, held_more, holds_less, holds_more, idle_less, one_same}
 use Rattle.fg_base.specs.declared.event.Event.{Event}
 use Rattle.fg_base.specs.declared.event.Event.TheVariants.{Begin, End, Sync, Host}

@@ -2,7 +2,7 @@
 use Rattle.std.proofs.Common.{◌≡◌, ◌⊎◌, inl, inr, ◌↔◌, ℕ, ◌<◌, List, length, None, IsTrue, refl, sym, ap, ◌∙◌, subst, arith}
 use Rattle.std.proofs.Math.Seq.{take-length}
 use Rattle.std.proofs.lemmas.Bool.{cases_order, false≢true}
-use Rattle.fg_audit.specs.Code.Following.{is_ended, AreEnded, IsLeastUnended}
+use Rattle.fg_audit.specs.Internal.Following.{is_ended, AreEnded, IsLeastUnended}
 use Rattle.fg_audit.specs.Runs.{IsRun, IsFirstStray, IsLeastUndone}
 use Rattle.fg_audit.specs.Verdicts.{is_run, ran, AllReadApart, IfRun, IsRunOn, Says}
 use Rattle.fg_audit.specs.declared.verdict.Verdict.{Verdict}

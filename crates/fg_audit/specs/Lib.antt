@@ -1,6 +1,6 @@
 pub mod Again
-pub mod Code
-pub mod Lines
+pub mod Internal
+pub mod TraceLines
 pub mod Recordings
 pub mod Runs
 pub mod Trace

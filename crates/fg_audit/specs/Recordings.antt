@@ -1,7 +1,7 @@
 -- A submission in one line and a trace behind it.
 use Rattle.std.specs.Prelude.{ℕ, List, []}
 use Rattle.std.specs.Option.{option_map_or}
-use Rattle.fg_audit.specs.Lines.{Cut, cut_at}
+use Rattle.fg_audit.specs.TraceLines.{Cut, cut_at}
 
 -- the bytes before the first line feed, or all where there is none
 abbrev pub submission_in : List ℕ → List ℕ

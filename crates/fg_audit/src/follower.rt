@@ -2,7 +2,7 @@
 
 ghost use Rattle.std.specs.Prelude.{◌≡◌, ◌==◌, ◌<◌, true, IfOk};
 ghost use Rattle.std.specs.List.{position};
-ghost use Rattle.fg_audit.specs.Code.Following.{is_quiet, Follows};
+ghost use Rattle.fg_audit.specs.Internal.Following.{is_quiet, Follows};
 ghost use Rattle.fg_base.specs.declared.event.Event.TheVariants as events;
 ghost use Rattle.fg_steps.specs.Devices.{fresh, IsComplete};
 ghost use Rattle.fg_steps.specs.Histories.{is_move};
@@ -25,7 +25,7 @@ pub(crate) struct Follower {
 }
 
 impl Model for Follower {
-    ghost use Rattle.fg_audit.specs.Code.Followers.{device_in, HoldsBegun};
+    ghost use Rattle.fg_audit.specs.Internal.Followers.{device_in, HoldsBegun};
     ghost use Rattle.fg_steps.specs.Devices.{Device};
 
     ghost Value = { Device };

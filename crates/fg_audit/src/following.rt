@@ -1,7 +1,7 @@
 //! A trace is followed on a device.
 
 ghost use Rattle.std.specs.Prelude.{◌≡◌, ◌≤◌, ◌<◌, ◌^◌, length, IfOk, IfSome, IfNone};
-ghost use Rattle.fg_audit.specs.Code.Following.{at_place};
+ghost use Rattle.fg_audit.specs.Internal.Following.{at_place};
 ghost use Rattle.fg_audit.specs.Runs.{IsFirstStray};
 ghost use Rattle.fg_steps.specs.Coming.{AreEnabled};
 ghost use Rattle.fg_steps.specs.Histories.{moves_in};

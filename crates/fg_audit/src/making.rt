@@ -1,7 +1,7 @@
 //! Events that begin no command, made on a device where they are enabled.
 
 ghost use Rattle.std.specs.Prelude.{◌≡◌, ◌<◌, true};
-ghost use Rattle.fg_audit.specs.Code.Following.{is_quiet, Follows, Holds, Lands, Quiet};
+ghost use Rattle.fg_audit.specs.Internal.Following.{is_quiet, Follows, Holds, Lands, Quiet};
 ghost use Rattle.fg_base.specs.declared.event.Event.TheVariants as events;
 ghost use Rattle.fg_steps.specs.Devices.{IsComplete};
 ghost use Rattle.fg_steps.specs.Histories.{is_move};

@@ -1,11 +1,11 @@
 //! Where the cache moves of a trace begin and end.
 
-use crate::lines::Range;
+use crate::trace_lines::AgentRange;
 use fg_base::{Event, NoMemory};
 use std::alloc::Global;
 
 // The range of a cache move.
-fn moved_range(event: &Event) -> Option<Range> {
+fn moved_range(event: &Event) -> Option<AgentRange> {
     match *event {
         Event::WriteBack {
             agent,
@@ -24,7 +24,7 @@ fn moved_range(event: &Event) -> Option<Range> {
             memory,
             start,
             len,
-        } => Some(Range {
+        } => Some(AgentRange {
             agent,
             memory,
             start,

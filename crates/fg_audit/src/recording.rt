@@ -3,7 +3,7 @@
 ghost use Rattle.std.specs.Prelude.{◌≡◌};
 ghost use Rattle.fg_audit.specs.Recordings.{submission_in, trace_in};
 
-use crate::lines::cut_at;
+use crate::trace_lines::cut_at;
 
 /// A submission, and a trace that may be a run of it.
 #[derive(Clone, Copy)]

@@ -2,7 +2,7 @@
 
 ghost use Rattle.std.specs.Prelude.{◌≡◌, IfOk, IfSome, IfNone, false};
 ghost use Rattle.std.specs.List.{position};
-ghost use Rattle.fg_audit.specs.Code.Following.{ended_by, AreEnded, AreMarked, IsLeastUnended, Marks};
+ghost use Rattle.fg_audit.specs.Internal.Following.{ended_by, AreEnded, AreMarked, IsLeastUnended, Marks};
 
 use fg_base::{Event, NoMemory};
 use std::alloc::Global;

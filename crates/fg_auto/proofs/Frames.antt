@@ -18,7 +18,7 @@ use Rattle.fg_frame.proofs.Small.{limits_none, names_known, repeated_none, unkno
 use Rattle.fg_frame.proofs.Sufficient.{no_fault, both_none}
 use Rattle.fg_frame.specs.Clashes.{first_clash}
 use Rattle.fg_frame.specs.FirstFault.{first_fault, name_broken}
-use Rattle.fg_frame.specs.Good.{IsGood}
+use Rattle.fg_frame.specs.Valid.{IsValid}
 use Rattle.fg_frame.specs.Limits.{exported, layers_allowed, limit_broken, op_count, over, rects_over, size_broken}
 use Rattle.fg_frame.specs.Numbered.{numbered, numbered_pass}
 use Rattle.fg_base.specs.Rooms.{first_over, room_after}
@@ -28,8 +28,8 @@ use Rattle.fg_frame.specs.Unknowns.{has_queue, is_known, queue_at, unknown, unkn
 use Rattle.fg_frame.specs.declared.frame.Frame.{Frame}
 use Rattle.fg_frame.specs.declared.frame.Pass.{Pass}
 use Rattle.fg_frame.specs.declared.frame.QueueDecl.{QueueDecl}
-use Rattle.fg_frame.specs.declared.place.Place.{Place}
-use Rattle.fg_frame.specs.declared.place.Place.TheVariants as at
+use Rattle.fg_frame.specs.declared.location.Location.{Location}
+use Rattle.fg_frame.specs.declared.location.Location.TheVariants as at
 use Rattle.fg_frame.specs.declared.rule.Rule.{Rule}
 use Rattle.fg_frame.specs.declared.rule.Rule.TheVariants as rules
 use Rattle.fg_auto.specs.Queues.{AllServe, on_queues, requeued}
@@ -72,7 +72,7 @@ module _ (frame : Frame) (all : List Pass) where
   abbrev other : Frame
   other = record frame { passes = all }
 
-  abbrev rest_unknown : ℕ → Pass → Option Place
+  abbrev rest_unknown : ℕ → Pass → Option Location
   rest_unknown p pass = option_or (option_map (λ k. at.Read p k) (position (λ spot. not (is_known n spot)) pass.reads)) (option_or (option_map (λ k. at.Write p k) (position (λ w. not (is_known n w.what)) pass.writes)) (first_in (unknown_operand n p) 0 pass.ops))
 
   same_known : (names : List (List ℕ)) (passes : List Pass) (p : ℕ) → AllByRecursion (λ name. has_queue frame name ≡ true) names → first_in (unknown_in frame n) p passes ≡ None → first_in (unknown_in other n) p (passes_on names passes) ≡ None
@@ -101,7 +101,7 @@ over_names name (d ∷ queues) = by_test (bytes_eq d.name name) refl (over_names
     by_test false e rest = position_past (λ x. bytes_eq x.name name) d queues e ∙ ap (option_map suc) rest ∙ sym (position_past (λ x. bytes_eq x name) d.name (map (λ x. x.name) queues) e)
 
 module _ (frame : Frame) (named : name_broken frame ≡ None) where
-  abbrev repeats_by : Option Place → Option Place
+  abbrev repeats_by : Option Location → Option Location
   repeats_by passes = option_or (option_map (λ i. at.Queue i) (first_repeat (map (λ q. q.name) frame.queues))) (option_or (option_map (λ i. at.Resource i) (first_repeat (map (λ r. r.name) frame.resources))) (option_or passes (option_map (λ i. at.Export i) (first_clash frame.exports))))
 
   queues_differ : first_repeat (map (λ q. q.name) frame.queues) ≡ None
@@ -124,7 +124,7 @@ module _ (frame : Frame) (named : name_broken frame ≡ None) where
     others = passes_on names frame.passes
 
     -- the limits, by what is counted over passes
-    abbrev limits_by : ℕ → Option ℕ → Option Place → Option (Broken Rule Place)
+    abbrev limits_by : ℕ → Option ℕ → Option Location → Option (Broken Rule Location)
     limits_by count ops rects = option_or (option_or (option_map (λ i. over limits.Layers (at.Resource i)) (position (λ r. not (layers_allowed r)) frame.resources)) (option_or (if is_between 1 max_queues (length frame.queues) then None else Some (over limits.Queues at.Queues)) (option_or (option_map (λ i. over limits.Resources at.Resources) (first_over (λ r. r.layers) max_units 0 frame.resources)) (option_or (if nat_le count max_passes then None else Some (over limits.Passes at.Passes)) (option_or (option_map (λ p. over limits.Ops (at.Ops p)) ops) (option_or (option_map (over limits.Rects) rects) (option_map (λ i. over limits.Exports at.Exports) (first_over (exported frame) max_exports 0 frame.exports)))))))) (size_broken frame.resources)
 
     same_limits : limit_broken (frame_on qs frame) ≡ limit_broken frame
@@ -161,6 +161,6 @@ pub numbered_on : (frame : Frame) (qs : List ℕ) → first_fault frame ≡ None
 numbered_on frame qs none below = on_others frame (names_known frame none) qs below
 
 -- the frame breaks no rule where each queue serves its pass
-pub frame_still_good : (frame : Frame) (qs : List ℕ) → first_fault frame ≡ None → IsGood (numbered frame) → AreQueues frame qs → AllServe (numbered frame).queues qs (numbered frame).passes → first_fault (frame_on qs frame) ≡ None
+pub frame_still_good : (frame : Frame) (qs : List ℕ) → first_fault frame ≡ None → IsValid (numbered frame) → AreQueues frame qs → AllServe (numbered frame).queues qs (numbered frame).passes → first_fault (frame_on qs frame) ≡ None
 frame_still_good frame qs none G below serve =
-    no_fault (frame_on qs frame) (still_named frame (names_known frame none) qs below) (subst IsGood (sym (numbered_on frame qs none below)) (good_on_queues (numbered frame) qs serve G))
+    no_fault (frame_on qs frame) (still_named frame (names_known frame none) qs below) (subst IsValid (sym (numbered_on frame qs none below)) (good_on_queues (numbered frame) qs serve G))

@@ -5,14 +5,14 @@ use Rattle.std.specs.Option.{option_map_or}
 use Rattle.std.proofs.lemmas.Bool.{ne_eqb}
 use Rattle.std.proofs.lemmas.List.{length-append, length-map, length-replicate, map-append}
 use Rattle.std.proofs.lemmas.List.Elements.{All-head, All-tail, All-weaker}
-use Rattle.fg_auto.specs.Code.Spans.{joined, moved}
-use Rattle.fg_auto.specs.Code.Work.{export_owner, kept_owners, owners, queue_by, with_queues}
+use Rattle.fg_auto.specs.Internal.Spans.{joined, moved}
+use Rattle.fg_auto.specs.Internal.Work.{export_owner, kept_owners, owners, queue_by, with_queues}
 use Rattle.fg_auto.specs.Queues.{on_queues, requeued}
 use Rattle.fg_auto.proofs.Requeued.{last_versions}
 use Rattle.fg_base.specs.declared.op.Op.{Op}
 use Rattle.fg_base.specs.declared.shape.Shape.{Shape}
 use Rattle.fg_base.specs.declared.touch.Touch.{Touch}
-use Rattle.fg_frame.specs.Good.{shapes_in}
+use Rattle.fg_frame.specs.Valid.{shapes_in}
 use Rattle.fg_frame.specs.Numbered.{NumberedFrame}
 use Rattle.fg_frame.specs.declared.numbered.NumberedPass.{NumberedPass}
 use Rattle.fg_base.specs.Shapes.{shape_at}

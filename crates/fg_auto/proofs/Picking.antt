@@ -7,7 +7,7 @@ use Rattle.std.proofs.lemmas.List.{get_or-map, get_or-set_other, get_or-set_same
 use Rattle.std.proofs.lemmas.List.Elements.{All-head, All-tail, recursion_from_All}
 use Rattle.std.proofs.lemmas.Option.{slice_get-get_or}
 use Rattle.fg_auto.specs.Choice.{Chosen, Costs, DiffersInQueues, IsChoice, IsPick}
-use Rattle.fg_auto.specs.Code.Chosen.{IsFound}
+use Rattle.fg_auto.specs.Internal.Chosen.{IsFound}
 use Rattle.fg_auto.specs.Cost.{IsFrameCost}
 use Rattle.fg_auto.specs.Queues.{AllServe, on_queues, queues_of, requeued, serves}
 use Rattle.fg_auto.specs.Renamed.{AreQueues, frame_on}
@@ -20,7 +20,7 @@ use Rattle.fg_base.specs.declared.shape.Family.TheVariants.{Graphics}
 use Rattle.fg_frame.proofs.Necessary.{good}
 use Rattle.fg_frame.proofs.Small.{none_broken}
 use Rattle.fg_frame.specs.FirstFault.{first_fault}
-use Rattle.fg_frame.specs.Good.{IsGood}
+use Rattle.fg_frame.specs.Valid.{IsValid}
 use Rattle.fg_frame.specs.Numbered.{NumberedFrame, numbered, numbered_pass}
 use Rattle.fg_frame.specs.Units.{numbering}
 use Rattle.fg_frame.specs.declared.frame.Frame.{Frame}
@@ -45,7 +45,7 @@ all_run family (op ∷ ops) all = and_from (runs op family) (list_all (λ o. run
 serves_by : (queues : List Family) (pass : NumberedPass) (q : ℕ) (family : Family) → slice_get queues q ≡ Some family → list_all (λ op. runs op family) pass.ops ≡ true → serves queues pass q ≡ true
 serves_by queues pass q family at all = ap (λ o. option_map_or (λ f. list_all (λ op. runs op f) pass.ops) o false) at ∙ all
 
-pub given_serves : (frame : NumberedFrame) → IsGood frame → (k : ℕ) → k < length frame.passes → serves frame.queues (pass_at frame k) (get_or (queues_of frame) k 0) ≡ true
+pub given_serves : (frame : NumberedFrame) → IsValid frame → (k : ℕ) → k < length frame.passes → serves frame.queues (pass_at frame k) (get_or (queues_of frame) k 0) ≡ true
 given_serves frame G k lt =
     let pass = pass_at frame k in
     let inside : pass.queue < length frame.queues = (G.within k no_pass lt).queue in
@@ -54,7 +54,7 @@ given_serves frame G k lt =
     let all : list_all (λ op. runs op family) pass.ops ≡ true = all_run family pass.ops (λ j d less. ((G.passes_good k no_pass lt).ops_good j d less).on_queue family at) in
     subst (λ q. serves frame.queues pass q ≡ true) (sym (get_or-map (λ p. p.queue) frame.passes k no_pass 0 lt)) (serves_by frame.queues pass pass.queue family at all)
 
-pub given_below : (frame : NumberedFrame) → IsGood frame → All (λ q. q < length frame.queues) (queues_of frame)
+pub given_below : (frame : NumberedFrame) → IsValid frame → All (λ q. q < length frame.queues) (queues_of frame)
 given_below frame G k d lt =
     let less : k < length frame.passes = subst (λ n. k < n) (length-map frame.passes (λ p. p.queue)) lt in
     subst (λ q. q < length frame.queues) (sym (get_or-map (λ p. p.queue) frame.passes k no_pass d less)) (G.within k no_pass less).queue
@@ -62,10 +62,10 @@ given_below frame G k d lt =
 pub given_count : (frame : NumberedFrame) (queues : List ℕ) → queues ≡ queues_of frame → length queues ≡ length frame.passes
 given_count frame queues is = ap length is ∙ length-map frame.passes (λ p. p.queue)
 
-pub given_all : (frame : NumberedFrame) (queues : List ℕ) → IsGood frame → queues ≡ queues_of frame → All (λ q. q < length frame.queues) queues
+pub given_all : (frame : NumberedFrame) (queues : List ℕ) → IsValid frame → queues ≡ queues_of frame → All (λ q. q < length frame.queues) queues
 given_all frame queues G is = subst (All (λ q. q < length frame.queues)) (sym is) (given_below frame G)
 
-pub found_first : (frame : NumberedFrame) (queues : List ℕ) (given : ℕ) → IsGood frame → queues ≡ queues_of frame → IsFrameCost (on_queues queues frame) given → IsFound frame 0 given queues given
+pub found_first : (frame : NumberedFrame) (queues : List ℕ) (given : ℕ) → IsValid frame → queues ≡ queues_of frame → IsFrameCost (on_queues queues frame) given → IsFound frame 0 given queues given
 found_first frame queues given G is C = record {
   chosen = subst (Chosen frame 0) (sym is) Chosen.given;
   count = ap length is ∙ length-map frame.passes (λ p. p.queue);

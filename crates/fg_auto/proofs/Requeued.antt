@@ -9,7 +9,7 @@ use Rattle.fg_base.specs.Runs.{runs}
 use Rattle.fg_base.specs.declared.op.Op.{Op}
 use Rattle.fg_base.specs.declared.shape.Family.{Family}
 use Rattle.fg_base.specs.declared.shape.Shape.{Shape}
-use Rattle.fg_frame.specs.Good.{IsGood, IsGoodPass, has_contents, is_import, renews, shapes_in}
+use Rattle.fg_frame.specs.Valid.{IsValid, IsValidPass, has_contents, is_import, renews, shapes_in}
 use Rattle.fg_frame.specs.Numbered.{IsWithin, NumberedFrame}
 use Rattle.fg_frame.specs.declared.numbered.NumberedPass.{NumberedPass}
 use Rattle.fg_meaning.specs.Meaning.{after_ops, after_passes, first_bytes, meaning, stores_to}
@@ -149,7 +149,7 @@ module _ (frame : NumberedFrame) (qs : List ℕ) (before others : List NumberedP
   there : (x : ℕ) → has_contents frame.units before x ≡ true → has_contents frame.units others x ≡ true
   there x h = ap (λ b. is_import frame.units x || b) (same x) ∙ h
 
-  good_pass : (pass : NumberedPass) (q : ℕ) → serves frame.queues pass q ≡ true → IsGoodPass frame before pass → IsGoodPass (on_queues qs frame) others (record pass { queue = q })
+  good_pass : (pass : NumberedPass) (q : ℕ) → serves frame.queues pass q ≡ true → IsValidPass frame before pass → IsValidPass (on_queues qs frame) others (record pass { queue = q })
   good_pass pass q e G = record {
     reads_there = λ k d lt. there (get_or pass.reads k d) (G.reads_there k d lt);
     changes_there = λ k d lt. λ old. there (get_or pass.writes k d).what (G.changes_there k d lt old);
@@ -164,7 +164,7 @@ module _ (frame : NumberedFrame) (qs : List ℕ) (before others : List NumberedP
     };
   }
 
-  same_pass : (pass : NumberedPass) → IsGoodPass frame before pass → IsGoodPass (on_queues qs frame) others pass
+  same_pass : (pass : NumberedPass) → IsValidPass frame before pass → IsValidPass (on_queues qs frame) others pass
   same_pass pass G = record {
     reads_there = λ k d lt. there (get_or pass.reads k d) (G.reads_there k d lt);
     changes_there = λ k d lt. λ old. there (get_or pass.writes k d).what (G.changes_there k d lt old);
@@ -187,7 +187,7 @@ within_all queues units (q ∷ qs) (pass ∷ passes) serve all =
     All-cons (IsWithin (length queues) units) (record pass { queue = q }) (requeued qs passes) (record { queue = (served queues pass q serve.0).0; reads = here.reads; writes = here.writes; ops = here.ops }) (within_all queues units qs passes serve.1 (All-tail (IsWithin (length queues) units) pass passes all))
 
 -- passes on queues that serve them are good where they were
-pub good_on_queues : (frame : NumberedFrame) (qs : List ℕ) → AllServe frame.queues qs frame.passes → IsGood frame → IsGood (on_queues qs frame)
+pub good_on_queues : (frame : NumberedFrame) (qs : List ℕ) → AllServe frame.queues qs frame.passes → IsValid frame → IsValid (on_queues qs frame)
 good_on_queues frame qs serve G = record {
   some_queue = G.some_queue;
   few_queues = G.few_queues;
@@ -206,7 +206,7 @@ good_on_queues frame qs serve G = record {
       let same : (x : ℕ) → list_any (renews x) (take p (requeued qs frame.passes)) ≡ list_any (renews x) (take p frame.passes) = λ x. any_before (renews x) (λ pass q. refl) qs frame.passes p in
       let before = take p frame.passes in
       let others = take p (requeued qs frame.passes) in
-      each_requeued frame.queues (λ old new. IsGoodPass frame before old → IsGoodPass (on_queues qs frame) others new) (same_pass frame qs before others same) (good_pass frame qs before others same) qs frame.passes serve p d few (G.passes_good p d few);
+      each_requeued frame.queues (λ old new. IsValidPass frame before old → IsValidPass (on_queues qs frame) others new) (same_pass frame qs before others same) (good_pass frame qs before others same) qs frame.passes serve p d few (G.passes_good p d few);
   exports_within = G.exports_within;
   exports_there = λ k d lt. ap (λ b. is_import frame.units (get_or frame.exports k d) || b) (same_any (renews (get_or frame.exports k d)) (λ pass q. refl) qs frame.passes) ∙ G.exports_there k d lt;
   exports_once = G.exports_once;

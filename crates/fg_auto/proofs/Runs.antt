@@ -6,11 +6,11 @@ use Rattle.std.proofs.lemmas.List.Folds.{list_any-append}
 use Rattle.std.proofs.lemmas.Option.{slice_get-get_or}
 use Rattle.fg_base.proofs.Booleans.{or_assoc, or_false}
 use Rattle.fg_base.proofs.Lists.{range_more}
-use Rattle.fg_auto.specs.Code.Spans.{is_by, span_of, use_at}
+use Rattle.fg_auto.specs.Internal.Spans.{is_by, span_of, use_at}
 use Rattle.fg_auto.specs.declared.spans.Span.{Span}
 use Rattle.fg_auto.proofs.Linked.{linked, linked_in, meets}
 use Rattle.fg_groups.proofs.Continued.{last_got, runs_more}
-use Rattle.fg_groups.specs.Code.Grown.{added, joins_last}
+use Rattle.fg_groups.specs.Internal.Grown.{added, joins_last}
 use Rattle.fg_groups.specs.Groups.{runs}
 use Rattle.fg_groups.specs.Uses.{no_use}
 use Rattle.fg_groups.specs.declared.unit_use.Use.{Use}

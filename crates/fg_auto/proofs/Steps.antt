@@ -5,9 +5,9 @@ use Rattle.std.specs.Option.{option_map_or}
 use Rattle.std.proofs.lemmas.Bool.{and_parts, cases_Bool, ltb-true}
 use Rattle.std.proofs.lemmas.List.{get_or_default, length-map, length-take}
 use Rattle.std.proofs.lemmas.List.FromFn.{get_or-map-range_with_len, get_or-range_with_len, length-range_with_len}
-use Rattle.fg_auto.specs.Code.Spans.{AreWithin, is_by, joined, moved, needs_at, no_span, span_at, span_of, spans_of, steps, use_at}
-use Rattle.fg_auto.specs.Code.Sweep.{GoesForward}
-use Rattle.fg_auto.specs.Code.Work.{owners, queue_by}
+use Rattle.fg_auto.specs.Internal.Spans.{AreWithin, is_by, joined, moved, needs_at, no_span, span_at, span_of, spans_of, steps, use_at}
+use Rattle.fg_auto.specs.Internal.Sweep.{GoesForward}
+use Rattle.fg_auto.specs.Internal.Work.{owners, queue_by}
 use Rattle.fg_auto.specs.Cost.{IsCost, IsFrameCost, IsPath, command_cost, costs}
 use Rattle.fg_auto.specs.Queues.{on_queues}
 use Rattle.fg_auto.specs.declared.spans.Span.{Span}

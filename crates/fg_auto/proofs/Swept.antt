@@ -5,9 +5,9 @@ use Rattle.std.proofs.lemmas.Bool.{cases_lt}
 use Rattle.std.proofs.lemmas.List.{get_or_past, length-map}
 use Rattle.std.proofs.lemmas.List.Elements.{All-map}
 use Rattle.std.proofs.lemmas.List.FromFn.{length-range_with_len}
-use Rattle.fg_auto.specs.Code.Spans.{AreWithin, joined, span_of, spans_of, steps}
-use Rattle.fg_auto.specs.Code.Sweep.{GoesForward}
-use Rattle.fg_auto.specs.Code.Work.{IsOf, IsWork, owners, queue_by}
+use Rattle.fg_auto.specs.Internal.Spans.{AreWithin, joined, span_of, spans_of, steps}
+use Rattle.fg_auto.specs.Internal.Sweep.{GoesForward}
+use Rattle.fg_auto.specs.Internal.Work.{IsOf, IsWork, owners, queue_by}
 use Rattle.fg_auto.specs.Cost.{IsCost, IsFrameCost, costs}
 use Rattle.fg_auto.specs.Queues.{on_queues}
 use Rattle.fg_auto.specs.declared.spans.Span.{Span}

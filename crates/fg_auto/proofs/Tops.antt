@@ -5,9 +5,9 @@ use Rattle.std.proofs.lemmas.Bool.{cases_lt, lt-ltb}
 use Rattle.std.proofs.lemmas.List.{get_or_default, length-map, take_all}
 use Rattle.std.proofs.lemmas.List.FromFn.{get_or-map-range_with_len, get_or-range_with_len, length-range_with_len}
 use Rattle.std.proofs.lemmas.List.Elements.{All-filter}
-use Rattle.fg_auto.specs.Code.Spans.{AreWithin, is_by, no_span, precedes, span_at, steps, use_at}
-use Rattle.fg_auto.specs.Code.Sweep.{IsTop}
-use Rattle.fg_auto.specs.Code.Work.{places}
+use Rattle.fg_auto.specs.Internal.Spans.{AreWithin, is_by, no_span, precedes, span_at, steps, use_at}
+use Rattle.fg_auto.specs.Internal.Sweep.{IsTop}
+use Rattle.fg_auto.specs.Internal.Work.{places}
 use Rattle.fg_auto.specs.Cost.{cost_at}
 use Rattle.fg_auto.specs.declared.spans.Span.{Span}
 use Rattle.fg_auto.proofs.Totals.{top_both, top_more, top_none, top_one, top_same}

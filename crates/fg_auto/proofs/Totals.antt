@@ -4,7 +4,7 @@ use Rattle.std.specs.List.{list_any}
 use Rattle.std.proofs.lemmas.Bool.{cases_Bool, cases_lt}
 use Rattle.std.proofs.lemmas.List.{get_or-replicate, get_or-set_other, get_or-set_same, get_or_append_left, get_or_past, length-append, length-replicate, length-set, get_or_push}
 use Rattle.std.proofs.lemmas.List.Folds.{list_any_more}
-use Rattle.fg_auto.specs.Code.Sweep.{AreOn, AreSums, EndsAt, GoesForward, IsTop}
+use Rattle.fg_auto.specs.Internal.Sweep.{AreOn, AreSums, EndsAt, GoesForward, IsTop}
 use Rattle.fg_auto.specs.Cost.{AreBelow, IsCost, IsPath, cost_at, sum_of}
 
 below_or_at : (k i : ℕ) → k < i + 1 → (k < i) ⊎ (k ≡ i)

@@ -5,7 +5,7 @@ use Rattle.std.specs.List.{All}
 use Rattle.std.proofs.lemmas.List.{ext_get_or, length-set, set-get_or}
 use Rattle.std.proofs.lemmas.List.Elements.{All-set}
 use Rattle.fg_auto.specs.Choice.{Costs, IsPick}
-use Rattle.fg_auto.specs.Code.Best.{IsBest, IsBestFor}
+use Rattle.fg_auto.specs.Internal.Best.{IsBest, IsBestFor}
 use Rattle.fg_auto.specs.Cost.{IsCost, IsFrameCost, costs}
 use Rattle.fg_auto.specs.Queues.{on_queues, serves}
 use Rattle.fg_auto.proofs.Requeued.{served}

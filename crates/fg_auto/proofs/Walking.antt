@@ -6,9 +6,9 @@ use Rattle.std.specs.List.{All, filter, list_all, range_with_len}
 use Rattle.std.proofs.lemmas.List.{append-nil, append_assoc, drop_all, drop_more, get_or_default, length-map, length-take-le, map-append, map_more, replicate_more, take_all, take_more}
 use Rattle.std.proofs.lemmas.Bool.{cases_lt}
 use Rattle.std.proofs.lemmas.Option.{slice_get-get_or}
-use Rattle.fg_auto.specs.Code.Work.{export_owner, kept_owner, kept_owners, places}
+use Rattle.fg_auto.specs.Internal.Work.{export_owner, kept_owner, kept_owners, places}
 use Rattle.fg_auto.specs.Cost.{command_cost, costs}
-use Rattle.fg_auto.specs.Code.Spans.{next_span, span_before, span_of, spans_of, use_at}
+use Rattle.fg_auto.specs.Internal.Spans.{next_span, span_before, span_of, spans_of, use_at}
 use Rattle.fg_auto.specs.Queues.{serves}
 use Rattle.fg_auto.specs.Renamed.{passes_on, queue_name}
 use Rattle.fg_auto.specs.declared.spans.Span.{Span}

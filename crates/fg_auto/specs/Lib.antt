@@ -1,5 +1,5 @@
 pub mod Choice
-pub mod Code
+pub mod Internal
 pub mod Cost
 pub mod Queues
 pub mod Renamed

@@ -3,8 +3,8 @@
 ghost use Rattle.std.specs.Prelude.{◌≡◌, ◌<◌, ◌≤◌, ◌+◌, length, slice_index_or, true, IfOk};
 ghost use Rattle.std.specs.List.{All};
 ghost use Rattle.fg_auto.specs.Choice.{Costs, IsPick};
-ghost use Rattle.fg_auto.specs.Code.Best.{IsBestFor};
-ghost use Rattle.fg_auto.specs.Code.Work.{IsWork};
+ghost use Rattle.fg_auto.specs.Internal.Best.{IsBestFor};
+ghost use Rattle.fg_auto.specs.Internal.Work.{IsWork};
 ghost use Rattle.fg_auto.specs.Cost.{IsFrameCost};
 ghost use Rattle.fg_auto.specs.Queues.{on_queues, serves};
 ghost use Rattle.fg_frame.specs.Numbered.{numbered};
@@ -14,7 +14,7 @@ use crate::cost::cost_on;
 use crate::queues::serves;
 use crate::work::Work;
 use fg_base::{List, NoMemory};
-use fg_frame::GoodFrame;
+use fg_frame::ValidFrame;
 use std::alloc::Global;
 
 /// A queue for a pass, and what the frame costs with the pass on it.
@@ -27,7 +27,7 @@ pub(crate) struct Best {
 // What the frame costs with one pass on another queue.
 fn tried(
     alloc: Global,
-    frame: &GoodFrame,
+    frame: &ValidFrame,
     work: &Work,
     queues: &[u32],
     pass: u32,
@@ -49,7 +49,7 @@ fn tried(
 #[tactic(auto, using(crate::proofs::Trying::present_again, crate::proofs::Trying::not_run, crate::proofs::Trying::kept_best, crate::proofs::Trying::new_best))]
 fn better(
     alloc: Global,
-    frame: &GoodFrame,
+    frame: &ValidFrame,
     work: &Work,
     queues: &[u32],
     pass: u32,
@@ -81,7 +81,7 @@ fn better(
 #[tactic(auto, using(crate::proofs::Trying::first_best, crate::proofs::Trying::picked))]
 pub(crate) fn pick(
     alloc: Global,
-    frame: &GoodFrame,
+    frame: &ValidFrame,
     work: &Work,
     queues: &[u32],
     pass: u32,

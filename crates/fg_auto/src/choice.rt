@@ -2,7 +2,7 @@
 
 ghost use Rattle.std.specs.Prelude.{◌≡◌, ◌≤◌, ◌↔◌, ℕ, length, None, IfOk};
 ghost use Rattle.fg_auto.specs.Choice.{DiffersInQueues, IsChoice};
-ghost use Rattle.fg_auto.specs.Code.Chosen.{IsFound};
+ghost use Rattle.fg_auto.specs.Internal.Chosen.{IsFound};
 ghost use Rattle.fg_auto.specs.Cost.{IsFrameCost};
 ghost use Rattle.fg_auto.specs.Renamed.{frame_on};
 ghost use Rattle.fg_frame.specs.FirstFault.{first_fault};
@@ -15,14 +15,14 @@ use crate::cost::cost_on;
 use crate::queues::{frame_on, queues_of};
 use crate::work::work_of;
 use fg_base::{List, NoMemory};
-use fg_frame::{GoodFrame, faultless};
+use fg_frame::{ValidFrame, faultless};
 use std::alloc::Global;
 
 /// A frame with its passes on the queues that are picked for them, and what the given frame and it cost: the greatest sum
 /// of the costs of commands one of which waits for another.
 #[derive(Debug, Drop)]
 pub struct Choice {
-    pub frame: GoodFrame,
+    pub frame: ValidFrame,
     pub given: u64,
     pub found: u64,
 }
@@ -36,7 +36,7 @@ struct Found {
 }
 
 // Pass by pass, in declared order.
-fn picked(alloc: Global, frame: &GoodFrame) -> Result<Found, NoMemory>
+fn picked(alloc: Global, frame: &ValidFrame) -> Result<Found, NoMemory>
     ensures { IfOk result (λ f. IsFound (numbered frame.now) (length (numbered frame.now).passes) f.given f.queues f.found) }
 {
     let _good = frame.frame();
@@ -57,7 +57,7 @@ fn picked(alloc: Global, frame: &GoodFrame) -> Result<Found, NoMemory>
 }
 
 // The frame with its passes on the queues that are picked.
-fn moved(alloc: Global, frame: &GoodFrame, found: &Found) -> Result<GoodFrame, NoMemory>
+fn moved(alloc: Global, frame: &ValidFrame, found: &Found) -> Result<ValidFrame, NoMemory>
     requires { IsFound (numbered frame.now) (length (numbered frame.now).passes) found.now.given found.now.queues found.now.found }
     ensures { IfOk result (λ chosen. chosen ≡ frame_on found.now.queues frame.now) }
 {
@@ -67,7 +67,7 @@ fn moved(alloc: Global, frame: &GoodFrame, found: &Found) -> Result<GoodFrame, N
 
 /// The choice of queues for a frame. The passes are gone through in declared order, and each gets, among the queues that run
 /// all its operations, one with the least cost of the whole frame.
-pub fn choose(alloc: Global, frame: &GoodFrame) -> Result<Choice, NoMemory>
+pub fn choose(alloc: Global, frame: &ValidFrame) -> Result<Choice, NoMemory>
     ensures choice { IfOk result (λ c. IsChoice frame.now c.frame) }
     ensures good { IfOk result (λ c. first_fault c.frame ≡ None) }
     ensures numbers { IfOk result (λ c. DiffersInQueues (numbered frame.now) (numbered c.frame)) }

@@ -2,7 +2,7 @@
 
 ghost use Rattle.std.specs.Prelude.{◌≡◌, ◌<◌, length, IfOk};
 ghost use Rattle.std.specs.List.{All};
-ghost use Rattle.fg_auto.specs.Code.Work.{IsWork};
+ghost use Rattle.fg_auto.specs.Internal.Work.{IsWork};
 ghost use Rattle.fg_auto.specs.Cost.{IsFrameCost};
 ghost use Rattle.fg_auto.specs.Queues.{on_queues};
 ghost use Rattle.fg_frame.specs.Numbered.{numbered};
@@ -12,13 +12,13 @@ use crate::spans::spans_of;
 use crate::sums::{greatest, sums_of};
 use crate::work::Work;
 use fg_base::NoMemory;
-use fg_frame::GoodFrame;
+use fg_frame::ValidFrame;
 use std::alloc::Global;
 
 /// The cost of the frame with its passes on these queues.
 pub(crate) fn cost_on(
     alloc: Global,
-    frame: &GoodFrame,
+    frame: &ValidFrame,
     work: &Work,
     queues: &[u32],
 ) -> Result<u64, NoMemory>

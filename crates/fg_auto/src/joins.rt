@@ -1,7 +1,7 @@
 //! Which uses are of one group, where the commands are on other queues.
 
 ghost use Rattle.std.specs.Prelude.{◌≡◌, slice_index_or};
-ghost use Rattle.fg_auto.specs.Code.Spans.{joined, moved};
+ghost use Rattle.fg_auto.specs.Internal.Spans.{joined, moved};
 
 use fg_base::Family;
 use fg_bits::Sharing;

@@ -2,12 +2,12 @@
 
 ghost use Rattle.std.specs.Prelude.{◌≡◌, ◌<◌, ◌++◌, Some, length, map, replicate, IfOk, OnOk};
 ghost use Rattle.std.specs.List.{All};
-ghost use Rattle.fg_auto.specs.Code.Work.{export_owner, kept_owner, kept_owners, owners, queue_by};
+ghost use Rattle.fg_auto.specs.Internal.Work.{export_owner, kept_owner, kept_owners, owners, queue_by};
 ghost use Rattle.fg_frame.specs.Numbered.{numbered};
 ghost use Rattle.fg_versions.specs.Versions.{numbers_of, pass_at};
 
 use fg_base::{List, NoMemory};
-use fg_frame::GoodFrame;
+use fg_frame::ValidFrame;
 use fg_versions::{Kept, Versions};
 use std::alloc::Global;
 
@@ -26,7 +26,7 @@ fn push_times(list: &mut List<Option<u32>>, pass: u32, times: usize) -> Result<(
 #[tactic(auto, using(crate::proofs::Walking::owner_kept, crate::proofs::Walking::owner_left))]
 fn push_kept(
     list: &mut List<Option<u32>>,
-    frame: &GoodFrame,
+    frame: &ValidFrame,
     kept: &Kept,
     pass: u32,
 ) -> Result<(), NoMemory>
@@ -41,7 +41,7 @@ fn push_kept(
 }
 
 #[tactic(auto, using(crate::proofs::Walking::owner_more, crate::proofs::Walking::owners_all))]
-fn kept_owners(alloc: Global, frame: &GoodFrame, kept: &Kept) -> Result<List<Option<u32>>, NoMemory>
+fn kept_owners(alloc: Global, frame: &ValidFrame, kept: &Kept) -> Result<List<Option<u32>>, NoMemory>
     requires { length kept.now ≡ length (numbered frame.now).passes }
     ensures { IfOk result (λ list. list ≡ kept_owners 0 (numbered frame.now).passes kept.now) }
 {
@@ -54,7 +54,7 @@ fn kept_owners(alloc: Global, frame: &GoodFrame, kept: &Kept) -> Result<List<Opt
 
 // The pass whose queue the copy of a unit is on.
 #[tactic(auto, using(crate::proofs::Walking::writer_is))]
-fn export_owner(frame: &GoodFrame, versions: &Versions, unit: u32) -> Option<u32>
+fn export_owner(frame: &ValidFrame, versions: &Versions, unit: u32) -> Option<u32>
     requires versions { versions.now ≡ numbers_of (numbered frame.now) }
     requires unit { unit < length (numbered frame.now).units }
     ensures { result ≡ export_owner (numbered frame.now) unit }
@@ -64,7 +64,7 @@ fn export_owner(frame: &GoodFrame, versions: &Versions, unit: u32) -> Option<u32
 
 fn push_exports(
     list: &mut List<Option<u32>>,
-    frame: &GoodFrame,
+    frame: &ValidFrame,
     versions: &Versions,
     exports: &[u32],
 ) -> Result<(), NoMemory>
@@ -81,7 +81,7 @@ fn push_exports(
 /// For each command the pass on whose queue it is: its own, or the one that makes the last version of what it copies out.
 pub(crate) fn owners(
     alloc: Global,
-    frame: &GoodFrame,
+    frame: &ValidFrame,
     versions: &Versions,
     kept: &Kept,
 ) -> Result<List<Option<u32>>, NoMemory>

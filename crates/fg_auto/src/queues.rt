@@ -9,7 +9,7 @@ ghost use Rattle.fg_frame.specs.Numbered.{numbered};
 ghost use Rattle.fg_versions.specs.Versions.{pass_at};
 
 use fg_base::{Family, List, Name, NoMemory, Op, op_runs};
-use fg_frame::{Frame, GoodFrame, Pass, QueueDecl};
+use fg_frame::{Frame, ValidFrame, Pass, QueueDecl};
 use std::alloc::Global;
 
 fn all_run(ops: &[Op<u32>], family: Family) -> bool
@@ -20,7 +20,7 @@ fn all_run(ops: &[Op<u32>], family: Family) -> bool
 
 /// Whether all operations of a pass run on a queue.
 #[tactic(auto, using(crate::proofs::Walking::serves_is))]
-pub(crate) fn serves(frame: &GoodFrame, pass: u32, queue: u32) -> bool
+pub(crate) fn serves(frame: &ValidFrame, pass: u32, queue: u32) -> bool
     requires pass { pass < length (numbered frame.now).passes }
     requires queue { queue < length (numbered frame.now).queues }
     ensures { result ≡ serves (numbered frame.now).queues (pass_at (numbered frame.now) pass) queue }
@@ -30,7 +30,7 @@ pub(crate) fn serves(frame: &GoodFrame, pass: u32, queue: u32) -> bool
 
 /// The queue of each pass.
 #[tactic(auto, using(crate::proofs::Walking::queue_more, crate::proofs::Walking::queue_all))]
-pub(crate) fn queues_of(alloc: Global, frame: &GoodFrame) -> Result<List<u32>, NoMemory>
+pub(crate) fn queues_of(alloc: Global, frame: &ValidFrame) -> Result<List<u32>, NoMemory>
     ensures { IfOk result (λ queues. queues ≡ queues_of (numbered frame.now)) }
 {
     let mut queues = List::new(alloc);

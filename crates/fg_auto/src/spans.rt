@@ -1,7 +1,7 @@
 //! For each use of a unit the group before its own.
 
 ghost use Rattle.std.specs.Prelude.{◌≡◌, ◌<◌, length, IfOk};
-ghost use Rattle.fg_auto.specs.Code.Spans.{AreWithin, joined, next_span, spans_of};
+ghost use Rattle.fg_auto.specs.Internal.Spans.{AreWithin, joined, next_span, spans_of};
 
 use crate::joins::joined;
 use fg_base::{Family, List, NoMemory};

@@ -2,9 +2,9 @@
 
 ghost use Rattle.std.specs.Prelude.{◌≡◌, ◌<◌, ◌≤◌, ◌==◌, length, map, max, replicate, slice_index_or, true, IfOk};
 ghost use Rattle.std.specs.List.{All, list_any, range_with_len};
-ghost use Rattle.fg_auto.specs.Code.Spans.{AreWithin, is_by, precedes, steps};
-ghost use Rattle.fg_auto.specs.Code.Sweep.{AreSums, GoesForward, IsTop, most_cost};
-ghost use Rattle.fg_auto.specs.Code.Work.{places};
+ghost use Rattle.fg_auto.specs.Internal.Spans.{AreWithin, is_by, precedes, steps};
+ghost use Rattle.fg_auto.specs.Internal.Sweep.{AreSums, GoesForward, IsTop, most_cost};
+ghost use Rattle.fg_auto.specs.Internal.Work.{places};
 ghost use Rattle.fg_auto.specs.Cost.{cost_at};
 
 use crate::spans::Span;

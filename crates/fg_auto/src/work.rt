@@ -2,8 +2,8 @@
 
 ghost use Rattle.std.specs.Prelude.{◌≡◌, ◌<◌, ◌≤◌, ◌+◌, ◌/◌, ◌++◌, ◌==◌, [], ◌∷◌, map, length, if◌then◌else◌, IfOk, OnOk};
 ghost use Rattle.std.specs.List.{All, range_with_len};
-ghost use Rattle.fg_auto.specs.Code.Sweep.{most_cost};
-ghost use Rattle.fg_auto.specs.Code.Work.{IsOf, IsWork, places};
+ghost use Rattle.fg_auto.specs.Internal.Sweep.{most_cost};
+ghost use Rattle.fg_auto.specs.Internal.Work.{IsOf, IsWork, places};
 ghost use Rattle.fg_auto.specs.Cost.{command_cost, costs};
 ghost use Rattle.fg_base.specs.Operands.{destination_of, operands_of};
 ghost use Rattle.fg_base.specs.Shapes.{bytes_of, shape_at};
@@ -13,7 +13,7 @@ ghost use Rattle.fg_groups.specs.Laws.{flat};
 use crate::owners::owners;
 use fg_base::{Family, List, NoMemory, Op, Shape, shape_at};
 use fg_bits::Sharing;
-use fg_frame::GoodFrame;
+use fg_frame::ValidFrame;
 use fg_groups::{Command, Groups, Use, groups_of};
 use fg_versions::{Kept, cull, versions_of};
 use std::alloc::Global;
@@ -136,7 +136,7 @@ fn of_groups(
 
 /// What the cost of a frame asks of its commands.
 #[tactic(auto, using(crate::proofs::Swept::work_is))]
-pub(crate) fn work_of(alloc: Global, frame: &GoodFrame) -> Result<Work, NoMemory>
+pub(crate) fn work_of(alloc: Global, frame: &ValidFrame) -> Result<Work, NoMemory>
     ensures { IfOk result (IsWork (numbered frame.now)) }
 {
     let versions = versions_of(alloc, frame)?;

@@ -3,8 +3,8 @@ use Rattle.std.specs.Prelude.{ℕ, List, Bool, ◌+◌, ◌-◌, ◌^◌, ◌++�
 use Rattle.std.specs.List.{list_any}
 use Rattle.fg_base.specs.declared.sink.Put.{Put}
 use Rattle.fg_base.specs.declared.sink.Put.TheVariants as puts
-use Rattle.fg_base.specs.declared.source.Taken.{Taken}
-use Rattle.fg_base.specs.declared.source.Taken.TheVariants as takens
+use Rattle.fg_base.specs.declared.source.ReadResult.{ReadResult}
+use Rattle.fg_base.specs.declared.source.ReadResult.TheVariants as takens
 
 -- a source: the bytes that are left, the most that a read gives, which reads are to fail, counted from 1, and how many
 -- were made and failed
@@ -41,13 +41,13 @@ abbrev pub is_failing : List ℕ → ℕ → Bool
 is_failing failing call = list_any (λ c. c == call) failing
 
 -- what a read into so much room gives, unless it is to fail
-abbrev pub given : List ℕ → ℕ → ℕ → Taken
+abbrev pub given : List ℕ → ℕ → ℕ → ReadResult
 given left most room = if length left == 0 then takens.End else takens.Got (min (min room (length left)) most)
 
-abbrev pub next_read : Supply → ℕ → Taken
+abbrev pub next_read : Supply → ℕ → ReadResult
 next_read s room = if is_failing s.failing (next_call s.calls) then takens.Failed else given s.left s.most room
 
-abbrev pub after_read : Supply → Taken → Supply
+abbrev pub after_read : Supply → ReadResult → Supply
 after_read s (takens.Got n) = record s { left = drop n s.left; calls = next_call s.calls }
 after_read s takens.End = record s { calls = next_call s.calls }
 after_read s takens.Failed = record s { calls = next_call s.calls; faults = one_fault_more s.faults }

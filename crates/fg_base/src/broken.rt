@@ -12,38 +12,38 @@ use crate::Limit;
 pub struct Broken<R, P> {
     pub rule: R,
     pub limit: Option<Limit>,
-    pub place: P,
+    pub location: P,
 }
 
 impl<R: Drop, P: Drop> Broken<R, P> {
     /// A rule that is none on limits is broken.
-    pub fn of_rule(rule: R, place: P) -> Self
-        ensures { result ≡ of_rule rule place }
+    pub fn of_rule(rule: R, location: P) -> Self
+        ensures { result ≡ of_rule rule location }
     {
         Broken {
             rule,
             limit: None,
-            place,
+            location,
         }
     }
 
     /// The rule on limits is broken.
-    pub fn over_limit(rule: R, limit: Limit, place: P) -> Self
-        ensures { result ≡ over_limit rule limit place }
+    pub fn over_limit(rule: R, limit: Limit, location: P) -> Self
+        ensures { result ≡ over_limit rule limit location }
     {
         Broken {
             rule,
             limit: Some(limit),
-            place,
+            location,
         }
     }
 
-    /// A rule that is none on limits, where it is broken at a place.
-    pub fn at(rule: R, place: Option<P>) -> Option<Self>
-        ensures { result ≡ option_map (of_rule rule) place }
+    /// A rule that is none on limits, where it is broken at a location.
+    pub fn at(rule: R, location: Option<P>) -> Option<Self>
+        ensures { result ≡ option_map (of_rule rule) location }
     {
-        match place {
-            Some(place) => Some(Broken::of_rule(rule, place)),
+        match location {
+            Some(location) => Some(Broken::of_rule(rule, location)),
             None => None,
         }
     }

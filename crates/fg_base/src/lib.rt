@@ -63,7 +63,7 @@ pub use runs::op_runs;
 pub use search::first_in;
 pub use shape::{Family, Shape, Texel, shape_at};
 pub use sink::{Put, Sink};
-pub use source::{Source, Taken};
+pub use source::{Source, ReadResult};
 pub use steady_sink::SteadySink;
 pub use steady_source::SteadySource;
 pub use tap::{Tap, Tell};

@@ -2,9 +2,9 @@
 
 ghost use Rattle.std.specs.Prelude.{◌≡◌, ◌≤◌, ◌<◌, ◌+◌, ◌-◌, min, length, take, drop, Some};
 ghost use Rattle.fg_base.specs.Memory.{next_read, after_read};
-ghost use Rattle.fg_base.specs.Reads.{IsWithin, TakesBytes, CountsFault};
+ghost use Rattle.fg_base.specs.Reads.{IsWithin, ReadsBytes, CountsFault};
 
-use crate::{List, Source, Taken};
+use crate::{List, Source, ReadResult};
 use std::marker::Model;
 
 /// A source over bytes. A clause sees what is left and which reads fail.
@@ -54,10 +54,10 @@ impl Source for MemorySource {
 
     ghost faults = { λ s. s.faults };
 
-    fn read(&mut self, into: &mut [u8]) -> Taken
+    fn read(&mut self, into: &mut [u8]) -> ReadResult
         requires { 0 < length into.old }
         ensures within { IsWithin result (length into.new) }
-        ensures bytes { TakesBytes (Some self.old.left) (Some self.new.left) result into.new }
+        ensures bytes { ReadsBytes (Some self.old.left) (Some self.new.left) result into.new }
         ensures count { CountsFault self.old.faults self.new.faults result }
         ensures result { result ≡ next_read self.old (length into.new) }
         ensures after { self.new ≡ after_read self.old result }
@@ -65,15 +65,15 @@ impl Source for MemorySource {
         self.calls = self.calls.saturating_add(1);
         if self.failing.as_slice().contains(&self.calls) {
             self.faults = self.faults.saturating_add(1);
-            return Taken::Failed;
+            return ReadResult::Failed;
         }
         let rest = &self.bytes.as_slice()[self.at..];
         if rest.is_empty() {
-            return Taken::End;
+            return ReadResult::End;
         }
         let count = fill_front(into, rest, self.most);
         self.at += count;
-        Taken::Got(count)
+        ReadResult::Got(count)
     }
 }
 

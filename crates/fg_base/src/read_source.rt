@@ -2,10 +2,10 @@
 
 ghost use Rattle.std.specs.Prelude.{◌≡◌, ◌<◌, length};
 ghost use Rattle.fg_base.specs.Memory.{one_fault_more};
-ghost use Rattle.fg_base.specs.Reads.{IsWithin, TakesBytes, CountsFault};
-ghost use Rattle.fg_base.specs.declared.source.Taken.TheVariants as taken;
+ghost use Rattle.fg_base.specs.Reads.{IsWithin, ReadsBytes, CountsFault};
+ghost use Rattle.fg_base.specs.declared.source.ReadResult.TheVariants as taken;
 
-use crate::{Source, Taken};
+use crate::{Source, ReadResult};
 use std::io::Read;
 
 /// A reader whose failures are counted. It tells of its bytes what the reader tells.
@@ -29,19 +29,19 @@ impl<T: Read> Source for ReadSource<T> {
 
     ghost faults = { λ s. s.faults };
 
-    fn read(&mut self, into: &mut [u8]) -> Taken
+    fn read(&mut self, into: &mut [u8]) -> ReadResult
         requires { 0 < length into.old }
         ensures within { IsWithin result (length into.new) }
-        ensures bytes { TakesBytes (⟦<ReadSource<T> as Source>⟧.left self.old) (⟦<ReadSource<T> as Source>⟧.left self.new) result into.new }
+        ensures bytes { ReadsBytes (⟦<ReadSource<T> as Source>⟧.left self.old) (⟦<ReadSource<T> as Source>⟧.left self.new) result into.new }
         ensures count { CountsFault (⟦<ReadSource<T> as Source>⟧.faults self.old) (⟦<ReadSource<T> as Source>⟧.faults self.new) result }
         ensures one { result ≡ taken.Failed → ⟦<ReadSource<T> as Source>⟧.faults self.new ≡ one_fault_more (⟦<ReadSource<T> as Source>⟧.faults self.old) }
     {
         match self.inner.read(into) {
-            Ok(0) => Taken::End,
-            Ok(count) => Taken::Got(count),
+            Ok(0) => ReadResult::End,
+            Ok(count) => ReadResult::Got(count),
             Err(_) => {
                 self.faults = self.faults.saturating_add(1);
-                Taken::Failed
+                ReadResult::Failed
             }
         }
     }

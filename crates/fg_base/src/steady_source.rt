@@ -2,10 +2,10 @@
 
 ghost use Rattle.std.specs.Prelude.{◌≡◌, ◌≤◌, ◌<◌, ◌+◌, ◌-◌, length, drop, Some};
 ghost use Rattle.fg_base.specs.Memory.{given};
-ghost use Rattle.fg_base.specs.Reads.{IsWithin, TakesBytes};
+ghost use Rattle.fg_base.specs.Reads.{IsWithin, ReadsBytes};
 
 use crate::memory_source::fill_front;
-use crate::{List, Source, Taken};
+use crate::{List, Source, ReadResult};
 use std::marker::Model;
 
 /// A source over bytes whose count of faults is always 0. A clause sees what is left and how much a read gives.
@@ -43,19 +43,19 @@ impl Source for SteadySource {
 
     ghost faults = { λ _. 0 };
 
-    fn read(&mut self, into: &mut [u8]) -> Taken
+    fn read(&mut self, into: &mut [u8]) -> ReadResult
         requires { 0 < length into.old }
         ensures within { IsWithin result (length into.new) }
-        ensures bytes { TakesBytes (Some self.old.left) (Some self.new.left) result into.new }
+        ensures bytes { ReadsBytes (Some self.old.left) (Some self.new.left) result into.new }
         ensures result { result ≡ given self.old.left self.old.most (length into.new) }
         ensures most { self.new.most ≡ self.old.most }
     {
         let rest = &self.bytes.as_slice()[self.at..];
         if rest.is_empty() {
-            return Taken::End;
+            return ReadResult::End;
         }
         let count = fill_front(into, rest, self.most);
         self.at += count;
-        Taken::Got(count)
+        ReadResult::Got(count)
     }
 }

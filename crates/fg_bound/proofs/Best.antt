@@ -3,7 +3,7 @@ use Rattle.std.proofs.Common.{◌≡◌, ℕ, ◌+◌, ◌<◌, ◌⊎◌, inl, 
 use Rattle.std.proofs.lemmas.Bool.{cases_Bool, ltb-false, ltb-true}
 use Rattle.fg_bound.specs.Bounds.{AreApart, Holds, IsBest, IsShown, low}
 use Rattle.fg_bound.specs.Choices.{choice}
-use Rattle.fg_bound.specs.Code.Chosen.{IsChoice}
+use Rattle.fg_bound.specs.Internal.Chosen.{IsChoice}
 use Rattle.fg_bound.specs.declared.bound.Bound.{Bound}
 use Rattle.fg_bound.proofs.Apart.{choice_apart}
 use Rattle.fg_bound.proofs.NoneSmaller.{none_smaller}

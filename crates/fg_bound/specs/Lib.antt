@@ -1,3 +1,3 @@
 pub mod Bounds
 pub mod Choices
-pub mod Code
+pub mod Internal

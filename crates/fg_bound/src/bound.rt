@@ -4,7 +4,7 @@ ghost use Rattle.std.specs.Prelude.{◌≡◌, ◌<◌, ◌≤◌, ◌^◌, IfOk
 ghost use Rattle.std.specs.List.{All};
 ghost use Rattle.fg_bound.specs.Bounds.{Holds, IsBound, IsShown};
 ghost use Rattle.fg_bound.specs.Choices.{falling};
-ghost use Rattle.fg_bound.specs.Code.Chosen.{IsChoice};
+ghost use Rattle.fg_bound.specs.Internal.Chosen.{IsChoice};
 ghost use Rattle.fg_place.specs.Pairs.{has};
 
 use crate::choices::choice_of;

@@ -6,9 +6,9 @@ use Rattle.std.proofs.lemmas.List.{get_or_past}
 use Rattle.std.specs.Cmp.{both_ways}
 use Rattle.fg_caches.specs.declared.memory.Memory.{Memory}
 use Rattle.fg_caches.specs.Lines.{is_in, range}
-use Rattle.fg_caches.specs.Code.Segments.{within}
+use Rattle.fg_caches.specs.Internal.Segments.{within}
 use Rattle.fg_caches.specs.Tables.{Table, memory_of, size_of, address, InMemory}
-use Rattle.fg_caches.specs.Code.Kept.{AreApart}
+use Rattle.fg_caches.specs.Internal.Kept.{AreApart}
 
 pub memory_there : (t : Table) (m i : ℕ) → i < size_of t m → m < length t.memories
 unfolding size_of

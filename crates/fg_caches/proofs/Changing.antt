@@ -4,9 +4,9 @@ use Rattle.std.specs.Prelude.{if◌then◌else◌}
 use Rattle.std.specs.Cmp.{both_ways}
 use Rattle.fg_caches.specs.declared.segment.Segment.{Segment}
 use Rattle.fg_caches.specs.declared.change.Change.{Change}
-use Rattle.fg_caches.specs.Code.Rows.{changed}
+use Rattle.fg_caches.specs.Internal.Rows.{changed}
 use Rattle.fg_caches.specs.Places.{segment_at, place, row_at, cut_in}
-use Rattle.fg_caches.specs.Code.Segments.{covers, Ascending, within, changed_in}
+use Rattle.fg_caches.specs.Internal.Segments.{covers, Ascending, within, changed_in}
 use Rattle.fg_caches.proofs.Placing.{same_place, in_cuts, cut_cases, cut_zero, cut_end}
 
 pub changed_not : (first last g : ℕ) (change : Change) (k : ℕ) (s : Segment) → within first last k ≡ false → changed_in first last g change k s ≡ s

@@ -10,9 +10,9 @@ use Rattle.fg_caches.specs.declared.cell.Cell.TheVariants as cells
 use Rattle.fg_caches.specs.declared.change.Change.{Change}
 use Rattle.fg_caches.specs.declared.row.Row.{Row}
 use Rattle.fg_caches.specs.declared.segment.Segment.{Segment}
-use Rattle.fg_caches.specs.Code.Opened.{open_segment}
-use Rattle.fg_caches.specs.Code.Rows.{changed, main_after, line_after}
-use Rattle.fg_caches.specs.Code.Uses.{part_uses, cell_uses, row_uses, uses, Counts}
+use Rattle.fg_caches.specs.Internal.Opened.{open_segment}
+use Rattle.fg_caches.specs.Internal.Rows.{changed, main_after, line_after}
+use Rattle.fg_caches.specs.Internal.Uses.{part_uses, cell_uses, row_uses, uses, Counts}
 use Rattle.fg_caches.specs.Places.{line_by, nowhere, segment_at}
 
 pub own_part : (slot : ℕ) (p : Part) → p.slot ≡ slot → part_uses slot p ≡ 1

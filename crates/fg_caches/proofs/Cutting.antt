@@ -8,7 +8,7 @@ use Rattle.std.specs.Cmp.{both_ways}
 use Rattle.fg_caches.specs.declared.segment.Segment.{Segment}
 use Rattle.fg_caches.specs.declared.row.Row.{Row}
 use Rattle.fg_caches.specs.Places.{nowhere, segment_at, place, row_at, cut_in}
-use Rattle.fg_caches.specs.Code.Segments.{covers, Ascending}
+use Rattle.fg_caches.specs.Internal.Segments.{covers, Ascending}
 use Rattle.fg_caches.proofs.Placing.{place_le, place_is, place_bound, before_place, at_place, cut_cases, cut_zero, cut_end}
 
 module _ (segments : List Segment) (at k : ℕ) (is : k ≡ place segments at) (inside : k < length segments) where

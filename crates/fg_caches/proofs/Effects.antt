@@ -14,7 +14,7 @@ use Rattle.fg_caches.specs.declared.change.Change.{Change}
 use Rattle.fg_caches.specs.Lines.{Line, Absent, is_in, range, written, cleaned, dropped, filled}
 use Rattle.fg_caches.specs.Effects.{Caches, overwrite}
 use Rattle.fg_caches.specs.Places.{line_by}
-use Rattle.fg_caches.specs.Code.Rows.{changed, main_after, line_after}
+use Rattle.fg_caches.specs.Internal.Rows.{changed, main_after, line_after}
 use Rattle.fg_caches.specs.Places.{row_at}
 use Rattle.fg_caches.specs.Tables.{Table, size_of, address, slot_at, byte_in, line_in, caches_of, InMemory}
 use Rattle.fg_caches.proofs.Tiling.{changed_here, changed_other}

@@ -12,10 +12,10 @@ use Rattle.fg_caches.specs.declared.row.Row.{Row}
 use Rattle.fg_caches.specs.declared.memory.Memory.{Memory}
 use Rattle.fg_caches.specs.declared.segment.Segment.{Segment}
 use Rattle.fg_caches.specs.Places.{nowhere, segment_at, place, row_at, cut_in}
-use Rattle.fg_caches.specs.Code.Segments.{covers, Ascending}
+use Rattle.fg_caches.specs.Internal.Segments.{covers, Ascending}
 use Rattle.fg_caches.specs.Tables.{memory_in, slot_at}
-use Rattle.fg_caches.specs.Code.Kept.{CellFits, RowFits, IsTiled}
-use Rattle.fg_caches.specs.Code.Opened.{open_row, open_segment, IsOpened}
+use Rattle.fg_caches.specs.Internal.Kept.{CellFits, RowFits, IsTiled}
+use Rattle.fg_caches.specs.Internal.Opened.{open_row, open_segment, IsOpened}
 use Rattle.fg_caches.proofs.Placing.{place_le, place_is, place_bound, before_place, at_place, cut_cases, cut_zero, cut_end}
 
 module _ (total : ℕ) (slots : List (List ℕ)) (segments : List Segment) (T : IsTiled total slots segments) where

@@ -13,7 +13,7 @@ use Rattle.fg_caches.specs.Effects.{opened}
 use Rattle.fg_caches.specs.Places.{line_by}
 use Rattle.fg_caches.specs.Places.{row_at, cut_in}
 use Rattle.fg_caches.specs.Tables.{Table, memory_of, size_of, address, slot_at, byte_in, line_in, caches_of, junk_of, is_cut}
-use Rattle.fg_caches.specs.Code.Opened.{open_row, IsOpened}
+use Rattle.fg_caches.specs.Internal.Opened.{open_row, IsOpened}
 use Rattle.fg_caches.specs.Tables.{IsMade}
 use Rattle.fg_caches.proofs.Addresses.{memory_there}
 use Rattle.fg_caches.proofs.Effects.{same_Caches, main_at, main_past, line_at, line_past}

@@ -7,10 +7,10 @@ use Rattle.fg_caches.specs.declared.cell.Cell.{Cell}
 use Rattle.fg_caches.specs.declared.cell.Cell.TheVariants as cells
 use Rattle.fg_caches.specs.declared.row.Row.{Row}
 use Rattle.fg_caches.specs.declared.segment.Segment.{Segment}
-use Rattle.fg_caches.specs.Code.Rows.{CellIn, RowIn}
-use Rattle.fg_caches.specs.Code.Uses.{part_uses, cell_uses, row_uses, uses}
+use Rattle.fg_caches.specs.Internal.Rows.{CellIn, RowIn}
+use Rattle.fg_caches.specs.Internal.Uses.{part_uses, cell_uses, row_uses, uses}
 use Rattle.fg_caches.specs.Places.{line_by, nowhere, segment_at}
-use Rattle.fg_caches.specs.Code.Segments.{IsLaid}
+use Rattle.fg_caches.specs.Internal.Segments.{IsLaid}
 use Rattle.fg_caches.proofs.Counting.{own_part, other_part}
 
 part_none : (count : ℕ) (p : Part) → p.slot < count → part_uses count p ≡ 0

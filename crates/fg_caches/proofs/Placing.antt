@@ -8,7 +8,7 @@ use Rattle.std.specs.Cmp.{both_ways}
 use Rattle.fg_caches.specs.declared.segment.Segment.{Segment}
 use Rattle.fg_caches.proofs.Anyone.{any_at}
 use Rattle.fg_caches.specs.Places.{nowhere, segment_at, place, cut_in}
-use Rattle.fg_caches.specs.Code.Segments.{Ascending, within}
+use Rattle.fg_caches.specs.Internal.Segments.{Ascending, within}
 
 pub place_le : (segments : List Segment) (j x : ℕ) → j < length segments → x < (segment_at segments j).end → place segments x ≤ j
 place_le [] j x lt h = absurd (omega (arith, lt))

@@ -11,13 +11,13 @@ use Rattle.fg_caches.specs.declared.cell.Cell.TheVariants as cells
 use Rattle.fg_caches.specs.declared.row.Row.{Row}
 use Rattle.fg_caches.specs.declared.segment.Segment.{Segment}
 use Rattle.fg_caches.specs.Places.{line_by}
-use Rattle.fg_caches.specs.Code.Rows.{part_or, seen_part}
+use Rattle.fg_caches.specs.Internal.Rows.{part_or, seen_part}
 use Rattle.fg_caches.specs.Places.{segment_at, place, row_at}
-use Rattle.fg_caches.specs.Code.Segments.{Ascending}
+use Rattle.fg_caches.specs.Internal.Segments.{Ascending}
 use Rattle.fg_caches.specs.Lines.{seen, range}
 use Rattle.fg_caches.specs.Effects.{load, read_main}
 use Rattle.fg_caches.specs.Tables.{Table, size_of, address, byte_in, line_in, caches_of}
-use Rattle.fg_caches.specs.Code.Kept.{PartFits, CellFits, RowFits, Knows}
+use Rattle.fg_caches.specs.Internal.Kept.{PartFits, CellFits, RowFits, Knows}
 use Rattle.fg_caches.proofs.Placing.{place_is, before_place}
 use Rattle.fg_caches.proofs.Effects.{main_at, line_at}
 

@@ -7,11 +7,11 @@ use Rattle.fg_caches.specs.declared.cell.Cell.{Cell}
 use Rattle.fg_caches.specs.declared.cell.Cell.TheVariants as cells
 use Rattle.fg_caches.specs.declared.row.Row.{Row}
 use Rattle.fg_caches.specs.declared.segment.Segment.{Segment}
-use Rattle.fg_caches.specs.Code.Uses.{cell_uses, row_uses, uses}
+use Rattle.fg_caches.specs.Internal.Uses.{cell_uses, row_uses, uses}
 use Rattle.fg_caches.specs.Places.{line_by}
 use Rattle.fg_caches.specs.Places.{place, row_at}
 use Rattle.fg_caches.specs.Tables.{Table, size_of, address, slot_at, byte_in, line_in, caches_of}
-use Rattle.fg_caches.specs.Code.Kept.{PartFits, CellFits, RowFits, IsTiled, AreApart}
+use Rattle.fg_caches.specs.Internal.Kept.{PartFits, CellFits, RowFits, IsTiled, AreApart}
 use Rattle.fg_caches.proofs.Naming.{row_unnamed, part_other, main_other, cell_other}
 use Rattle.fg_caches.proofs.Addresses.{address_inside}
 use Rattle.fg_caches.proofs.Effects.{same_Caches, main_at, main_past, line_at, line_past}

@@ -11,10 +11,10 @@ use Rattle.fg_caches.specs.declared.segment.Segment.{Segment}
 use Rattle.fg_caches.specs.declared.change.Change.{Change}
 use Rattle.fg_caches.specs.declared.change.Change.TheVariants as changes
 use Rattle.fg_caches.specs.Places.{line_by}
-use Rattle.fg_caches.specs.Code.Rows.{changed, main_after, line_after, CellIn, ChangeIn, RowIn}
+use Rattle.fg_caches.specs.Internal.Rows.{changed, main_after, line_after, CellIn, ChangeIn, RowIn}
 use Rattle.fg_caches.specs.Places.{segment_at, place, row_at, cut_in}
-use Rattle.fg_caches.specs.Code.Segments.{covers, Ascending, IsLaid, within}
-use Rattle.fg_caches.specs.Code.Kept.{PartFits, CellFits, RowFits, ChangeFits, IsTiled}
+use Rattle.fg_caches.specs.Internal.Segments.{covers, Ascending, IsLaid, within}
+use Rattle.fg_caches.specs.Internal.Kept.{PartFits, CellFits, RowFits, ChangeFits, IsTiled}
 use Rattle.fg_caches.proofs.Placing.{place_is}
 
 -- the last address of a segment

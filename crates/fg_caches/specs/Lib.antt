@@ -1,4 +1,4 @@
-pub mod Code
+pub mod Internal
 pub mod Draws
 pub mod Effects
 pub mod Lines

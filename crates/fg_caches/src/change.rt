@@ -1,7 +1,7 @@
 //! What a call does to the segments of its range.
 
 ghost use Rattle.std.specs.Prelude.{◌≡◌, true};
-ghost use Rattle.fg_caches.specs.Code.Rows.{main_after, line_after};
+ghost use Rattle.fg_caches.specs.Internal.Rows.{main_after, line_after};
 ghost use Rattle.fg_caches.specs.declared.part.Part.{Part};
 
 use crate::cell::Cell;

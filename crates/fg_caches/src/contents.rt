@@ -1,7 +1,7 @@
 //! Bytes in the form in which they are kept.
 
 ghost use Rattle.std.specs.Prelude.{◌≡◌, ◌<◌, ◌≤◌, ◌+◌, ◌*◌, ◌^◌, ℕ, [], length, replicate, slice_index, slice_range, IfSome, IfOk, OnOk};
-ghost use Rattle.fg_caches.specs.Code.Contents.{bytes_of};
+ghost use Rattle.fg_caches.specs.Internal.Contents.{bytes_of};
 ghost use Rattle.fg_caches.specs.Repeats.{byte_of, repeated};
 
 use bytes::{Bytes, BytesMut};
@@ -26,7 +26,7 @@ pub struct Contents {
 
 impl Model for Contents {
     ghost use Rattle.std.specs.Prelude.{ℕ, List};
-    ghost use Rattle.fg_caches.specs.Code.Contents.{bytes_of};
+    ghost use Rattle.fg_caches.specs.Internal.Contents.{bytes_of};
 
     ghost Value = { List ℕ };
 

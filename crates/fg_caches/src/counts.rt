@@ -1,9 +1,9 @@
 //! How many parts name each slot.
 
 ghost use Rattle.std.specs.Prelude.{◌≡◌, ◌<◌, ◌+◌, ℕ, length};
-ghost use Rattle.fg_caches.specs.Code.Rows.{changed, CellIn, ChangeIn, RowIn};
+ghost use Rattle.fg_caches.specs.Internal.Rows.{changed, CellIn, ChangeIn, RowIn};
 ghost use Rattle.fg_caches.specs.Places.{cell_at};
-ghost use Rattle.fg_caches.specs.Code.Uses.{raised, lowered, part_uses, cell_uses, lines_uses, row_uses, Counts};
+ghost use Rattle.fg_caches.specs.Internal.Uses.{raised, lowered, part_uses, cell_uses, lines_uses, row_uses, Counts};
 
 use crate::cell::Cell;
 use crate::change::{Change, line_after, main_after};

@@ -3,8 +3,8 @@
 ghost use Rattle.std.specs.Prelude.{◌≡◌, ◌<◌, ◌≤◌, ◌+◌, ◌-◌, ◌==◌, ◌++◌, ◌∷◌, [], if◌then◌else◌, IfOk, ℕ, length, drop, replicate, vec_len, vec_capacity};
 ghost use Rattle.std.specs.List.{sum_by};
 ghost use Rattle.fg_base.specs.Maxima.{max_memories, max_memory_bytes};
-ghost use Rattle.fg_caches.specs.Code.Opened.{IsOpened, open_segment};
-ghost use Rattle.fg_caches.specs.Code.Uses.{uses};
+ghost use Rattle.fg_caches.specs.Internal.Opened.{IsOpened, open_segment};
+ghost use Rattle.fg_caches.specs.Internal.Uses.{uses};
 
 use crate::cell::Cell;
 use crate::contents::Contents;

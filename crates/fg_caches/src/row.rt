@@ -1,7 +1,7 @@
 //! What lies at the addresses of a segment.
 
 ghost use Rattle.std.specs.Prelude.{◌≡◌, ◌<◌, length, true};
-ghost use Rattle.fg_caches.specs.Code.Rows.{changed};
+ghost use Rattle.fg_caches.specs.Internal.Rows.{changed};
 
 use crate::cell::Cell;
 use crate::change::{Change, leaves, line_after, main_after};

@@ -1,11 +1,11 @@
 //! Bytes are copied out of a table, a segment at a time.
 
 ghost use Rattle.std.specs.Prelude.{◌≡◌, ◌<◌, ◌≤◌, ◌+◌, ◌^◌, ℕ, length, slice_index, IfSome, IfOk};
-ghost use Rattle.fg_caches.specs.Code.Rows.{seen_part, HasLine};
+ghost use Rattle.fg_caches.specs.Internal.Rows.{seen_part, HasLine};
 ghost use Rattle.fg_caches.specs.Places.{place, row_at};
-ghost use Rattle.fg_caches.specs.Code.Segments.{Ascending};
+ghost use Rattle.fg_caches.specs.Internal.Segments.{Ascending};
 ghost use Rattle.fg_caches.specs.Tables.{slot_at, byte_in};
-ghost use Rattle.fg_caches.specs.Code.Kept.{IsThere, Knows};
+ghost use Rattle.fg_caches.specs.Internal.Kept.{IsThere, Knows};
 
 use crate::cell::Cell;
 use crate::contents::Contents;

@@ -2,10 +2,10 @@
 
 ghost use Rattle.std.specs.Prelude.{◌≡◌, ◌<◌, ◌≤◌, ◌+◌, ℕ, length, not, true, false, if◌then◌else◌, slice_set, vec_len, vec_capacity};
 ghost use Rattle.std.specs.List.{insert};
-ghost use Rattle.fg_caches.specs.Code.Rows.{ChangeIn, RowIn};
+ghost use Rattle.fg_caches.specs.Internal.Rows.{ChangeIn, RowIn};
 ghost use Rattle.fg_caches.specs.Places.{place, row_at, cut_in, segment_at};
-ghost use Rattle.fg_caches.specs.Code.Segments.{covers, changed_segment, changed_in, Ascending, IsLaid};
-ghost use Rattle.fg_caches.specs.Code.Uses.{row_uses, uses, Counts};
+ghost use Rattle.fg_caches.specs.Internal.Segments.{covers, changed_segment, changed_in, Ascending, IsLaid};
+ghost use Rattle.fg_caches.specs.Internal.Uses.{row_uses, uses, Counts};
 
 use crate::change::Change;
 use crate::counts::{raise_row, recount};

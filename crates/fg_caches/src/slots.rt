@@ -1,7 +1,7 @@
 //! Slots of bytes.
 
 ghost use Rattle.std.specs.Prelude.{◌≡◌, ◌≢◌, ◌<◌, ◌≤◌, ◌+◌, ◌^◌, ◌++◌, ◌∷◌, [], ℕ, length, IfSome, vec_len, vec_capacity};
-ghost use Rattle.fg_caches.specs.Code.Uses.{count_at, Counts};
+ghost use Rattle.fg_caches.specs.Internal.Uses.{count_at, Counts};
 ghost use Rattle.fg_caches.specs.Tables.{slot_at};
 
 use crate::contents::Contents;

@@ -5,10 +5,10 @@ ghost use Rattle.std.specs.List.{All, sum_by};
 ghost use Rattle.fg_base.specs.Maxima.{max_memories, max_memory_bytes, max_nodes};
 ghost use Rattle.fg_caches.specs.Lines.{range, is_in};
 ghost use Rattle.fg_caches.specs.Effects as effects;
-ghost use Rattle.fg_caches.specs.Code.Rows.{changed, seen_part};
+ghost use Rattle.fg_caches.specs.Internal.Rows.{changed, seen_part};
 ghost use Rattle.fg_caches.specs.Places.{row_at, cut_in};
-ghost use Rattle.fg_caches.specs.Code.Segments.{within};
-ghost use Rattle.fg_caches.specs.Code.Uses.{uses};
+ghost use Rattle.fg_caches.specs.Internal.Segments.{within};
+ghost use Rattle.fg_caches.specs.Internal.Uses.{uses};
 
 use crate::change::Change;
 use crate::contents::Contents;
@@ -46,7 +46,7 @@ impl Model for Segments {
 
     ghost Value = { Table };
 
-    ghost use Rattle.fg_caches.specs.Code.Kept.{view_of, IsKept};
+    ghost use Rattle.fg_caches.specs.Internal.Kept.{view_of, IsKept};
 
     ghost view = { view_of };
 
@@ -56,7 +56,7 @@ impl Model for Segments {
 impl Segments {
     ghost use Rattle.fg_caches.specs.Tables.{size_of, address, slot_at, byte_in, caches_of, junk_of, is_cut, missing, InMemory, Keeps};
     ghost use Rattle.fg_caches.specs.Tables.{IsMade};
-    ghost use Rattle.fg_caches.specs.Code.Kept.{ChangeFits, Knows};
+    ghost use Rattle.fg_caches.specs.Internal.Kept.{ChangeFits, Knows};
 
     /// The opening bytes as main, memory by memory, and no lines. A cut is a memory and a place in it; the start and the
     /// end of each memory are always cut. There is room for two cuts for each of `moves`, and for `stores` stores.

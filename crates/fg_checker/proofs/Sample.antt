@@ -20,12 +20,12 @@ use Rattle.fg_hb.specs.Orders.{Among, Order, IsLeast}
 use Rattle.fg_hb.proofs.Filling.{edge_within}
 use Rattle.fg_hb.proofs.InOrder.{comes_never_back}
 use Rattle.fg_reach.specs.Paths.{one, then_on}
-use Rattle.fg_stated.specs.Fed.{Fed, FedAt}
-use Rattle.fg_stated.specs.Stated.{Stated, StatedAt}
+use Rattle.fg_stated.specs.Initialized.{Initialized, InitializedAt}
+use Rattle.fg_stated.specs.StateValid.{StateValid, StateValidAt}
 use Rattle.fg_ties.specs.Passing.{Before}
-use Rattle.fg_ties.specs.Tied.{PairTied, TiedBelow}
-use Rattle.fg_ties.proofs.Whole.{tied_all}
-use Rattle.fg_view.specs.ShapedView.{ShapedView, NodeAccessAt}
+use Rattle.fg_ties.specs.Synchronized.{PairSynchronized, SynchronizedBelow}
+use Rattle.fg_ties.proofs.Whole.{synchronized_all}
+use Rattle.fg_view.specs.ValidView.{ValidView, NodeAccessAt}
 use Rattle.fg_view.specs.Effects.{access}
 use Rattle.fg_view.specs.Views.{View, view_of, node_accesses_of, node_access}
 use Rattle.fg_view.specs.declared.access.Agent.TheVariants.{Of, Host}
@@ -85,7 +85,7 @@ host_sevens = refl
 abbrev V : View
 V = view_of sample
 
-shaped_sample : ShapedView V
+shaped_sample : ValidView V
 shaped_sample = shaped sample (is_small sample no_fault) (λ rule. entries_obey sample rule (obeys sample no_fault rule))
 
 below : (n : ℕ) → Among n order → n < 4
@@ -153,30 +153,30 @@ of_two P p q (suc (suc j)) a e = absurd (let lt = slice_get_within (node_accesse
 reaches_host : Before V 0 3
 reaches_host = then_on {b = 1} (one refl) (then_on {b = 2} (one refl) (one refl))
 
-passed_on : PairTied V store load
+passed_on : PairSynchronized V store load
 passed_on clashing = (reaches_host, λ changed kept. (1, 1, (refl, refl), inl refl, (inr (refl, then_on {b = 2} (one refl) (one refl)), refl)))
 
-all_tied : TiedBelow V (node_accesses_of V order) 2
-all_tied i j a b first second lt below = of_two (λ n c. j ≡ n → i < j → j < 2 → NodeAccessAt (node_accesses_of V order) i a → PairTied V a c)
+all_synchronized : SynchronizedBelow V (node_accesses_of V order) 2
+all_synchronized i j a b first second lt below = of_two (λ n c. j ≡ n → i < j → j < 2 → NodeAccessAt (node_accesses_of V order) i a → PairSynchronized V a c)
     (λ e rising end at. absurd (omega (arith, e, rising)))
-    (λ e rising end at. of_two (λ m d. i ≡ m → PairTied V d load) (λ z. passed_on) (λ z. absurd (omega (arith, e, rising, z))) i a at refl)
+    (λ e rising end at. of_two (λ m d. i ≡ m → PairSynchronized V d load) (λ z. passed_on) (λ z. absurd (omega (arith, e, rising, z))) i a at refl)
     j b second refl lt below first
 
-stated_sample : Stated V (node_accesses_of V order)
-stated_sample = of_two (StatedAt V (node_accesses_of V order))
+state_valid_sample : StateValid V (node_accesses_of V order)
+state_valid_sample = of_two (StateValidAt V (node_accesses_of V order))
     (record { layout = λ l e. absurd (none_some e); owner = λ needs. refl; match = tt })
     (record { layout = λ l e. absurd (none_some e); owner = λ needs. absurd (false≢true needs); match = tt })
 
-fed_sample : Fed V (node_accesses_of V order)
-fed_sample = of_two (FedAt V (node_accesses_of V order)) (λ loaded. absurd (false≢true loaded)) (λ loaded. (refl, refl))
+initialized_sample : Initialized V (node_accesses_of V order)
+initialized_sample = of_two (InitializedAt V (node_accesses_of V order)) (λ loaded. absurd (false≢true loaded)) (λ loaded. (refl, refl))
 
 pub sample_sound : IsSound sample
 sample_sound = (
   order,
   record {
     order_is = is_least;
-    tied = tied_all V order (comes_never_back V.nodes) shaped_sample in_order all_tied;
-    stated = stated_sample;
-    fed = fed_sample;
+    synchronized = synchronized_all V order (comes_never_back V.nodes) shaped_sample in_order all_synchronized;
+    state_valid = state_valid_sample;
+    initialized = initialized_sample;
   },
 )

@@ -56,7 +56,7 @@ store = access 0 (Store cleaner None)
 
 -- where it is sound, what the first fill left is passed on to the second
 passed_on : (from to : ℕ) → IsSound (fills from to) → Passed (view_of (fills from to)) 0 store 2 store
-passed_on from to sound = sound.1.tied.passed 0 2 store store (0, refl) (0, refl) (record { apart = λ e. omega (arith, e); clash = refl }) (then_on {b = 1} (one refl) (one refl)) refl refl
+passed_on from to sound = sound.1.synchronized.passed 0 2 store store (0, refl) (0, refl) (record { apart = λ e. omega (arith, e); clash = refl }) (then_on {b = 1} (one refl) (one refl)) refl refl
 
 -- NOT MADE AVAILABLE
 

@@ -1,7 +1,7 @@
 -- What is found in accesses in the least order is found of the program.
 use Rattle.std.proofs.Common.{◌≡◌, ℕ, List, Some, None, sym, subst}
-use Rattle.fg_checker.specs.Code.Decided.{Clean, Decides, IsFound}
-use Rattle.fg_checker.specs.Code.Hazards.{of_flaw, of_untied}
+use Rattle.fg_checker.specs.Internal.Decided.{HasNoHazard, Decides, IsFound}
+use Rattle.fg_checker.specs.Internal.Hazards.{of_flaw, of_sync_hazard}
 use Rattle.fg_checker.specs.Hazards.{HazardIn, IsHazard}
 use Rattle.fg_checker.specs.Sound.{Sound}
 use Rattle.fg_checker.specs.Verdicts.{Unsound}
@@ -9,15 +9,15 @@ use Rattle.fg_checker.specs.declared.hazard.Hazard.{Hazard}
 use Rattle.fg_checker.specs.declared.hazard.Hazard.TheVariants.{Stuck}
 use Rattle.fg_checker.proofs.Least.{one_least}
 use Rattle.fg_hb.specs.Orders.{IsLeast}
-use Rattle.fg_stated.specs.Fed.{Fed}
-use Rattle.fg_stated.specs.Stated.{Stated}
-use Rattle.fg_stated.specs.declared.misstatement.Misstatement.TheVariants as misstatements
-use Rattle.fg_stated.specs.declared.unfed.Unfed.TheVariants as unfeds
+use Rattle.fg_stated.specs.Initialized.{Initialized}
+use Rattle.fg_stated.specs.StateValid.{StateValid}
+use Rattle.fg_stated.specs.declared.state_hazard.StateHazard.TheVariants as state_hazards
+use Rattle.fg_stated.specs.declared.load_hazard.LoadHazard.TheVariants as load_hazards
 use Rattle.fg_subs.specs.declared.program.Program.{Program}
-use Rattle.fg_ties.specs.First.{DecidesTied, IsFirst}
-use Rattle.fg_ties.specs.declared.tie.Flaw.{Flaw}
-use Rattle.fg_ties.specs.declared.tie.Flaw.TheVariants as flaws
-use Rattle.fg_ties.specs.declared.tie.Untied.{Untied}
+use Rattle.fg_ties.specs.First.{DecidesSynchronized, IsFirst}
+use Rattle.fg_ties.specs.declared.sync_hazard.Flaw.{Flaw}
+use Rattle.fg_ties.specs.declared.sync_hazard.Flaw.TheVariants as flaws
+use Rattle.fg_ties.specs.declared.sync_hazard.SyncHazard.{SyncHazard}
 use Rattle.fg_view.specs.Views.{View, view_of, node_accesses_of}
 use Rattle.fg_view.specs.declared.node_access.NodeAccess.{NodeAccess}
 
@@ -29,11 +29,11 @@ pair_hazard V accesses flaws.NotAvailable n m p = p
 pair_hazard V accesses flaws.NotVisible n m p = p
 
 module _ (V : View) (accesses : List NodeAccess) where
-  pub untied_found : (untied : Untied) → IsFirst V accesses untied.flaw untied.first untied.second → DecidesTied V accesses (Some untied) → Decides V accesses (Some (of_untied untied))
-  untied_found untied first decides = λ order O is. record { hazard_is = pair_hazard V accesses untied.flaw untied.first untied.second first; refutes = λ clean. decides order O is clean.tied }
+  pub sync_hazard_found : (sync_hazard : SyncHazard) → IsFirst V accesses sync_hazard.flaw sync_hazard.first sync_hazard.second → DecidesSynchronized V accesses (Some sync_hazard) → Decides V accesses (Some (of_sync_hazard sync_hazard))
+  sync_hazard_found sync_hazard first decides = λ order O is. record { hazard_is = pair_hazard V accesses sync_hazard.flaw sync_hazard.first sync_hazard.second first; refutes = λ clean. decides order O is clean.synchronized }
 
-  pub none_found : DecidesTied V accesses None → Stated V accesses → Fed V accesses → Decides V accesses None
-  none_found decides stated fed = λ order O is. record { tied = decides order O is; stated = stated; fed = fed }
+  pub none_found : DecidesSynchronized V accesses None → StateValid V accesses → Initialized V accesses → Decides V accesses None
+  none_found decides state_valid initialized = λ order O is. record { synchronized = decides order O is; state_valid = state_valid; initialized = initialized }
 
 -- OF THE LEAST ORDER
 
@@ -43,10 +43,10 @@ in_least V hazard order least h = (order, least, h)
 
 module _ (P : Program) (V : View) (order : List ℕ) (accesses : List NodeAccess) (same : V ≡ view_of P) (least : IsLeast V.nodes order) (is : accesses ≡ node_accesses_of V order) where
   -- whatever order shows that the program is sound is this one
-  clean_of : (other : List ℕ) → Sound V other → Clean V accesses
+  clean_of : (other : List ℕ) → Sound V other → HasNoHazard V accesses
   clean_of other S =
       let all : node_accesses_of V other ≡ accesses = rw (is, one_least V.nodes order other least S.order_is) in
-      record { tied = S.tied; stated = rw (← all) S.stated; fed = rw (← all) S.fed }
+      record { synchronized = S.synchronized; state_valid = rw (← all) S.state_valid; initialized = rw (← all) S.initialized }
 
   pub hazard_found : (hazard : Hazard) → IsFound V accesses hazard → Unsound P hazard
   hazard_found hazard found = record {
@@ -54,10 +54,10 @@ module _ (P : Program) (V : View) (order : List ℕ) (accesses : List NodeAccess
     unsound = λ sound. found.refutes (clean_of sound.0 (subst (λ W. Sound W sound.0) (sym same) sound.1));
   }
 
-  pub sound_found : Clean V accesses → Sound (view_of P) order
+  pub sound_found : HasNoHazard V accesses → Sound (view_of P) order
   sound_found clean = subst (λ W. Sound W order) same (record {
     order_is = least;
-    tied = clean.tied;
-    stated = subst (λ l. Stated V l) is clean.stated;
-    fed = subst (λ l. Fed V l) is clean.fed;
+    synchronized = clean.synchronized;
+    state_valid = subst (λ l. StateValid V l) is clean.state_valid;
+    initialized = subst (λ l. Initialized V l) is clean.initialized;
   })

@@ -3,32 +3,32 @@ use Rattle.std.specs.Prelude.{ℕ, List, length}
 use Rattle.fg_checker.specs.declared.hazard.Hazard.{Hazard}
 use Rattle.fg_checker.specs.declared.hazard.Hazard.TheVariants.{Stuck, Unordered, NotAvailable, NotVisible, BadLayout, BadOwner, Unmatched, Undefined, Aliased}
 use Rattle.fg_hb.specs.Orders.{IsLeast, IsStuck}
-use Rattle.fg_stated.specs.Fed.{FirstUnfed}
-use Rattle.fg_stated.specs.Stated.{Stated, FirstMisstated}
-use Rattle.fg_stated.specs.declared.misstatement.Misstatement.{Misstatement}
-use Rattle.fg_stated.specs.declared.misstatement.Misstatement.TheVariants as misstatements
-use Rattle.fg_stated.specs.declared.unfed.Unfed.{Unfed}
-use Rattle.fg_stated.specs.declared.unfed.Unfed.TheVariants as unfeds
+use Rattle.fg_stated.specs.Initialized.{FirstLoadHazard}
+use Rattle.fg_stated.specs.StateValid.{StateValid, FirstStateHazard}
+use Rattle.fg_stated.specs.declared.state_hazard.StateHazard.{StateHazard}
+use Rattle.fg_stated.specs.declared.state_hazard.StateHazard.TheVariants as state_hazards
+use Rattle.fg_stated.specs.declared.load_hazard.LoadHazard.{LoadHazard}
+use Rattle.fg_stated.specs.declared.load_hazard.LoadHazard.TheVariants as load_hazards
 use Rattle.fg_ties.specs.First.{IsFirst}
-use Rattle.fg_ties.specs.Tied.{TiedBelow}
-use Rattle.fg_ties.specs.declared.tie.Flaw.TheVariants as flaws
+use Rattle.fg_ties.specs.Synchronized.{SynchronizedBelow}
+use Rattle.fg_ties.specs.declared.sync_hazard.Flaw.TheVariants as flaws
 use Rattle.fg_view.specs.Views.{View, node_accesses_of}
 use Rattle.fg_view.specs.declared.node_access.NodeAccess.{NodeAccess}
 
--- each pair is tied
-abbrev pub AllTied : View → List NodeAccess → Type 0
-AllTied V accesses = TiedBelow V accesses (length accesses)
+-- each pair is synchronized
+abbrev pub AllSynchronized : View → List NodeAccess → Type 0
+AllSynchronized V accesses = SynchronizedBelow V accesses (length accesses)
 
--- all are tied, and this is the first that does not find what it wants
-pub record FirstOfStated (V : View) (accesses : List NodeAccess) (misstatement : Misstatement) : Type 0 where
-  pub tied : AllTied V accesses
-  pub first : FirstMisstated V accesses misstatement
+-- all are synchronized, and this is the first that does not find what it wants
+pub record StateHazardIsFirst (V : View) (accesses : List NodeAccess) (state_hazard : StateHazard) : Type 0 where
+  pub synchronized : AllSynchronized V accesses
+  pub first : FirstStateHazard V accesses state_hazard
 
--- all are tied and find what they want, and this is the first load without bytes
-pub record FirstOfFed (V : View) (accesses : List NodeAccess) (unfed : Unfed) : Type 0 where
-  pub tied : AllTied V accesses
-  pub stated : Stated V accesses
-  pub first : FirstUnfed V accesses unfed
+-- all are synchronized and find what they want, and this is the first load without bytes
+pub record LoadHazardIsFirst (V : View) (accesses : List NodeAccess) (load_hazard : LoadHazard) : Type 0 where
+  pub synchronized : AllSynchronized V accesses
+  pub state_valid : StateValid V accesses
+  pub first : FirstLoadHazard V accesses load_hazard
 
 -- of accesses in an order
 abbrev pub HazardIn : View → List NodeAccess → Hazard → Type 0
@@ -36,11 +36,11 @@ HazardIn V accesses (Stuck q n) = ⊥
 HazardIn V accesses (Unordered n m) = IsFirst V accesses flaws.Unordered n m
 HazardIn V accesses (NotAvailable n m) = IsFirst V accesses flaws.NotAvailable n m
 HazardIn V accesses (NotVisible n m) = IsFirst V accesses flaws.NotVisible n m
-HazardIn V accesses (BadLayout n p found wanted) = FirstOfStated V accesses (misstatements.BadLayout n p found wanted)
-HazardIn V accesses (BadOwner n p found wanted) = FirstOfStated V accesses (misstatements.BadOwner n p found wanted)
-HazardIn V accesses (Unmatched n) = FirstOfStated V accesses (misstatements.Unmatched n)
-HazardIn V accesses (Undefined n p) = FirstOfFed V accesses (unfeds.Undefined n p)
-HazardIn V accesses (Aliased n p other) = FirstOfFed V accesses (unfeds.Aliased n p other)
+HazardIn V accesses (BadLayout n p found wanted) = StateHazardIsFirst V accesses (state_hazards.BadLayout n p found wanted)
+HazardIn V accesses (BadOwner n p found wanted) = StateHazardIsFirst V accesses (state_hazards.BadOwner n p found wanted)
+HazardIn V accesses (Unmatched n) = StateHazardIsFirst V accesses (state_hazards.Unmatched n)
+HazardIn V accesses (Undefined n p) = LoadHazardIsFirst V accesses (load_hazards.Undefined n p)
+HazardIn V accesses (Aliased n p other) = LoadHazardIsFirst V accesses (load_hazards.Aliased n p other)
 
 -- of accesses in the least order
 abbrev pub InLeast : View → Hazard → Type 0

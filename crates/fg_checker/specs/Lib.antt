@@ -1,6 +1,6 @@
 pub mod Apart
 pub mod Checked
-pub mod Code
+pub mod Internal
 pub mod Hazards
 pub mod Sound
 pub mod Verdicts

@@ -1,18 +1,18 @@
 -- Programs that come to the same in every order that their nodes may run in, whatever caches do.
 use Rattle.std.specs.Prelude.{ℕ, List}
 use Rattle.fg_hb.specs.Orders.{IsLeast}
-use Rattle.fg_stated.specs.Fed.{Fed}
-use Rattle.fg_stated.specs.Stated.{Stated}
+use Rattle.fg_stated.specs.Initialized.{Initialized}
+use Rattle.fg_stated.specs.StateValid.{StateValid}
 use Rattle.fg_subs.specs.declared.program.Program.{Program}
-use Rattle.fg_ties.specs.Tied.{Tied}
+use Rattle.fg_ties.specs.Synchronized.{Synchronized}
 use Rattle.fg_view.specs.Views.{View, view_of, node_accesses_of}
 
 -- "before" and "last" are meant in the least order of the nodes
 pub record Sound (V : View) (order : List ℕ) : Type 0 where
   pub order_is : IsLeast V.nodes order
-  pub tied : Tied V
-  pub stated : Stated V (node_accesses_of V order)
-  pub fed : Fed V (node_accesses_of V order)
+  pub synchronized : Synchronized V
+  pub state_valid : StateValid V (node_accesses_of V order)
+  pub initialized : Initialized V (node_accesses_of V order)
 
 abbrev pub IsSound : Program → Type 0
 IsSound program = (order : List ℕ) × Sound (view_of program) order

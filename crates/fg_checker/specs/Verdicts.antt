@@ -2,8 +2,8 @@
 use Rattle.std.specs.Prelude.{◌≡◌}
 use Rattle.fg_checker.specs.Hazards.{IsHazard}
 use Rattle.fg_checker.specs.Sound.{IsSound}
-use Rattle.fg_checker.specs.declared.checking.CheckEnd.{CheckEnd}
-use Rattle.fg_checker.specs.declared.checking.CheckEnd.TheVariants.{Refused, NoMemory}
+use Rattle.fg_checker.specs.declared.checking.CheckError.{CheckError}
+use Rattle.fg_checker.specs.declared.checking.CheckError.TheVariants.{Refused, NoMemory}
 use Rattle.fg_checker.specs.declared.hazard.Hazard.{Hazard}
 use Rattle.fg_subs.specs.declared.program.Program.{Program}
 use Rattle.fg_view.specs.Views.{view_of}
@@ -13,7 +13,7 @@ pub record Unsound (program : Program) (hazard : Hazard) : Type 0 where
   pub hazard_is : IsHazard (view_of program) hazard
   pub unsound : IsSound program → ⊥
 
--- why a program was not taken, and the program itself
-abbrev pub Ends : Program → CheckEnd → Type 0
-Ends program (Refused hazard back) = Unsound program hazard × (back ≡ program)
-Ends program NoMemory = Unit {0}
+-- why a program was not proved_sound, and the program itself
+abbrev pub IsCheckError : Program → CheckError → Type 0
+IsCheckError program (Refused hazard back) = Unsound program hazard × (back ≡ program)
+IsCheckError program NoMemory = Unit {0}

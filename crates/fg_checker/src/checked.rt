@@ -6,7 +6,7 @@ ghost use Rattle.fg_checker.specs.Sound.{Sound};
 ghost use Rattle.fg_view.specs.Views.{view_of};
 
 use fg_base::List;
-use fg_subs::Shaped;
+use fg_subs::ValidProgram;
 use std::alloc::Global;
 use std::marker::Model;
 use std::sync::Arc;
@@ -14,13 +14,13 @@ use std::sync::Arc;
 /// A sound program, and the least order of its nodes.
 #[derive(Debug, Drop)]
 pub struct Checked {
-    shaped: Arc<Shaped, Global>,
+    shaped: Arc<ValidProgram, Global>,
     order: List<u32>,
 }
 
 impl Model for Checked {
     ghost use Rattle.fg_checker.specs.Checked.{Accepted};
-    ghost use Rattle.fg_checker.specs.Code.Inside.{accepted_in, IsAccepted};
+    ghost use Rattle.fg_checker.specs.Internal.Inside.{accepted_in, IsAccepted};
 
     ghost Value = { Accepted };
 
@@ -30,7 +30,7 @@ impl Model for Checked {
 }
 
 impl Checked {
-    pub(crate) fn new(shaped: Arc<Shaped, Global>, order: List<u32>) -> Checked
+    pub(crate) fn new(shaped: Arc<ValidProgram, Global>, order: List<u32>) -> Checked
         requires { Sound (view_of (arc_value shaped)) order }
         ensures program { result.program ≡ arc_value shaped }
         ensures order { result.order ≡ order }
@@ -39,7 +39,7 @@ impl Checked {
     }
 
     /// The program, which can be shared between threads.
-    pub fn shaped(&self) -> &Arc<Shaped, Global>
+    pub fn shaped(&self) -> &Arc<ValidProgram, Global>
         ensures program { arc_value result.now ≡ self.now.program }
         ensures sound { Sound (view_of self.now.program) self.now.order }
     {

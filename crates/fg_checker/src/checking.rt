@@ -1,8 +1,8 @@
-//! Only sound programs are taken.
+//! Only sound programs are proved_sound.
 
 ghost use Rattle.std.specs.Prelude.{◌≡◌, ◌↔◌, None, true, IfOk, IfErr};
 ghost use Rattle.fg_checker.specs.Sound.{IsSound, Sound};
-ghost use Rattle.fg_checker.specs.Verdicts.{Ends};
+ghost use Rattle.fg_checker.specs.Verdicts.{IsCheckError};
 ghost use Rattle.fg_subs.specs.FirstFault.{first_fault};
 ghost use Rattle.fg_view.specs.Views.{view_of};
 
@@ -10,45 +10,45 @@ use crate::judge::{Verdict, judge};
 use crate::{Checked, Hazard};
 use fg_base::{List, NoMemory};
 use fg_hb::{Drain, direct, drain_of};
-use fg_subs::{Program, Shaped};
+use fg_subs::{Program, ValidProgram};
 use std::alloc::Global;
 use std::sync::Arc;
 use thiserror::Error;
 
-/// Why a program was not taken.
+/// Why a program was not proved_sound.
 #[derive(Debug, Drop, Error)]
-pub enum CheckEnd {
+pub enum CheckError {
     /// The first hazard, and the program itself.
     #[error("the submission is not sound")]
-    Refused(Hazard, Shaped),
+    Refused(Hazard, ValidProgram),
     #[error("memory ran out")]
     NoMemory,
 }
 
 /// Takes a sound program.
-pub fn check(alloc: Global, program: Shaped) -> Result<Checked, CheckEnd>
+pub fn check(alloc: Global, program: ValidProgram) -> Result<Checked, CheckError>
     ensures checked { IfOk result (λ checked. checked.program ≡ program) }
     ensures sound { IfOk result (λ checked. IsSound program) }
-    ensures refused { IfErr result (Ends program) }
+    ensures refused { IfErr result (IsCheckError program) }
 {
     match judge(alloc, &program) {
         Ok(Verdict::Sound(order)) => match Arc::new(alloc, program) {
             Ok(shaped) => Ok(Checked::new(shaped, order)),
-            Err(_) => Err(CheckEnd::NoMemory),
+            Err(_) => Err(CheckError::NoMemory),
         },
-        Ok(Verdict::Unsound(hazard)) => Err(CheckEnd::Refused(hazard, program)),
-        Err(NoMemory) => Err(CheckEnd::NoMemory),
+        Ok(Verdict::Unsound(hazard)) => Err(CheckError::Refused(hazard, program)),
+        Err(NoMemory) => Err(CheckError::NoMemory),
     }
 }
 
 /// Takes a program that is known to break no rule and to be sound. Nothing is checked: its nodes are numbered, and their least
 /// order is made.
-pub fn taken(alloc: Global, program: Program) -> Result<Checked, NoMemory>
+pub fn proved_sound(alloc: Global, program: Program) -> Result<Checked, NoMemory>
     requires faultless { first_fault program ≡ None }
     requires sound { IsSound program }
     ensures { IfOk result (λ checked. checked.program ≡ program) }
 {
-    let shaped = Shaped::faultless(alloc, program)?;
+    let shaped = ValidProgram::faultless(alloc, program)?;
     let order = order_of(alloc, &shaped)?;
     match Arc::new(alloc, shaped) {
         Ok(shaped) => Ok(Checked::new(shaped, order)),
@@ -58,7 +58,7 @@ pub fn taken(alloc: Global, program: Program) -> Result<Checked, NoMemory>
 
 // The least order of a sound program.
 #[tactic(auto, using(crate::proofs::Least::of_least))]
-fn order_of(alloc: Global, program: &Shaped) -> Result<List<u32>, NoMemory>
+fn order_of(alloc: Global, program: &ValidProgram) -> Result<List<u32>, NoMemory>
     requires { IsSound program.now }
     ensures { IfOk result (λ order. Sound (view_of program.now) order) }
 {
@@ -70,7 +70,7 @@ fn order_of(alloc: Global, program: &Shaped) -> Result<List<u32>, NoMemory>
 }
 
 /// Whether the program is sound.
-pub fn sound(alloc: Global, program: &Shaped) -> Result<bool, NoMemory>
+pub fn sound(alloc: Global, program: &ValidProgram) -> Result<bool, NoMemory>
     ensures { IfOk result (λ sound. (sound ≡ true) ↔ IsSound program.now) }
 {
     match judge(alloc, program)? {

@@ -1,12 +1,12 @@
 //! What is wrong with a program.
 
 ghost use Rattle.std.specs.Prelude.{◌≡◌};
-ghost use Rattle.fg_checker.specs.Code.Hazards.{of_untied, of_misstatement, of_unfed};
+ghost use Rattle.fg_checker.specs.Internal.Hazards.{of_sync_hazard, of_state_hazard, of_load_hazard};
 
 use fg_base::Family;
 use fg_bits::Layout;
-use fg_stated::{Misstatement, Unfed};
-use fg_ties::{Flaw, Untied};
+use fg_stated::{StateHazard, LoadHazard};
+use fg_ties::{Flaw, SyncHazard};
 
 /// What keeps a program from being sound. Nodes, pieces and queues are named by their numbers.
 #[derive(Clone, Copy, Debug, PartialEq, Eq)]
@@ -63,14 +63,14 @@ pub enum Hazard {
 }
 
 impl Hazard {
-    pub(crate) fn of_untied(untied: Untied) -> Hazard
-        ensures { result ≡ of_untied untied }
+    pub(crate) fn of_sync_hazard(sync_hazard: SyncHazard) -> Hazard
+        ensures { result ≡ of_sync_hazard sync_hazard }
     {
-        let Untied {
+        let SyncHazard {
             first,
             second,
             flaw,
-        } = untied;
+        } = sync_hazard;
         match flaw {
             Flaw::Unordered => Hazard::Unordered { first, second },
             Flaw::NotAvailable => Hazard::NotAvailable { first, second },
@@ -78,11 +78,11 @@ impl Hazard {
         }
     }
 
-    pub(crate) fn of_misstatement(misstatement: Misstatement) -> Hazard
-        ensures { result ≡ of_misstatement misstatement }
+    pub(crate) fn of_state_hazard(state_hazard: StateHazard) -> Hazard
+        ensures { result ≡ of_state_hazard state_hazard }
     {
-        match misstatement {
-            Misstatement::BadLayout {
+        match state_hazard {
+            StateHazard::BadLayout {
                 node,
                 piece,
                 found,
@@ -93,7 +93,7 @@ impl Hazard {
                 found,
                 wanted,
             },
-            Misstatement::BadOwner {
+            StateHazard::BadOwner {
                 node,
                 piece,
                 found,
@@ -104,16 +104,16 @@ impl Hazard {
                 found,
                 wanted,
             },
-            Misstatement::Unmatched { node } => Hazard::Unmatched { node },
+            StateHazard::Unmatched { node } => Hazard::Unmatched { node },
         }
     }
 
-    pub(crate) fn of_unfed(unfed: Unfed) -> Hazard
-        ensures { result ≡ of_unfed unfed }
+    pub(crate) fn of_load_hazard(load_hazard: LoadHazard) -> Hazard
+        ensures { result ≡ of_load_hazard load_hazard }
     {
-        match unfed {
-            Unfed::Undefined { node, piece } => Hazard::Undefined { node, piece },
-            Unfed::Aliased { node, piece, other } => Hazard::Aliased { node, piece, other },
+        match load_hazard {
+            LoadHazard::Undefined { node, piece } => Hazard::Undefined { node, piece },
+            LoadHazard::Aliased { node, piece, other } => Hazard::Aliased { node, piece, other },
         }
     }
 }

@@ -1,17 +1,17 @@
 //! Programs are judged.
 
 ghost use Rattle.std.specs.Prelude.{◌≡◌, IfOk};
-ghost use Rattle.fg_checker.specs.Code.Decided.{Decides, Judges};
+ghost use Rattle.fg_checker.specs.Internal.Decided.{Decides, Judges};
 ghost use Rattle.fg_hb.specs.Orders.{IsLeast};
 ghost use Rattle.fg_ties.specs.Rows.{Rows};
-ghost use Rattle.fg_view.specs.ShapedView.{Listed, ShapedView};
+ghost use Rattle.fg_view.specs.ValidView.{Listed, ValidView};
 ghost use Rattle.fg_view.specs.Views.{view_of};
 
 use crate::Hazard;
 use fg_base::{List, NoMemory};
 use fg_hb::{Before, Drain, before_of, drain_of};
-use fg_stated::{first_misstated, first_unfed};
-use fg_subs::Shaped;
+use fg_stated::{first_state_hazard, first_load_hazard};
+use fg_subs::ValidProgram;
 use fg_ties::first_flaw;
 use fg_view::{NodeAccess, View, node_accesses_of, view_of};
 use std::alloc::Global;
@@ -31,31 +31,31 @@ fn first_hazard(
     before: &Before,
     accesses: &[NodeAccess],
 ) -> Result<Option<Hazard>, NoMemory>
-    requires shaped { ShapedView view.now }
+    requires shaped { ValidView view.now }
     requires rows { Rows view.now before.now }
     requires listed { Listed view.now accesses.now }
     ensures { IfOk result (λ found. Decides view.now accesses.now found) }
 {
-    if let Some(untied) = first_flaw(alloc, view, before, accesses)? {
-        return Ok(Some(Hazard::of_untied(untied)));
+    if let Some(sync_hazard) = first_flaw(alloc, view, before, accesses)? {
+        return Ok(Some(Hazard::of_sync_hazard(sync_hazard)));
     }
-    if let Some(misstatement) = first_misstated(alloc, view, accesses)? {
-        return Ok(Some(Hazard::of_misstatement(misstatement)));
+    if let Some(state_hazard) = first_state_hazard(alloc, view, accesses)? {
+        return Ok(Some(Hazard::of_state_hazard(state_hazard)));
     }
-    match first_unfed(alloc, view, accesses)? {
-        Some(unfed) => Ok(Some(Hazard::of_unfed(unfed))),
+    match first_load_hazard(alloc, view, accesses)? {
+        Some(load_hazard) => Ok(Some(Hazard::of_load_hazard(load_hazard))),
         None => Ok(None),
     }
 }
 
 fn judge_order(
     alloc: Global,
-    program: &Shaped,
+    program: &ValidProgram,
     view: &View,
     order: List<u32>,
 ) -> Result<Verdict, NoMemory>
     requires view { view.now ≡ view_of program.now }
-    requires shaped { ShapedView view.now }
+    requires shaped { ValidView view.now }
     requires order { IsLeast view.now.nodes order }
     ensures { IfOk result (Judges program.now) }
 {
@@ -68,7 +68,7 @@ fn judge_order(
 }
 
 /// The verdict on a program.
-pub fn judge(alloc: Global, program: &Shaped) -> Result<Verdict, NoMemory>
+pub fn judge(alloc: Global, program: &ValidProgram) -> Result<Verdict, NoMemory>
     ensures { IfOk result (Judges program.now) }
 {
     let view = view_of(alloc, program)?;

@@ -7,5 +7,5 @@ mod hazard;
 mod judge;
 
 pub use checked::Checked;
-pub use checking::{CheckEnd, check, sound, taken};
+pub use checking::{CheckError, check, sound, proved_sound};
 pub use hazard::Hazard;

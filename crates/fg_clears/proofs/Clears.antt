@@ -9,7 +9,7 @@ use Rattle.fg_base.specs.declared.shape.Texel.{Texel}
 use Rattle.fg_base.specs.declared.shape.Texel.TheVariants.{R8, R32}
 use Rattle.fg_caches.specs.Repeats.{repeated}
 use Rattle.fg_caches.proofs.Repeating.{length_repeated, repeated_at, one_byte}
-use Rattle.fg_clears.specs.Code.Words.{word_of}
+use Rattle.fg_clears.specs.Internal.Words.{word_of}
 use Rattle.fg_pixels.proofs.Fitting.{image_bytes}
 use Rattle.fg_pixels.proofs.Numbers.{AreBytes, byte_is, word_is}
 use Rattle.fg_pixels.proofs.Pieces.{band_from}

@@ -15,7 +15,7 @@ use Rattle.fg_base.specs.declared.op.Rect.{Rect}
 use Rattle.fg_base.specs.declared.shape.Shape.{Shape}
 use Rattle.fg_base.specs.declared.shape.Texel.{Texel}
 use Rattle.fg_base.specs.declared.shape.Texel.TheVariants.{R8, R32}
-use Rattle.fg_clears.specs.Code.Words.{commutes}
+use Rattle.fg_clears.specs.Internal.Words.{commutes}
 use Rattle.fg_pixels.proofs.Fitting.{one_size, twice}
 use Rattle.fg_pixels.proofs.Moduli.{cut_twice}
 use Rattle.fg_pixels.proofs.Pictures.{same_band, picture_painted}

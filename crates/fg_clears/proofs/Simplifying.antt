@@ -18,7 +18,7 @@ use Rattle.fg_base.specs.declared.op.Rect.{Rect}
 use Rattle.fg_base.specs.declared.shape.Shape.{Shape}
 use Rattle.fg_base.specs.declared.shape.Shape.TheVariants.{Buffer, Image}
 use Rattle.fg_clears.proofs.Effects.{IsOf, blur_of_one, conversion_of_one, halving_of_one, nothing_drawn, read_back, whole_drawn}
-use Rattle.fg_clears.specs.Code.Keeps.{Keeps}
+use Rattle.fg_clears.specs.Internal.Keeps.{Keeps}
 use Rattle.fg_clears.specs.Simpler.{Reads, IsSimpler}
 use Rattle.fg_pixels.proofs.Fitting.{number_same, same_canvas}
 

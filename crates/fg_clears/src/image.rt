@@ -4,7 +4,7 @@ ghost use Rattle.std.specs.Prelude.{◌≡◌, ◌<◌, true, length, IfSome};
 ghost use Rattle.fg_base.specs.Shapes.{bytes_of, is_image};
 ghost use Rattle.fg_base.specs.Texels.{canvas_of, modulus, painted};
 ghost use Rattle.fg_caches.specs.Repeats.{repeated};
-ghost use Rattle.fg_clears.specs.Code.Words.{word_of};
+ghost use Rattle.fg_clears.specs.Internal.Words.{word_of};
 
 use crate::word::{number_in, word_of};
 use fg_base::Shape;

@@ -6,8 +6,8 @@ ghost use Rattle.fg_base.specs.Fits.{fits};
 ghost use Rattle.fg_base.specs.Kernels.{fun_of, under};
 ghost use Rattle.fg_base.specs.Shapes.{bytes_of, is_image, same_grid};
 ghost use Rattle.fg_base.specs.Texels.{canvas_of, modulus, painted};
-ghost use Rattle.fg_clears.specs.Code.Words.{commutes};
-ghost use Rattle.fg_clears.specs.Code.Keeps.{Keeps};
+ghost use Rattle.fg_clears.specs.Internal.Words.{commutes};
+ghost use Rattle.fg_clears.specs.Internal.Keeps.{Keeps};
 ghost use Rattle.fg_clears.specs.Simpler.{Reads, IsSimpler};
 
 use crate::image::value_of;

@@ -2,7 +2,7 @@
 
 ghost use Rattle.std.specs.Prelude.{◌≡◌, ◌<◌, IfSome};
 ghost use Rattle.fg_base.specs.Texels.{modulus};
-ghost use Rattle.fg_clears.specs.Code.Words.{word_of};
+ghost use Rattle.fg_clears.specs.Internal.Words.{word_of};
 
 use fg_base::Texel;
 

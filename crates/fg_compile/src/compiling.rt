@@ -8,13 +8,13 @@ ghost use Rattle.fg_frame.specs.Numbered.{numbered};
 ghost use Rattle.fg_place.specs.Placing.{Places};
 ghost use Rattle.fg_recorder.specs.Recorded.{IsCompiled};
 ghost use Rattle.fg_subs.specs.FirstFault.{first_fault};
-ghost use Rattle.fg_subs.specs.declared.program.Program as subs;
+ghost use Rattle.fg_subs.specs.declared.program.Program as programs;
 ghost use Rattle.fg_versions.specs.Culled.{AreKept};
 
 use crate::laws::compile_law;
 use fg_base::NoMemory;
-use fg_checker::{Checked, taken};
-use fg_frame::GoodFrame;
+use fg_checker::{Checked, proved_sound};
+use fg_frame::ValidFrame;
 use fg_place::Placement;
 use fg_recorder::{Recorded, record};
 use fg_versions::Kept;
@@ -32,8 +32,8 @@ pub struct Compiled {
 }
 
 // Whatever is compiled of the frame is right for it. It does nothing.
-fn right_for(frame: &GoodFrame)
-    ensures { (kept : List Bool) (places : Places) (program : subs.Program) → AreKept (numbered frame.now) kept → IsCompiled (numbered frame.now) kept places program → IsRightFor (numbered frame.now) program }
+fn right_for(frame: &ValidFrame)
+    ensures { (kept : List Bool) (places : Places) (program : programs.Program) → AreKept (numbered frame.now) kept → IsCompiled (numbered frame.now) kept places program → IsRightFor (numbered frame.now) program }
 {
     frame.frame();
     compile_law();
@@ -42,7 +42,7 @@ fn right_for(frame: &GoodFrame)
 /// The submissions of a frame: what its kept passes do, and the barriers, transfers, waits and signals that this needs. They
 /// are sound and leave what the frame means, as the law of the compiler says, so that nothing is checked. Want of memory is
 /// the one refusal.
-pub fn compile(alloc: Global, frame: &GoodFrame) -> Result<Compiled, NoMemory>
+pub fn compile(alloc: Global, frame: &ValidFrame) -> Result<Compiled, NoMemory>
     ensures kept { IfOk result (λ c. AreKept (numbered frame.now) c.kept) }
     ensures compiled { IfOk result (λ c. IsCompiled (numbered frame.now) c.kept c.placement c.program.program) }
     ensures faultless { IfOk result (λ c. first_fault c.program.program ≡ None) }
@@ -56,7 +56,7 @@ pub fn compile(alloc: Global, frame: &GoodFrame) -> Result<Compiled, NoMemory>
         kept,
         placement,
     } = record(alloc, frame)?;
-    let program = taken(alloc, program)?;
+    let program = proved_sound(alloc, program)?;
     Ok(Compiled {
         program,
         kept,

@@ -11,14 +11,14 @@ use Rattle.fg_bits.specs.declared.layout.Layouts.{Layouts}
 use Rattle.fg_bits.specs.declared.masks.Masks.{Masks}
 use Rattle.fg_compiled.proofs.Grouped.{over_from, over_parts, resource_unit}
 use Rattle.fg_compiled.proofs.Groups.{next_unit, next_within, some_use}
-use Rattle.fg_compiled.proofs.TurnKinds.{over_kinds, over_there, under_some}
+use Rattle.fg_compiled.proofs.PrologueKinds.{over_kinds, over_there, under_some}
 use Rattle.fg_compiled.proofs.Later.{held_back}
 use Rattle.fg_compiled.proofs.Lying.{AreMeeting, are_meeting, meet_turned, meeting_ordered}
 use Rattle.fg_compiled.proofs.Opened.{is_barrier, item_stands}
-use Rattle.fg_compiled.proofs.Places.{turn_unit}
-use Rattle.fg_compiled.proofs.Stages.{after_opens, earlier_stages, group_stages, has_own, turn_opens, under_stages}
-use Rattle.fg_compiled.proofs.Steps.{ItemAt, does_at, soon, turn_at}
-use Rattle.fg_compiled.specs.Nodes.{alias_node, alias_step, item_at, nodes_of, steps, steps_before, turn_node, turn_queue}
+use Rattle.fg_compiled.proofs.Places.{prologue_unit}
+use Rattle.fg_compiled.proofs.Stages.{after_opens, earlier_stages, group_stages, has_own, prologue_opens, under_stages}
+use Rattle.fg_compiled.proofs.Steps.{ItemAt, does_at, soon, prologue_at}
+use Rattle.fg_compiled.specs.Nodes.{alias_node, alias_step, item_at, nodes_of, steps, steps_before, prologue_node, prologue_queue}
 use Rattle.fg_compiled.specs.Plan.{group_count, is_first, is_over, plan_of, resource_of, unit_of, unit_under}
 use Rattle.fg_crossing.specs.Aliases.{Beside}
 use Rattle.fg_crossing.specs.Crossings.{Sooner, wait_stages}
@@ -38,18 +38,18 @@ use Rattle.fg_recorder.specs.Items.{barrier, both as layouts_both, init}
 use Rattle.fg_recorder.specs.Pieces.{piece_of, pieces}
 use Rattle.fg_recorder.specs.Recorded.{heap_with}
 use Rattle.fg_recorder.specs.Script.{is_released}
-use Rattle.fg_recorder.specs.Standing.{IsStanding, item_by, step, turn_item}
-use Rattle.fg_recorder.specs.declared.mark.Mark.TheVariants.{Turn as OfTurn}
+use Rattle.fg_recorder.specs.Standing.{IsStanding, item_by, step, prologue_item}
+use Rattle.fg_recorder.specs.declared.mark.Mark.TheVariants.{Prologue as OfPrologue}
 use Rattle.fg_subs.specs.declared.program.Item.{Item}
 use Rattle.fg_subs.specs.declared.program.Item.TheVariants as item
 use Rattle.fg_subs.specs.declared.program.Program.{Program}
 use Rattle.fg_ties.specs.Passing.{UpTo}
 use Rattle.fg_timeline.specs.Steps.{IsScript}
 use Rattle.fg_turns.specs.Masks.{barrier_masks, entry_masks}
-use Rattle.fg_turns.specs.Turns.{earlier, first, is_transfer, masks_of, turn_between, turn_of}
+use Rattle.fg_turns.specs.Prologues.{earlier, first, is_transfer, masks_of, prologue_between, prologue_of}
 use Rattle.fg_turns.specs.Under.{Heap, is_under, place_of, uses_under}
 use Rattle.fg_turns.specs.Unions.{stages_on}
-use Rattle.fg_turns.specs.declared.turn.TurnKind.TheVariants as kinds
+use Rattle.fg_turns.specs.declared.prologue.PrologueKind.TheVariants as kinds
 use Rattle.fg_view.specs.Views.{no_piece, pieces_overlap, view_of}
 
 -- THE FIRST AND THE LAST GROUP OF A UNIT
@@ -131,7 +131,7 @@ source_is piece (Some layouts) masks q = refl
 source_is piece None masks q = refl
 
 pub are_kept : (G : Grouping) (heap : Heap) (g h : ℕ) → is_over G heap g h ≡ true → is_released G heap g ≡ false
-are_kept G heap g h o = and_left (goes_on G g) (is_transfer (turn_of G heap (suc g)).kind) (over_parts G heap g h o).lower_last
+are_kept G heap g h o = and_left (goes_on G g) (is_transfer (prologue_of G heap (suc g)).kind) (over_parts G heap g h o).lower_last
 
 -- what some stages meet meets itself
 meets_own : (a s : ℕ) → meets a s ≡ true → meets s s ≡ true
@@ -146,83 +146,83 @@ meets_own a s m = go (s == 0) refl
 
 module _ (G : Grouping) (L : IsGrouped G) (heap : Heap) (S : IsStanding G heap) where
   abbrev pub alias_item : ℕ → Item
-  alias_item h = item.Global (barrier_masks (uses_under G heap (place_of G (unit_of G h))) (group_at G h) (turn_queue G h))
+  alias_item h = item.Global (barrier_masks (uses_under G heap (place_of G (unit_of G h))) (group_at G h) (prologue_queue G h))
 
-  alias_is : (h : ℕ) → (turn_of G heap h).kind ≡ kinds.Alias → turn_item G heap h ≡ alias_item h
-  alias_is h e = ap (λ k. item_by k G (turn_between k h (earlier G h) (uses_under G heap (place_of G (unit_of G h))) (group_at G h)) (earlier G h) (group_at G h)) e
+  alias_is : (h : ℕ) → (prologue_of G heap h).kind ≡ kinds.Alias → prologue_item G heap h ≡ alias_item h
+  alias_is h e = ap (λ k. item_by k G (prologue_between k h (earlier G h) (uses_under G heap (place_of G (unit_of G h))) (group_at G h)) (earlier G h) (group_at G h)) e
 
-  masks_are : (h : ℕ) → (turn_of G heap h).kind ≡ kinds.AliasInit → (turn_of G heap h).masks ≡ barrier_masks (uses_under G heap (place_of G (unit_of G h))) (group_at G h) (turn_queue G h)
-  masks_are h e = ap (λ k. masks_of k (earlier G h) (uses_under G heap (place_of G (unit_of G h))) (group_at G h) (turn_queue G h)) e
+  masks_are : (h : ℕ) → (prologue_of G heap h).kind ≡ kinds.AliasInit → (prologue_of G heap h).masks ≡ barrier_masks (uses_under G heap (place_of G (unit_of G h))) (group_at G h) (prologue_queue G h)
+  masks_are h e = ap (λ k. masks_of k (earlier G h) (uses_under G heap (place_of G (unit_of G h))) (group_at G h) (prologue_queue G h)) e
 
-  own_step : (h : ℕ) → (turn_of G heap h).kind ≡ kinds.Alias → alias_step G heap h ≡ step G heap (OfTurn h)
-  own_step h e = let is : alias_step G heap h ≡ step G heap (OfTurn h) - 0 = ap (λ k. step G heap (OfTurn h) - steps_before k) e in omega (arith, is)
+  own_step : (h : ℕ) → (prologue_of G heap h).kind ≡ kinds.Alias → alias_step G heap h ≡ step G heap (OfPrologue h)
+  own_step h e = let is : alias_step G heap h ≡ step G heap (OfPrologue h) - 0 = ap (λ k. step G heap (OfPrologue h) - steps_before k) e in omega (arith, is)
 
-  step_before : (h : ℕ) → (turn_of G heap h).kind ≡ kinds.AliasInit → alias_step G heap h ≡ step G heap (OfTurn h) - 1
-  step_before h e = ap (λ k. step G heap (OfTurn h) - steps_before k) e
+  step_before : (h : ℕ) → (prologue_of G heap h).kind ≡ kinds.AliasInit → alias_step G heap h ≡ step G heap (OfPrologue h) - 1
+  step_before h e = ap (λ k. step G heap (OfPrologue h) - steps_before k) e
 
-  pub alias_at : (g h : ℕ) → is_over G heap g h ≡ true → ItemAt G heap (turn_queue G h) (alias_step G heap h) (alias_item h)
+  pub alias_at : (g h : ℕ) → is_over G heap g h ≡ true → ItemAt G heap (prologue_queue G h) (alias_step G heap h) (alias_item h)
   alias_at g h o = ⊎_elim alone both (over_kinds G L heap g h o)
     where
       upper : h < length G.groups
       upper = (over_parts G heap g h o).upper
 
-      alone : (turn_of G heap h).kind ≡ kinds.Alias → ItemAt G heap (turn_queue G h) (alias_step G heap h) (alias_item h)
-      alone e = subst (λ i. ItemAt G heap (turn_queue G h) i (alias_item h)) (sym (own_step h e)) (subst (λ it. ItemAt G heap (turn_queue G h) (step G heap (OfTurn h)) it) (alias_is h e) (turn_at G heap S h (upper, over_there G L heap g h o)))
+      alone : (prologue_of G heap h).kind ≡ kinds.Alias → ItemAt G heap (prologue_queue G h) (alias_step G heap h) (alias_item h)
+      alone e = subst (λ i. ItemAt G heap (prologue_queue G h) i (alias_item h)) (sym (own_step h e)) (subst (λ it. ItemAt G heap (prologue_queue G h) (step G heap (OfPrologue h)) it) (alias_is h e) (prologue_at G heap S h (upper, over_there G L heap g h o)))
 
-      both : (turn_of G heap h).kind ≡ kinds.AliasInit → ItemAt G heap (turn_queue G h) (alias_step G heap h) (alias_item h)
+      both : (prologue_of G heap h).kind ≡ kinds.AliasInit → ItemAt G heap (prologue_queue G h) (alias_step G heap h) (alias_item h)
       both e =
           let a = S.each_alias h upper e in
           let next = a.1 in
           let is = step_before h e in
           let same : alias_step G heap h ≡ a.0 = omega (arith, next, is) in
-          subst (λ i. ItemAt G heap (turn_queue G h) i (alias_item h)) (sym same)
-          (subst (λ m. ItemAt G heap (turn_queue G h) a.0 (item.Global m)) (masks_are h e)
-          (does_at G heap a.0 (turn_queue G h) None (item.Global (turn_of G heap h).masks) a.2))
+          subst (λ i. ItemAt G heap (prologue_queue G h) i (alias_item h)) (sym same)
+          (subst (λ m. ItemAt G heap (prologue_queue G h) a.0 (item.Global m)) (masks_are h e)
+          (does_at G heap a.0 (prologue_queue G h) None (item.Global (prologue_of G heap h).masks) a.2))
 
   module _ (P : Program) (T : AllStand P (steps G heap) (length G.families)) (opens : AreOpen P) (K : IsScript (steps G heap) (length G.families)) where
     pub alias_barrier : (g h : ℕ) → is_over G heap g h ≡ true → IsBarrier (view_of P) (alias_node G heap h)
     alias_barrier g h o =
         let upper = (over_parts G heap g h o).upper in
-        is_barrier G L heap S P T opens K (turn_queue G h) (alias_step G heap h) (alias_item h) (alias_at g h o)
+        is_barrier G L heap S P T opens K (prologue_queue G h) (alias_step G heap h) (alias_item h) (alias_at g h o)
         (after_opens G h (earlier G h) (uses_under G heap (place_of G (unit_of G h))) (group_at G h) (earlier_stages G L h) (under_stages G L heap (place_of G (unit_of G h))) (group_stages G L h) (some_use G L h upper)
         (uses_under G heap (place_of G (unit_of G h))) (under_stages G L heap (place_of G (unit_of G h))) (under_some G L heap g h o))
 
     module _ (sooner : AreSooner P (steps G heap) (length G.families)) (crossed : AreCrossed P (steps G heap) (length G.families)) where
-      pub alias_onto : (g h : ℕ) → is_over G heap g h ≡ true → UpTo (view_of P) (alias_node G heap h) ((nodes_of G heap).turn h)
-      alias_onto g h o = subst (λ n. UpTo (view_of P) (alias_node G heap h) n) (sym (turn_unit G heap h upper)) (⊎_elim alone both (over_kinds G L heap g h o))
+      pub alias_onto : (g h : ℕ) → is_over G heap g h ≡ true → UpTo (view_of P) (alias_node G heap h) ((nodes_of G heap).prologue h)
+      alias_onto g h o = subst (λ n. UpTo (view_of P) (alias_node G heap h) n) (sym (prologue_unit G heap h upper)) (⊎_elim alone both (over_kinds G L heap g h o))
         where
           upper : h < length G.groups
           upper = (over_parts G heap g h o).upper
 
-          alone : (turn_of G heap h).kind ≡ kinds.Alias → UpTo (view_of P) (alias_node G heap h) (turn_node G heap h)
-          alone e = inl (ap (item_at G heap (turn_queue G h)) (own_step h e))
+          alone : (prologue_of G heap h).kind ≡ kinds.Alias → UpTo (view_of P) (alias_node G heap h) (prologue_node G heap h)
+          alone e = inl (ap (item_at G heap (prologue_queue G h)) (own_step h e))
 
-          turned : ItemAt G heap (turn_queue G h) (step G heap (OfTurn h)) (turn_item G heap h)
-          turned = turn_at G heap S h (upper, over_there G L heap g h o)
+          has_prologue : ItemAt G heap (prologue_queue G h) (step G heap (OfPrologue h)) (prologue_item G heap h)
+          has_prologue = prologue_at G heap S h (upper, over_there G L heap g h o)
 
           A : IsBarrier (view_of P) (alias_node G heap h)
           A = alias_barrier g h o
 
-          B : IsBarrier (view_of P) (turn_node G heap h)
-          B = is_barrier G L heap S P T opens K (turn_queue G h) (step G heap (OfTurn h)) (turn_item G heap h) turned (turn_opens G L heap h upper (over_there G L heap g h o))
+          B : IsBarrier (view_of P) (prologue_node G heap h)
+          B = is_barrier G L heap S P T opens K (prologue_queue G h) (step G heap (OfPrologue h)) (prologue_item G heap h) has_prologue (prologue_opens G L heap h upper (over_there G L heap g h o))
 
-          both : (turn_of G heap h).kind ≡ kinds.AliasInit → UpTo (view_of P) (alias_node G heap h) (turn_node G heap h)
-          both e = inr (one (held_back (program_nodes P) (alias_node G heap h) (turn_node G heap h) before A.sync held))
+          both : (prologue_of G heap h).kind ≡ kinds.AliasInit → UpTo (view_of P) (alias_node G heap h) (prologue_node G heap h)
+          both e = inr (one (held_back (program_nodes P) (alias_node G heap h) (prologue_node G heap h) before A.sync held))
             where
-              before : Sooner (program_nodes P) (alias_node G heap h) (turn_node G heap h)
+              before : Sooner (program_nodes P) (alias_node G heap h) (prologue_node G heap h)
               before =
                   let a = S.each_alias h upper e in
                   let next = a.1 in
                   let is = step_before h e in
-                  soon G heap P sooner crossed (turn_queue G h) (alias_step G heap h) (step G heap (OfTurn h)) (alias_item h) (turn_item G heap h) (alias_at g h o) turned (omega (arith, next, is))
+                  soon G heap P sooner crossed (prologue_queue G h) (alias_step G heap h) (step G heap (OfPrologue h)) (alias_item h) (prologue_item G heap h) (alias_at g h o) has_prologue (omega (arith, next, is))
 
               -- both have the stages of the group
-              held : meets (node_at (program_nodes P) (alias_node G heap h)).dst_stages.0 (node_at (program_nodes P) (turn_node G heap h)).src_stages.0 ≡ true
+              held : meets (node_at (program_nodes P) (alias_node G heap h)).dst_stages.0 (node_at (program_nodes P) (prologue_node G heap h)).src_stages.0 ≡ true
               held =
-                  let entry : turn_item G heap h ≡ init G (group_at G h) = ap (λ k. item_by k G (turn_between k h (earlier G h) (uses_under G heap (place_of G (unit_of G h))) (group_at G h)) (earlier G h) (group_at G h)) e in
-                  let here : (node_at (program_nodes P) (turn_node G heap h)).src_stages.0 ≡ expand (stages_on (group_at G h) (turn_queue G h)) =
-                  ap (λ z. z.src_stages.0) (item_stands G L heap S P T opens K (turn_queue G h) (step G heap (OfTurn h)) (turn_item G heap h) turned).node ∙ ap (λ it. (item_node (turn_queue G h) it).src_stages.0) entry ∙ source_is (piece_of G (first (group_at G h)).unit) (layouts_both (Some Undefined) (first (group_at G h)).layout) (entry_masks (group_at G h) (turn_queue G h)) (turn_queue G h) in
-                  let there : (node_at (program_nodes P) (alias_node G heap h)).dst_stages.0 ≡ expand (stages_on (group_at G h) (turn_queue G h)) =
-                  ap (λ z. z.dst_stages.0) (item_stands G L heap S P T opens K (turn_queue G h) (alias_step G heap h) (alias_item h) (alias_at g h o)).node in
-                  ap (λ z. meets z (node_at (program_nodes P) (turn_node G heap h)).src_stages.0) (there ∙ sym here)
-                  ∙ meets_own wait_stages (node_at (program_nodes P) (turn_node G heap h)).src_stages.0 B.opened.into
+                  let entry : prologue_item G heap h ≡ init G (group_at G h) = ap (λ k. item_by k G (prologue_between k h (earlier G h) (uses_under G heap (place_of G (unit_of G h))) (group_at G h)) (earlier G h) (group_at G h)) e in
+                  let here : (node_at (program_nodes P) (prologue_node G heap h)).src_stages.0 ≡ expand (stages_on (group_at G h) (prologue_queue G h)) =
+                  ap (λ z. z.src_stages.0) (item_stands G L heap S P T opens K (prologue_queue G h) (step G heap (OfPrologue h)) (prologue_item G heap h) has_prologue).node ∙ ap (λ it. (item_node (prologue_queue G h) it).src_stages.0) entry ∙ source_is (piece_of G (first (group_at G h)).unit) (layouts_both (Some Undefined) (first (group_at G h)).layout) (entry_masks (group_at G h) (prologue_queue G h)) (prologue_queue G h) in
+                  let there : (node_at (program_nodes P) (alias_node G heap h)).dst_stages.0 ≡ expand (stages_on (group_at G h) (prologue_queue G h)) =
+                  ap (λ z. z.dst_stages.0) (item_stands G L heap S P T opens K (prologue_queue G h) (alias_step G heap h) (alias_item h) (alias_at g h o)).node in
+                  ap (λ z. meets z (node_at (program_nodes P) (prologue_node G heap h)).src_stages.0) (there ∙ sym here)
+                  ∙ meets_own wait_stages (node_at (program_nodes P) (prologue_node G heap h)).src_stages.0 B.opened.into

@@ -26,12 +26,12 @@ pub record IsBarrierOf (V : View) (t q p : ℕ) (masks : Masks) : Type 0 where
   pub on : is_on p (effect_at V t).scope ≡ true
 
 -- the stages and the writes of a use are on the source side
-pub record IsTaken (u : Use) (masks : Masks) : Type 0 where
+pub record IsSource (u : Use) (masks : Masks) : Type 0 where
   pub stage : Inside u.stage.0 masks.src_stages.0
   pub writes : Inside u.writes.0 masks.src_accesses.0
 
 -- its stages and its accesses are on the destination side
-pub record IsGiven (u : Use) (masks : Masks) : Type 0 where
+pub record IsDestination (u : Use) (masks : Masks) : Type 0 where
   pub stage : Inside u.stage.0 masks.dst_stages.0
   pub accesses : Inside u.accesses.0 masks.dst_accesses.0
 
@@ -54,17 +54,17 @@ module _ (V : View) (t q p : ℕ) (masks : Masks) (B : IsBarrierOf V t q p masks
   queue_is : queue_at V t ≡ q
   queue_is = ap (λ n. n.queue) B.node
 
-  waits_for : (kind : AccessKind) → IsBy q u kind → IsTaken u masks → meets u.stage.0 (node_at V.nodes t).src_stages.0 ≡ true
+  waits_for : (kind : AccessKind) → IsBy q u kind → IsSource u masks → meets u.stage.0 (node_at V.nodes t).src_stages.0 ≡ true
   waits_for kind by T =
       ap (λ n. meets u.stage.0 n.src_stages.0) B.node
       ∙ by_role (λ s. meets s (expand source) ≡ true) q u kind by (λ role e. after_role role source (subst (λ s. Inside s source) e T.stage))
 
-  holds_back : (kind : AccessKind) → IsBy q u kind → IsGiven u masks → meets (node_at V.nodes t).dst_stages.0 u.stage.0 ≡ true
+  holds_back : (kind : AccessKind) → IsBy q u kind → IsDestination u masks → meets (node_at V.nodes t).dst_stages.0 u.stage.0 ≡ true
   holds_back kind by T =
       ap (λ n. meets n.dst_stages.0 u.stage.0) B.node
       ∙ by_role (λ s. meets (expand destination) s ≡ true) q u kind by (λ role e. before_role role destination (subst (λ s. Inside s destination) e T.stage))
 
-  flushes : (kind : AccessKind) → IsBy q u kind → IsTaken u masks → Flushes kind V t p
+  flushes : (kind : AccessKind) → IsBy q u kind → IsSource u masks → Flushes kind V t p
   flushes kind (by_load role whole bits layout e stage said is) T = subst (λ k. Flushes k V t p) (sym is) tt
   flushes kind (by_store role bits layout e stage said writes is) T = subst (λ k. Flushes k V t p) (sym is)
       (has_it q (queue_at V t) (effect_at V t).available (agents (role_stage role) bits) (is_on p (effect_at V t).scope) queue_is
@@ -72,7 +72,7 @@ module _ (V : View) (t q p : ℕ) (masks : Masks) (B : IsBarrierOf V t q p masks
       ∙ store_agent role bits source masks.src_accesses.0 e (subst (λ s. Inside s source) stage T.stage) (λ i. omega (arith, writes i, T.writes i)))
       B.on)
 
-  shows : (kind : AccessKind) → IsBy q u kind → IsGiven u masks → Shows kind V t p
+  shows : (kind : AccessKind) → IsBy q u kind → IsDestination u masks → Shows kind V t p
   shows kind (by_load role whole bits layout e stage said is) T = subst (λ k. Shows k V t p) (sym is)
       (has_it q (queue_at V t) (effect_at V t).visible (agents (role_stage role) bits) (is_on p (effect_at V t).scope) queue_is
       (ap (λ z. meets z (agents (role_stage role) bits)) B.visible
@@ -85,14 +85,14 @@ module _ (V : View) (t q p : ℕ) (masks : Masks) (B : IsBarrierOf V t q p masks
       B.on)
 
   -- it takes what node x does in the stage of the use
-  pub takes : (x : ℕ) (a : Access) → (node_at V.nodes x).dst_stages.0 ≡ u.stage.0 → a.piece ≡ p → IsBy q u a.kind → IsTaken u masks → Takes V x a t
+  pub takes : (x : ℕ) (a : Access) → (node_at V.nodes x).dst_stages.0 ≡ u.stage.0 → a.piece ≡ p → IsBy q u a.kind → IsSource u masks → Takes V x a t
   takes x a e on by T = record {
     stage = ap (λ s. meets s (node_at V.nodes t).src_stages.0) e ∙ waits_for a.kind by T;
     flushes = subst (λ r. Flushes a.kind V t r) (sym on) (flushes a.kind by T);
   }
 
   -- and gives to what node y does in it
-  pub gives : (y : ℕ) (b : Access) → (node_at V.nodes y).src_stages.0 ≡ u.stage.0 → b.piece ≡ p → IsBy q u b.kind → IsGiven u masks → Gives V t y b
+  pub gives : (y : ℕ) (b : Access) → (node_at V.nodes y).src_stages.0 ≡ u.stage.0 → b.piece ≡ p → IsBy q u b.kind → IsDestination u masks → Gives V t y b
   gives y b e on by T = record {
     stage = ap (λ s. meets (node_at V.nodes t).dst_stages.0 s) e ∙ holds_back b.kind by T;
     shows = subst (λ r. Shows b.kind V t r) (sym on) (shows b.kind by T);

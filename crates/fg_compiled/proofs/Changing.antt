@@ -14,22 +14,22 @@ use Rattle.fg_compiled.proofs.SpotFacts.{spots}
 use Rattle.fg_compiled.proofs.Spots.{piece_is}
 use Rattle.fg_compiled.proofs.Starting.{start}
 use Rattle.fg_compiled.proofs.Storing.{group_stores, stores_known, stores_there}
-use Rattle.fg_compiled.proofs.TurnAccesses.{turn_low}
-use Rattle.fg_compiled.specs.Fed.{IsFed}
+use Rattle.fg_compiled.proofs.PrologueAccesses.{prologue_low}
+use Rattle.fg_compiled.specs.Initialized.{IsInitialized}
 use Rattle.fg_compiled.specs.Laws.{ImportsAreAlone}
 use Rattle.fg_compiled.specs.Nodes.{nodes_of}
 use Rattle.fg_compiled.specs.Plan.{plan_of, unit_of}
 use Rattle.fg_crossing.specs.Kinds.{is_plain, is_release}
 use Rattle.fg_crossing.specs.Nodes.{Nodes}
 use Rattle.fg_crossing.specs.Plans.{Plan}
-use Rattle.fg_crossing.specs.Spots.{OfTurn, Spot, at_turn, at_member, at_release, at_reader, Spots}
+use Rattle.fg_crossing.specs.Spots.{OfPrologue, Spot, at_prologue, at_member, at_release, at_reader, Spots}
 use Rattle.fg_crossing.specs.States.{Changed}
 use Rattle.fg_groups.specs.declared.grouping.Grouping.{Grouping}
 use Rattle.fg_recorder.specs.Pieces.{piece, piece_of}
 use Rattle.fg_subs.specs.declared.program.Program.{Program}
 use Rattle.fg_turns.specs.Under.{Heap}
 use Rattle.fg_view.specs.AccessKinds.{is_discard}
-use Rattle.fg_view.specs.ShapedView.{Has}
+use Rattle.fg_view.specs.ValidView.{Has}
 use Rattle.fg_view.specs.Views.{View, imported_at, is_import, overlap, piece_imported, view_of}
 use Rattle.fg_view.specs.declared.access.Access.{Access}
 use Rattle.fg_view.specs.declared.access.AccessKind.{AccessKind}
@@ -69,7 +69,7 @@ module _ (G : Grouping) (heap : Heap) (P : Program) (S : IsSet G heap P) where
   all = spots G heap P S
 
   spot_piece : (x g : ℕ) (a : Access) → Spot F V N x a g → a.piece ≡ F.piece g
-  spot_piece x g a (at_turn e t) = t.piece
+  spot_piece x g a (at_prologue e t) = t.piece
   spot_piece x g a (at_member e m) = m.piece
   spot_piece x g a (at_release e r) = r.piece
   spot_piece x g a (at_reader e r) = r.piece
@@ -91,27 +91,27 @@ module _ (G : Grouping) (heap : Heap) (P : Program) (S : IsSet G heap P) where
       (slice_get-map (piece_imported P.memories) P.pieces (piece_of G r) ∙ ap (option_map (piece_imported P.memories)) there)
       ∙ ap (λ b. b && option_map_or is_import (slice_get P.memories (piece G heap.offsets r).memory) false) (no_buffer (shape_at G.shapes r) image)
 
-  discard_fresh : (g : ℕ) (a : Access) → OfTurn F V N g a → is_discard a.kind ≡ true → imported_at V a.piece ≡ false
+  discard_fresh : (g : ℕ) (a : Access) → OfPrologue F V N g a → is_discard a.kind ≡ true → imported_at V a.piece ≡ false
   discard_fresh g a O e =
-      let lt = (turn_low G heap P S g a O).recorded.0 in
+      let lt = (prologue_low G heap P S g a O).recorded.0 in
       ap (imported_at V) (O.piece ∙ piece_is G heap P S g lt) ∙ image_fresh g lt (discards_image G heap P S g a O e)
 
   undiscarded : (x : ℕ) (a : Access) → Has V x a → is_discard a.kind ≡ true → imported_at V a.piece ≡ false
   undiscarded x a h e = let T = all.all x a h in go T.0 T.1
     where
       go : (g : ℕ) → Spot F V N x a g → imported_at V a.piece ≡ false
-      go g (at_turn i t) = discard_fresh g a t e
+      go g (at_prologue i t) = discard_fresh g a t e
       go g (at_member i m) = absurd (false≢true (sym (plain_keeps a.kind m.plain) ∙ e))
       go g (at_release i r) = absurd (false≢true (sym (release_keeps a.kind r.release) ∙ e))
       go g (at_reader i r) = absurd (false≢true (sym (plain_keeps a.kind r.plain) ∙ e))
 
-  pub changed : IsFed G → ImportsAreAlone F V N → Changed F V N
-  changed fed imports = record {
+  pub changed : IsInitialized G → ImportsAreAlone F V N → Changed F V N
+  changed initialized imports = record {
     stores = group_stores G heap P S;
     there = stores_there G heap P S;
     known = stores_known G heap P S;
     discards = discards G heap P S;
-    start = start G heap P S fed;
+    start = start G heap P S initialized;
     alone = alone imports;
     undiscarded = undiscarded;
   }

@@ -15,7 +15,7 @@ use Rattle.fg_base.specs.Wholes.{is_whole}
 use Rattle.fg_base.specs.declared.shape.Shape.{Shape}
 use Rattle.fg_base.specs.declared.shape.Shape.TheVariants.{Buffer, Image}
 use Rattle.fg_compiled.specs.Plan.{export_count}
-use Rattle.fg_frame.specs.Good.{IsGood, shapes_in}
+use Rattle.fg_frame.specs.Valid.{IsValid, shapes_in}
 use Rattle.fg_frame.specs.Numbered.{NumberedFrame}
 use Rattle.fg_frame.specs.Units.{Unit}
 use Rattle.fg_frame.specs.Uses.{import_fits}
@@ -63,7 +63,7 @@ module _ (frame : NumberedFrame) (kept : List Bool) where
   abbrev copies : List Command
   copies = export_commands frame 0 frame.exports
 
-  module _ (good : IsGood frame) where
+  module _ (good : IsValid frame) where
     pub imports_count : length G.imports ≡ length frame.units
     imports_count = length-map frame.units (λ u. is_some u.imported)
 

@@ -9,7 +9,7 @@ use Rattle.fg_compiled.specs.Nodes.{steps}
 use Rattle.fg_cut.specs.Later.{AreSooner}
 use Rattle.fg_cut.specs.Laws.{OfCut, OfScript}
 use Rattle.fg_cut.specs.Standing.{AllStand, AreThese}
-use Rattle.fg_frame.specs.Good.{IsGood}
+use Rattle.fg_frame.specs.Valid.{IsValid}
 use Rattle.fg_frame.specs.Numbered.{NumberedFrame}
 use Rattle.fg_groups.specs.Groups.{grouping}
 use Rattle.fg_groups.specs.Laws.{IsGrouped, IsKnown}
@@ -33,7 +33,7 @@ module _ (frame : NumberedFrame) (kept : List Bool) (ordered : ℕ → ℕ → B
   abbrev P : Program
   P = recorded frame kept ordered places
 
-  is_set : IsGood frame → IsGrouped G → IsKnown G → IsScript (steps G heap) (length G.families) → IsStanding G heap → AllStand P (steps G heap) (length G.families) → AreThese P (steps G heap) (length G.families) → AreSooner P (steps G heap) (length G.families) → Ends (steps G heap) (length G.families) → AreOfFamilies (steps G heap) G.families → IsSet G heap P
+  is_set : IsValid frame → IsGrouped G → IsKnown G → IsScript (steps G heap) (length G.families) → IsStanding G heap → AllStand P (steps G heap) (length G.families) → AreThese P (steps G heap) (length G.families) → AreSooner P (steps G heap) (length G.families) → Ends (steps G heap) (length G.families) → AreOfFamilies (steps G heap) G.families → IsSet G heap P
   is_set good grouped known script standing stand all sooner ends families = record {
     grouped = grouped;
     known = known;
@@ -54,7 +54,7 @@ module _ (frame : NumberedFrame) (kept : List Bool) (ordered : ℕ → ℕ → B
   }
 
   -- by the laws of the crates below
-  pub set_by : IsGood frame → ((f : NumberedFrame) (k : List Bool) → IsGrouped (grouping f k)) → ((f : NumberedFrame) (k : List Bool) → IsGood f → IsKnown (grouping f k)) → ((f : NumberedFrame) (k : List Bool) (h : Heap) → IsGood f → IsScript (steps (grouping f k) h) (length f.queues)) → ((f : NumberedFrame) (k : List Bool) (h : Heap) → IsStanding (grouping f k) h) → OfCut AllStand → OfCut AreThese → OfScript AreSooner → ((list : List Step) (count : ℕ) → Ends list count) → ((list : List Step) (families : List Family) → AreOfFamilies list families) → IsSet G heap P
+  pub set_by : IsValid frame → ((f : NumberedFrame) (k : List Bool) → IsGrouped (grouping f k)) → ((f : NumberedFrame) (k : List Bool) → IsValid f → IsKnown (grouping f k)) → ((f : NumberedFrame) (k : List Bool) (h : Heap) → IsValid f → IsScript (steps (grouping f k) h) (length f.queues)) → ((f : NumberedFrame) (k : List Bool) (h : Heap) → IsStanding (grouping f k) h) → OfCut AllStand → OfCut AreThese → OfScript AreSooner → ((list : List Step) (count : ℕ) → Ends list count) → ((list : List Step) (families : List Family) → AreOfFamilies list families) → IsSet G heap P
   set_by good grouped known in_turn standing stand all sooner ends families =
       let script = in_turn frame kept heap good in
       is_set good (grouped frame kept) (known frame kept good) script (standing frame kept heap)

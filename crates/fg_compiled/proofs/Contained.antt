@@ -9,7 +9,7 @@ use Rattle.std.proofs.lemmas.List.Kept.{AllPairs-filter}
 use Rattle.fg_groups.specs.Uses.{no_use}
 use Rattle.fg_groups.specs.declared.unit_use.Use.{Use}
 use Rattle.fg_recorder.proofs.Contained.{contains_tail, contains_filter}
-use Rattle.fg_turns.specs.Turns.{first, last}
+use Rattle.fg_turns.specs.Prologues.{first, last}
 use Rattle.fg_turns.specs.Unions.{on}
 
 pub contains_at : {X : Type 0} (xs : List X) (k : ℕ) (d : X) → k < length xs → Contains xs (get_or xs k d)

@@ -1,4 +1,4 @@
--- Which turns discard.
+-- Which prologues discard.
 use Rattle.std.proofs.Common.{◌≡◌, ⊎_elim, ℕ, zero, suc, ◌<◌, ◌||◌, Bool, true, false, List, [], ◌∷◌, ◌++◌, length, if◌then◌else◌, Option, Some, None, refl, sym, ap, ◌∙◌, subst, arith}
 use Rattle.std.specs.List.{All}
 use Rattle.std.specs.Option.{option_map_or}
@@ -18,13 +18,13 @@ use Rattle.fg_compiled.proofs.Groups.{next_within, some_use}
 use Rattle.fg_compiled.proofs.LaidBy.{last_there}
 use Rattle.fg_compiled.proofs.LaidOut.{first_known, is_init, use_known}
 use Rattle.fg_compiled.proofs.Setting.{IsSet}
-use Rattle.fg_compiled.proofs.TurnAccesses.{is_next, next_after, turn_all, turn_low}
-use Rattle.fg_compiled.proofs.TurnKinds.{earlier_is}
-use Rattle.fg_compiled.specs.Nodes.{nodes_of, turn_queue}
+use Rattle.fg_compiled.proofs.PrologueAccesses.{is_next, next_after, prologue_all, prologue_low}
+use Rattle.fg_compiled.proofs.PrologueKinds.{earlier_is}
+use Rattle.fg_compiled.specs.Nodes.{nodes_of, prologue_queue}
 use Rattle.fg_compiled.specs.Plan.{plan_of, resource_of, unit_of}
 use Rattle.fg_crossing.specs.Nodes.{Nodes}
 use Rattle.fg_crossing.specs.Plans.{First, Plan}
-use Rattle.fg_crossing.specs.Spots.{OfTurn}
+use Rattle.fg_crossing.specs.Spots.{OfPrologue}
 use Rattle.fg_groups.specs.Groups.{shares}
 use Rattle.fg_groups.specs.Needs.{group_at}
 use Rattle.fg_groups.specs.Placed.{is_import}
@@ -36,11 +36,11 @@ use Rattle.fg_recorder.specs.Standing.{item_by}
 use Rattle.fg_subs.specs.Rules.{shapes_of}
 use Rattle.fg_subs.specs.declared.program.Program.{Program}
 use Rattle.fg_turns.specs.Masks.{entry_masks}
-use Rattle.fg_turns.specs.Turns.{earlier, first, first_kind, has_uses, last, next_kind, turn_of}
+use Rattle.fg_turns.specs.Prologues.{earlier, first, first_kind, has_uses, last, next_kind, prologue_of}
 use Rattle.fg_turns.specs.Under.{Heap, place_of, uses_under}
-use Rattle.fg_turns.specs.declared.turn.Turn.{Turn}
-use Rattle.fg_turns.specs.declared.turn.TurnKind.{TurnKind}
-use Rattle.fg_turns.specs.declared.turn.TurnKind.TheVariants as kinds
+use Rattle.fg_turns.specs.declared.prologue.Prologue.{Prologue}
+use Rattle.fg_turns.specs.declared.prologue.PrologueKind.{PrologueKind}
+use Rattle.fg_turns.specs.declared.prologue.PrologueKind.TheVariants as kinds
 use Rattle.fg_view.specs.AccessKinds.{is_discard}
 use Rattle.fg_view.specs.Effects.{access, handover_of, item_effect, layout_change, same_layout, transition_through}
 use Rattle.fg_view.specs.Views.{View, view_of}
@@ -48,10 +48,10 @@ use Rattle.fg_view.specs.declared.access.Access.{Access}
 use Rattle.fg_view.specs.declared.access.AccessKind.TheVariants as access_kinds
 
 -- what discards is out of UNDEFINED
-record IsDiscarding (kind : TurnKind) (a : Access) : Type 0 where
+record IsDiscarding (kind : PrologueKind) (a : Access) : Type 0 where
   begins : is_discard a.kind ≡ true → is_init kind ≡ true
 
-module _ (kind : TurnKind) where
+module _ (kind : PrologueKind) where
   through_discards : (p : ℕ) (layouts : Layouts) → All (IsDiscarding kind) (transition_through p layouts)
   through_discards p layouts = go (is_undefined layouts.from || same_layout layouts)
     where
@@ -79,13 +79,13 @@ module _ (kind : TurnKind) where
       go (Some layouts) = through_discards p layouts
       go None = All-nil (IsDiscarding kind)
 
-turn_discards : (shapes : List Shape) (q : ℕ) (kind : TurnKind) (G : Grouping) (turn : Turn) (A B : List Use) → (is_next kind ≡ true → (l : Layout) → (last A).layout ≡ Some l → is_undefined l ≡ false) → All (IsDiscarding kind) (item_effect shapes q (item_by kind G turn A B)).accesses
-turn_discards shapes q kinds.Nothing G turn A B known = All-nil (IsDiscarding kinds.Nothing)
-turn_discards shapes q kinds.Barrier G turn A B known = barrier_discards kinds.Barrier shapes q (piece_of G (first B).unit) (last A).layout (first B).layout turn.masks (known refl)
-turn_discards shapes q kinds.Transfer G turn A B known = acquire_discards kinds.Transfer (piece_of G (first B).unit) (layouts_between A B) (access (piece_of G (first B).unit) (access_kinds.Acquire (handover_of (transfer G A B turn.masks)))) refl
-turn_discards shapes q kinds.Alias G turn A B known = All-nil (IsDiscarding kinds.Alias)
-turn_discards shapes q kinds.Init G turn A B known = init_discards kinds.Init shapes q (piece_of G (first B).unit) (first B).layout (entry_masks B (first B).queue) refl
-turn_discards shapes q kinds.AliasInit G turn A B known = init_discards kinds.AliasInit shapes q (piece_of G (first B).unit) (first B).layout (entry_masks B (first B).queue) refl
+prologue_discards : (shapes : List Shape) (q : ℕ) (kind : PrologueKind) (G : Grouping) (prologue : Prologue) (A B : List Use) → (is_next kind ≡ true → (l : Layout) → (last A).layout ≡ Some l → is_undefined l ≡ false) → All (IsDiscarding kind) (item_effect shapes q (item_by kind G prologue A B)).accesses
+prologue_discards shapes q kinds.Nothing G prologue A B known = All-nil (IsDiscarding kinds.Nothing)
+prologue_discards shapes q kinds.Barrier G prologue A B known = barrier_discards kinds.Barrier shapes q (piece_of G (first B).unit) (last A).layout (first B).layout prologue.masks (known refl)
+prologue_discards shapes q kinds.Transfer G prologue A B known = acquire_discards kinds.Transfer (piece_of G (first B).unit) (layouts_between A B) (access (piece_of G (first B).unit) (access_kinds.Acquire (handover_of (transfer G A B prologue.masks)))) refl
+prologue_discards shapes q kinds.Alias G prologue A B known = All-nil (IsDiscarding kinds.Alias)
+prologue_discards shapes q kinds.Init G prologue A B known = init_discards kinds.Init shapes q (piece_of G (first B).unit) (first B).layout (entry_masks B (first B).queue) refl
+prologue_discards shapes q kinds.AliasInit G prologue A B known = init_discards kinds.AliasInit shapes q (piece_of G (first B).unit) (first B).layout (entry_masks B (first B).queue) refl
 
 next_no_init : (b : Bool) → is_init (if b then kinds.Barrier else kinds.Transfer) ≡ false
 next_no_init true = refl
@@ -110,7 +110,7 @@ module _ (G : Grouping) (heap : Heap) (P : Program) (S : IsSet G heap P) where
     alone : has_uses (earlier G g) ≡ false
     image : is_some (first (group_at G g)).layout ≡ true
 
-  init_begins : (g : ℕ) → is_init (turn_of G heap g).kind ≡ true → IsBeginning g
+  init_begins : (g : ℕ) → is_init (prologue_of G heap g).kind ≡ true → IsBeginning g
   init_begins g e = go (has_uses (earlier G g)) (is_import G (first B).unit) (is_some (first B).layout) refl refl e
     where
       B : List Use
@@ -126,7 +126,7 @@ module _ (G : Grouping) (heap : Heap) (P : Program) (S : IsSet G heap P) where
       go false false true es ei f = record { alone = es; image = ei }
 
   -- between two groups an image is in a known layout
-  known_before : (h : ℕ) → is_next (turn_of G heap h).kind ≡ true → (l : Layout) → (last (earlier G h)).layout ≡ Some l → is_undefined l ≡ false
+  known_before : (h : ℕ) → is_next (prologue_of G heap h).kind ≡ true → (l : Layout) → (last (earlier G h)).layout ≡ Some l → is_undefined l ≡ false
   known_before h e l is =
       let A = next_after G heap h e in
       let g : ℕ = A.0 in
@@ -135,9 +135,9 @@ module _ (G : Grouping) (heap : Heap) (P : Program) (S : IsSet G heap P) where
       let own : (last (earlier G h)).layout ≡ (last (group_at G g)).layout = ap (λ n. (last (earlier G n)).layout) A.1.number ∙ ap (λ uses. (last uses).layout) (earlier_is G S.grouped heap g A.1.goes) in
       (use_known G S.grouped g (last (group_at G g)) low (last_there G heap P S g low)).known l (sym own ∙ is)
 
-  discard_begins : (g : ℕ) (a : Access) → OfTurn F V N g a → is_discard a.kind ≡ true → IsBeginning g
+  discard_begins : (g : ℕ) (a : Access) → OfPrologue F V N g a → is_discard a.kind ≡ true → IsBeginning g
   discard_begins g a O e =
-      let Q = turn_all G heap P S (IsDiscarding (turn_of G heap g).kind) g a O (turn_discards (shapes_of P) (turn_queue G g) (turn_of G heap g).kind G (turn_of G heap g) (earlier G g) (group_at G g) (known_before g)) in
+      let Q = prologue_all G heap P S (IsDiscarding (prologue_of G heap g).kind) g a O (prologue_discards (shapes_of P) (prologue_queue G g) (prologue_of G heap g).kind G (prologue_of G heap g) (earlier G g) (group_at G g) (known_before g)) in
       init_begins g (Q.begins e)
 
   -- which is the first one of its unit
@@ -160,8 +160,8 @@ module _ (G : Grouping) (heap : Heap) (P : Program) (S : IsSet G heap P) where
           go (of_unit within goes) = false≢true (sym none ∙ ap (λ b. has_uses (if b then group_at G j else [])) goes ∙ some (group_at G j) (some_use G S.grouped j (omega (arith, within))))
           go (of_export le copy read one) = omega (arith, le, below)
 
-  pub discards : (g : ℕ) (a : Access) → OfTurn F V N g a → is_discard a.kind ≡ true → First F g g
-  discards g a O e = beginning_first g (turn_low G heap P S g a O).recorded.0 (discard_begins g a O e).alone
+  pub discards : (g : ℕ) (a : Access) → OfPrologue F V N g a → is_discard a.kind ≡ true → First F g g
+  discards g a O e = beginning_first g (prologue_low G heap P S g a O).recorded.0 (discard_begins g a O e).alone
 
-  pub discards_image : (g : ℕ) (a : Access) → OfTurn F V N g a → is_discard a.kind ≡ true → is_image (shape_at G.shapes (unit_of G g)) ≡ true
-  discards_image g a O e = let lt = (turn_low G heap P S g a O).recorded.0 in sym (first_known G S.grouped g lt).image ∙ (discard_begins g a O e).image
+  pub discards_image : (g : ℕ) (a : Access) → OfPrologue F V N g a → is_discard a.kind ≡ true → is_image (shape_at G.shapes (unit_of G g)) ≡ true
+  discards_image g a O e = let lt = (prologue_low G heap P S g a O).recorded.0 in sym (first_known G S.grouped g lt).image ∙ (discard_begins g a O e).image

@@ -19,26 +19,26 @@ use Rattle.fg_groups.specs.declared.grouping.Grouping.{Grouping}
 use Rattle.fg_groups.specs.declared.unit_use.Use.{Use}
 use Rattle.fg_groups.specs.declared.unit_use.UseAt.{UseAt}
 use Rattle.fg_recorder.proofs.Contained.{contains_filter, contains_map, contains_part}
-use Rattle.fg_recorder.specs.Items.{does_turn, init, items_of}
-use Rattle.fg_recorder.specs.Script.{block, blocks, does_command, groups_used, host_barrier, is_command, script, use_needs, use_releases, use_turns}
-use Rattle.fg_recorder.specs.Standing.{IsKnown, by_alias, by_copy, by_mark, IsRecorded, IsStanding, StandsAt, item_by, step, turn_item}
+use Rattle.fg_recorder.specs.Items.{does_prologue, init, items_of}
+use Rattle.fg_recorder.specs.Script.{block, blocks, does_command, groups_used, host_barrier, is_command, script, use_needs, use_releases, use_prologues}
+use Rattle.fg_recorder.specs.Standing.{IsKnown, by_alias, by_copy, by_mark, IsRecorded, IsStanding, StandsAt, item_by, step, prologue_item}
 use Rattle.fg_recorder.specs.Wanted.{is_there}
 use Rattle.fg_recorder.specs.declared.mark.Mark.{Mark}
-use Rattle.fg_recorder.specs.declared.mark.Mark.TheVariants.{Command, Turn as OfTurn}
+use Rattle.fg_recorder.specs.declared.mark.Mark.TheVariants.{Command, Prologue as OfPrologue}
 use Rattle.fg_recorder.specs.declared.mark.Marked.{Marked}
 use Rattle.fg_recorder.specs.declared.mark.Marked.TheVariants.{Does, Needs}
 use Rattle.fg_recorder.specs.Pieces.{piece_of}
 use Rattle.fg_subs.specs.declared.program.Item.{Item}
 use Rattle.fg_subs.specs.declared.program.Item.TheVariants as item
-use Rattle.fg_turns.specs.Turns.{earlier, first, turn_of}
+use Rattle.fg_turns.specs.Prologues.{earlier, first, prologue_of}
 use Rattle.fg_turns.specs.Under.{Heap}
-use Rattle.fg_turns.specs.declared.turn.Turn.{Turn}
-use Rattle.fg_turns.specs.declared.turn.TurnKind.{TurnKind}
-use Rattle.fg_turns.specs.declared.turn.TurnKind.TheVariants.{Nothing, Barrier, Transfer, Alias, Init, AliasInit}
+use Rattle.fg_turns.specs.declared.prologue.Prologue.{Prologue}
+use Rattle.fg_turns.specs.declared.prologue.PrologueKind.{PrologueKind}
+use Rattle.fg_turns.specs.declared.prologue.PrologueKind.TheVariants.{Nothing, Barrier, Transfer, Alias, Init, AliasInit}
 
--- what is needed before the command of a turn's first member is needed before the turn
+-- what is needed before the command of a prologue's first member is needed before the prologue
 abbrev pub IsEarly : Grouping → Heap → Type 0
-IsEarly G heap = (g w q : ℕ) (mark : Mark) → IsRecorded G heap (OfTurn g) → StandsAt G heap w (Needs q mark) → w < step G heap (Command (first (group_at G g)).command) → w < step G heap (OfTurn g)
+IsEarly G heap = (g w q : ℕ) (mark : Mark) → IsRecorded G heap (OfPrologue g) → StandsAt G heap w (Needs q mark) → w < step G heap (Command (first (group_at G g)).command) → w < step G heap (OfPrologue g)
 
 -- TURNS ARE ITEMS
 
@@ -49,24 +49,24 @@ does (Needs q of) = false
 abbrev IsDone : Marked → Type 0
 IsDone x = does x ≡ true
 
-one_done : (turn : Turn) (it : Item) → All IsDone (does_turn turn it ∷ [])
-one_done turn it = one IsDone (does_turn turn it) refl
+one_done : (prologue : Prologue) (it : Item) → All IsDone (does_prologue prologue it ∷ [])
+one_done prologue it = one IsDone (does_prologue prologue it) refl
 
-items_do : (kind : TurnKind) (G : Grouping) (turn : Turn) (A B : List Use) → All IsDone (items_of kind G turn A B)
-items_do Nothing G turn A B = All-nil IsDone
-items_do Barrier G turn A B = one_done turn (item_by Barrier G turn A B)
-items_do Transfer G turn A B = one_done turn (item_by Transfer G turn A B)
-items_do Alias G turn A B = one_done turn (item_by Alias G turn A B)
-items_do Init G turn A B = one_done turn (item_by Init G turn A B)
-items_do AliasInit G turn A B = All-cons IsDone (Does turn.queue None (item.Global turn.masks)) (does_turn turn (init G B) ∷ []) refl (one_done turn (init G B))
+items_do : (kind : PrologueKind) (G : Grouping) (prologue : Prologue) (A B : List Use) → All IsDone (items_of kind G prologue A B)
+items_do Nothing G prologue A B = All-nil IsDone
+items_do Barrier G prologue A B = one_done prologue (item_by Barrier G prologue A B)
+items_do Transfer G prologue A B = one_done prologue (item_by Transfer G prologue A B)
+items_do Alias G prologue A B = one_done prologue (item_by Alias G prologue A B)
+items_do Init G prologue A B = one_done prologue (item_by Init G prologue A B)
+items_do AliasInit G prologue A B = All-cons IsDone (Does prologue.queue None (item.Global prologue.masks)) (does_prologue prologue (init G B) ∷ []) refl (one_done prologue (init G B))
 
-turn_among : (kind : TurnKind) (G : Grouping) (turn : Turn) (A B : List Use) → is_there kind ≡ true → Contains (items_of kind G turn A B) (does_turn turn (item_by kind G turn A B))
-turn_among Nothing G turn A B e = absurd (false≢true e)
-turn_among Barrier G turn A B e = (0, omega arith, refl)
-turn_among Transfer G turn A B e = (0, omega arith, refl)
-turn_among Alias G turn A B e = (0, omega arith, refl)
-turn_among Init G turn A B e = (0, omega arith, refl)
-turn_among AliasInit G turn A B e = (1, omega arith, refl)
+prologue_among : (kind : PrologueKind) (G : Grouping) (prologue : Prologue) (A B : List Use) → is_there kind ≡ true → Contains (items_of kind G prologue A B) (does_prologue prologue (item_by kind G prologue A B))
+prologue_among Nothing G prologue A B e = absurd (false≢true e)
+prologue_among Barrier G prologue A B e = (0, omega arith, refl)
+prologue_among Transfer G prologue A B e = (0, omega arith, refl)
+prologue_among Alias G prologue A B e = (0, omega arith, refl)
+prologue_among Init G prologue A B e = (0, omega arith, refl)
+prologue_among AliasInit G prologue A B e = (1, omega arith, refl)
 
 -- THE GROUPS OF A COMMAND
 
@@ -111,11 +111,11 @@ module _ (G : Grouping) (heap : Heap) where
       let W = split (suc k) list i j command e (omega (arith, n)) in
       record { before = block G heap k d ++ W.before; after = W.after; is = ap (λ l. block G heap k d ++ l) W.is ∙ sym (append_assoc (block G heap k d) W.before (block G heap j command ++ W.after)) }
 
-  turns_do : (c : ℕ) (groups : List ℕ) → All IsDone (flat_map (use_turns G heap c) groups)
-  turns_do c groups = each_of IsDone (use_turns G heap c) groups (λ k d lt. own (get_or groups k d) (is_command c (first (group_at G (get_or groups k d)))))
+  prologues_do : (c : ℕ) (groups : List ℕ) → All IsDone (flat_map (use_prologues G heap c) groups)
+  prologues_do c groups = each_of IsDone (use_prologues G heap c) groups (λ k d lt. own (get_or groups k d) (is_command c (first (group_at G (get_or groups k d)))))
     where
-      own : (g : ℕ) (b : Bool) → All IsDone (if b then items_of (turn_of G heap g).kind G (turn_of G heap g) (earlier G g) (group_at G g) else [])
-      own g true = items_do (turn_of G heap g).kind G (turn_of G heap g) (earlier G g) (group_at G g)
+      own : (g : ℕ) (b : Bool) → All IsDone (if b then items_of (prologue_of G heap g).kind G (prologue_of G heap g) (earlier G g) (group_at G g) else [])
+      own g true = items_do (prologue_of G heap g).kind G (prologue_of G heap g) (earlier G g) (group_at G g)
       own g false = All-nil IsDone
 
   module _ (S : IsStanding G heap) where
@@ -132,8 +132,8 @@ module _ (G : Grouping) (heap : Heap) where
       abbrev needed : List Marked
       needed = map (Needs command.queue) (flat_map (use_needs G heap command.queue c) (groups_used G c))
 
-      abbrev turned : List Marked
-      turned = flat_map (use_turns G heap c) (groups_used G c)
+      abbrev has_prologue : List Marked
+      has_prologue = flat_map (use_prologues G heap c) (groups_used G c)
 
       abbrev own : List Marked
       own = does_command G c command ∷ flat_map (use_releases G heap command.queue c) (groups_used G c)
@@ -145,59 +145,59 @@ module _ (G : Grouping) (heap : Heap) where
       within = split 0 G.commands c c command there (omega arith)
 
       -- up to the command
-      front : (k : ℕ) → k < length (needed ++ turned) + 1 → slice_get (script G heap) (length within.before + k) ≡ slice_get ((needed ++ turned) ++ own) k
+      front : (k : ℕ) → k < length (needed ++ has_prologue) + 1 → slice_get (script G heap) (length within.before + k) ≡ slice_get ((needed ++ has_prologue) ++ own) k
       front k lt =
           let some : 0 < length own = omega arith in
-          let l = length-append (needed ++ turned) own in
-          let m = length-append ((needed ++ turned) ++ own) host in
+          let l = length-append (needed ++ has_prologue) own in
+          let m = length-append ((needed ++ has_prologue) ++ own) host in
           ap (λ z. slice_get z (length within.before + k)) within.is
           ∙ got_back within.before (block G heap c command ++ within.after) k
-          ∙ entry_left (((needed ++ turned) ++ own) ++ host) within.after k (omega (arith, some, l, m, lt))
-          ∙ entry_left ((needed ++ turned) ++ own) host k (omega (arith, some, l, lt))
+          ∙ entry_left (((needed ++ has_prologue) ++ own) ++ host) within.after k (omega (arith, some, l, m, lt))
+          ∙ entry_left ((needed ++ has_prologue) ++ own) host k (omega (arith, some, l, lt))
 
-      command_place : length within.before + length (needed ++ turned) ≡ step G heap (Command c)
+      command_place : length within.before + length (needed ++ has_prologue) ≡ step G heap (Command c)
       command_place =
-          let z : length (needed ++ turned) ≡ length (needed ++ turned) + 0 = omega arith in
-          mark_step (length within.before + length (needed ++ turned)) command.queue (Command c) (item.Command (mapped (piece_of G) command.op))
-          (front (length (needed ++ turned)) (omega arith) ∙ ap (slice_get ((needed ++ turned) ++ own)) z ∙ got_back (needed ++ turned) own 0)
+          let z : length (needed ++ has_prologue) ≡ length (needed ++ has_prologue) + 0 = omega arith in
+          mark_step (length within.before + length (needed ++ has_prologue)) command.queue (Command c) (item.Command (mapped (piece_of G) command.op))
+          (front (length (needed ++ has_prologue)) (omega arith) ∙ ap (slice_get ((needed ++ has_prologue) ++ own)) z ∙ got_back (needed ++ has_prologue) own 0)
 
-      turn_place : (t : ℕ) → t < length turned → slice_get (script G heap) (length within.before + (length needed + t)) ≡ slice_get turned t
-      turn_place t lt =
-          let l = length-append needed turned in
+      prologue_place : (t : ℕ) → t < length has_prologue → slice_get (script G heap) (length within.before + (length needed + t)) ≡ slice_get has_prologue t
+      prologue_place t lt =
+          let l = length-append needed has_prologue in
           front (length needed + t) (omega (arith, l, lt))
-          ∙ entry_left (needed ++ turned) own (length needed + t) (omega (arith, l, lt))
-          ∙ got_back needed turned t
+          ∙ entry_left (needed ++ has_prologue) own (length needed + t) (omega (arith, l, lt))
+          ∙ got_back needed has_prologue t
 
-      -- no need stands among the turns
-      none_needed : (t q : ℕ) (mark : Mark) → slice_get turned t ≡ Some (Needs q mark) → ⊥
-      none_needed t q mark e = false≢true (entry_of IsDone turned t (Needs q mark) (turns_do c (groups_used G c)) e)
+      -- no need stands among the prologues
+      none_needed : (t q : ℕ) (mark : Mark) → slice_get has_prologue t ≡ Some (Needs q mark) → ⊥
+      none_needed t q mark e = false≢true (entry_of IsDone has_prologue t (Needs q mark) (prologues_do c (groups_used G c)) e)
 
-      pub before_turn : (g w q : ℕ) (mark : Mark) → IsRecorded G heap (OfTurn g) → (first (group_at G g)).command ≡ c → StandsAt G heap w (Needs q mark) → w < step G heap (Command c) → w < step G heap (OfTurn g)
-      before_turn g w q mark r is at lt = ⊎_elim (λ l. l) (λ le. absurd (late le)) (cases_lt w (step G heap (OfTurn g)))
+      pub before_prologue : (g w q : ℕ) (mark : Mark) → IsRecorded G heap (OfPrologue g) → (first (group_at G g)).command ≡ c → StandsAt G heap w (Needs q mark) → w < step G heap (Command c) → w < step G heap (OfPrologue g)
+      before_prologue g w q mark r is at lt = ⊎_elim (λ l. l) (λ le. absurd (late le)) (cases_lt w (step G heap (OfPrologue g)))
         where
           mine : is_command c (first (group_at G g)) ≡ true
           mine = eq-eqb (first (group_at G g)).command c is
 
-          among : Contains turned (does_turn (turn_of G heap g) (turn_item G heap g))
-          among = contains_part (use_turns G heap c) (groups_used G c) g (does_turn (turn_of G heap g) (turn_item G heap g)) (subst (λ d. Contains (groups_used G d) g) is (used_there G L g r.0))
-              (subst (λ b. Contains (if b then items_of (turn_of G heap g).kind G (turn_of G heap g) (earlier G g) (group_at G g) else []) (does_turn (turn_of G heap g) (turn_item G heap g))) (sym mine) (turn_among (turn_of G heap g).kind G (turn_of G heap g) (earlier G g) (group_at G g) r.1))
+          among : Contains has_prologue (does_prologue (prologue_of G heap g) (prologue_item G heap g))
+          among = contains_part (use_prologues G heap c) (groups_used G c) g (does_prologue (prologue_of G heap g) (prologue_item G heap g)) (subst (λ d. Contains (groups_used G d) g) is (used_there G L g r.0))
+              (subst (λ b. Contains (if b then items_of (prologue_of G heap g).kind G (prologue_of G heap g) (earlier G g) (group_at G g) else []) (does_prologue (prologue_of G heap g) (prologue_item G heap g))) (sym mine) (prologue_among (prologue_of G heap g).kind G (prologue_of G heap g) (earlier G g) (group_at G g) r.1))
 
-          entry : slice_get turned among.0 ≡ Some (does_turn (turn_of G heap g) (turn_item G heap g))
-          entry = slice_get-get_or turned among.0 (does_turn (turn_of G heap g) (turn_item G heap g)) among.1 ∙ ap (λ z. Some z) among.2
+          entry : slice_get has_prologue among.0 ≡ Some (does_prologue (prologue_of G heap g) (prologue_item G heap g))
+          entry = slice_get-get_or has_prologue among.0 (does_prologue (prologue_of G heap g) (prologue_item G heap g)) among.1 ∙ ap (λ z. Some z) among.2
 
-          place : length within.before + (length needed + among.0) ≡ step G heap (OfTurn g)
-          place = mark_step (length within.before + (length needed + among.0)) (turn_of G heap g).queue (OfTurn g) (turn_item G heap g) (turn_place among.0 among.1 ∙ entry)
+          place : length within.before + (length needed + among.0) ≡ step G heap (OfPrologue g)
+          place = mark_step (length within.before + (length needed + among.0)) (prologue_of G heap g).queue (OfPrologue g) (prologue_item G heap g) (prologue_place among.0 among.1 ∙ entry)
 
-          late : step G heap (OfTurn g) ≤ w → ⊥
+          late : step G heap (OfPrologue g) ≤ w → ⊥
           late le =
               let start = place in
               let end = command_place in
-              let l = length-append needed turned in
+              let l = length-append needed has_prologue in
               let n : length within.before + (length needed + (w - (length within.before + length needed))) ≡ w = omega (arith, start, le) in
-              let low : w - (length within.before + length needed) < length turned = omega (arith, start, end, l, le, lt) in
-              none_needed (w - (length within.before + length needed)) q mark (sym (turn_place (w - (length within.before + length needed)) low) ∙ ap (slice_get (script G heap)) n ∙ at)
+              let low : w - (length within.before + length needed) < length has_prologue = omega (arith, start, end, l, le, lt) in
+              none_needed (w - (length within.before + length needed)) q mark (sym (prologue_place (w - (length within.before + length needed)) low) ∙ ap (slice_get (script G heap)) n ∙ at)
 
 pub is_early : (G : Grouping) (heap : Heap) → IsStanding G heap → IsGrouped G → IsEarly G heap
 is_early G heap S L g w q mark r at lt =
     let I = first_source G L g r.0 in
-    before_turn G heap S L (first (group_at G g)).command I.command I.there g w q mark r refl at lt
+    before_prologue G heap S L (first (group_at G g)).command I.command I.there g w q mark r refl at lt

@@ -13,7 +13,7 @@ use Rattle.fg_base.proofs.Lists.{entry_of, got_back}
 use Rattle.fg_compiled.proofs.Entries.{entry_cases}
 use Rattle.fg_compiled.specs.Nodes.{copy_of}
 use Rattle.fg_compiled.specs.Plan.{export_count, exports, is_copy_of}
-use Rattle.fg_frame.specs.Good.{shapes_in}
+use Rattle.fg_frame.specs.Valid.{shapes_in}
 use Rattle.fg_frame.specs.Numbered.{NumberedFrame}
 use Rattle.fg_frame.specs.Units.{Unit}
 use Rattle.fg_frame.specs.declared.numbered.NumberedPass.{NumberedPass}

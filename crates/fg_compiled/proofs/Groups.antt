@@ -14,7 +14,7 @@ use Rattle.fg_groups.specs.declared.command.Command.{Command}
 use Rattle.fg_groups.specs.declared.grouping.Grouping.{Grouping}
 use Rattle.fg_groups.specs.declared.unit_use.Use.{Use}
 use Rattle.fg_recorder.specs.Pieces.{has_piece, is_readback}
-use Rattle.fg_turns.specs.Turns.{first}
+use Rattle.fg_turns.specs.Prologues.{first}
 
 -- a use of command c in group g
 pub record Member (G : Grouping) (c g : ℕ) : Type 0 where

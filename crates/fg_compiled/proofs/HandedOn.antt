@@ -13,14 +13,14 @@ use Rattle.fg_bits.specs.declared.masks.Masks.{Masks}
 use Rattle.fg_compiled.proofs.Groups.{next_unit, next_within}
 use Rattle.fg_compiled.proofs.Setting.{IsSet}
 use Rattle.fg_compiled.proofs.SpotFacts.{entry_got}
-use Rattle.fg_compiled.proofs.Spots.{item_access, leaving_item, piece_is, release_access, release_stands, turn_access, turn_stands}
-use Rattle.fg_compiled.proofs.TurnAccesses.{is_next, next_after, turn_all}
-use Rattle.fg_compiled.proofs.TurnKinds.{earlier_is, released_goes, released_transfer}
-use Rattle.fg_compiled.specs.Nodes.{nodes_of, release_node, release_queue, turn_node, turn_queue}
+use Rattle.fg_compiled.proofs.Spots.{item_access, leaving_item, piece_is, release_access, release_stands, prologue_access, prologue_stands}
+use Rattle.fg_compiled.proofs.PrologueAccesses.{is_next, next_after, prologue_all}
+use Rattle.fg_compiled.proofs.PrologueKinds.{earlier_is, released_goes, released_transfer}
+use Rattle.fg_compiled.specs.Nodes.{nodes_of, release_node, release_queue, prologue_node, prologue_queue}
 use Rattle.fg_compiled.specs.Plan.{plan_of}
 use Rattle.fg_crossing.specs.Nodes.{Nodes}
 use Rattle.fg_crossing.specs.Plans.{Plan}
-use Rattle.fg_crossing.specs.Spots.{OfTurn, OfRelease}
+use Rattle.fg_crossing.specs.Spots.{OfPrologue, OfRelease}
 use Rattle.fg_crossing.specs.States.{Handed}
 use Rattle.fg_groups.specs.Groups.{family_of}
 use Rattle.fg_groups.specs.Needs.{group_at, goes_on}
@@ -28,20 +28,20 @@ use Rattle.fg_groups.specs.declared.grouping.Grouping.{Grouping}
 use Rattle.fg_groups.specs.declared.unit_use.Use.{Use}
 use Rattle.fg_recorder.specs.Items.{barrier, both, layouts_between, transfer}
 use Rattle.fg_recorder.specs.Pieces.{piece_of}
-use Rattle.fg_recorder.specs.Standing.{item_by, turn_item}
+use Rattle.fg_recorder.specs.Standing.{item_by, prologue_item}
 use Rattle.fg_recorder.specs.Wanted.{is_there}
 use Rattle.fg_subs.specs.Rules.{shapes_of}
 use Rattle.fg_subs.specs.declared.program.Item.TheVariants as item
 use Rattle.fg_subs.specs.declared.program.Program.{Program}
 use Rattle.fg_subs.specs.declared.program.Transfer.{Transfer}
 use Rattle.fg_turns.specs.Masks.{entry_masks, release_masks}
-use Rattle.fg_turns.specs.Turns.{earlier, first, is_transfer, last, turn_of}
+use Rattle.fg_turns.specs.Prologues.{earlier, first, is_transfer, last, prologue_of}
 use Rattle.fg_turns.specs.Under.{Heap}
-use Rattle.fg_turns.specs.declared.turn.Turn.{Turn}
-use Rattle.fg_turns.specs.declared.turn.TurnKind.{TurnKind}
-use Rattle.fg_turns.specs.declared.turn.TurnKind.TheVariants as kinds
+use Rattle.fg_turns.specs.declared.prologue.Prologue.{Prologue}
+use Rattle.fg_turns.specs.declared.prologue.PrologueKind.{PrologueKind}
+use Rattle.fg_turns.specs.declared.prologue.PrologueKind.TheVariants as kinds
 use Rattle.fg_view.specs.Effects.{access, acquire_accesses, handover_of, item_effect, layout_change, same_layout, transition_through}
-use Rattle.fg_view.specs.ShapedView.{Has}
+use Rattle.fg_view.specs.ValidView.{Has}
 use Rattle.fg_view.specs.Views.{View, view_of}
 use Rattle.fg_view.specs.declared.access.Access.{Access}
 use Rattle.fg_view.specs.declared.access.AccessKind.TheVariants as access_kinds
@@ -54,7 +54,7 @@ between G A B = record { from = family_of G.families (last A).queue; to = family
 -- WHICH TURNS ACQUIRE
 
 -- an access that acquires is of a transfer, and acquires that
-record IsAcquired (kind : TurnKind) (handover : Handover) (a : Access) : Type 0 where
+record IsAcquired (kind : PrologueKind) (handover : Handover) (a : Access) : Type 0 where
   only : (what : Handover) → a.kind ≡ access_kinds.Acquire what → (kind ≡ kinds.Transfer) × (what ≡ handover)
 
 no_acquire : (layouts : Layouts) (what : Handover) → access_kinds.Transition layouts ≡ access_kinds.Acquire what → ⊥
@@ -63,7 +63,7 @@ no_acquire layouts what e = cc
 same_acquire : (x y : Handover) → access_kinds.Acquire x ≡ access_kinds.Acquire y → y ≡ x
 same_acquire x y e = cc
 
-module _ (kind : TurnKind) (handover : Handover) where
+module _ (kind : PrologueKind) (handover : Handover) where
   through_none : (p : ℕ) (layouts : Layouts) → All (IsAcquired kind handover) (transition_through p layouts)
   through_none p layouts = go (is_undefined layouts.from || same_layout layouts)
     where
@@ -94,13 +94,13 @@ module _ (kind : TurnKind) (handover : Handover) where
       go (Some layouts) = through_none t.piece layouts
       go None = All-nil (IsAcquired kind handover)
 
-turn_acquires : (shapes : List Shape) (q : ℕ) (kind : TurnKind) (G : Grouping) (turn : Turn) (A B : List Use) → All (IsAcquired kind (between G A B)) (item_effect shapes q (item_by kind G turn A B)).accesses
-turn_acquires shapes q kinds.Nothing G turn A B = All-nil (IsAcquired kinds.Nothing (between G A B))
-turn_acquires shapes q kinds.Barrier G turn A B = barrier_none kinds.Barrier (between G A B) shapes q (piece_of G (first B).unit) (layouts_between A B) turn.masks
-turn_acquires shapes q kinds.Transfer G turn A B = acquire_one kinds.Transfer (between G A B) (transfer G A B turn.masks) refl refl
-turn_acquires shapes q kinds.Alias G turn A B = All-nil (IsAcquired kinds.Alias (between G A B))
-turn_acquires shapes q kinds.Init G turn A B = barrier_none kinds.Init (between G A B) shapes q (piece_of G (first B).unit) (both (Some Undefined) (first B).layout) (entry_masks B (first B).queue)
-turn_acquires shapes q kinds.AliasInit G turn A B = barrier_none kinds.AliasInit (between G A B) shapes q (piece_of G (first B).unit) (both (Some Undefined) (first B).layout) (entry_masks B (first B).queue)
+prologue_acquires : (shapes : List Shape) (q : ℕ) (kind : PrologueKind) (G : Grouping) (prologue : Prologue) (A B : List Use) → All (IsAcquired kind (between G A B)) (item_effect shapes q (item_by kind G prologue A B)).accesses
+prologue_acquires shapes q kinds.Nothing G prologue A B = All-nil (IsAcquired kinds.Nothing (between G A B))
+prologue_acquires shapes q kinds.Barrier G prologue A B = barrier_none kinds.Barrier (between G A B) shapes q (piece_of G (first B).unit) (layouts_between A B) prologue.masks
+prologue_acquires shapes q kinds.Transfer G prologue A B = acquire_one kinds.Transfer (between G A B) (transfer G A B prologue.masks) refl refl
+prologue_acquires shapes q kinds.Alias G prologue A B = All-nil (IsAcquired kinds.Alias (between G A B))
+prologue_acquires shapes q kinds.Init G prologue A B = barrier_none kinds.Init (between G A B) shapes q (piece_of G (first B).unit) (both (Some Undefined) (first B).layout) (entry_masks B (first B).queue)
+prologue_acquires shapes q kinds.AliasInit G prologue A B = barrier_none kinds.AliasInit (between G A B) shapes q (piece_of G (first B).unit) (both (Some Undefined) (first B).layout) (entry_masks B (first B).queue)
 
 module _ (G : Grouping) (heap : Heap) (P : Program) (S : IsSet G heap P) where
   abbrev F : Plan
@@ -145,33 +145,33 @@ module _ (G : Grouping) (heap : Heap) (P : Program) (S : IsSet G heap P) where
       (one (λ (x : Access). x.kind ≡ access_kinds.Release (handover g)) (access (leaving g).piece (access_kinds.Release (handover_of (leaving g)))) refl)
       O.has
 
-  acquires : (g : ℕ) → N.released g ≡ true → (a : Access) × OfTurn F V N (g + 1) a × (a.kind ≡ access_kinds.Acquire (handover g))
+  acquires : (g : ℕ) → N.released g ≡ true → (a : Access) × OfPrologue F V N (g + 1) a × (a.kind ≡ access_kinds.Acquire (handover g))
   acquires g r =
       let h : ℕ = suc g in
       let within = low g r in
-      let kind : (turn_of G heap h).kind ≡ kinds.Transfer = released_transfer G S.grouped heap g r in
-      let t : Transfer = transfer G (earlier G h) (group_at G h) (turn_of G heap h).masks in
-      let is : turn_item G heap h ≡ item.Acquire t = ap (λ k. item_by k G (turn_of G heap h) (earlier G h) (group_at G h)) kind in
+      let kind : (prologue_of G heap h).kind ≡ kinds.Transfer = released_transfer G S.grouped heap g r in
+      let t : Transfer = transfer G (earlier G h) (group_at G h) (prologue_of G heap h).masks in
+      let is : prologue_item G heap h ≡ item.Acquire t = ap (λ k. item_by k G (prologue_of G heap h) (earlier G h) (group_at G h)) kind in
       let a : Access = access t.piece (access_kinds.Acquire (handover_of t)) in
       let there : Contains (acquire_accesses t) a = Contains-append_right (option_map_or (transition_through t.piece) t.layouts []) (a ∷ []) a (0, omega arith, refl) in
       let E = entry_got (acquire_accesses t) a there in
-      let recorded : (h < length G.groups) × (is_there (turn_of G heap h).kind ≡ true) = (within, ap is_there kind) in
-      let has : Has V (turn_node G heap h) a = (E.0, ap (λ x. slice_get x.accesses E.0) (turn_stands G heap P S h recorded).effect ∙ ap (λ x. slice_get (item_effect (shapes_of P) (turn_queue G h) x).accesses E.0) is ∙ E.1) in
+      let recorded : (h < length G.groups) × (is_there (prologue_of G heap h).kind ≡ true) = (within, ap is_there kind) in
+      let has : Has V (prologue_node G heap h) a = (E.0, ap (λ x. slice_get x.accesses E.0) (prologue_stands G heap P S h recorded).effect ∙ ap (λ x. slice_get (item_effect (shapes_of P) (prologue_queue G h) x).accesses E.0) is ∙ E.1) in
       let number : h ≡ g + 1 = omega arith in
-      (a, subst (λ n. OfTurn F V N n a) number (turn_access G heap P S h recorded a has), ap (λ A. access_kinds.Acquire (between G A (group_at G h))) (earlier_is G S.grouped heap g (goes g r)))
+      (a, subst (λ n. OfPrologue F V N n a) number (prologue_access G heap P S h recorded a has), ap (λ A. access_kinds.Acquire (between G A (group_at G h))) (earlier_is G S.grouped heap g (goes g r)))
 
-  acquired_is : (h : ℕ) (a : Access) (what : Handover) → OfTurn F V N h a → a.kind ≡ access_kinds.Acquire what → (g : ℕ) × (h ≡ g + 1) × (N.released g ≡ true) × (what ≡ handover g)
+  acquired_is : (h : ℕ) (a : Access) (what : Handover) → OfPrologue F V N h a → a.kind ≡ access_kinds.Acquire what → (g : ℕ) × (h ≡ g + 1) × (N.released g ≡ true) × (what ≡ handover g)
   acquired_is h a what O e =
-      let Q = turn_all G heap P S (IsAcquired (turn_of G heap h).kind (between G (earlier G h) (group_at G h))) h a O (turn_acquires (shapes_of P) (turn_queue G h) (turn_of G heap h).kind G (turn_of G heap h) (earlier G h) (group_at G h)) in
+      let Q = prologue_all G heap P S (IsAcquired (prologue_of G heap h).kind (between G (earlier G h) (group_at G h))) h a O (prologue_acquires (shapes_of P) (prologue_queue G h) (prologue_of G heap h).kind G (prologue_of G heap h) (earlier G h) (group_at G h)) in
       let found = Q.only what e in
       let A = next_after G heap h (ap is_next found.0) in
       let g : ℕ = A.0 in
       let number = A.1.number in
       let more : g + 1 ≡ suc g = omega arith in
-      let kind : (turn_of G heap (suc g)).kind ≡ kinds.Transfer = ap (λ n. (turn_of G heap n).kind) (sym number) ∙ found.0 in (
+      let kind : (prologue_of G heap (suc g)).kind ≡ kinds.Transfer = ap (λ n. (prologue_of G heap n).kind) (sym number) ∙ found.0 in (
         g,
         number ∙ sym more,
-        and_from (goes_on G g) (is_transfer (turn_of G heap (suc g)).kind) A.1.goes (ap is_transfer kind),
+        and_from (goes_on G g) (is_transfer (prologue_of G heap (suc g)).kind) A.1.goes (ap is_transfer kind),
         found.1 ∙ ap (λ n. between G (earlier G n) (group_at G n)) number ∙ ap (λ uses. between G uses (group_at G (suc g))) (earlier_is G S.grouped heap g A.1.goes),
       )
 

@@ -11,7 +11,7 @@ use Rattle.fg_base.specs.declared.shape.Shape.{Shape}
 use Rattle.fg_base.specs.declared.shape.Shape.TheVariants.{Buffer, Image}
 use Rattle.fg_compiled.proofs.Commands.{imports_count, imports_plain}
 use Rattle.fg_compiled.proofs.Pieces.{piece_there}
-use Rattle.fg_frame.specs.Good.{IsGood}
+use Rattle.fg_frame.specs.Valid.{IsValid}
 use Rattle.fg_frame.specs.Numbered.{NumberedFrame}
 use Rattle.fg_frame.specs.Units.{Unit}
 use Rattle.fg_groups.specs.Groups.{grouping}
@@ -34,7 +34,7 @@ some_own : (G : Grouping) (r : ℕ) (o : Option (List ℕ)) → is_some o ≡ tr
 some_own G r None e = absurd (false≢true e)
 some_own G r (Some bytes) e = refl
 
-module _ (frame : NumberedFrame) (kept : List Bool) (good : IsGood frame) where
+module _ (frame : NumberedFrame) (kept : List Bool) (good : IsValid frame) where
   abbrev G : Grouping
   G = grouping frame kept
 

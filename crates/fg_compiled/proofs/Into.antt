@@ -12,10 +12,10 @@ use Rattle.fg_compiled.proofs.Early.{IsEarly}
 use Rattle.fg_compiled.proofs.Grouped.{over_parts, resource_unit}
 use Rattle.fg_compiled.proofs.Groups.{Member, commands_rise, first_in, member_of, member_queue, next_unit, next_within, is_own, some_use, use_queue}
 use Rattle.fg_compiled.proofs.Later.{later_then}
-use Rattle.fg_compiled.proofs.Places.{HasItem, member_unit, into_next, into_release, into_transfer, member_command, member_into, known_command, release_at, turn_before}
-use Rattle.fg_compiled.proofs.Steps.{ItemAt, command_steps, over_need, soon, turn_at}
-use Rattle.fg_compiled.proofs.TurnKinds.{earlier_is, kept_barrier, next_there, over_kinds, over_there, placed_unit, released_transfer}
-use Rattle.fg_compiled.specs.Nodes.{alias_node, alias_step, command_node, item_at, release_node, release_queue, steps, steps_before, turn_node, turn_queue}
+use Rattle.fg_compiled.proofs.Places.{HasItem, member_unit, into_next, into_release, into_transfer, member_command, member_into, known_command, release_at, prologue_before}
+use Rattle.fg_compiled.proofs.Steps.{ItemAt, command_steps, over_need, soon, prologue_at}
+use Rattle.fg_compiled.proofs.PrologueKinds.{earlier_is, kept_barrier, next_there, over_kinds, over_there, placed_unit, released_transfer}
+use Rattle.fg_compiled.specs.Nodes.{alias_node, alias_step, command_node, item_at, release_node, release_queue, steps, steps_before, prologue_node, prologue_queue}
 use Rattle.fg_compiled.specs.Plan.{is_copy, is_copy_of, export_at, is_over, plan_of, resource_of, unit_of, uses_in_group}
 use Rattle.fg_crossing.specs.Crossings.{Sooner, Crossed, Later, IsFull}
 use Rattle.fg_crossing.specs.Plans.{Reach, by_queue, by_need, then_reach}
@@ -34,19 +34,19 @@ use Rattle.fg_recorder.proofs.Contained.{contains_some}
 use Rattle.fg_recorder.specs.Items.{transfer}
 use Rattle.fg_recorder.specs.Pieces.{piece_of}
 use Rattle.fg_recorder.specs.Script.{does_command, is_released, script}
-use Rattle.fg_recorder.specs.Standing.{IsNeeded, IsRecorded, IsStanding, NeedsOthers, StandsAt, step, turn_item}
+use Rattle.fg_recorder.specs.Standing.{IsNeeded, IsRecorded, IsStanding, NeedsOthers, StandsAt, step, prologue_item}
 use Rattle.fg_recorder.specs.declared.mark.Mark.{Mark}
-use Rattle.fg_recorder.specs.declared.mark.Mark.TheVariants.{Command, Turn as OfTurn, Release}
+use Rattle.fg_recorder.specs.declared.mark.Mark.TheVariants.{Command, Prologue as OfPrologue, Release}
 use Rattle.fg_recorder.specs.declared.mark.Marked.{Marked}
 use Rattle.fg_recorder.specs.declared.mark.Marked.TheVariants.{Does, Needs}
 use Rattle.fg_subs.specs.declared.program.Item.{Item}
 use Rattle.fg_subs.specs.declared.program.Item.TheVariants as item
 use Rattle.fg_subs.specs.declared.program.Program.{Program}
 use Rattle.fg_turns.specs.Masks.{release_masks}
-use Rattle.fg_turns.specs.Turns.{first, last, turn_of}
+use Rattle.fg_turns.specs.Prologues.{first, last, prologue_of}
 use Rattle.fg_turns.specs.Under.{Heap, place_of}
 use Rattle.fg_turns.specs.Unions.{on}
-use Rattle.fg_turns.specs.declared.turn.TurnKind.TheVariants as kinds
+use Rattle.fg_turns.specs.declared.prologue.PrologueKind.TheVariants as kinds
 use Rattle.fg_view.specs.Views.{view_of}
 
 -- PATHS
@@ -111,29 +111,29 @@ module _ (G : Grouping) (L : IsGrouped G) (K : IsKnown G) (heap : Heap) (S : IsS
   upper : h < length G.groups
   upper = (over_parts G heap g h over).upper
 
-  recorded : IsRecorded G heap (OfTurn h)
+  recorded : IsRecorded G heap (OfPrologue h)
   recorded = (upper, over_there G L heap g h over)
 
   abbrev q : ℕ
-  q = turn_queue G h
+  q = prologue_queue G h
 
   abbrev d : ℕ
   d = (first (group_at G h)).command
 
-  -- what has a mark and stands before the turn stands before the alias barrier
-  before_alias : (i : ℕ) (x : Marked) → StandsAt G heap i x → is_marked x ≡ true → i < step G heap (OfTurn h) → i < alias_step G heap h
+  -- what has a mark and stands before the prologue stands before the alias barrier
+  before_alias : (i : ℕ) (x : Marked) → StandsAt G heap i x → is_marked x ≡ true → i < step G heap (OfPrologue h) → i < alias_step G heap h
   before_alias i x at marked lt = ⊎_elim alone both (over_kinds G L heap g h over)
     where
-      alone : (turn_of G heap h).kind ≡ kinds.Alias → i < alias_step G heap h
-      alone e = let is : alias_step G heap h ≡ step G heap (OfTurn h) - 0 = ap (λ k. step G heap (OfTurn h) - steps_before k) e in omega (arith, is, lt)
+      alone : (prologue_of G heap h).kind ≡ kinds.Alias → i < alias_step G heap h
+      alone e = let is : alias_step G heap h ≡ step G heap (OfPrologue h) - 0 = ap (λ k. step G heap (OfPrologue h) - steps_before k) e in omega (arith, is, lt)
 
-      both : (turn_of G heap h).kind ≡ kinds.AliasInit → i < alias_step G heap h
+      both : (prologue_of G heap h).kind ≡ kinds.AliasInit → i < alias_step G heap h
       both e =
-          let is : alias_step G heap h ≡ step G heap (OfTurn h) - 1 = ap (λ k. step G heap (OfTurn h) - steps_before k) e in
+          let is : alias_step G heap h ≡ step G heap (OfPrologue h) - 1 = ap (λ k. step G heap (OfPrologue h) - steps_before k) e in
           let a = S.each_alias h upper e in
           let next = a.1 in
           ⊎_elim
-          (λ (same : i ≡ a.0). absurd (false≢true (sym (unmarked_there x (Does q None (item.Global (turn_of G heap h).masks)) (sym at ∙ ap (slice_get (script G heap)) same ∙ a.2) refl) ∙ marked)))
+          (λ (same : i ≡ a.0). absurd (false≢true (sym (unmarked_there x (Does q None (item.Global (prologue_of G heap h).masks)) (sym at ∙ ap (slice_get (script G heap)) same ∙ a.2) refl) ∙ marked)))
           (λ (other : (i < a.0) ⊎ (a.0 < i)). ⊎_elim (λ l. omega (arith, is, next, l)) (λ l. absurd (omega (arith, next, l, lt))) other)
           (cases_order i a.0)
         where
@@ -163,7 +163,7 @@ module _ (G : Grouping) (L : IsGrouped G) (K : IsKnown G) (heap : Heap) (S : IsS
   command_before e lt =
       let known = its.known in
       let E = known_command G L heap S e (omega (arith, lt, known)) in
-      before_alias (step G heap (Command e)) (does_there e E.known).0 (does_there e E.known).1 (does_there e E.known).2 (S.in_order (Command e) (OfTurn h) E.known recorded (inl lt))
+      before_alias (step G heap (Command e)) (does_there e E.known).0 (does_there e E.known).1 (does_there e E.known).2 (S.in_order (Command e) (OfPrologue h) E.known recorded (inl lt))
     where
       does_there : (c : ℕ) → c < length G.commands → (x : Marked) × StandsAt G heap (step G heap (Command c)) x × (is_marked x ≡ true)
       does_there c below = ⊎_elim (λ t. (does_command G c t.0, S.each_command c t.0 t.2, refl)) (λ t. absurd (let le = t.0 in omega (arith, le, below))) (slice_get_cases G.commands c).1
@@ -186,8 +186,8 @@ module _ (G : Grouping) (L : IsGrouped G) (K : IsKnown G) (heap : Heap) (S : IsS
     within : suc N.group < length G.groups
     within = next_within G L N.group N.goes
 
-    turned : IsRecorded G heap (OfTurn (suc N.group))
-    turned = (within, next_there G L heap N.group N.goes)
+    has_prologue : IsRecorded G heap (OfPrologue (suc N.group))
+    has_prologue = (within, next_there G L heap N.group N.goes)
 
     from : Member G e N.group
     from = member_of G L e N.group N.from
@@ -198,19 +198,19 @@ module _ (G : Grouping) (L : IsGrouped G) (K : IsKnown G) (heap : Heap) (S : IsS
     rise : e < d
     rise = let l = commands_rise G L N.group (suc N.group) from.one to.one (omega arith) within (next_unit G L N.group N.goes) from.there to.there in let a = from.command in let b = to.command in omega (arith, l, a, b)
 
-    turn_low : step G heap (OfTurn (suc N.group)) ≤ step G heap (Command d)
-    turn_low = let l = turn_before G L heap S (suc N.group) d turned to in omega (arith, l)
+    prologue_low : step G heap (OfPrologue (suc N.group)) ≤ step G heap (Command d)
+    prologue_low = let l = prologue_before G L heap S (suc N.group) d has_prologue to in omega (arith, l)
 
-    -- to the turn of the group that it leads to
-    to_turn : Later (program_nodes P) (command_node G heap e) (turn_node G heap (suc N.group))
-    to_turn = go (cases_Bool (is_released G heap N.group))
+    -- to the prologue of the group that it leads to
+    to_prologue : Later (program_nodes P) (command_node G heap e) (prologue_node G heap (suc N.group))
+    to_prologue = go (cases_Bool (is_released G heap N.group))
       where
-        go : (is_released G heap N.group ≡ true) ⊎ (is_released G heap N.group ≡ false) → Later (program_nodes P) (command_node G heap e) (turn_node G heap (suc N.group))
-        go (inl r) = later_then P full (command_node G heap e) (release_node G heap N.group) (turn_node G heap (suc N.group)) (into_release G L heap S P sooner crossed K N.group e r N.from) (inr (into_transfer G L heap S P sooner crossed N.group r))
+        go : (is_released G heap N.group ≡ true) ⊎ (is_released G heap N.group ≡ false) → Later (program_nodes P) (command_node G heap e) (prologue_node G heap (suc N.group))
+        go (inl r) = later_then P full (command_node G heap e) (release_node G heap N.group) (prologue_node G heap (suc N.group)) (into_release G L heap S P sooner crossed K N.group e r N.from) (inr (into_transfer G L heap S P sooner crossed N.group r))
         go (inr r) = into_next G L heap S P sooner crossed K N.group e N.goes r N.from
 
-    -- where the turn is on the queue of the alias barrier
-    same_queue : turn_queue G (suc N.group) ≡ q → Later (program_nodes P) (command_node G heap e) (alias_node G heap h)
+    -- where the prologue is on the queue of the alias barrier
+    same_queue : prologue_queue G (suc N.group) ≡ q → Later (program_nodes P) (command_node G heap e) (alias_node G heap h)
     same_queue same = go (cases_Bool (is_released G heap N.group))
       where
         back : suc N.group - 1 ≡ N.group
@@ -218,24 +218,24 @@ module _ (G : Grouping) (L : IsGrouped G) (K : IsKnown G) (heap : Heap) (S : IsS
 
         go : (is_released G heap N.group ≡ true) ⊎ (is_released G heap N.group ≡ false) → Later (program_nodes P) (command_node G heap e) (alias_node G heap h)
         go (inl r) = later_then P full (command_node G heap e) (release_node G heap N.group) (alias_node G heap h) (into_release G L heap S P sooner crossed K N.group e r N.from)
-            (inr (needed (turn_queue G (suc N.group)) (step G heap (OfTurn (suc N.group))) (release_queue G N.group) (Release N.group) (item.Release (transfer G (group_at G N.group) (group_at G (suc N.group)) (release_masks (group_at G N.group) (release_queue G N.group))))
-            (subst (λ k. IsNeeded G heap (turn_queue G (suc N.group)) (Release k) (step G heap (OfTurn (suc N.group)))) back (S.acquires (suc N.group) within (released_transfer G L heap N.group r)))
-            turn_low same (release_at G L heap S N.group r)))
+            (inr (needed (prologue_queue G (suc N.group)) (step G heap (OfPrologue (suc N.group))) (release_queue G N.group) (Release N.group) (item.Release (transfer G (group_at G N.group) (group_at G (suc N.group)) (release_masks (group_at G N.group) (release_queue G N.group))))
+            (subst (λ k. IsNeeded G heap (prologue_queue G (suc N.group)) (Release k) (step G heap (OfPrologue (suc N.group)))) back (S.acquires (suc N.group) within (released_transfer G L heap N.group r)))
+            prologue_low same (release_at G L heap S N.group r)))
         go (inr r) = member_into G L heap S P sooner crossed K N.group q (alias_step G heap h) e (alias_item G L heap S h) (omega (arith, within)) at others from (command_before e rise)
           where
             others : NeedsOthers G heap (group_at G N.group) q (alias_step G heap h)
             others p lp differ some =
                 subst (λ r2. IsNeeded G heap r2 (Command (last (on p (group_at G N.group))).command) (alias_step G heap h)) same
-                (moved (turn_queue G (suc N.group)) (step G heap (OfTurn (suc N.group))) (Command (last (on p (group_at G N.group))).command)
-                (subst (λ A. NeedsOthers G heap A (turn_queue G (suc N.group)) (step G heap (OfTurn (suc N.group)))) (earlier_is G L heap N.group N.goes) (S.barriers (suc N.group) within (kept_barrier G L heap N.group N.goes r)) p lp (λ is. differ (is ∙ same)) some)
-                turn_low)
+                (moved (prologue_queue G (suc N.group)) (step G heap (OfPrologue (suc N.group))) (Command (last (on p (group_at G N.group))).command)
+                (subst (λ A. NeedsOthers G heap A (prologue_queue G (suc N.group)) (step G heap (OfPrologue (suc N.group)))) (earlier_is G L heap N.group N.goes) (S.barriers (suc N.group) within (kept_barrier G L heap N.group N.goes r)) p lp (λ is. differ (is ∙ same)) some)
+                prologue_low)
 
     -- where it is on another one
-    other_queue : (turn_queue G (suc N.group) ≡ q → ⊥) → Later (program_nodes P) (command_node G heap e) (alias_node G heap h)
-    other_queue differ = later_then P full (command_node G heap e) (turn_node G heap (suc N.group)) (alias_node G heap h) to_turn
-        (inr (needed q (step G heap (Command (first (on q (group_at G (suc N.group)))).command)) (turn_queue G (suc N.group)) (OfTurn (suc N.group)) (turn_item G heap (suc N.group))
-        (S.members (suc N.group) q turned (λ is. differ (sym is)) (contains_some (on q (group_at G (suc N.group))) to.one among))
-        (command_steps G heap S (first (on q (group_at G (suc N.group)))).command d low its.known) refl (turn_at G heap S (suc N.group) turned)))
+    other_queue : (prologue_queue G (suc N.group) ≡ q → ⊥) → Later (program_nodes P) (command_node G heap e) (alias_node G heap h)
+    other_queue differ = later_then P full (command_node G heap e) (prologue_node G heap (suc N.group)) (alias_node G heap h) to_prologue
+        (inr (needed q (step G heap (Command (first (on q (group_at G (suc N.group)))).command)) (prologue_queue G (suc N.group)) (OfPrologue (suc N.group)) (prologue_item G heap (suc N.group))
+        (S.members (suc N.group) q has_prologue (λ is. differ (sym is)) (contains_some (on q (group_at G (suc N.group))) to.one among))
+        (command_steps G heap S (first (on q (group_at G (suc N.group)))).command d low its.known) refl (prologue_at G heap S (suc N.group) has_prologue)))
       where
         among : Contains (on q (group_at G (suc N.group))) to.one
         among = subst (λ r. Contains (on r (group_at G (suc N.group))) to.one) (member_queue G L d (suc N.group) within to ∙ own_queue) (contains_on (group_at G (suc N.group)) to.one to.there)
@@ -244,7 +244,7 @@ module _ (G : Grouping) (L : IsGrouped G) (K : IsKnown G) (heap : Heap) (S : IsS
         low = let l = from_first (on q (group_at G (suc N.group))) to.one (on_rising (group_at G (suc N.group)) q (L.members_rise (suc N.group) [] within)) among in let own = to.command in omega (arith, l, own)
 
     by_its_need : Later (program_nodes P) (command_node G heap e) (alias_node G heap h)
-    by_its_need = ⊎_elim same_queue other_queue (cases_eq (turn_queue G (suc N.group)) q)
+    by_its_need = ⊎_elim same_queue other_queue (cases_eq (prologue_queue G (suc N.group)) q)
 
   led_before : (e : ℕ) → IsLed G e d → Later (program_nodes P) (command_node G heap e) (alias_node G heap h)
   led_before e (in_queue lt below same) = by_its_queue e lt (same ∙ own_queue)

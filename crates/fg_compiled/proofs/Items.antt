@@ -35,11 +35,11 @@ use Rattle.fg_subs.specs.declared.program.Transfer.{Transfer}
 use Rattle.fg_timeline.specs.Steps.{IsScript, has_item, is_item}
 use Rattle.fg_timeline.specs.declared.step.Step.TheVariants as step
 use Rattle.fg_turns.specs.Masks.{entry_masks}
-use Rattle.fg_turns.specs.Turns.{first, masks_of}
+use Rattle.fg_turns.specs.Prologues.{first, masks_of}
 use Rattle.fg_turns.specs.Under.{Heap}
-use Rattle.fg_turns.specs.declared.turn.Turn.{Turn}
-use Rattle.fg_turns.specs.declared.turn.TurnKind.{TurnKind}
-use Rattle.fg_turns.specs.declared.turn.TurnKind.TheVariants as kinds
+use Rattle.fg_turns.specs.declared.prologue.Prologue.{Prologue}
+use Rattle.fg_turns.specs.declared.prologue.PrologueKind.{PrologueKind}
+use Rattle.fg_turns.specs.declared.prologue.PrologueKind.TheVariants as kinds
 use Rattle.fg_view.specs.Effects.{access, acquire_accesses, handover_of, item_effect, layout_change, same_layout, transition_through}
 use Rattle.fg_view.specs.Views.{is_on, view_of}
 use Rattle.fg_view.specs.declared.access.Access.{Access}
@@ -114,25 +114,25 @@ layout_serves piece (Some layouts) masks = refl
 layout_serves piece None masks = refl
 
 -- the masks of the item with the mark: of an alias barrier and a barrier out of UNDEFINED those of the latter
-abbrev pub item_masks : TurnKind → List Use → List Use → List Use → ℕ → Masks
+abbrev pub item_masks : PrologueKind → List Use → List Use → List Use → ℕ → Masks
 item_masks kinds.AliasInit A L B q = entry_masks B q
 item_masks kind A L B q = masks_of kind A L B q
 
-pub turn_masks : (kind : TurnKind) (G : Grouping) (turn : Turn) (A L B : List Use) → turn.masks ≡ masks_of kind A L B (first B).queue → barriers.masks_of (item_by kind G turn A B) ≡ Some (item_masks kind A L B (first B).queue)
-turn_masks kinds.Nothing G turn A L B e = refl
-turn_masks kinds.Barrier G turn A L B e = layout_masks (piece_of G (first B).unit) (layouts_between A B) turn.masks ∙ ap (λ m. Some m) e
-turn_masks kinds.Transfer G turn A L B e = ap (λ m. Some m) e
-turn_masks kinds.Alias G turn A L B e = ap (λ m. Some m) e
-turn_masks kinds.Init G turn A L B e = layout_masks (piece_of G (first B).unit) (both (Some Undefined) (first B).layout) (entry_masks B (first B).queue)
-turn_masks kinds.AliasInit G turn A L B e = layout_masks (piece_of G (first B).unit) (both (Some Undefined) (first B).layout) (entry_masks B (first B).queue)
+pub prologue_masks : (kind : PrologueKind) (G : Grouping) (prologue : Prologue) (A L B : List Use) → prologue.masks ≡ masks_of kind A L B (first B).queue → barriers.masks_of (item_by kind G prologue A B) ≡ Some (item_masks kind A L B (first B).queue)
+prologue_masks kinds.Nothing G prologue A L B e = refl
+prologue_masks kinds.Barrier G prologue A L B e = layout_masks (piece_of G (first B).unit) (layouts_between A B) prologue.masks ∙ ap (λ m. Some m) e
+prologue_masks kinds.Transfer G prologue A L B e = ap (λ m. Some m) e
+prologue_masks kinds.Alias G prologue A L B e = ap (λ m. Some m) e
+prologue_masks kinds.Init G prologue A L B e = layout_masks (piece_of G (first B).unit) (both (Some Undefined) (first B).layout) (entry_masks B (first B).queue)
+prologue_masks kinds.AliasInit G prologue A L B e = layout_masks (piece_of G (first B).unit) (both (Some Undefined) (first B).layout) (entry_masks B (first B).queue)
 
-pub turn_serves : (kind : TurnKind) (G : Grouping) (turn : Turn) (A B : List Use) → Serves (piece_of G (first B).unit) (item_by kind G turn A B)
-turn_serves kinds.Nothing G turn A B = tt
-turn_serves kinds.Barrier G turn A B = layout_serves (piece_of G (first B).unit) (layouts_between A B) turn.masks
-turn_serves kinds.Transfer G turn A B = refl
-turn_serves kinds.Alias G turn A B = tt
-turn_serves kinds.Init G turn A B = layout_serves (piece_of G (first B).unit) (both (Some Undefined) (first B).layout) (entry_masks B (first B).queue)
-turn_serves kinds.AliasInit G turn A B = layout_serves (piece_of G (first B).unit) (both (Some Undefined) (first B).layout) (entry_masks B (first B).queue)
+pub prologue_serves : (kind : PrologueKind) (G : Grouping) (prologue : Prologue) (A B : List Use) → Serves (piece_of G (first B).unit) (item_by kind G prologue A B)
+prologue_serves kinds.Nothing G prologue A B = tt
+prologue_serves kinds.Barrier G prologue A B = layout_serves (piece_of G (first B).unit) (layouts_between A B) prologue.masks
+prologue_serves kinds.Transfer G prologue A B = refl
+prologue_serves kinds.Alias G prologue A B = tt
+prologue_serves kinds.Init G prologue A B = layout_serves (piece_of G (first B).unit) (both (Some Undefined) (first B).layout) (entry_masks B (first B).queue)
+prologue_serves kinds.AliasInit G prologue A B = layout_serves (piece_of G (first B).unit) (both (Some Undefined) (first B).layout) (entry_masks B (first B).queue)
 
 -- ACCESSES OF TURNS
 
@@ -168,10 +168,10 @@ acquire_entries t = All-append (IsEntry t.piece) (option_map_or (transition_thro
     go (Some layouts) = through_entries t.piece layouts
     go None = All-nil (IsEntry t.piece)
 
-pub turn_entries : (shapes : List Shape) (q : ℕ) (kind : TurnKind) (G : Grouping) (turn : Turn) (A B : List Use) → All (IsEntry (piece_of G (first B).unit)) (item_effect shapes q (item_by kind G turn A B)).accesses
-turn_entries shapes q kinds.Nothing G turn A B = All-nil (IsEntry (piece_of G (first B).unit))
-turn_entries shapes q kinds.Barrier G turn A B = barrier_entries shapes q (piece_of G (first B).unit) (layouts_between A B) turn.masks
-turn_entries shapes q kinds.Transfer G turn A B = acquire_entries (transfer G A B turn.masks)
-turn_entries shapes q kinds.Alias G turn A B = All-nil (IsEntry (piece_of G (first B).unit))
-turn_entries shapes q kinds.Init G turn A B = barrier_entries shapes q (piece_of G (first B).unit) (both (Some Undefined) (first B).layout) (entry_masks B (first B).queue)
-turn_entries shapes q kinds.AliasInit G turn A B = barrier_entries shapes q (piece_of G (first B).unit) (both (Some Undefined) (first B).layout) (entry_masks B (first B).queue)
+pub prologue_entries : (shapes : List Shape) (q : ℕ) (kind : PrologueKind) (G : Grouping) (prologue : Prologue) (A B : List Use) → All (IsEntry (piece_of G (first B).unit)) (item_effect shapes q (item_by kind G prologue A B)).accesses
+prologue_entries shapes q kinds.Nothing G prologue A B = All-nil (IsEntry (piece_of G (first B).unit))
+prologue_entries shapes q kinds.Barrier G prologue A B = barrier_entries shapes q (piece_of G (first B).unit) (layouts_between A B) prologue.masks
+prologue_entries shapes q kinds.Transfer G prologue A B = acquire_entries (transfer G A B prologue.masks)
+prologue_entries shapes q kinds.Alias G prologue A B = All-nil (IsEntry (piece_of G (first B).unit))
+prologue_entries shapes q kinds.Init G prologue A B = barrier_entries shapes q (piece_of G (first B).unit) (both (Some Undefined) (first B).layout) (entry_masks B (first B).queue)
+prologue_entries shapes q kinds.AliasInit G prologue A B = barrier_entries shapes q (piece_of G (first B).unit) (both (Some Undefined) (first B).layout) (entry_masks B (first B).queue)

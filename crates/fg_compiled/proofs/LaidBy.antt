@@ -16,36 +16,36 @@ use Rattle.fg_compiled.proofs.ExportGroups.{copy_parts, read_parts}
 use Rattle.fg_compiled.proofs.Exports.{copies_from}
 use Rattle.fg_compiled.proofs.Grouped.{AreNext, of_unit, of_export, next, resource_unit, same_resource}
 use Rattle.fg_compiled.proofs.Groups.{next_unit, next_within, some_use}
-use Rattle.fg_compiled.proofs.LaidOut.{IsSetting, IsWanting, any_set, first_known, group_layout, init_sets, is_init, next_kept, turn_setting, turn_wanting}
+use Rattle.fg_compiled.proofs.LaidOut.{IsSetting, IsWanting, any_set, first_known, group_layout, init_sets, is_init, next_kept, prologue_setting, prologue_wanting}
 use Rattle.fg_compiled.proofs.Members.{done, touch_has, touch_piece, touched, touched_wanted}
 use Rattle.fg_compiled.proofs.Reading.{read_stands}
 use Rattle.fg_compiled.proofs.Setting.{IsSet}
 use Rattle.fg_compiled.proofs.SpotFacts.{IsMemberOf, of_group, of_copy, member_cases}
 use Rattle.fg_compiled.proofs.Spots.{piece_is, piece_late}
 use Rattle.fg_compiled.proofs.Touches.{moved}
-use Rattle.fg_compiled.proofs.TurnAccesses.{IsAfter, does_item, does_known, does_there, is_next, next_after, turn_all, turn_does, turn_low}
-use Rattle.fg_compiled.proofs.TurnKinds.{earlier_is, next_kinds, next_there}
-use Rattle.fg_compiled.specs.Nodes.{nodes_of, turn_queue}
+use Rattle.fg_compiled.proofs.PrologueAccesses.{IsAfter, does_item, does_known, does_there, is_next, next_after, prologue_all, prologue_does, prologue_low}
+use Rattle.fg_compiled.proofs.PrologueKinds.{earlier_is, next_kinds, next_there}
+use Rattle.fg_compiled.specs.Nodes.{nodes_of, prologue_queue}
 use Rattle.fg_compiled.specs.Plan.{export_at, is_copy, is_copy_of, plan_of, unit_of}
 use Rattle.fg_crossing.specs.Kinds.{is_release}
 use Rattle.fg_crossing.specs.Nodes.{Nodes}
 use Rattle.fg_crossing.specs.Plans.{First, Plan}
-use Rattle.fg_crossing.specs.Spots.{OfTurn, OfMember, OfReader, Spot, at_turn, at_member, at_release, at_reader}
+use Rattle.fg_crossing.specs.Spots.{OfPrologue, OfMember, OfReader, Spot, at_prologue, at_member, at_release, at_reader}
 use Rattle.fg_crossing.specs.States.{Laid}
 use Rattle.fg_groups.specs.Needs.{group_at, goes_on, is_touched}
 use Rattle.fg_groups.specs.Placed.{is_import}
 use Rattle.fg_groups.specs.Uses.{no_use}
 use Rattle.fg_groups.specs.declared.grouping.Grouping.{Grouping}
 use Rattle.fg_recorder.specs.Pieces.{has_piece, is_readback, piece_of}
-use Rattle.fg_recorder.specs.Standing.{turn_item}
+use Rattle.fg_recorder.specs.Standing.{prologue_item}
 use Rattle.fg_recorder.specs.Wanted.{is_there}
 use Rattle.fg_stated.specs.PieceStates.{layout_after}
 use Rattle.fg_subs.specs.Rules.{shapes_of}
 use Rattle.fg_subs.specs.declared.program.Program.{Program}
-use Rattle.fg_turns.specs.Turns.{earlier, first, first_kind, has_uses, last, next_kind, turn_of}
+use Rattle.fg_turns.specs.Prologues.{earlier, first, first_kind, has_uses, last, next_kind, prologue_of}
 use Rattle.fg_turns.specs.Under.{Heap, place_of, uses_under}
-use Rattle.fg_turns.specs.declared.turn.TurnKind.{TurnKind}
-use Rattle.fg_turns.specs.declared.turn.TurnKind.TheVariants as kinds
+use Rattle.fg_turns.specs.declared.prologue.PrologueKind.{PrologueKind}
+use Rattle.fg_turns.specs.declared.prologue.PrologueKind.TheVariants as kinds
 use Rattle.fg_view.specs.AccessKinds.{sets_layout, wanted}
 use Rattle.fg_view.specs.Effects.{access, item_effect}
 use Rattle.fg_view.specs.Views.{View, view_of}
@@ -66,7 +66,7 @@ init_kind : (reused : Bool) → is_init (first_kind reused true) ≡ true
 init_kind true = refl
 init_kind false = refl
 
-init_there : (kind : TurnKind) → is_init kind ≡ true → is_there kind ≡ true
+init_there : (kind : PrologueKind) → is_init kind ≡ true → is_there kind ≡ true
 init_there kinds.Nothing e = absurd (false≢true e)
 init_there kinds.Barrier e = refl
 init_there kinds.Transfer e = refl
@@ -95,11 +95,11 @@ module _ (G : Grouping) (heap : Heap) (P : Program) (S : IsSet G heap P) where
   layout g = unwrap_or (own_layout g) Undefined
 
   abbrev sets : ℕ → Bool
-  sets g = turn_does G heap P sets_layout g
+  sets g = prologue_does G heap P sets_layout g
 
-  known : (g : ℕ) (a : Access) → OfTurn F V N g a → sets_layout a.kind ≡ true → (sets g ≡ true) × (layout_after a.kind ≡ layout g)
+  known : (g : ℕ) (a : Access) → OfPrologue F V N g a → sets_layout a.kind ≡ true → (sets g ≡ true) × (layout_after a.kind ≡ layout g)
   known g a O e =
-      let Q = turn_all G heap P S (IsSetting (own_layout g)) g a O (turn_setting (shapes_of P) (turn_queue G g) (turn_of G heap g).kind G (turn_of G heap g) (earlier G g) (group_at G g)) in
+      let Q = prologue_all G heap P S (IsSetting (own_layout g)) g a O (prologue_setting (shapes_of P) (prologue_queue G g) (prologue_of G heap g).kind G (prologue_of G heap g) (earlier G g) (group_at G g)) in
       (does_known G heap P S sets_layout g a O e, Q.sets e)
 
   -- FROM GROUP TO GROUP
@@ -111,7 +111,7 @@ module _ (G : Grouping) (heap : Heap) (P : Program) (S : IsSet G heap P) where
   last_layout : (g : ℕ) → g < length G.groups → goes_on G g ≡ true → (last (earlier G (suc g))).layout ≡ own_layout g
   last_layout g lt goes = ap (λ A. (last A).layout) (earlier_is G S.grouped heap g goes) ∙ group_layout G S.grouped g (last (group_at G g)) lt (last_there g lt)
 
-  next_is_next : (g : ℕ) → goes_on G g ≡ true → is_next (turn_of G heap (suc g)).kind ≡ true
+  next_is_next : (g : ℕ) → goes_on G g ≡ true → is_next (prologue_of G heap (suc g)).kind ≡ true
   next_is_next g goes = ⊎_elim (λ e. ap is_next e) (λ e. ap is_next e) (next_kinds G S.grouped heap g goes)
 
   unit_image : (g : ℕ) → g < length G.groups → is_some (own_layout g) ≡ is_image (shape_at G.shapes (unit_of G g))
@@ -126,7 +126,7 @@ module _ (G : Grouping) (heap : Heap) (P : Program) (S : IsSet G heap P) where
       both_some : is_some (own_layout g) ≡ is_some (own_layout (suc g))
       both_some = unit_image g low ∙ ap (λ u. is_image (shape_at G.shapes u)) (next_unit G S.grouped g goes) ∙ sym (unit_image (suc g) lt)
 
-      quiet : any_set (item_effect (shapes_of P) (turn_queue G (suc g)) (turn_item G heap (suc g))).accesses ≡ false
+      quiet : any_set (item_effect (shapes_of P) (prologue_queue G (suc g)) (prologue_item G heap (suc g))).accesses ≡ false
       quiet = sym (does_item G heap P S sets_layout (suc g) (lt, next_there G S.grouped heap g goes)) ∙ none
 
       go : (x y : Option Layout) → own_layout g ≡ x → own_layout (suc g) ≡ y → unwrap_or (own_layout g) Undefined ≡ unwrap_or (own_layout (suc g)) Undefined
@@ -134,7 +134,7 @@ module _ (G : Grouping) (heap : Heap) (P : Program) (S : IsSet G heap P) where
       go (Some from) None ex ey = absurd (false≢true (sym (ap is_some ey) ∙ sym both_some ∙ ap is_some ex))
       go None (Some to) ex ey = absurd (false≢true (sym (ap is_some ex) ∙ both_some ∙ ap is_some ey))
       go (Some from) (Some to) ex ey =
-          let same : from ≡ to = next_kept (shapes_of P) (turn_queue G (suc g)) (turn_of G heap (suc g)).kind G (turn_of G heap (suc g)) (earlier G (suc g)) (group_at G (suc g)) from to
+          let same : from ≡ to = next_kept (shapes_of P) (prologue_queue G (suc g)) (prologue_of G heap (suc g)).kind G (prologue_of G heap (suc g)) (earlier G (suc g)) (group_at G (suc g)) from to
           (next_is_next g goes) (last_layout g low goes ∙ ex) ey ((first_known G S.grouped g low).known from ex) quiet in
           ap (λ o. unwrap_or o Undefined) ex ∙ same ∙ sym (ap (λ o. unwrap_or o Undefined) ey)
   steady_next g (of_export le copy read same) none = ap (λ A. unwrap_or (first A).layout Undefined) (get_or_past G.groups g [] le ∙ sym (get_or_past G.groups (suc g) [] (omega (arith, le))))
@@ -176,9 +176,9 @@ module _ (G : Grouping) (heap : Heap) (P : Program) (S : IsSet G heap P) where
     pub low : g < length G.groups
     pub layout : own_layout g ≡ Some l
 
-  pub turn_before : (h : ℕ) (a : Access) (l : Layout) → OfTurn F V N h a → wanted a.kind ≡ Some l → (g : ℕ) × IsBefore g h l
-  turn_before h a l O w =
-      let Q = turn_all G heap P S (IsWanting (turn_of G heap h).kind (last (earlier G h)).layout) h a O (turn_wanting (shapes_of P) (turn_queue G h) (turn_of G heap h).kind G (turn_of G heap h) (earlier G h) (group_at G h)) in
+  pub prologue_before : (h : ℕ) (a : Access) (l : Layout) → OfPrologue F V N h a → wanted a.kind ≡ Some l → (g : ℕ) × IsBefore g h l
+  prologue_before h a l O w =
+      let Q = prologue_all G heap P S (IsWanting (prologue_of G heap h).kind (last (earlier G h)).layout) h a O (prologue_wanting (shapes_of P) (prologue_queue G h) (prologue_of G heap h).kind G (prologue_of G heap h) (earlier G h) (group_at G h)) in
       let found = Q.wants l w in
       let A = next_after G heap h found.0 in
       let g : ℕ = A.0 in
@@ -186,9 +186,9 @@ module _ (G : Grouping) (heap : Heap) (P : Program) (S : IsSet G heap P) where
       let low : g < length G.groups = omega (arith, within) in
       (g, record { after = A.1; low = low; layout = sym (last_layout g low A.1.goes) ∙ ap (λ n. (last (earlier G n)).layout) (sym A.1.number) ∙ found.1 })
 
-  turn : (h : ℕ) (a : Access) (l : Layout) → OfTurn F V N h a → wanted a.kind ≡ Some l → (g : ℕ) × (h ≡ g + 1) × (F.piece g ≡ F.piece h) × (layout g ≡ l)
-  turn h a l O w =
-      let B = turn_before h a l O w in
+  prologue : (h : ℕ) (a : Access) (l : Layout) → OfPrologue F V N h a → wanted a.kind ≡ Some l → (g : ℕ) × (h ≡ g + 1) × (F.piece g ≡ F.piece h) × (layout g ≡ l)
+  prologue h a l O w =
+      let B = prologue_before h a l O w in
       let g : ℕ = B.0 in
       let number = B.1.after.number in
       let more : suc g ≡ g + 1 = omega arith in
@@ -215,9 +215,9 @@ module _ (G : Grouping) (heap : Heap) (P : Program) (S : IsSet G heap P) where
       (sym (ap (λ x. slice_get x.accesses has.0) R.effect) ∙ has.1)
 
   spot_image : (x g : ℕ) (a : Access) (l : Layout) → Spot F V N x a g → wanted a.kind ≡ Some l → IsImage g
-  spot_image x g a l (at_turn e t) w =
-      let B = turn_before g a l t w in
-      let T = turn_low G heap P S g a t in
+  spot_image x g a l (at_prologue e t) w =
+      let B = prologue_before g a l t w in
+      let T = prologue_low G heap P S g a t in
       let unit : unit_of G B.0 ≡ unit_of G g = next_unit G S.grouped B.0 B.1.after.goes ∙ ap (unit_of G) (sym B.1.after.number) in
       record { low = T.recorded.0; image = ap (λ u. is_image (shape_at G.shapes u)) (sym unit) ∙ sym (unit_image B.0 B.1.low) ∙ ap is_some B.1.layout }
   spot_image x g a l (at_member {c = c} e m) w =
@@ -239,7 +239,7 @@ module _ (G : Grouping) (heap : Heap) (P : Program) (S : IsSet G heap P) where
           let late = I.least j piece in
           absurd (omega (arith, late))
 
-  image_kind : (i : ℕ) → has_uses (earlier G i) ≡ false → is_import G (unit_of G i) ≡ false → is_some (own_layout i) ≡ true → is_init (turn_of G heap i).kind ≡ true
+  image_kind : (i : ℕ) → has_uses (earlier G i) ≡ false → is_import G (unit_of G i) ≡ false → is_some (own_layout i) ≡ true → is_init (prologue_of G heap i).kind ≡ true
   image_kind i alone fresh image =
       let B = group_at G i in
       let reused = has_uses (uses_under G heap (place_of G (first B).unit)) in
@@ -260,8 +260,8 @@ module _ (G : Grouping) (heap : Heap) (P : Program) (S : IsSet G heap P) where
       let fresh : is_import G (unit_of G i) ≡ false = ⊎_elim (λ e. absurd (false≢true (sym (S.imports (unit_of G i) e) ∙ image))) (λ e. e) (cases_Bool (is_import G (unit_of G i))) in
       let kind = image_kind i (first_alone g i I low) fresh some in
       let to = some_of (own_layout i) some in
-      does_item G heap P S sets_layout i (low, init_there (turn_of G heap i).kind kind)
-      ∙ init_sets (shapes_of P) (turn_queue G i) (turn_of G heap i).kind G (turn_of G heap i) (earlier G i) (group_at G i) to.0 kind to.1
+      does_item G heap P S sets_layout i (low, init_there (prologue_of G heap i).kind kind)
+      ∙ init_sets (shapes_of P) (prologue_queue G i) (prologue_of G heap i).kind G (prologue_of G heap i) (earlier G i) (group_at G i) to.0 kind to.1
 
   pub laid : Laid F V N
   laid = record {
@@ -271,6 +271,6 @@ module _ (G : Grouping) (heap : Heap) (P : Program) (S : IsSet G heap P) where
     known = known;
     steady = steady;
     member = member;
-    turn = turn;
+    prologue = prologue;
     begins = begins;
   }

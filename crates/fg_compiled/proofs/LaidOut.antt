@@ -1,4 +1,4 @@
--- The layout of each group, and the turns that set one.
+-- The layout of each group, and the prologues that set one.
 use Rattle.std.proofs.Common.{◌≡◌, ℕ, zero, suc, ◌<◌, ◌==◌, ◌||◌, Bool, true, false, List, [], ◌∷◌, ◌++◌, length, if◌then◌else◌, Option, Some, None, refl, sym, ap, ap₂, ◌∙◌, subst, eqb-true, arith}
 use Rattle.std.specs.List.{All, Contains, list_any}
 use Rattle.std.specs.Option.{option_map_or}
@@ -31,16 +31,16 @@ use Rattle.fg_recorder.specs.Pieces.{piece_of}
 use Rattle.fg_recorder.specs.Standing.{item_by}
 use Rattle.fg_stated.specs.PieceStates.{layout_after}
 use Rattle.fg_turns.specs.Masks.{entry_masks}
-use Rattle.fg_turns.specs.Turns.{first, last}
-use Rattle.fg_turns.specs.declared.turn.Turn.{Turn}
-use Rattle.fg_turns.specs.declared.turn.TurnKind.{TurnKind}
-use Rattle.fg_turns.specs.declared.turn.TurnKind.TheVariants as kinds
+use Rattle.fg_turns.specs.Prologues.{first, last}
+use Rattle.fg_turns.specs.declared.prologue.Prologue.{Prologue}
+use Rattle.fg_turns.specs.declared.prologue.PrologueKind.{PrologueKind}
+use Rattle.fg_turns.specs.declared.prologue.PrologueKind.TheVariants as kinds
 use Rattle.fg_valid.proofs.Uses.{role-layout}
 use Rattle.fg_view.specs.AccessKinds.{sets_layout, wanted}
 use Rattle.fg_view.specs.Effects.{access, handover_of, item_effect, layout_change, same_layout, transition_through}
 use Rattle.fg_view.specs.declared.access.Access.{Access}
 use Rattle.fg_view.specs.declared.access.AccessKind.TheVariants as access_kinds
-use Rattle.fg_compiled.proofs.TurnAccesses.{is_next}
+use Rattle.fg_compiled.proofs.PrologueAccesses.{is_next}
 
 -- LAYOUTS
 
@@ -126,24 +126,24 @@ acquire_setting p x y last_one none = All-append (IsSetting y) (option_map_or (t
     go (Some from) None = All-nil (IsSetting None)
     go None y = All-nil (IsSetting y)
 
-pub turn_setting : (shapes : List Shape) (q : ℕ) (kind : TurnKind) (G : Grouping) (turn : Turn) (A B : List Use) → All (IsSetting (first B).layout) (item_effect shapes q (item_by kind G turn A B)).accesses
-turn_setting shapes q kinds.Nothing G turn A B = All-nil (IsSetting (first B).layout)
-turn_setting shapes q kinds.Barrier G turn A B = barrier_setting shapes q (piece_of G (first B).unit) (last A).layout (first B).layout turn.masks
-turn_setting shapes q kinds.Transfer G turn A B = acquire_setting (piece_of G (first B).unit) (last A).layout (first B).layout (access (piece_of G (first B).unit) (access_kinds.Acquire (handover_of (transfer G A B turn.masks)))) refl
-turn_setting shapes q kinds.Alias G turn A B = All-nil (IsSetting (first B).layout)
-turn_setting shapes q kinds.Init G turn A B = barrier_setting shapes q (piece_of G (first B).unit) (Some Undefined) (first B).layout (entry_masks B (first B).queue)
-turn_setting shapes q kinds.AliasInit G turn A B = barrier_setting shapes q (piece_of G (first B).unit) (Some Undefined) (first B).layout (entry_masks B (first B).queue)
+pub prologue_setting : (shapes : List Shape) (q : ℕ) (kind : PrologueKind) (G : Grouping) (prologue : Prologue) (A B : List Use) → All (IsSetting (first B).layout) (item_effect shapes q (item_by kind G prologue A B)).accesses
+prologue_setting shapes q kinds.Nothing G prologue A B = All-nil (IsSetting (first B).layout)
+prologue_setting shapes q kinds.Barrier G prologue A B = barrier_setting shapes q (piece_of G (first B).unit) (last A).layout (first B).layout prologue.masks
+prologue_setting shapes q kinds.Transfer G prologue A B = acquire_setting (piece_of G (first B).unit) (last A).layout (first B).layout (access (piece_of G (first B).unit) (access_kinds.Acquire (handover_of (transfer G A B prologue.masks)))) refl
+prologue_setting shapes q kinds.Alias G prologue A B = All-nil (IsSetting (first B).layout)
+prologue_setting shapes q kinds.Init G prologue A B = barrier_setting shapes q (piece_of G (first B).unit) (Some Undefined) (first B).layout (entry_masks B (first B).queue)
+prologue_setting shapes q kinds.AliasInit G prologue A B = barrier_setting shapes q (piece_of G (first B).unit) (Some Undefined) (first B).layout (entry_masks B (first B).queue)
 
 -- WHAT TURNS WANT
 
 -- what wants a layout is between two groups, and wants that of the one before
-pub record IsWanting (kind : TurnKind) (layout : Option Layout) (a : Access) : Type 0 where
+pub record IsWanting (kind : PrologueKind) (layout : Option Layout) (a : Access) : Type 0 where
   pub wants : (l : Layout) → wanted a.kind ≡ Some l → (is_next kind ≡ true) × (layout ≡ Some l)
 
 wants_none : (l : Layout) → None ≡ Some l → ⊥
 wants_none l e = cc
 
-module _ (kind : TurnKind) where
+module _ (kind : PrologueKind) where
   through_wanting : is_next kind ≡ true → (p : ℕ) (from to : Layout) → All (IsWanting kind (Some from)) (transition_through p (record { from = from; to = to }))
   through_wanting k p from to = go (is_undefined from || same_layout (record { from = from; to = to }))
     where
@@ -175,13 +175,13 @@ module _ (kind : TurnKind) where
       go (Some from) None = All-nil (IsWanting kind (Some from))
       go None y = All-nil (IsWanting kind None)
 
-pub turn_wanting : (shapes : List Shape) (q : ℕ) (kind : TurnKind) (G : Grouping) (turn : Turn) (A B : List Use) → All (IsWanting kind (last A).layout) (item_effect shapes q (item_by kind G turn A B)).accesses
-turn_wanting shapes q kinds.Nothing G turn A B = All-nil (IsWanting kinds.Nothing (last A).layout)
-turn_wanting shapes q kinds.Barrier G turn A B = barrier_wanting kinds.Barrier refl shapes q (piece_of G (first B).unit) (last A).layout (first B).layout turn.masks
-turn_wanting shapes q kinds.Transfer G turn A B = acquire_wanting kinds.Transfer refl (piece_of G (first B).unit) (last A).layout (first B).layout (access (piece_of G (first B).unit) (access_kinds.Acquire (handover_of (transfer G A B turn.masks)))) refl
-turn_wanting shapes q kinds.Alias G turn A B = All-nil (IsWanting kinds.Alias (last A).layout)
-turn_wanting shapes q kinds.Init G turn A B = init_wanting kinds.Init shapes q (piece_of G (first B).unit) (last A).layout (first B).layout (entry_masks B (first B).queue)
-turn_wanting shapes q kinds.AliasInit G turn A B = init_wanting kinds.AliasInit shapes q (piece_of G (first B).unit) (last A).layout (first B).layout (entry_masks B (first B).queue)
+pub prologue_wanting : (shapes : List Shape) (q : ℕ) (kind : PrologueKind) (G : Grouping) (prologue : Prologue) (A B : List Use) → All (IsWanting kind (last A).layout) (item_effect shapes q (item_by kind G prologue A B)).accesses
+prologue_wanting shapes q kinds.Nothing G prologue A B = All-nil (IsWanting kinds.Nothing (last A).layout)
+prologue_wanting shapes q kinds.Barrier G prologue A B = barrier_wanting kinds.Barrier refl shapes q (piece_of G (first B).unit) (last A).layout (first B).layout prologue.masks
+prologue_wanting shapes q kinds.Transfer G prologue A B = acquire_wanting kinds.Transfer refl (piece_of G (first B).unit) (last A).layout (first B).layout (access (piece_of G (first B).unit) (access_kinds.Acquire (handover_of (transfer G A B prologue.masks)))) refl
+prologue_wanting shapes q kinds.Alias G prologue A B = All-nil (IsWanting kinds.Alias (last A).layout)
+prologue_wanting shapes q kinds.Init G prologue A B = init_wanting kinds.Init shapes q (piece_of G (first B).unit) (last A).layout (first B).layout (entry_masks B (first B).queue)
+prologue_wanting shapes q kinds.AliasInit G prologue A B = init_wanting kinds.AliasInit shapes q (piece_of G (first B).unit) (last A).layout (first B).layout (entry_masks B (first B).queue)
 
 -- WHETHER TURNS SET
 
@@ -203,27 +203,27 @@ acquire_kept : (p : ℕ) (from to : Layout) (last_one : Access) → is_undefined
 acquire_kept p from to last_one known none = through_kept p from to known (or_parts (any_set (transition_through p (record { from = from; to = to }))) (any_set (last_one ∷ [])) (sym (list_any-append (λ (a : Access). sets_layout a.kind) (transition_through p (record { from = from; to = to })) (last_one ∷ [])) ∙ none)).0
 
 -- between two groups of an image
-pub next_kept : (shapes : List Shape) (q : ℕ) (kind : TurnKind) (G : Grouping) (turn : Turn) (A B : List Use) (from to : Layout) → is_next kind ≡ true → (last A).layout ≡ Some from → (first B).layout ≡ Some to → is_undefined from ≡ false → any_set (item_effect shapes q (item_by kind G turn A B)).accesses ≡ false → from ≡ to
-next_kept shapes q kinds.Nothing G turn A B from to k x y known none = absurd (false≢true k)
-next_kept shapes q kinds.Barrier G turn A B from to k x y known none = change_kept (piece_of G (first B).unit) from to known (sym (ap₂ (λ s t. any_set (item_effect shapes q (barrier (piece_of G (first B).unit) (both s t) turn.masks)).accesses) x y) ∙ none)
-next_kept shapes q kinds.Transfer G turn A B from to k x y known none =
+pub next_kept : (shapes : List Shape) (q : ℕ) (kind : PrologueKind) (G : Grouping) (prologue : Prologue) (A B : List Use) (from to : Layout) → is_next kind ≡ true → (last A).layout ≡ Some from → (first B).layout ≡ Some to → is_undefined from ≡ false → any_set (item_effect shapes q (item_by kind G prologue A B)).accesses ≡ false → from ≡ to
+next_kept shapes q kinds.Nothing G prologue A B from to k x y known none = absurd (false≢true k)
+next_kept shapes q kinds.Barrier G prologue A B from to k x y known none = change_kept (piece_of G (first B).unit) from to known (sym (ap₂ (λ s t. any_set (item_effect shapes q (barrier (piece_of G (first B).unit) (both s t) prologue.masks)).accesses) x y) ∙ none)
+next_kept shapes q kinds.Transfer G prologue A B from to k x y known none =
     let p = piece_of G (first B).unit in
-    acquire_kept p from to (access p (access_kinds.Acquire (handover_of (transfer G A B turn.masks)))) known
-    (sym (ap₂ (λ s t. any_set (option_map_or (transition_through p) (both s t) [] ++ access p (access_kinds.Acquire (handover_of (transfer G A B turn.masks))) ∷ [])) x y) ∙ none)
-next_kept shapes q kinds.Alias G turn A B from to k x y known none = absurd (false≢true k)
-next_kept shapes q kinds.Init G turn A B from to k x y known none = absurd (false≢true k)
-next_kept shapes q kinds.AliasInit G turn A B from to k x y known none = absurd (false≢true k)
+    acquire_kept p from to (access p (access_kinds.Acquire (handover_of (transfer G A B prologue.masks)))) known
+    (sym (ap₂ (λ s t. any_set (option_map_or (transition_through p) (both s t) [] ++ access p (access_kinds.Acquire (handover_of (transfer G A B prologue.masks))) ∷ [])) x y) ∙ none)
+next_kept shapes q kinds.Alias G prologue A B from to k x y known none = absurd (false≢true k)
+next_kept shapes q kinds.Init G prologue A B from to k x y known none = absurd (false≢true k)
+next_kept shapes q kinds.AliasInit G prologue A B from to k x y known none = absurd (false≢true k)
 
-abbrev pub is_init : TurnKind → Bool
+abbrev pub is_init : PrologueKind → Bool
 is_init kinds.Init = true
 is_init kinds.AliasInit = true
 is_init kind = false
 
 -- out of UNDEFINED
-pub init_sets : (shapes : List Shape) (q : ℕ) (kind : TurnKind) (G : Grouping) (turn : Turn) (A B : List Use) (to : Layout) → is_init kind ≡ true → (first B).layout ≡ Some to → any_set (item_effect shapes q (item_by kind G turn A B)).accesses ≡ true
-init_sets shapes q kinds.Nothing G turn A B to k y = absurd (false≢true k)
-init_sets shapes q kinds.Barrier G turn A B to k y = absurd (false≢true k)
-init_sets shapes q kinds.Transfer G turn A B to k y = absurd (false≢true k)
-init_sets shapes q kinds.Alias G turn A B to k y = absurd (false≢true k)
-init_sets shapes q kinds.Init G turn A B to k y = ap (λ t. any_set (item_effect shapes q (barrier (piece_of G (first B).unit) (both (Some Undefined) t) (entry_masks B (first B).queue))).accesses) y
-init_sets shapes q kinds.AliasInit G turn A B to k y = ap (λ t. any_set (item_effect shapes q (barrier (piece_of G (first B).unit) (both (Some Undefined) t) (entry_masks B (first B).queue))).accesses) y
+pub init_sets : (shapes : List Shape) (q : ℕ) (kind : PrologueKind) (G : Grouping) (prologue : Prologue) (A B : List Use) (to : Layout) → is_init kind ≡ true → (first B).layout ≡ Some to → any_set (item_effect shapes q (item_by kind G prologue A B)).accesses ≡ true
+init_sets shapes q kinds.Nothing G prologue A B to k y = absurd (false≢true k)
+init_sets shapes q kinds.Barrier G prologue A B to k y = absurd (false≢true k)
+init_sets shapes q kinds.Transfer G prologue A B to k y = absurd (false≢true k)
+init_sets shapes q kinds.Alias G prologue A B to k y = absurd (false≢true k)
+init_sets shapes q kinds.Init G prologue A B to k y = ap (λ t. any_set (item_effect shapes q (barrier (piece_of G (first B).unit) (both (Some Undefined) t) (entry_masks B (first B).queue))).accesses) y
+init_sets shapes q kinds.AliasInit G prologue A B to k y = ap (λ t. any_set (item_effect shapes q (barrier (piece_of G (first B).unit) (both (Some Undefined) t) (entry_masks B (first B).queue))).accesses) y

@@ -1,4 +1,4 @@
-pub mod AliasTaken
+pub mod AliasSource
 pub mod Aliased
 pub mod Barriers
 pub mod Bits
@@ -12,7 +12,7 @@ pub mod Early
 pub mod Entries
 pub mod ExportGroups
 pub mod Exports
-pub mod Feeding
+pub mod Initializing
 pub mod Grouped
 pub mod Groups
 pub mod HandedOn
@@ -45,7 +45,7 @@ pub mod Starting
 pub mod Steps
 pub mod Storing
 pub mod Touches
-pub mod TurnAccesses
-pub mod TurnKinds
+pub mod PrologueAccesses
+pub mod PrologueKinds
 pub mod Unions
 pub mod Uses

@@ -10,7 +10,7 @@ use Rattle.fg_base.specs.Shapes.{bytes_of, shape_at}
 use Rattle.fg_compiled.proofs.Counting.{count_same, place_within}
 use Rattle.fg_compiled.proofs.Grouped.{late, resource_export, resource_piece, resource_unit}
 use Rattle.fg_compiled.proofs.Groups.{touched, unit_known}
-use Rattle.fg_compiled.proofs.TurnKinds.{placed_unit}
+use Rattle.fg_compiled.proofs.PrologueKinds.{placed_unit}
 use Rattle.fg_compiled.specs.Plan.{group_count, resource_of, unit_of}
 use Rattle.fg_groups.specs.Laws.{IsGrouped, IsKnown}
 use Rattle.fg_groups.specs.Needs.{is_touched}

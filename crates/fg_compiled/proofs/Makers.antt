@@ -11,7 +11,7 @@ use Rattle.fg_base.specs.Operands.{touches}
 use Rattle.fg_base.specs.declared.op.Op.{Op}
 use Rattle.fg_recorder.proofs.Contained.{contains_filter, contains_map}
 use Rattle.fg_compiled.proofs.KeptCommands.{ops_at}
-use Rattle.fg_frame.specs.Good.{IsGood, IsGoodPass, has_contents, is_import, renews, shapes_in}
+use Rattle.fg_frame.specs.Valid.{IsValid, IsValidPass, has_contents, is_import, renews, shapes_in}
 use Rattle.fg_frame.specs.Numbered.{NumberedFrame}
 use Rattle.fg_frame.specs.Uses.{starts_whole, stores_whole, writes_it}
 use Rattle.fg_frame.specs.declared.frame.Write.{Write}
@@ -123,8 +123,8 @@ pub record IsTouched (frame : NumberedFrame) (kept : List Bool) (p unit : ℕ) :
   pub at : slice_get (ops_at frame.passes pass) place ≡ Some op
   pub touches_it : touches unit op ≡ true
 
-module _ (frame : NumberedFrame) (kept : List Bool) (good : IsGood frame) (A : AreKept frame kept) (unit : ℕ) (none : is_import frame.units unit ≡ false) where
-  pub good_pass : (p : ℕ) → p < length frame.passes → IsGoodPass frame (take p frame.passes) (pass_at frame p)
+module _ (frame : NumberedFrame) (kept : List Bool) (good : IsValid frame) (A : AreKept frame kept) (unit : ℕ) (none : is_import frame.units unit ≡ false) where
+  pub good_pass : (p : ℕ) → p < length frame.passes → IsValidPass frame (take p frame.passes) (pass_at frame p)
   good_pass p lt = good.passes_good p no_pass lt
 
   -- where the first operation that touches the unit stores it, there is one
@@ -146,7 +146,7 @@ module _ (frame : NumberedFrame) (kept : List Bool) (good : IsGood frame) (A : A
   pub write_cases : (p : ℕ) → p < length frame.passes → writes_it (pass_at frame p) unit ≡ true → (starts_whole (shapes_in frame) (ops_at frame.passes p) unit ≡ true) ⊎ ((has_contents frame.units (take p frame.passes) unit ≡ true) × Contains (used (pass_at frame p)) unit)
   write_cases p lt e = go (Any-from_list_any (λ (w : Write ℕ). w.what == unit) (pass_at frame p).writes e)
     where
-      P : IsGoodPass frame (take p frame.passes) (pass_at frame p)
+      P : IsValidPass frame (take p frame.passes) (pass_at frame p)
       P = good_pass p lt
 
       go : (k : ℕ) × (w : Write ℕ) × (k < length (pass_at frame p).writes) × (get_or (pass_at frame p).writes k w ≡ w) × ((w.what == unit) ≡ true) → (starts_whole (shapes_in frame) (ops_at frame.passes p) unit ≡ true) ⊎ ((has_contents frame.units (take p frame.passes) unit ≡ true) × Contains (used (pass_at frame p)) unit)

@@ -44,7 +44,7 @@ use Rattle.fg_turns.specs.Under.{Heap}
 use Rattle.fg_valid.proofs.Bits.{Inside}
 use Rattle.fg_view.specs.AccessKinds.{wanted}
 use Rattle.fg_view.specs.Effects.{command_accesses}
-use Rattle.fg_view.specs.ShapedView.{Has}
+use Rattle.fg_view.specs.ValidView.{Has}
 use Rattle.fg_view.specs.Views.{view_of}
 use Rattle.fg_view.specs.declared.access.Access.{Access}
 

@@ -12,11 +12,11 @@ use Rattle.fg_base.specs.declared.role.Role.TheVariants.{CopyRead}
 use Rattle.fg_compiled.proofs.Counting.{count_late}
 use Rattle.fg_compiled.proofs.Exports.{AreCopied, copies_from}
 use Rattle.fg_compiled.proofs.Groups.{member_of, next_within, some_use, sourced}
-use Rattle.fg_compiled.proofs.TurnKinds.{released_goes}
-use Rattle.fg_compiled.proofs.Places.{member_late, member_unit, release_at, turn_late, turn_unit, turned_late, turned_unit}
-use Rattle.fg_compiled.proofs.Stages.{OpensBy, group_stages, last_stages, turn_opens}
-use Rattle.fg_compiled.proofs.Steps.{ItemAt, command_at, copy_at, item_there, turn_at}
-use Rattle.fg_compiled.specs.Nodes.{command_node, copied_step, copy_of, item_at, nodes_of, read_node, release_queue, steps, turn_queue}
+use Rattle.fg_compiled.proofs.PrologueKinds.{released_goes}
+use Rattle.fg_compiled.proofs.Places.{member_late, member_unit, release_at, prologue_late, prologue_unit, has_prologue_late, has_prologue_unit}
+use Rattle.fg_compiled.proofs.Stages.{OpensBy, group_stages, last_stages, prologue_opens}
+use Rattle.fg_compiled.proofs.Steps.{ItemAt, command_at, copy_at, item_there, prologue_at}
+use Rattle.fg_compiled.specs.Nodes.{command_node, copied_step, copy_of, item_at, nodes_of, read_node, release_queue, steps, prologue_queue}
 use Rattle.fg_compiled.specs.Plan.{export_at, export_count, group_count, is_of_export, is_of_unit, is_read, plan_of, uses_in_group}
 use Rattle.fg_crossing.specs.Nodes.{IsBarrier, IsCommand, Roles}
 use Rattle.fg_cut.specs.Opens.{AreOpen}
@@ -29,9 +29,9 @@ use Rattle.fg_hb.specs.Edges.{is_host, is_sync, node_at}
 use Rattle.fg_hb.specs.Nodes.{item_node, program_nodes}
 use Rattle.fg_recorder.specs.Items.{transfer}
 use Rattle.fg_recorder.specs.Pieces.{is_readback, piece_of, readbacks, resources}
-use Rattle.fg_recorder.specs.Standing.{IsStanding, host_item, step, turn_item}
+use Rattle.fg_recorder.specs.Standing.{IsStanding, host_item, step, prologue_item}
 use Rattle.fg_recorder.specs.Wanted.{is_there}
-use Rattle.fg_recorder.specs.declared.mark.Mark.TheVariants.{Command, Turn as OfTurn, Release}
+use Rattle.fg_recorder.specs.declared.mark.Mark.TheVariants.{Command, Prologue as OfPrologue, Release}
 use Rattle.fg_subs.specs.Barriers.{masks_of}
 use Rattle.fg_subs.specs.Entries.{OfItem}
 use Rattle.fg_subs.specs.declared.program.Item.{Item}
@@ -40,7 +40,7 @@ use Rattle.fg_subs.specs.declared.program.Program.{Program}
 use Rattle.fg_bits.specs.declared.masks.Masks.{Masks}
 use Rattle.fg_timeline.specs.Steps.{IsScript}
 use Rattle.fg_turns.specs.Masks.{host_masks, release_masks}
-use Rattle.fg_turns.specs.Turns.{turn_of}
+use Rattle.fg_turns.specs.Prologues.{prologue_of}
 use Rattle.fg_turns.specs.Under.{Heap}
 use Rattle.fg_view.specs.Views.{view_of}
 
@@ -103,20 +103,20 @@ module _ (G : Grouping) (L : IsGrouped G) (heap : Heap) (S : IsStanding G heap) 
       record { masks = release_masks (group_at G g) (release_queue G g); is = refl; from = R; to = inl R }
 
   module _ (A : AreCopied G) (read_of : P.readbacks ≡ readbacks G) where
-    turns : (h : ℕ) → (nodes_of G heap).turned h ≡ true → IsBarrier (view_of P) ((nodes_of G heap).turn h)
-    turns h t = ⊎_elim unit late (cases_lt h (length G.groups))
+    prologues : (h : ℕ) → (nodes_of G heap).has_prologue h ≡ true → IsBarrier (view_of P) ((nodes_of G heap).prologue h)
+    prologues h t = ⊎_elim unit late (cases_lt h (length G.groups))
       where
-        unit : h < length G.groups → IsBarrier (view_of P) ((nodes_of G heap).turn h)
+        unit : h < length G.groups → IsBarrier (view_of P) ((nodes_of G heap).prologue h)
         unit lt =
-            let there : is_there (turn_of G heap h).kind ≡ true = sym (turned_unit G heap h lt) ∙ t in
-            subst (λ n. IsBarrier (view_of P) n) (sym (turn_unit G heap h lt))
-            (is_barrier (turn_queue G h) (step G heap (OfTurn h)) (turn_item G heap h) (turn_at G heap S h (lt, there)) (turn_opens G L heap h lt there))
+            let there : is_there (prologue_of G heap h).kind ≡ true = sym (has_prologue_unit G heap h lt) ∙ t in
+            subst (λ n. IsBarrier (view_of P) n) (sym (prologue_unit G heap h lt))
+            (is_barrier (prologue_queue G h) (step G heap (OfPrologue h)) (prologue_item G heap h) (prologue_at G heap S h (lt, there)) (prologue_opens G L heap h lt there))
 
-        late : length G.groups ≤ h → IsBarrier (view_of P) ((nodes_of G heap).turn h)
+        late : length G.groups ≤ h → IsBarrier (view_of P) ((nodes_of G heap).prologue h)
         late le =
-            let k = read_export G h (sym (turned_late G heap h le) ∙ t) in
+            let k = read_export G h (sym (has_prologue_late G heap h le) ∙ t) in
             let C = A.each (export_at G h) k.1 in
-            subst (λ n. IsBarrier (view_of P) n) (sym (turn_late G heap h le))
+            subst (λ n. IsBarrier (view_of P) n) (sym (prologue_late G heap h le))
             (is_barrier (queue_of G (copy_of G (export_at G h))) (copied_step G heap (copy_of G (export_at G h))) (host_item G C.command) (copy_at G heap S (copy_of G (export_at G h)) (export_at G h) C.command C.there C.export) (host_opens G C.command))
 
     reader : (h : ℕ) → is_read G h ≡ true → is_host (node_at (program_nodes P) (read_node G heap (export_at G h))).kind ≡ true
@@ -131,7 +131,7 @@ module _ (G : Grouping) (L : IsGrouped G) (heap : Heap) (S : IsStanding G heap) 
     pub have_roles : Roles (plan_of G heap) (view_of P) (nodes_of G heap)
     have_roles = record {
       commands = λ c g e. let m = member_there c g e in is_command c m.0 m.1;
-      turns = turns;
+      prologues = prologues;
       releases = λ g r.
           let within = next_within G L g (released_goes G L heap g r) in
           is_barrier (release_queue G g) (step G heap (Release g)) (item.Release (transfer G (group_at G g) (group_at G (suc g)) (release_masks (group_at G g) (release_queue G g)))) (release_at G L heap S g r) (release_opens g (omega (arith, within)));

@@ -19,14 +19,14 @@ use Rattle.fg_compiled.proofs.Pieces.{piece_there}
 use Rattle.fg_compiled.proofs.Reading.{read_stands}
 use Rattle.fg_compiled.proofs.Setting.{IsSet}
 use Rattle.fg_compiled.proofs.SpotFacts.{IsMemberOf, of_group, of_copy, member_cases, released_low}
-use Rattle.fg_compiled.proofs.Spots.{leaving_item, piece_is, release_stands, turn_is, turn_stands}
-use Rattle.fg_compiled.proofs.TurnAccesses.{does_known, does_there, is_next, next_kind_is, turn_does, turn_low}
-use Rattle.fg_compiled.proofs.TurnKinds.{earlier_is, kept_barrier}
-use Rattle.fg_compiled.specs.Nodes.{copy_of, nodes_of, release_queue, turn_node, turn_queue}
+use Rattle.fg_compiled.proofs.Spots.{leaving_item, piece_is, release_stands, prologue_is, prologue_stands}
+use Rattle.fg_compiled.proofs.PrologueAccesses.{does_known, does_there, is_next, next_kind_is, prologue_does, prologue_low}
+use Rattle.fg_compiled.proofs.PrologueKinds.{earlier_is, kept_barrier}
+use Rattle.fg_compiled.specs.Nodes.{copy_of, nodes_of, release_queue, prologue_node, prologue_queue}
 use Rattle.fg_compiled.specs.Plan.{export_at, is_of_unit, plan_of, unit_of}
 use Rattle.fg_crossing.specs.Nodes.{Nodes}
 use Rattle.fg_crossing.specs.Plans.{Plan}
-use Rattle.fg_crossing.specs.Spots.{Spot, at_turn, at_member, at_release, at_reader}
+use Rattle.fg_crossing.specs.Spots.{Spot, at_prologue, at_member, at_release, at_reader}
 use Rattle.fg_crossing.specs.States.{Owned}
 use Rattle.fg_cut.specs.Standing.{StandsFor}
 use Rattle.fg_groups.specs.Groups.{family_of, same_family, sharing_of, shares}
@@ -37,15 +37,15 @@ use Rattle.fg_groups.specs.declared.unit_use.Use.{Use}
 use Rattle.fg_hb.proofs.HostReads.{item_queue}
 use Rattle.fg_hb.specs.Edges.{is_host, node_at}
 use Rattle.fg_recorder.specs.Pieces.{piece, piece_of}
-use Rattle.fg_recorder.specs.Standing.{turn_item}
+use Rattle.fg_recorder.specs.Standing.{prologue_item}
 use Rattle.fg_subs.specs.Entries.{OfItem}
 use Rattle.fg_subs.specs.declared.program.Item.{Item}
 use Rattle.fg_subs.specs.declared.program.Item.TheVariants as item
 use Rattle.fg_subs.specs.declared.program.Piece.{Piece}
 use Rattle.fg_subs.specs.declared.program.Program.{Program}
-use Rattle.fg_turns.specs.Turns.{earlier, first, last}
+use Rattle.fg_turns.specs.Prologues.{earlier, first, last}
 use Rattle.fg_turns.specs.Under.{Heap}
-use Rattle.fg_turns.specs.declared.turn.TurnKind.TheVariants as kinds
+use Rattle.fg_turns.specs.declared.prologue.PrologueKind.TheVariants as kinds
 use Rattle.fg_view.specs.AccessKinds.{sets_owner}
 use Rattle.fg_view.specs.Views.{View, family_at, no_piece, shared_at, view_of}
 use Rattle.fg_view.specs.declared.access.Access.{Access}
@@ -86,13 +86,13 @@ module _ (G : Grouping) (heap : Heap) (P : Program) (S : IsSet G heap P) where
 
   -- of a group of an export that of the queue of its copy
   abbrev family : ℕ → Option Family
-  family g = if is_of_unit G g then slice_get G.families (turn_queue G g) else slice_get G.families (queue_of G (copy_of G (export_at G g)))
+  family g = if is_of_unit G g then slice_get G.families (prologue_queue G g) else slice_get G.families (queue_of G (copy_of G (export_at G g)))
 
-  family_low : (g : ℕ) → g < length G.groups → family g ≡ slice_get G.families (turn_queue G g)
-  family_low g lt = ap (λ b. if b then slice_get G.families (turn_queue G g) else slice_get G.families (queue_of G (copy_of G (export_at G g)))) (lt-ltb g (length G.groups) lt)
+  family_low : (g : ℕ) → g < length G.groups → family g ≡ slice_get G.families (prologue_queue G g)
+  family_low g lt = ap (λ b. if b then slice_get G.families (prologue_queue G g) else slice_get G.families (queue_of G (copy_of G (export_at G g)))) (lt-ltb g (length G.groups) lt)
 
   family_late : (g : ℕ) → length G.groups ≤ g → family g ≡ slice_get G.families (queue_of G (copy_of G (export_at G g)))
-  family_late g le = ap (λ b. if b then slice_get G.families (turn_queue G g) else slice_get G.families (queue_of G (copy_of G (export_at G g)))) (le-ltb g (length G.groups) le)
+  family_late g le = ap (λ b. if b then slice_get G.families (prologue_queue G g) else slice_get G.families (queue_of G (copy_of G (export_at G g)))) (le-ltb g (length G.groups) le)
 
   -- of the node of an item
   item_family : (n q : ℕ) (it : Item) → StandsFor P n (OfItem q it) → family_at V n ≡ slice_get G.families q
@@ -108,17 +108,17 @@ module _ (G : Grouping) (heap : Heap) (P : Program) (S : IsSet G heap P) where
       ap (shared_at V) (piece_is G heap P S g lt) ∙ ap (λ (x : Piece). is_shared x.sharing) (get_or_from_slice_get P.pieces (piece_of G (unit_of G g)) (piece G heap.offsets (unit_of G g)) no_piece there)
 
   -- all uses of a group are on queues of one family
-  use_family : (g : ℕ) (u : Use) → g < length G.groups → shared_at V (F.piece g) ≡ false → Contains (group_at G g) u → slice_get G.families u.queue ≡ slice_get G.families (turn_queue G g)
+  use_family : (g : ℕ) (u : Use) → g < length G.groups → shared_at V (F.piece g) ≡ false → Contains (group_at G g) u → slice_get G.families u.queue ≡ slice_get G.families (prologue_queue G g)
   use_family g u lt own (zero, l, at) = ap (λ (v : Use). slice_get G.families v.queue) (sym at ∙ get_or_default (group_at G g) 0 u no_use l)
   use_family g u lt own (suc i, l, at) =
       let first_at = get_or_default (group_at G g) 0 u no_use (some_use G S.grouped g lt) in
       let T = (S.grouped.joined g [] lt 0 (suc i) u (omega arith) l).shared in
-      let both : shares G.families G.sharings (unit_of G g) (turn_queue G g) u.queue ≡ true =
-      sym (ap (λ (v : Use). shares G.families G.sharings v.unit v.queue (get_or (group_at G g) (suc i) u).queue) first_at ∙ ap (λ (v : Use). shares G.families G.sharings (unit_of G g) (turn_queue G g) v.queue) at) ∙ T in
-      let one : same_family G.families (turn_queue G g) u.queue ≡ true = not_shared (is_shared (sharing_of G.sharings (unit_of G g))) (same_family G.families (turn_queue G g) u.queue) (sym (unit_shared g lt) ∙ own) both in
+      let both : shares G.families G.sharings (unit_of G g) (prologue_queue G g) u.queue ≡ true =
+      sym (ap (λ (v : Use). shares G.families G.sharings v.unit v.queue (get_or (group_at G g) (suc i) u).queue) first_at ∙ ap (λ (v : Use). shares G.families G.sharings (unit_of G g) (prologue_queue G g) v.queue) at) ∙ T in
+      let one : same_family G.families (prologue_queue G g) u.queue ≡ true = not_shared (is_shared (sharing_of G.sharings (unit_of G g))) (same_family G.families (prologue_queue G g) u.queue) (sym (unit_shared g lt) ∙ own) both in
       let first_known = (S.known.members g [] lt 0 no_use (some_use G S.grouped g lt)).1 in
       let known = (S.known.members g [] lt (suc i) u l).1 in
-      sym (same_slice G.families (turn_queue G g) u.queue first_known (subst (λ (v : Use). v.queue < length G.families) at known) one)
+      sym (same_slice G.families (prologue_queue G g) u.queue first_known (subst (λ (v : Use). v.queue < length G.families) at known) one)
 
   -- NODES OF A GROUP
 
@@ -137,10 +137,10 @@ module _ (G : Grouping) (heap : Heap) (P : Program) (S : IsSet G heap P) where
       ∙ sym (family_late g le)
 
   runs : (x g : ℕ) (a : Access) → Spot F V N x a g → shared_at V (F.piece g) ≡ false → is_host (node_at V.nodes x).kind ≡ false → family_at V x ≡ family g
-  runs x g a (at_turn e t) own queued =
-      let T = turn_low G heap P S g a t in
+  runs x g a (at_prologue e t) own queued =
+      let T = prologue_low G heap P S g a t in
       let lt = T.recorded.0 in
-      ap (family_at V) (e ∙ turn_is G heap P S g lt) ∙ item_family (turn_node G heap g) (turn_queue G g) (turn_item G heap g) (turn_stands G heap P S g T.recorded) ∙ sym (family_low g lt)
+      ap (family_at V) (e ∙ prologue_is G heap P S g lt) ∙ item_family (prologue_node G heap g) (prologue_queue G g) (prologue_item G heap g) (prologue_stands G heap P S g T.recorded) ∙ sym (family_low g lt)
   runs x g a (at_member {c = c} e m) own queued = ap (family_at V) e ∙ member_family c g a own (member_cases G heap P S c g m.member)
   runs x g a (at_release e r) own queued =
       let low = released_low G heap P S g r.released in
@@ -182,7 +182,7 @@ module _ (G : Grouping) (heap : Heap) (P : Program) (S : IsSet G heap P) where
 
   pub owned : Owned F V N
   owned = record {
-    sets = turn_does G heap P sets_owner;
+    sets = prologue_does G heap P sets_owner;
     family = family;
     there = does_there G heap P S sets_owner;
     known = does_known G heap P S sets_owner;

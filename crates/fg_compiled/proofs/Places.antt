@@ -11,10 +11,10 @@ use Rattle.fg_compiled.proofs.Contained.{contains_on, from_first, last_on, last_
 use Rattle.fg_compiled.proofs.Exports.{AreCopied, Copies, copies_from}
 use Rattle.fg_compiled.proofs.Grouped.{AreNext, of_unit, of_export, next, over_parts}
 use Rattle.fg_compiled.proofs.Groups.{Member, commands_rise, first_in, member_of, member_queue, next_unit, next_within, sourced, use_queue}
-use Rattle.fg_compiled.proofs.TurnKinds.{earlier_is, kept_barrier, next_there, over_there, released_goes, released_transfer}
+use Rattle.fg_compiled.proofs.PrologueKinds.{earlier_is, kept_barrier, next_there, over_there, released_goes, released_transfer}
 use Rattle.fg_compiled.proofs.Later.{sooner_crossed}
-use Rattle.fg_compiled.proofs.Steps.{ItemAt, command_at, command_steps, copy_at, does_at, over_need, soon, turn_at}
-use Rattle.fg_compiled.specs.Nodes.{command_node, copied_node, copied_step, item_at, nodes_of, release_node, release_queue, steps, turn_node, turn_queue}
+use Rattle.fg_compiled.proofs.Steps.{ItemAt, command_at, command_steps, copy_at, does_at, over_need, soon, prologue_at}
+use Rattle.fg_compiled.specs.Nodes.{command_node, copied_node, copied_step, item_at, nodes_of, release_node, release_queue, steps, prologue_node, prologue_queue}
 use Rattle.fg_compiled.specs.Plan.{export_at, is_copy, is_copy_of, is_of_export, is_over, is_read, plan_of, uses_in_group}
 use Rattle.fg_crossing.specs.Crossings.{Sooner, Crossed, Later}
 use Rattle.fg_crossing.specs.Nodes.{Places}
@@ -30,14 +30,14 @@ use Rattle.fg_recorder.proofs.Contained.{contains_some}
 use Rattle.fg_recorder.specs.Items.{transfer}
 use Rattle.fg_recorder.specs.Pieces.{piece_of}
 use Rattle.fg_recorder.specs.Script.{is_released}
-use Rattle.fg_recorder.specs.Standing.{IsNeeded, IsRecorded, IsStanding, NeedsOthers, host_item, host_step, step, turn_item}
+use Rattle.fg_recorder.specs.Standing.{IsNeeded, IsRecorded, IsStanding, NeedsOthers, host_item, host_step, step, prologue_item}
 use Rattle.fg_recorder.specs.Wanted.{is_there}
-use Rattle.fg_recorder.specs.declared.mark.Mark.TheVariants.{Command, Turn as OfTurn, Release}
+use Rattle.fg_recorder.specs.declared.mark.Mark.TheVariants.{Command, Prologue as OfPrologue, Release}
 use Rattle.fg_subs.specs.declared.program.Item.{Item}
 use Rattle.fg_subs.specs.declared.program.Item.TheVariants as item
 use Rattle.fg_subs.specs.declared.program.Program.{Program}
 use Rattle.fg_turns.specs.Masks.{release_masks}
-use Rattle.fg_turns.specs.Turns.{first, last, turn_of}
+use Rattle.fg_turns.specs.Prologues.{first, last, prologue_of}
 use Rattle.fg_turns.specs.Under.{Heap}
 use Rattle.fg_turns.specs.Unions.{on}
 use Rattle.fg_view.specs.Views.{view_of}
@@ -48,19 +48,19 @@ pub record HasItem (G : Grouping) (heap : Heap) (c : ℕ) : Type 0 where
   pub at : ItemAt G heap (queue_of G c) (step G heap (Command c)) it
   pub known : c < length G.commands
 
--- turns and members of the groups of units, and of those after them
+-- prologues and members of the groups of units, and of those after them
 module _ (G : Grouping) (heap : Heap) where
-  pub turn_unit : (g : ℕ) → g < length G.groups → (nodes_of G heap).turn g ≡ turn_node G heap g
-  turn_unit g lt = ap (λ b. if b then turn_node G heap g else copied_node G heap (export_at G g)) (lt-ltb g (length G.groups) lt)
+  pub prologue_unit : (g : ℕ) → g < length G.groups → (nodes_of G heap).prologue g ≡ prologue_node G heap g
+  prologue_unit g lt = ap (λ b. if b then prologue_node G heap g else copied_node G heap (export_at G g)) (lt-ltb g (length G.groups) lt)
 
-  pub turn_late : (g : ℕ) → length G.groups ≤ g → (nodes_of G heap).turn g ≡ copied_node G heap (export_at G g)
-  turn_late g le = ap (λ b. if b then turn_node G heap g else copied_node G heap (export_at G g)) (le-ltb g (length G.groups) le)
+  pub prologue_late : (g : ℕ) → length G.groups ≤ g → (nodes_of G heap).prologue g ≡ copied_node G heap (export_at G g)
+  prologue_late g le = ap (λ b. if b then prologue_node G heap g else copied_node G heap (export_at G g)) (le-ltb g (length G.groups) le)
 
-  pub turned_unit : (g : ℕ) → g < length G.groups → (nodes_of G heap).turned g ≡ is_there (turn_of G heap g).kind
-  turned_unit g lt = ap (λ b. if b then is_there (turn_of G heap g).kind else is_read G g) (lt-ltb g (length G.groups) lt)
+  pub has_prologue_unit : (g : ℕ) → g < length G.groups → (nodes_of G heap).has_prologue g ≡ is_there (prologue_of G heap g).kind
+  has_prologue_unit g lt = ap (λ b. if b then is_there (prologue_of G heap g).kind else is_read G g) (lt-ltb g (length G.groups) lt)
 
-  pub turned_late : (g : ℕ) → length G.groups ≤ g → (nodes_of G heap).turned g ≡ is_read G g
-  turned_late g le = ap (λ b. if b then is_there (turn_of G heap g).kind else is_read G g) (le-ltb g (length G.groups) le)
+  pub has_prologue_late : (g : ℕ) → length G.groups ≤ g → (nodes_of G heap).has_prologue g ≡ is_read G g
+  has_prologue_late g le = ap (λ b. if b then is_there (prologue_of G heap g).kind else is_read G g) (le-ltb g (length G.groups) le)
 
   pub member_unit : (c g : ℕ) → g < length G.groups → uses_in_group G c g ≡ true → is_member G c g ≡ true
   member_unit c g lt e = sym (ap (λ b. if b then is_member G c g else (is_copy G g && is_copy_of G (export_at G g) c)) (lt-ltb g (length G.groups) lt)) ∙ e
@@ -88,18 +88,18 @@ module _ (G : Grouping) (L : IsGrouped G) (heap : Heap) (S : IsStanding G heap) 
       let within = next_within G L g (released_goes G L heap g r) in
       does_at G heap (step G heap (Release g)) (release_queue G g) (Some (Release g)) (item.Release (transfer G (group_at G g) (group_at G (suc g)) (release_masks (group_at G g) (release_queue G g)))) (S.each_release g (omega (arith, within), r))
 
-  -- the command of a turn's first member is not after its members
+  -- the command of a prologue's first member is not after its members
   first_low : (g d : ℕ) → g < length G.groups → Member G d g → (first (group_at G g)).command ≤ d
   first_low g d lt M = let l = from_first (group_at G g) M.one (L.members_rise g [] lt) M.there in let e = M.command in omega (arith, l, e)
 
   last_high : (g c : ℕ) → g < length G.groups → Member G c g → c ≤ (last (group_at G g)).command
   last_high g c lt M = let l = up_to_last (group_at G g) M.one (L.members_rise g [] lt) M.there in let e = M.command in omega (arith, l, e)
 
-  pub turn_before : (g d : ℕ) → IsRecorded G heap (OfTurn g) → Member G d g → step G heap (OfTurn g) < step G heap (Command d)
-  turn_before g d r M =
+  pub prologue_before : (g d : ℕ) → IsRecorded G heap (OfPrologue g) → Member G d g → step G heap (OfPrologue g) < step G heap (Command d)
+  prologue_before g d r M =
       let low = first_low g d r.0 M in
       let known = (member_command d g r.0 M).known in
-      S.in_order (OfTurn g) (Command d) r known
+      S.in_order (OfPrologue g) (Command d) r known
       (⊎_elim (λ e. inr (e, omega arith)) (⊎_elim (λ l. inl l) (λ l. absurd (omega (arith, l, low)))) (cases_order (first (group_at G g)).command d))
 
   release_after : (g c : ℕ) → IsRecorded G heap (Release g) → Member G c g → step G heap (Command c) < step G heap (Release g)
@@ -109,13 +109,13 @@ module _ (G : Grouping) (L : IsGrouped G) (heap : Heap) (S : IsStanding G heap) 
       S.in_order (Command c) (Release g) known r
       (⊎_elim (λ e. inr (e, omega arith)) (⊎_elim (λ l. inl l) (λ l. absurd (omega (arith, l, high)))) (cases_order c (last (group_at G g)).command))
 
-  turn_after : (g c : ℕ) → goes_on G g ≡ true → IsRecorded G heap (OfTurn (suc g)) → Member G c g → step G heap (Command c) < step G heap (OfTurn (suc g))
-  turn_after g c goes r M =
+  prologue_after : (g c : ℕ) → goes_on G g ≡ true → IsRecorded G heap (OfPrologue (suc g)) → Member G c g → step G heap (Command c) < step G heap (OfPrologue (suc g))
+  prologue_after g c goes r M =
       let within = next_within G L g goes in
       let known = (member_command c g (omega (arith, within)) M).known in
       let rise = commands_rise G L g (suc g) M.one (first (group_at G (suc g))) (omega arith) within (next_unit G L g goes) M.there (first_in G L (suc g) within) in
       let own = M.command in
-      S.in_order (Command c) (OfTurn (suc g)) known r (inl (omega (arith, rise, own)))
+      S.in_order (Command c) (OfPrologue (suc g)) known r (inl (omega (arith, rise, own)))
 
   -- the barrier after the copy of an export stands after it
   copy_after : (c : ℕ) (command : commands.Command) → slice_get G.commands c ≡ Some command → step G heap (Command c) < copied_step G heap c
@@ -201,14 +201,14 @@ module _ (G : Grouping) (L : IsGrouped G) (heap : Heap) (S : IsStanding G heap) 
         let M = member_of G L c g e in
         member_into K g (release_queue G g) (step G heap (Release g)) c (item.Release (transfer G (group_at G g) (group_at G (suc g)) (release_masks (group_at G g) (release_queue G g)))) lt (release_at g r) (S.after g (lt, r)) M (release_after g c (lt, r) M)
 
-    pub into_next : (K : IsKnown G) (g c : ℕ) → goes_on G g ≡ true → is_released G heap g ≡ false → is_member G c g ≡ true → Later (program_nodes P) (command_node G heap c) (turn_node G heap (suc g))
+    pub into_next : (K : IsKnown G) (g c : ℕ) → goes_on G g ≡ true → is_released G heap g ≡ false → is_member G c g ≡ true → Later (program_nodes P) (command_node G heap c) (prologue_node G heap (suc g))
     into_next K g c goes kept e =
         let within = next_within G L g goes in
         let M = member_of G L c g e in
-        let r : IsRecorded G heap (OfTurn (suc g)) = (within, next_there G L heap g goes) in
-        member_into K g (turn_queue G (suc g)) (step G heap (OfTurn (suc g))) c (turn_item G heap (suc g)) (omega (arith, within)) (turn_at G heap S (suc g) r)
-        (subst (λ A. NeedsOthers G heap A (turn_queue G (suc g)) (step G heap (OfTurn (suc g)))) (earlier_is G L heap g goes) (S.barriers (suc g) within (kept_barrier G L heap g goes kept)))
-        M (turn_after g c goes r M)
+        let r : IsRecorded G heap (OfPrologue (suc g)) = (within, next_there G L heap g goes) in
+        member_into K g (prologue_queue G (suc g)) (step G heap (OfPrologue (suc g))) c (prologue_item G heap (suc g)) (omega (arith, within)) (prologue_at G heap S (suc g) r)
+        (subst (λ A. NeedsOthers G heap A (prologue_queue G (suc g)) (step G heap (OfPrologue (suc g)))) (earlier_is G L heap g goes) (S.barriers (suc g) within (kept_barrier G L heap g goes kept)))
+        M (prologue_after g c goes r M)
 
     pub into_copied : (A : AreCopied G) (k c : ℕ) → Copies G k c → Later (program_nodes P) (command_node G heap c) (copied_node G heap k)
     into_copied A k c C =
@@ -218,8 +218,8 @@ module _ (G : Grouping) (L : IsGrouped G) (heap : Heap) (S : IsStanding G heap) 
 
     -- ONTO THE MEMBERS OF A GROUP
 
-    pub onto_member : (h d : ℕ) → IsRecorded G heap (OfTurn h) → is_member G d h ≡ true → Later (program_nodes P) (turn_node G heap h) (command_node G heap d)
-    onto_member h d r e = ⊎_elim here over (cases_eq (queue_of G d) (turn_queue G h))
+    pub onto_member : (h d : ℕ) → IsRecorded G heap (OfPrologue h) → is_member G d h ≡ true → Later (program_nodes P) (prologue_node G heap h) (command_node G heap d)
+    onto_member h d r e = ⊎_elim here over (cases_eq (queue_of G d) (prologue_queue G h))
       where
         M : Member G d h
         M = member_of G L d h e
@@ -230,9 +230,9 @@ module _ (G : Grouping) (L : IsGrouped G) (heap : Heap) (S : IsStanding G heap) 
         queue : M.one.queue ≡ queue_of G d
         queue = member_queue G L d h r.0 M
 
-        here : queue_of G d ≡ turn_queue G h → Later (program_nodes P) (turn_node G heap h) (command_node G heap d)
-        here same = inl (subst (λ q. Sooner (program_nodes P) (turn_node G heap h) (item_at G heap q (step G heap (Command d)))) (sym same)
-            (soon G heap P sooner crossed (turn_queue G h) (step G heap (OfTurn h)) (step G heap (Command d)) (turn_item G heap h) its.it (turn_at G heap S h r) (subst (λ q. ItemAt G heap q (step G heap (Command d)) its.it) same its.at) (turn_before h d r M)))
+        here : queue_of G d ≡ prologue_queue G h → Later (program_nodes P) (prologue_node G heap h) (command_node G heap d)
+        here same = inl (subst (λ q. Sooner (program_nodes P) (prologue_node G heap h) (item_at G heap q (step G heap (Command d)))) (sym same)
+            (soon G heap P sooner crossed (prologue_queue G h) (step G heap (OfPrologue h)) (step G heap (Command d)) (prologue_item G heap h) its.it (prologue_at G heap S h r) (subst (λ q. ItemAt G heap q (step G heap (Command d)) its.it) same its.at) (prologue_before h d r M)))
 
         among : Contains (on (queue_of G d) (group_at G h)) M.one
         among = subst (λ q. Contains (on q (group_at G h)) M.one) queue (contains_on (group_at G h) M.one M.there)
@@ -240,39 +240,39 @@ module _ (G : Grouping) (L : IsGrouped G) (heap : Heap) (S : IsStanding G heap) 
         low : (first (on (queue_of G d) (group_at G h))).command ≤ d
         low = let l = from_first (on (queue_of G d) (group_at G h)) M.one (on_rising (group_at G h) (queue_of G d) (L.members_rise h [] r.0)) among in let own = M.command in omega (arith, l, own)
 
-        over : (queue_of G d ≡ turn_queue G h → ⊥) → Later (program_nodes P) (turn_node G heap h) (command_node G heap d)
-        over differ = inr (over_need G heap P sooner crossed (queue_of G d) (turn_queue G h) (step G heap (Command (first (on (queue_of G d) (group_at G h))).command)) (step G heap (Command d)) (OfTurn h) (turn_item G heap h) its.it
+        over : (queue_of G d ≡ prologue_queue G h → ⊥) → Later (program_nodes P) (prologue_node G heap h) (command_node G heap d)
+        over differ = inr (over_need G heap P sooner crossed (queue_of G d) (prologue_queue G h) (step G heap (Command (first (on (queue_of G d) (group_at G h))).command)) (step G heap (Command d)) (OfPrologue h) (prologue_item G heap h) its.it
             (S.members h (queue_of G d) r differ (contains_some (on (queue_of G d) (group_at G h)) M.one among))
             (command_steps G heap S (first (on (queue_of G d) (group_at G h))).command d low its.known)
-            (turn_at G heap S h r) its.at)
+            (prologue_at G heap S h r) its.at)
 
-    pub into_transfer : (g : ℕ) → is_released G heap g ≡ true → Crossed (program_nodes P) (release_node G heap g) (turn_node G heap (suc g))
+    pub into_transfer : (g : ℕ) → is_released G heap g ≡ true → Crossed (program_nodes P) (release_node G heap g) (prologue_node G heap (suc g))
     into_transfer g r =
         let goes = released_goes G L heap g r in
         let within = next_within G L g goes in
         let back : suc g - 1 ≡ g = omega arith in
-        over_need G heap P sooner crossed (turn_queue G (suc g)) (release_queue G g) (step G heap (OfTurn (suc g))) (step G heap (OfTurn (suc g))) (Release g) (item.Release (transfer G (group_at G g) (group_at G (suc g)) (release_masks (group_at G g) (release_queue G g)))) (turn_item G heap (suc g))
-        (subst (λ h. IsNeeded G heap (turn_queue G (suc g)) (Release h) (step G heap (OfTurn (suc g)))) back (S.acquires (suc g) within (released_transfer G L heap g r)))
-        (omega arith) (release_at g r) (turn_at G heap S (suc g) (within, next_there G L heap g goes))
+        over_need G heap P sooner crossed (prologue_queue G (suc g)) (release_queue G g) (step G heap (OfPrologue (suc g))) (step G heap (OfPrologue (suc g))) (Release g) (item.Release (transfer G (group_at G g) (group_at G (suc g)) (release_masks (group_at G g) (release_queue G g)))) (prologue_item G heap (suc g))
+        (subst (λ h. IsNeeded G heap (prologue_queue G (suc g)) (Release h) (step G heap (OfPrologue (suc g)))) back (S.acquires (suc g) within (released_transfer G L heap g r)))
+        (omega arith) (release_at g r) (prologue_at G heap S (suc g) (within, next_there G L heap g goes))
 
     -- ALL OF THEM
 
     module _ (K : IsKnown G) (A : AreCopied G) where
-      abbrev turn : ℕ → ℕ
-      turn = (nodes_of G heap).turn
+      abbrev prologue : ℕ → ℕ
+      prologue = (nodes_of G heap).prologue
 
-      abbrev turned : ℕ → Bool
-      turned = (nodes_of G heap).turned
+      abbrev has_prologue : ℕ → Bool
+      has_prologue = (nodes_of G heap).has_prologue
 
       abbrev piece : ℕ → ℕ
       piece = (plan_of G heap).piece
 
-      turned_next : (g : ℕ) → piece g ≡ piece (suc g) → turned (suc g) ≡ true
-      turned_next g e = go (next G L K g e)
+      has_prologue_next : (g : ℕ) → piece g ≡ piece (suc g) → has_prologue (suc g) ≡ true
+      has_prologue_next g e = go (next G L K g e)
         where
-          go : AreNext G g → turned (suc g) ≡ true
-          go (of_unit lt goes) = turned_unit G heap (suc g) lt ∙ next_there G L heap g goes
-          go (of_export le copy read one) = turned_late G heap (suc g) (omega (arith, le)) ∙ read
+          go : AreNext G g → has_prologue (suc g) ≡ true
+          go (of_unit lt goes) = has_prologue_unit G heap (suc g) lt ∙ next_there G L heap g goes
+          go (of_export le copy read one) = has_prologue_late G heap (suc g) (omega (arith, le)) ∙ read
 
       leads_cases : (g h : ℕ) → leads (plan_of G heap) g h ≡ true → ((h ≡ suc g) × (piece g ≡ piece (suc g))) ⊎ (is_over G heap g h ≡ true)
       leads_cases g h e = ⊎_elim
@@ -280,50 +280,50 @@ module _ (G : Grouping) (L : IsGrouped G) (heap : Heap) (S : IsStanding G heap) 
           (λ over. inr over)
           (or_cases ((h == g + 1) && (piece g == piece h)) (is_over G heap g h) e)
 
-      are_turned : (g h : ℕ) → leads (plan_of G heap) g h ≡ true → turned h ≡ true
-      are_turned g h e = ⊎_elim
-          (λ near. subst (λ k. turned k ≡ true) (sym near.0) (turned_next g near.1))
-          (λ over. turned_unit G heap h (over_parts G heap g h over).upper ∙ over_there G L heap g h over)
+      have_prologue : (g h : ℕ) → leads (plan_of G heap) g h ≡ true → has_prologue h ≡ true
+      have_prologue g h e = ⊎_elim
+          (λ near. subst (λ k. has_prologue k ≡ true) (sym near.0) (has_prologue_next g near.1))
+          (λ over. has_prologue_unit G heap h (over_parts G heap g h over).upper ∙ over_there G L heap g h over)
           (leads_cases g h e)
 
-      into_turn : (g c : ℕ) → piece g ≡ piece (suc g) → is_released G heap g ≡ false → uses_in_group G c g ≡ true → Later (program_nodes P) (command_node G heap c) (turn (suc g))
-      into_turn g c e kept m = go (next G L K g e)
+      into_prologue : (g c : ℕ) → piece g ≡ piece (suc g) → is_released G heap g ≡ false → uses_in_group G c g ≡ true → Later (program_nodes P) (command_node G heap c) (prologue (suc g))
+      into_prologue g c e kept m = go (next G L K g e)
         where
-          go : AreNext G g → Later (program_nodes P) (command_node G heap c) (turn (suc g))
-          go (of_unit lt goes) = subst (λ x. Later (program_nodes P) (command_node G heap c) x) (sym (turn_unit G heap (suc g) lt)) (into_next K g c goes kept (member_unit G heap c g (omega (arith, lt)) m))
-          go (of_export le copy read one) = subst (λ x. Later (program_nodes P) (command_node G heap c) x) (sym (turn_late G heap (suc g) (omega (arith, le)) ∙ ap (copied_node G heap) (sym one))) (into_copied A (export_at G g) c (copies_from G (export_at G g) c (member_late G heap c g le m).1))
+          go : AreNext G g → Later (program_nodes P) (command_node G heap c) (prologue (suc g))
+          go (of_unit lt goes) = subst (λ x. Later (program_nodes P) (command_node G heap c) x) (sym (prologue_unit G heap (suc g) lt)) (into_next K g c goes kept (member_unit G heap c g (omega (arith, lt)) m))
+          go (of_export le copy read one) = subst (λ x. Later (program_nodes P) (command_node G heap c) x) (sym (prologue_late G heap (suc g) (omega (arith, le)) ∙ ap (copied_node G heap) (sym one))) (into_copied A (export_at G g) c (copies_from G (export_at G g) c (member_late G heap c g le m).1))
 
-      -- the group of a copy has no turn
-      copy_alone : (h d : ℕ) → length G.groups ≤ h → turned h ≡ true → uses_in_group G d h ≡ true → ⊥
+      -- the group of a copy has no prologue
+      copy_alone : (h d : ℕ) → length G.groups ≤ h → has_prologue h ≡ true → uses_in_group G d h ≡ true → ⊥
       copy_alone h d le t m =
-          let read = (and_parts (is_of_export G h) ((h - length G.groups) % 2 == 1) (sym (turned_late G heap h le) ∙ t)).1 in
+          let read = (and_parts (is_of_export G h) ((h - length G.groups) % 2 == 1) (sym (has_prologue_late G heap h le) ∙ t)).1 in
           let copy = (and_parts (is_of_export G h) ((h - length G.groups) % 2 == 0) (member_late G heap d h le m).0).1 in
           let odd = eqb-true ((h - length G.groups) % 2) 1 read in
           let even = eqb-true ((h - length G.groups) % 2) 0 copy in
           omega (arith, odd, even)
 
-      onto : (h d : ℕ) → turned h ≡ true → uses_in_group G d h ≡ true → Later (program_nodes P) (turn h) (command_node G heap d)
+      onto : (h d : ℕ) → has_prologue h ≡ true → uses_in_group G d h ≡ true → Later (program_nodes P) (prologue h) (command_node G heap d)
       onto h d t m = ⊎_elim
-          (λ lt. subst (λ x. Later (program_nodes P) x (command_node G heap d)) (sym (turn_unit G heap h lt)) (onto_member h d (lt, sym (turned_unit G heap h lt) ∙ t) (member_unit G heap d h lt m)))
+          (λ lt. subst (λ x. Later (program_nodes P) x (command_node G heap d)) (sym (prologue_unit G heap h lt)) (onto_member h d (lt, sym (has_prologue_unit G heap h lt) ∙ t) (member_unit G heap d h lt m)))
           (λ le. absurd (copy_alone h d le t m))
           (cases_lt h (length G.groups))
 
       released_low : (g : ℕ) → is_released G heap g ≡ true → g < length G.groups
       released_low g r = let within = next_within G L g (released_goes G L heap g r) in omega (arith, within)
 
-      into_acquire : (g h : ℕ) → is_released G heap g ≡ true → leads (plan_of G heap) g h ≡ true → Crossed (program_nodes P) (release_node G heap g) (turn h)
+      into_acquire : (g h : ℕ) → is_released G heap g ≡ true → leads (plan_of G heap) g h ≡ true → Crossed (program_nodes P) (release_node G heap g) (prologue h)
       into_acquire g h r e = ⊎_elim
-          (λ near. let within = next_within G L g (released_goes G L heap g r) in subst (λ k. Crossed (program_nodes P) (release_node G heap g) (turn k)) (sym near.0) (subst (λ x. Crossed (program_nodes P) (release_node G heap g) x) (sym (turn_unit G heap (suc g) within)) (into_transfer g r)))
+          (λ near. let within = next_within G L g (released_goes G L heap g r) in subst (λ k. Crossed (program_nodes P) (release_node G heap g) (prologue k)) (sym near.0) (subst (λ x. Crossed (program_nodes P) (release_node G heap g) x) (sym (prologue_unit G heap (suc g) within)) (into_transfer g r)))
           (λ over. absurd (false≢true (sym (over_parts G heap g h over).lower_last ∙ released_goes G L heap g r)))
           (leads_cases g h e)
 
       pub are_placed : Places (plan_of G heap) (view_of P) (nodes_of G heap)
       are_placed = record {
         steps = steps_in_order;
-        turned = are_turned;
-        into_turn = λ g c e kept m.
+        has_prologue = have_prologue;
+        into_prologue = λ g c e kept m.
             let n : suc g ≡ g + 1 = omega arith in
-            subst (λ k. piece g ≡ piece k → Later (program_nodes P) (command_node G heap c) (turn k)) n (λ same. into_turn g c same kept m) e;
+            subst (λ k. piece g ≡ piece k → Later (program_nodes P) (command_node G heap c) (prologue k)) n (λ same. into_prologue g c same kept m) e;
         onto = onto;
         into_release = λ g c r m. into_release K g c r (member_unit G heap c g (released_low g r) m);
         into_acquire = into_acquire;

@@ -17,7 +17,7 @@ use Rattle.fg_compiled.proofs.Items.{item_has, item_there}
 use Rattle.fg_compiled.proofs.Pieces.{read_there}
 use Rattle.fg_compiled.proofs.Served.{copied_is, copied_stands, copied_to}
 use Rattle.fg_compiled.proofs.Setting.{IsSet}
-use Rattle.fg_compiled.proofs.Spots.{piece_late, turn_late}
+use Rattle.fg_compiled.proofs.Spots.{piece_late, prologue_late}
 use Rattle.fg_compiled.specs.Nodes.{copied_node, copy_of, item_at, nodes_of, steps}
 use Rattle.fg_compiled.specs.Plan.{export_at, export_count, plan_of}
 use Rattle.fg_crossing.specs.Masks.{Leaves}
@@ -43,7 +43,7 @@ use Rattle.fg_timeline.specs.declared.step.Step.{Step}
 use Rattle.fg_timeline.specs.declared.step.Step.TheVariants as step
 use Rattle.fg_turns.specs.Under.{Heap}
 use Rattle.fg_view.specs.Effects.{access}
-use Rattle.fg_view.specs.ShapedView.{Has}
+use Rattle.fg_view.specs.ValidView.{Has}
 use Rattle.fg_view.specs.Views.{View, effect_at, has_agent, is_on, makes_visible, queue_at, view_of}
 use Rattle.fg_view.specs.declared.access.Access.{Access}
 use Rattle.fg_view.specs.declared.access.AccessKind.TheVariants as access_kinds
@@ -199,8 +199,8 @@ module _ (G : Grouping) (heap : Heap) (P : Program) (S : IsSet G heap P) where
         shown = (t, inl refl, subst (λ z. VisibleBy z V (reader k) b.piece t) (sym kind) (inr (ap (λ n. is_host n.kind) R.node, path), visible));
       }
 
-  pub reads : (h : ℕ) (b : Access) → N.turned h ≡ true → OfReader F V N h b → Leaves V (N.turn h) (N.reader h) b
+  pub reads : (h : ℕ) (b : Access) → N.has_prologue h ≡ true → OfReader F V N h b → Leaves V (N.prologue h) (N.reader h) b
   reads h b t O =
       let X = read_parts G h O.host in
-      subst (λ n. Leaves V n (N.reader h) b) (sym (turn_late G heap P S h X.past))
+      subst (λ n. Leaves V n (N.reader h) b) (sym (prologue_late G heap P S h X.past))
       (export_reads (export_at G h) b X.known (O.piece ∙ piece_late G heap P S h (export_at G h) X) O.has)

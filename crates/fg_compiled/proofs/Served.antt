@@ -15,23 +15,23 @@ use Rattle.fg_bits.specs.Accesses.{transfer_write}
 use Rattle.fg_bits.specs.Roles.{role_stage}
 use Rattle.fg_bits.specs.Stages.{copy}
 use Rattle.fg_bits.specs.declared.masks.Masks.{Masks}
-use Rattle.fg_compiled.proofs.Barriers.{IsBarrierOf, IsTaken, IsGiven, takes, gives}
+use Rattle.fg_compiled.proofs.Barriers.{IsBarrierOf, IsSource, IsDestination, takes, gives}
 use Rattle.fg_compiled.proofs.Commands.{Sort, a_pass, a_copy, not_in_place}
 use Rattle.fg_compiled.proofs.Counting.{count_same}
 use Rattle.fg_compiled.proofs.ExportGroups.{IsExport, copy_parts, not_both}
 use Rattle.fg_compiled.proofs.Exports.{Copies, copies_from}
 use Rattle.fg_compiled.proofs.Grouped.{AreNext, of_unit, of_export, next}
 use Rattle.fg_compiled.proofs.Groups.{next_unit, next_within}
-use Rattle.fg_compiled.proofs.Items.{barrier_stands, item_masks, item_stands, turn_masks, turn_serves}
-use Rattle.fg_compiled.proofs.TurnKinds.{earlier_is, kept_barrier, released_goes}
+use Rattle.fg_compiled.proofs.Items.{barrier_stands, item_masks, item_stands, prologue_masks, prologue_serves}
+use Rattle.fg_compiled.proofs.PrologueKinds.{earlier_is, kept_barrier, released_goes}
 use Rattle.fg_compiled.proofs.Members.{IsDoneBy, done, done_by, queue_at, touch_has, touch_piece, touched}
 use Rattle.fg_compiled.proofs.Roles.{IsBy}
 use Rattle.fg_compiled.proofs.Setting.{IsSet}
 use Rattle.fg_compiled.proofs.SpotFacts.{IsMemberOf, of_group, of_copy, member_cases}
-use Rattle.fg_compiled.proofs.Spots.{leaving_item, piece_is, piece_late, release_stands, turn_is, turn_late, turn_stands, turned_is, turned_late}
+use Rattle.fg_compiled.proofs.Spots.{leaving_item, piece_is, piece_late, release_stands, prologue_is, prologue_late, prologue_stands, has_prologue_is, has_prologue_late}
 use Rattle.fg_compiled.proofs.Touches.{alike, destination_there, moved}
 use Rattle.fg_compiled.proofs.Unions.{barrier_takes, release_takes, barrier_gives, entry_gives}
-use Rattle.fg_compiled.specs.Nodes.{command_node, copied_node, copied_step, item_at, nodes_of, release_node, release_queue, turn_node, turn_queue}
+use Rattle.fg_compiled.specs.Nodes.{command_node, copied_node, copied_step, item_at, nodes_of, release_node, release_queue, prologue_node, prologue_queue}
 use Rattle.fg_compiled.specs.Plan.{export_at, plan_of, unit_of}
 use Rattle.fg_crossing.specs.Crossings.{Sooner}
 use Rattle.fg_crossing.specs.Masks.{Takes, Gives}
@@ -48,23 +48,23 @@ use Rattle.fg_groups.specs.declared.grouping.Grouping.{Grouping}
 use Rattle.fg_groups.specs.declared.unit_use.Use.{Use}
 use Rattle.fg_hb.specs.Edges.{node_at}
 use Rattle.fg_recorder.specs.Pieces.{has_piece, is_readback, piece_of}
-use Rattle.fg_recorder.specs.Standing.{IsRecorded, host_item, host_step, turn_item}
+use Rattle.fg_recorder.specs.Standing.{IsRecorded, host_item, host_step, prologue_item}
 use Rattle.fg_recorder.specs.Wanted.{is_there}
 use Rattle.fg_recorder.specs.declared.mark.Mark.TheVariants as marks
 use Rattle.fg_subs.specs.Entries.{OfItem}
 use Rattle.fg_subs.specs.Rules.{shapes_of}
 use Rattle.fg_subs.specs.declared.program.Program.{Program}
 use Rattle.fg_turns.specs.Masks.{barrier_masks, release_masks, host_masks}
-use Rattle.fg_turns.specs.Turns.{earlier, turn_of}
+use Rattle.fg_turns.specs.Prologues.{earlier, prologue_of}
 use Rattle.fg_turns.specs.Under.{Heap, place_of, uses_under}
-use Rattle.fg_turns.specs.declared.turn.TurnKind.{TurnKind}
-use Rattle.fg_turns.specs.declared.turn.TurnKind.TheVariants as kinds
+use Rattle.fg_turns.specs.declared.prologue.PrologueKind.{PrologueKind}
+use Rattle.fg_turns.specs.declared.prologue.PrologueKind.TheVariants as kinds
 use Rattle.fg_valid.proofs.Bits.{Inside, inside_self}
 use Rattle.fg_view.specs.Views.{View, view_of}
 use Rattle.fg_view.specs.declared.access.Access.{Access}
 
--- each turn gives to the uses after it
-kind_gives : (kind : TurnKind) (A L B : List Use) (q : ℕ) (u : Use) → is_there kind ≡ true → Contains B u → u.queue ≡ q → IsGiven u (item_masks kind A L B q)
+-- each prologue gives to the uses after it
+kind_gives : (kind : PrologueKind) (A L B : List Use) (q : ℕ) (u : Use) → is_there kind ≡ true → Contains B u → u.queue ≡ q → IsDestination u (item_masks kind A L B q)
 kind_gives kinds.Nothing A L B q u t h own = absurd (false≢true t)
 kind_gives kinds.Barrier A L B q u t h own = barrier_gives B q u h own A
 kind_gives kinds.Transfer A L B q u t h own = entry_gives B q u h own
@@ -73,7 +73,7 @@ kind_gives kinds.Init A L B q u t h own = entry_gives B q u h own
 kind_gives kinds.AliasInit A L B q u t h own = entry_gives B q u h own
 
 -- the barrier after a copy takes what a copy stores
-host_takes : (u : Use) → u.stage.0 ≡ role_stage CopyWrite → u.writes.0 ≡ role_writes CopyWrite → IsTaken u host_masks
+host_takes : (u : Use) → u.stage.0 ≡ role_stage CopyWrite → u.writes.0 ≡ role_writes CopyWrite → IsSource u host_masks
 host_takes u stage writes = record {
   stage = subst (λ s. Inside s copy) (sym stage) (inside_self copy);
   writes = subst (λ w. Inside w transfer_write) (sym writes) (inside_self transfer_write);
@@ -99,10 +99,10 @@ module _ (G : Grouping) (heap : Heap) (P : Program) (S : IsSet G heap P) where
     own_queue : (node_at V.nodes (command_node G heap c)).queue ≡ (node_at V.nodes t).queue → queue_of G c ≡ q
     own_queue same = sym D.own ∙ same ∙ ap (λ n. n.queue) B.node
 
-    pub takes_by : Sooner V.nodes (command_node G heap c) t → (u.queue ≡ q → IsTaken u masks) → Takes V (command_node G heap c) a t
+    pub takes_by : Sooner V.nodes (command_node G heap c) t → (u.queue ≡ q → IsSource u masks) → Takes V (command_node G heap c) a t
     takes_by sooner T = takes V t q p masks B u (command_node G heap c) a D.awaited on (subst (λ r. IsBy r u a.kind) (own_queue sooner.same) D.by) (T (D.queue ∙ own_queue sooner.same))
 
-    pub gives_by : Sooner V.nodes t (command_node G heap c) → (u.queue ≡ q → IsGiven u masks) → Gives V t (command_node G heap c) a
+    pub gives_by : Sooner V.nodes t (command_node G heap c) → (u.queue ≡ q → IsDestination u masks) → Gives V t (command_node G heap c) a
     gives_by sooner T = gives V t q p masks B u (command_node G heap c) a D.waits on (subst (λ r. IsBy r u a.kind) (own_queue (sym sooner.same)) D.by) (T (D.queue ∙ own_queue (sym sooner.same)))
 
   -- TURNS OF UNITS
@@ -111,33 +111,33 @@ module _ (G : Grouping) (heap : Heap) (P : Program) (S : IsSet G heap P) where
   abbrev pub before_bytes : ℕ → List Use
   before_bytes h = uses_under G heap (place_of G (unit_of G h))
 
-  abbrev pub turn_masks_of : TurnKind → ℕ → Masks
-  turn_masks_of kind h = item_masks kind (earlier G h) (before_bytes h) (group_at G h) (turn_queue G h)
+  abbrev pub prologue_masks_of : PrologueKind → ℕ → Masks
+  prologue_masks_of kind h = item_masks kind (earlier G h) (before_bytes h) (group_at G h) (prologue_queue G h)
 
-  turn_barrier : (h : ℕ) → IsRecorded G heap (marks.Turn h) → IsBarrierOf V (turn_node G heap h) (turn_queue G h) (piece_of G (unit_of G h)) (turn_masks_of (turn_of G heap h).kind h)
-  turn_barrier h r = barrier_stands P (turn_node G heap h) (turn_queue G h) (piece_of G (unit_of G h)) (turn_item G heap h) (turn_masks_of (turn_of G heap h).kind h)
-      (turn_masks (turn_of G heap h).kind G (turn_of G heap h) (earlier G h) (before_bytes h) (group_at G h) refl)
-      (turn_serves (turn_of G heap h).kind G (turn_of G heap h) (earlier G h) (group_at G h))
-      (turn_stands G heap P S h r)
+  prologue_barrier : (h : ℕ) → IsRecorded G heap (marks.Prologue h) → IsBarrierOf V (prologue_node G heap h) (prologue_queue G h) (piece_of G (unit_of G h)) (prologue_masks_of (prologue_of G heap h).kind h)
+  prologue_barrier h r = barrier_stands P (prologue_node G heap h) (prologue_queue G h) (piece_of G (unit_of G h)) (prologue_item G heap h) (prologue_masks_of (prologue_of G heap h).kind h)
+      (prologue_masks (prologue_of G heap h).kind G (prologue_of G heap h) (earlier G h) (before_bytes h) (group_at G h) refl)
+      (prologue_serves (prologue_of G heap h).kind G (prologue_of G heap h) (earlier G h) (group_at G h))
+      (prologue_stands G heap P S h r)
 
   pub own_piece : (g c : ℕ) (a : Access) → g < length G.groups → OfMember F V N c g a → a.piece ≡ piece_of G (unit_of G g)
   own_piece g c a lt O = O.piece ∙ piece_is G heap P S g lt
 
-  -- the turn after a group that is not released
-  takes_unit : (g c : ℕ) (a : Access) → suc g < length G.groups → goes_on G g ≡ true → N.released g ≡ false → OfMember F V N c g a → IsMemberOf G c g → Sooner V.nodes (N.command c) (N.turn (suc g)) → Takes V (N.command c) a (N.turn (suc g))
+  -- the prologue after a group that is not released
+  takes_unit : (g c : ℕ) (a : Access) → suc g < length G.groups → goes_on G g ≡ true → N.released g ≡ false → OfMember F V N c g a → IsMemberOf G c g → Sooner V.nodes (N.command c) (N.prologue (suc g)) → Takes V (N.command c) a (N.prologue (suc g))
   takes_unit g c a lt goes kept O (of_copy le is k) sooner = absurd (omega (arith, le, lt))
   takes_unit g c a lt goes kept O (of_group low M) sooner =
       let h : ℕ = suc g in
-      let kind : (turn_of G heap h).kind ≡ kinds.Barrier = kept_barrier G S.grouped heap g goes kept in
-      let r : IsRecorded G heap (marks.Turn h) = (lt, ap is_there kind) in
+      let kind : (prologue_of G heap h).kind ≡ kinds.Barrier = kept_barrier G S.grouped heap g goes kept in
+      let r : IsRecorded G heap (marks.Prologue h) = (lt, ap is_there kind) in
       let D = done G heap P S c g low M a O.has (own_piece g c a low O) in
       let on : a.piece ≡ piece_of G (unit_of G h) = own_piece g c a low O ∙ ap (piece_of G) (next_unit G S.grouped g goes) in
-      let masks : turn_masks_of (turn_of G heap h).kind h ≡ barrier_masks (group_at G g) (group_at G h) (turn_queue G h) =
-      ap (λ k. turn_masks_of k h) kind ∙ ap (λ A. barrier_masks A (group_at G h) (turn_queue G h)) (earlier_is G S.grouped heap g goes) in
-      subst (λ t. Takes V (N.command c) a t) (sym (turn_is G heap P S h lt))
-      (takes_by (turn_node G heap h) (turn_queue G h) (piece_of G (unit_of G h)) (turn_masks_of (turn_of G heap h).kind h) (turn_barrier h r) c a D.one D.is on
-      (subst (λ t. Sooner V.nodes (N.command c) t) (turn_is G heap P S h lt) sooner)
-      (λ own. subst (IsTaken D.one) (sym masks) (barrier_takes (group_at G g) (turn_queue G h) D.one D.there own (group_at G h))))
+      let masks : prologue_masks_of (prologue_of G heap h).kind h ≡ barrier_masks (group_at G g) (group_at G h) (prologue_queue G h) =
+      ap (λ k. prologue_masks_of k h) kind ∙ ap (λ A. barrier_masks A (group_at G h) (prologue_queue G h)) (earlier_is G S.grouped heap g goes) in
+      subst (λ t. Takes V (N.command c) a t) (sym (prologue_is G heap P S h lt))
+      (takes_by (prologue_node G heap h) (prologue_queue G h) (piece_of G (unit_of G h)) (prologue_masks_of (prologue_of G heap h).kind h) (prologue_barrier h r) c a D.one D.is on
+      (subst (λ t. Sooner V.nodes (N.command c) t) (prologue_is G heap P S h lt) sooner)
+      (λ own. subst (IsSource D.one) (sym masks) (barrier_takes (group_at G g) (prologue_queue G h) D.one D.there own (group_at G h))))
 
   -- EXPORTS
 
@@ -182,23 +182,23 @@ module _ (G : Grouping) (heap : Heap) (P : Program) (S : IsSet G heap P) where
 
   -- THE CLAUSES
 
-  takes_next : (g c : ℕ) (a : Access) → AreNext G g → N.released g ≡ false → OfMember F V N c g a → Sooner V.nodes (N.command c) (N.turn (suc g)) → Takes V (N.command c) a (N.turn (suc g))
+  takes_next : (g c : ℕ) (a : Access) → AreNext G g → N.released g ≡ false → OfMember F V N c g a → Sooner V.nodes (N.command c) (N.prologue (suc g)) → Takes V (N.command c) a (N.prologue (suc g))
   takes_next g c a (of_unit lt goes) kept O sooner = takes_unit g c a lt goes kept O (member_cases G heap P S c g O.member) sooner
   takes_next g c a (of_export le copy read same) kept O sooner = go (member_cases G heap P S c g O.member)
     where
-      turn : N.turn (suc g) ≡ copied_node G heap (export_at G g)
-      turn = turn_late G heap P S (suc g) (omega (arith, le)) ∙ ap (copied_node G heap) (sym same)
+      prologue : N.prologue (suc g) ≡ copied_node G heap (export_at G g)
+      prologue = prologue_late G heap P S (suc g) (omega (arith, le)) ∙ ap (copied_node G heap) (sym same)
 
-      go : IsMemberOf G c g → Takes V (N.command c) a (N.turn (suc g))
+      go : IsMemberOf G c g → Takes V (N.command c) a (N.prologue (suc g))
       go (of_group low M) = absurd (omega (arith, low, le))
-      go (of_copy past is k) = subst (λ t. Takes V (N.command c) a t) (sym turn)
-          (takes_copy g c a (copy_parts G g copy) (copies_from G (export_at G g) c k) O (subst (λ t. Sooner V.nodes (N.command c) t) turn sooner))
+      go (of_copy past is k) = subst (λ t. Takes V (N.command c) a t) (sym prologue)
+          (takes_copy g c a (copy_parts G g copy) (copies_from G (export_at G g) c k) O (subst (λ t. Sooner V.nodes (N.command c) t) prologue sooner))
 
-  pub takes_turn : (g c : ℕ) (a : Access) → F.piece g ≡ F.piece (g + 1) → N.released g ≡ false → OfMember F V N c g a → Sooner V.nodes (N.command c) (N.turn (g + 1)) → Takes V (N.command c) a (N.turn (g + 1))
-  takes_turn g c a e kept O sooner =
+  pub takes_prologue : (g c : ℕ) (a : Access) → F.piece g ≡ F.piece (g + 1) → N.released g ≡ false → OfMember F V N c g a → Sooner V.nodes (N.command c) (N.prologue (g + 1)) → Takes V (N.command c) a (N.prologue (g + 1))
+  takes_prologue g c a e kept O sooner =
       let number : g + 1 ≡ suc g = omega arith in
-      subst (λ h. Takes V (N.command c) a (N.turn h)) (sym number)
-      (takes_next g c a (next G S.grouped S.known g (e ∙ ap F.piece number)) kept O (subst (λ h. Sooner V.nodes (N.command c) (N.turn h)) number sooner))
+      subst (λ h. Takes V (N.command c) a (N.prologue h)) (sym number)
+      (takes_next g c a (next G S.grouped S.known g (e ∙ ap F.piece number)) kept O (subst (λ h. Sooner V.nodes (N.command c) (N.prologue h)) number sooner))
 
   pub takes_release : (g c : ℕ) (a : Access) → N.released g ≡ true → OfMember F V N c g a → Sooner V.nodes (N.command c) (N.release g) → Takes V (N.command c) a (N.release g)
   takes_release g c a r O sooner = go (member_cases G heap P S c g O.member)
@@ -220,15 +220,15 @@ module _ (G : Grouping) (heap : Heap) (P : Program) (S : IsSet G heap P) where
           takes_by (release_node G heap g) (release_queue G g) p masks B c a D.one D.is (own_piece g c a low O ∙ ap (piece_of G) (next_unit G S.grouped g goes)) sooner
           (λ own. release_takes (group_at G g) (release_queue G g) D.one D.there own)
 
-  pub gives_turn : (h d : ℕ) (b : Access) → N.turned h ≡ true → OfMember F V N d h b → Sooner V.nodes (N.turn h) (N.command d) → Gives V (N.turn h) (N.command d) b
-  gives_turn h d b t O sooner = go (member_cases G heap P S d h O.member)
+  pub gives_prologue : (h d : ℕ) (b : Access) → N.has_prologue h ≡ true → OfMember F V N d h b → Sooner V.nodes (N.prologue h) (N.command d) → Gives V (N.prologue h) (N.command d) b
+  gives_prologue h d b t O sooner = go (member_cases G heap P S d h O.member)
     where
-      go : IsMemberOf G d h → Gives V (N.turn h) (N.command d) b
-      go (of_copy le is k) = absurd (not_both G h is (sym (turned_late G heap P S h le) ∙ t))
+      go : IsMemberOf G d h → Gives V (N.prologue h) (N.command d) b
+      go (of_copy le is k) = absurd (not_both G h is (sym (has_prologue_late G heap P S h le) ∙ t))
       go (of_group low M) =
-          let there : is_there (turn_of G heap h).kind ≡ true = sym (turned_is G heap P S h low) ∙ t in
+          let there : is_there (prologue_of G heap h).kind ≡ true = sym (has_prologue_is G heap P S h low) ∙ t in
           let D = done G heap P S d h low M b O.has (own_piece h d b low O) in
-          subst (λ n. Gives V n (N.command d) b) (sym (turn_is G heap P S h low))
-          (gives_by (turn_node G heap h) (turn_queue G h) (piece_of G (unit_of G h)) (turn_masks_of (turn_of G heap h).kind h) (turn_barrier h (low, there)) d b D.one D.is (own_piece h d b low O)
-          (subst (λ n. Sooner V.nodes n (N.command d)) (turn_is G heap P S h low) sooner)
-          (λ own. kind_gives (turn_of G heap h).kind (earlier G h) (before_bytes h) (group_at G h) (turn_queue G h) D.one there D.there own))
+          subst (λ n. Gives V n (N.command d) b) (sym (prologue_is G heap P S h low))
+          (gives_by (prologue_node G heap h) (prologue_queue G h) (piece_of G (unit_of G h)) (prologue_masks_of (prologue_of G heap h).kind h) (prologue_barrier h (low, there)) d b D.one D.is (own_piece h d b low O)
+          (subst (λ n. Sooner V.nodes n (N.command d)) (prologue_is G heap P S h low) sooner)
+          (λ own. kind_gives (prologue_of G heap h).kind (earlier G h) (before_bytes h) (group_at G h) (prologue_queue G h) D.one there D.there own))

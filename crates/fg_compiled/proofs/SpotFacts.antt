@@ -12,18 +12,18 @@ use Rattle.fg_compiled.proofs.ExportGroups.{copy_parts, no_read, not_both, read_
 use Rattle.fg_compiled.proofs.Exports.{copies_from}
 use Rattle.fg_compiled.proofs.Grouped.{AreNext, of_unit, of_export, next, over_parts}
 use Rattle.fg_compiled.proofs.Groups.{Member, member_of, next_within, some_use, sourced}
-use Rattle.fg_compiled.proofs.TurnKinds.{released_goes}
+use Rattle.fg_compiled.proofs.PrologueKinds.{released_goes}
 use Rattle.fg_compiled.proofs.Members.{command_stands, done, pieces_same, touch_piece, touch_plain}
 use Rattle.fg_compiled.proofs.Roles.{changes_write}
 use Rattle.fg_compiled.proofs.Setting.{IsSet}
-use Rattle.fg_compiled.proofs.Spots.{all_spots, member_is, member_late, piece_is, turned_late}
+use Rattle.fg_compiled.proofs.Spots.{all_spots, member_is, member_late, piece_is, has_prologue_late}
 use Rattle.fg_compiled.proofs.Touches.{acting, moved, touched_there}
 use Rattle.fg_compiled.proofs.Uses.{sourced_use}
 use Rattle.fg_compiled.specs.Nodes.{command_node, nodes_of}
 use Rattle.fg_compiled.specs.Plan.{export_at, is_copy, is_copy_of, plan_of}
 use Rattle.fg_crossing.specs.Nodes.{Nodes}
 use Rattle.fg_crossing.specs.Plans.{Plan, leads}
-use Rattle.fg_crossing.specs.Spots.{OfMember, Spot, at_turn, at_member, at_release, at_reader, Spots}
+use Rattle.fg_crossing.specs.Spots.{OfMember, Spot, at_prologue, at_member, at_release, at_reader, Spots}
 use Rattle.fg_groups.specs.Needs.{group_at, is_member, queue_of}
 use Rattle.fg_groups.specs.Uses.{no_use, is_write}
 use Rattle.fg_groups.specs.declared.grouping.Grouping.{Grouping}
@@ -31,11 +31,11 @@ use Rattle.fg_groups.specs.declared.unit_use.Use.{Use}
 use Rattle.fg_recorder.specs.Pieces.{piece_of}
 use Rattle.fg_subs.specs.Rules.{shapes_of}
 use Rattle.fg_subs.specs.declared.program.Program.{Program}
-use Rattle.fg_turns.specs.Turns.{first}
+use Rattle.fg_turns.specs.Prologues.{first}
 use Rattle.fg_turns.specs.Under.{Heap}
 use Rattle.fg_view.specs.AccessKinds.{changes}
 use Rattle.fg_view.specs.Effects.{command_accesses}
-use Rattle.fg_view.specs.ShapedView.{Has}
+use Rattle.fg_view.specs.ValidView.{Has}
 use Rattle.fg_view.specs.Views.{View, view_of}
 use Rattle.fg_view.specs.declared.access.Access.{Access}
 
@@ -78,22 +78,22 @@ module _ (G : Grouping) (heap : Heap) (P : Program) (S : IsSet G heap P) where
   member_within c g (of_group lt M) = low_group g lt
   member_within c g (of_copy le copy is) = (copy_parts G g copy).within
 
-  turned_within : (g : ℕ) → N.turned g ≡ true → g < F.groups
-  turned_within g t = ⊎_elim (low_group g) (λ le. (read_parts G g (sym (turned_late G heap P S g le) ∙ t)).within) (cases_lt g (length G.groups))
+  has_prologue_within : (g : ℕ) → N.has_prologue g ≡ true → g < F.groups
+  has_prologue_within g t = ⊎_elim (low_group g) (λ le. (read_parts G g (sym (has_prologue_late G heap P S g le) ∙ t)).within) (cases_lt g (length G.groups))
 
   pub released_low : (g : ℕ) → N.released g ≡ true → suc g < length G.groups
   released_low g r = next_within G S.grouped g (released_goes G S.grouped heap g r)
 
   within : (x : ℕ) (a : Access) (g : ℕ) → Spot F V N x a g → g < F.groups
-  within x a g (at_turn e t) = turned_within g t.turned
+  within x a g (at_prologue e t) = has_prologue_within g t.has_prologue
   within x a g (at_member {c = c} e m) = member_within c g (member_cases c g m.member)
   within x a g (at_release e r) = let low = released_low g r.released in low_group g (omega (arith, low))
   within x a g (at_reader e r) = (read_parts G g r.host).within
 
   -- SOME
 
-  some : (g : ℕ) → N.turned g ≡ true → F.host g ≡ false → (c : ℕ) × (a : Access) × OfMember F V N c g a
-  some g t h = ⊎_elim unit (λ le. absurd (false≢true (sym h ∙ sym (turned_late G heap P S g le) ∙ t))) (cases_lt g (length G.groups))
+  some : (g : ℕ) → N.has_prologue g ≡ true → F.host g ≡ false → (c : ℕ) × (a : Access) × OfMember F V N c g a
+  some g t h = ⊎_elim unit (λ le. absurd (false≢true (sym h ∙ sym (has_prologue_late G heap P S g le) ∙ t))) (cases_lt g (length G.groups))
     where
       unit : g < length G.groups → (c : ℕ) × (a : Access) × OfMember F V N c g a
       unit lt =

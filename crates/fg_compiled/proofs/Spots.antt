@@ -1,4 +1,4 @@
--- Each access of a compiled program is of a group: of its turn, a member, its release or its host read.
+-- Each access of a compiled program is of a group: of its prologue, a member, its release or its host read.
 use Rattle.std.proofs.Common.{◌≡◌, ◌⊎◌, inl, inr, ⊎_elim, ℕ, zero, suc, ◌+◌, ◌<◌, ◌≤◌, ◌==◌, ◌&&◌, true, false, List, [], ◌∷◌, length, slice_get, if◌then◌else◌, Option, Some, None, refl, sym, ap, ◌∙◌, subst, eq-eqb, arith}
 use Rattle.std.specs.List.{All, Contains}
 use Rattle.std.specs.Option.{option_map_or}
@@ -16,19 +16,19 @@ use Rattle.fg_compiled.proofs.Commands.{Sort, a_pass, a_copy}
 use Rattle.fg_compiled.proofs.ExportGroups.{IsExport, copy_export, copy_group, copy_is, read_export, read_group, read_is}
 use Rattle.fg_compiled.proofs.Grouped.{resource_export, resource_unit}
 use Rattle.fg_compiled.proofs.Groups.{next_unit}
-use Rattle.fg_compiled.proofs.Items.{IsEntry, IsMarkedAt, item_marked, item_stands, turn_entries}
-use Rattle.fg_compiled.proofs.TurnKinds.{released_goes}
+use Rattle.fg_compiled.proofs.Items.{IsEntry, IsMarkedAt, item_marked, item_stands, prologue_entries}
+use Rattle.fg_compiled.proofs.PrologueKinds.{released_goes}
 use Rattle.fg_compiled.proofs.Members.{found_unit, queue_at, touch_piece, touch_plain, touched, use_group}
 use Rattle.fg_compiled.proofs.Pieces.{read_back}
 use Rattle.fg_compiled.proofs.Setting.{IsSet}
 use Rattle.fg_compiled.proofs.Touches.{moved, touch_operand}
 use Rattle.fg_compiled.proofs.Uses.{used_by}
-use Rattle.fg_compiled.specs.Nodes.{command_node, copied_node, item_at, nodes_of, read_node, release_node, release_queue, steps, turn_node, turn_queue}
+use Rattle.fg_compiled.specs.Nodes.{command_node, copied_node, item_at, nodes_of, read_node, release_node, release_queue, steps, prologue_node, prologue_queue}
 use Rattle.fg_compiled.specs.Plan.{export_at, exports, is_copy, is_copy_of, is_read, plan_of, unit_of}
 use Rattle.fg_crossing.specs.Kinds.{is_plain, is_release}
 use Rattle.fg_crossing.specs.Nodes.{Nodes}
 use Rattle.fg_crossing.specs.Plans.{Plan}
-use Rattle.fg_crossing.specs.Spots.{OfTurn, OfRelease, Spot, at_turn, at_member, at_release, at_reader}
+use Rattle.fg_crossing.specs.Spots.{OfPrologue, OfRelease, Spot, at_prologue, at_member, at_release, at_reader}
 use Rattle.fg_cut.specs.Standing.{IsOneOf, as_wait, as_item, as_signal, as_read, StandsFor, read_number}
 use Rattle.fg_groups.specs.Commands.{copy_out}
 use Rattle.fg_groups.specs.Needs.{group_at, group_of, is_member}
@@ -40,10 +40,10 @@ use Rattle.fg_recorder.proofs.Entries.{entry_there}
 use Rattle.fg_recorder.specs.Items.{transfer}
 use Rattle.fg_recorder.specs.Pieces.{piece_of}
 use Rattle.fg_recorder.specs.Script.{script}
-use Rattle.fg_recorder.specs.Standing.{IsKnown, by_mark, by_alias, by_copy, IsRecorded, StandsAt, step, turn_item}
+use Rattle.fg_recorder.specs.Standing.{IsKnown, by_mark, by_alias, by_copy, IsRecorded, StandsAt, step, prologue_item}
 use Rattle.fg_recorder.specs.Wanted.{is_there}
 use Rattle.fg_recorder.specs.declared.mark.Mark.{Mark}
-use Rattle.fg_recorder.specs.declared.mark.Mark.TheVariants.{Command, Turn as OfTurnMark, Release}
+use Rattle.fg_recorder.specs.declared.mark.Mark.TheVariants.{Command, Prologue as OfPrologueMark, Release}
 use Rattle.fg_recorder.specs.declared.mark.Marked.TheVariants.{Does}
 use Rattle.fg_subs.specs.Entries.{OfItem, entries_of}
 use Rattle.fg_subs.specs.Rules.{shapes_of}
@@ -51,11 +51,11 @@ use Rattle.fg_subs.specs.declared.program.Item.{Item}
 use Rattle.fg_subs.specs.declared.program.Item.TheVariants as item
 use Rattle.fg_subs.specs.declared.program.Program.{Program}
 use Rattle.fg_turns.specs.Masks.{release_masks}
-use Rattle.fg_turns.specs.Turns.{earlier, turn_of}
+use Rattle.fg_turns.specs.Prologues.{earlier, prologue_of}
 use Rattle.fg_turns.specs.Under.{Heap}
 use Rattle.fg_view.proofs.Endings.{nothing_there}
 use Rattle.fg_view.specs.Effects.{access, entry_effect, handover_of, item_effect, no_effect}
-use Rattle.fg_view.specs.ShapedView.{Has}
+use Rattle.fg_view.specs.ValidView.{Has}
 use Rattle.fg_view.specs.Views.{View, accesses_of, view_of}
 use Rattle.fg_view.specs.declared.access.Access.{Access}
 use Rattle.fg_view.specs.declared.access.AccessKind.TheVariants as access_kinds
@@ -99,11 +99,11 @@ module _ (G : Grouping) (heap : Heap) (P : Program) (S : IsSet G heap P) where
 
   -- GROUPS OF UNITS
 
-  pub turn_is : (g : ℕ) → g < length G.groups → N.turn g ≡ turn_node G heap g
-  turn_is g lt = ap (λ b. if b then turn_node G heap g else copied_node G heap (export_at G g)) (lt-ltb g (length G.groups) lt)
+  pub prologue_is : (g : ℕ) → g < length G.groups → N.prologue g ≡ prologue_node G heap g
+  prologue_is g lt = ap (λ b. if b then prologue_node G heap g else copied_node G heap (export_at G g)) (lt-ltb g (length G.groups) lt)
 
-  pub turned_is : (g : ℕ) → g < length G.groups → N.turned g ≡ is_there (turn_of G heap g).kind
-  turned_is g lt = ap (λ b. if b then is_there (turn_of G heap g).kind else is_read G g) (lt-ltb g (length G.groups) lt)
+  pub has_prologue_is : (g : ℕ) → g < length G.groups → N.has_prologue g ≡ is_there (prologue_of G heap g).kind
+  has_prologue_is g lt = ap (λ b. if b then is_there (prologue_of G heap g).kind else is_read G g) (lt-ltb g (length G.groups) lt)
 
   pub member_is : (c g : ℕ) → g < length G.groups → F.member c g ≡ is_member G c g
   member_is c g lt = ap (λ b. if b then is_member G c g else (is_copy G g && is_copy_of G (export_at G g) c)) (lt-ltb g (length G.groups) lt)
@@ -113,11 +113,11 @@ module _ (G : Grouping) (heap : Heap) (P : Program) (S : IsSet G heap P) where
 
   -- AND OF EXPORTS
 
-  pub turn_late : (g : ℕ) → length G.groups ≤ g → N.turn g ≡ copied_node G heap (export_at G g)
-  turn_late g le = ap (λ b. if b then turn_node G heap g else copied_node G heap (export_at G g)) (le-ltb g (length G.groups) le)
+  pub prologue_late : (g : ℕ) → length G.groups ≤ g → N.prologue g ≡ copied_node G heap (export_at G g)
+  prologue_late g le = ap (λ b. if b then prologue_node G heap g else copied_node G heap (export_at G g)) (le-ltb g (length G.groups) le)
 
-  pub turned_late : (g : ℕ) → length G.groups ≤ g → N.turned g ≡ is_read G g
-  turned_late g le = ap (λ b. if b then is_there (turn_of G heap g).kind else is_read G g) (le-ltb g (length G.groups) le)
+  pub has_prologue_late : (g : ℕ) → length G.groups ≤ g → N.has_prologue g ≡ is_read G g
+  has_prologue_late g le = ap (λ b. if b then is_there (prologue_of G heap g).kind else is_read G g) (le-ltb g (length G.groups) le)
 
   pub member_late : (c g : ℕ) → length G.groups ≤ g → F.member c g ≡ (is_copy G g && is_copy_of G (export_at G g) c)
   member_late c g le = ap (λ b. if b then is_member G c g else (is_copy G g && is_copy_of G (export_at G g) c)) (le-ltb g (length G.groups) le)
@@ -181,19 +181,19 @@ module _ (G : Grouping) (heap : Heap) (P : Program) (S : IsSet G heap P) where
 
   -- TURNS
 
-  pub turn_stands : (g : ℕ) → IsRecorded G heap (OfTurnMark g) → StandsFor P (turn_node G heap g) (OfItem (turn_queue G g) (turn_item G heap g))
-  turn_stands g r = item_stands G heap P S.stand S.script (step G heap (OfTurnMark g)) (turn_queue G g) (Some (OfTurnMark g)) (turn_item G heap g) (S.standing.each_turn g r)
+  pub prologue_stands : (g : ℕ) → IsRecorded G heap (OfPrologueMark g) → StandsFor P (prologue_node G heap g) (OfItem (prologue_queue G g) (prologue_item G heap g))
+  prologue_stands g r = item_stands G heap P S.stand S.script (step G heap (OfPrologueMark g)) (prologue_queue G g) (Some (OfPrologueMark g)) (prologue_item G heap g) (S.standing.each_prologue g r)
 
   -- of a node of an item
   pub item_access : (Q : Access → Type 0) (n q : ℕ) (it : Item) (a : Access) → StandsFor P n (OfItem q it) → All Q (item_effect shapes q it).accesses → Has V n a → Q a
   item_access Q n q it a T all (i, e) = entry_of Q (item_effect shapes q it).accesses i a all (sym (ap (λ x. slice_get x.accesses i) T.effect) ∙ e)
 
-  pub turn_access : (g : ℕ) → IsRecorded G heap (OfTurnMark g) → (a : Access) → Has V (turn_node G heap g) a → OfTurn F V N g a
-  turn_access g r a h =
-      let E : IsEntry (piece_of G (unit_of G g)) a = item_access (IsEntry (piece_of G (unit_of G g))) (turn_node G heap g) (turn_queue G g) (turn_item G heap g) a (turn_stands g r) (turn_entries shapes (turn_queue G g) (turn_of G heap g).kind G (turn_of G heap g) (earlier G g) (group_at G g)) h in
+  pub prologue_access : (g : ℕ) → IsRecorded G heap (OfPrologueMark g) → (a : Access) → Has V (prologue_node G heap g) a → OfPrologue F V N g a
+  prologue_access g r a h =
+      let E : IsEntry (piece_of G (unit_of G g)) a = item_access (IsEntry (piece_of G (unit_of G g))) (prologue_node G heap g) (prologue_queue G g) (prologue_item G heap g) a (prologue_stands g r) (prologue_entries shapes (prologue_queue G g) (prologue_of G heap g).kind G (prologue_of G heap g) (earlier G g) (group_at G g)) h in
       record {
-        turned = turned_is g r.0 ∙ r.1;
-        has = subst (λ n. Has V n a) (sym (turn_is g r.0)) h;
+        has_prologue = has_prologue_is g r.0 ∙ r.1;
+        has = subst (λ n. Has V n a) (sym (prologue_is g r.0)) h;
         entry = E.entry;
         piece = E.piece ∙ sym (piece_is g r.0);
       }
@@ -251,11 +251,11 @@ module _ (G : Grouping) (heap : Heap) (P : Program) (S : IsSet G heap P) where
       moved_spot (item_at G heap q i) (command_node G heap c) a
       (ap (λ n. item_at G heap q n) e ∙ ap (λ p. item_at G heap p (step G heap (Command c))) (same.0 ∙ sym (queue_at G heap P S c C.0 C.1)))
       h (command_spot c C.0 C.1 a)
-  mark_spot i q of it a (OfTurnMark g) at r e h =
-      let same = some_item q (turn_queue G g) of (Some (OfTurnMark g)) it (turn_item G heap g) (sym at ∙ ap (λ n. slice_get (script G heap) n) e ∙ S.standing.each_turn g r) in
-      moved_spot (item_at G heap q i) (turn_node G heap g) a
-      (ap (λ n. item_at G heap q n) e ∙ ap (λ p. item_at G heap p (step G heap (OfTurnMark g))) same.0)
-      h (λ has. (g, at_turn (sym (turn_is g r.0)) (turn_access g r a has)))
+  mark_spot i q of it a (OfPrologueMark g) at r e h =
+      let same = some_item q (prologue_queue G g) of (Some (OfPrologueMark g)) it (prologue_item G heap g) (sym at ∙ ap (λ n. slice_get (script G heap) n) e ∙ S.standing.each_prologue g r) in
+      moved_spot (item_at G heap q i) (prologue_node G heap g) a
+      (ap (λ n. item_at G heap q n) e ∙ ap (λ p. item_at G heap p (step G heap (OfPrologueMark g))) same.0)
+      h (λ has. (g, at_prologue (sym (prologue_is g r.0)) (prologue_access g r a has)))
   mark_spot i q of it a (Release g) at r e h =
       let same = some_item q (release_queue G g) of (Some (Release g)) it (leaving_item g) (sym at ∙ ap (λ n. slice_get (script G heap) n) e ∙ S.standing.each_release g r) in
       moved_spot (item_at G heap q i) (release_node G heap g) a

@@ -30,18 +30,18 @@ use Rattle.fg_groups.specs.declared.grouping.Grouping.{Grouping}
 use Rattle.fg_groups.specs.declared.unit_use.Use.{Use}
 use Rattle.fg_recorder.specs.Items.{barrier, both, init, layouts_between}
 use Rattle.fg_recorder.specs.Pieces.{piece_of}
-use Rattle.fg_recorder.specs.Standing.{item_by, turn_item}
+use Rattle.fg_recorder.specs.Standing.{item_by, prologue_item}
 use Rattle.fg_recorder.specs.Wanted.{is_there}
 use Rattle.fg_subs.specs.Barriers.{masks_of}
 use Rattle.fg_subs.specs.declared.program.Item.{Item}
 use Rattle.fg_subs.specs.declared.program.Item.TheVariants as item
 use Rattle.fg_turns.specs.Masks.{barrier_masks, entry_masks}
-use Rattle.fg_turns.specs.Turns.{earlier, first, first_kind, has_uses, last, turn_between, turn_of}
+use Rattle.fg_turns.specs.Prologues.{earlier, first, first_kind, has_uses, last, prologue_between, prologue_of}
 use Rattle.fg_turns.specs.Under.{Heap, last_below, last_uses, place_of, under, uses_under}
 use Rattle.fg_turns.specs.Unions.{is_elsewhere, on, stages_on}
-use Rattle.fg_turns.specs.declared.turn.TurnKind.{TurnKind}
-use Rattle.fg_turns.specs.declared.turn.TurnKind.TheVariants.{Nothing, Barrier, Transfer}
-use Rattle.fg_valid.proofs.Turns.{some_from}
+use Rattle.fg_turns.specs.declared.prologue.PrologueKind.{PrologueKind}
+use Rattle.fg_turns.specs.declared.prologue.PrologueKind.TheVariants.{Nothing, Barrier, Transfer}
+use Rattle.fg_valid.proofs.Prologues.{some_from}
 
 -- SETS
 
@@ -138,8 +138,8 @@ barrier_opens piece (Some layouts) masks from to = record { masks = masks; is = 
 barrier_opens piece None masks from to = record { masks = masks; is = refl; from = from; to = inl to }
 
 module _ (G : Grouping) (g : ℕ) (A L B : List Use) (stages-A : All HasStage A) (stages-L : All HasStage L) (stages-B : All HasStage B) (some-B : 0 < length B) where
-  abbrev made : TurnKind → Item
-  made kind = item_by kind G (turn_between kind g A L B) A B
+  abbrev made : PrologueKind → Item
+  made kind = item_by kind G (prologue_between kind g A L B) A B
 
   destination : HasRole (stages_on B (first B).queue)
   destination = first_stages B stages-B some-B
@@ -191,7 +191,7 @@ module _ (G : Grouping) (D : IsGrouped G) where
   pub under_stages : (heap : Heap) (b : ℕ) → All HasStage (uses_under G heap b)
   under_stages heap b = each_of HasStage (λ a. last_uses G (unit_at G a)) (under G heap b) (λ k d lt. below_stages (unit_at G (get_or (under G heap b) k d)) (length G.groups))
 
-  pub turn_opens : (heap : Heap) (g : ℕ) → g < length G.groups → is_there (turn_of G heap g).kind ≡ true → OpensBy (turn_item G heap g)
-  turn_opens heap g lt e =
+  pub prologue_opens : (heap : Heap) (g : ℕ) → g < length G.groups → is_there (prologue_of G heap g).kind ≡ true → OpensBy (prologue_item G heap g)
+  prologue_opens heap g lt e =
       kinds G g (earlier G g) (uses_under G heap (place_of G (first (group_at G g)).unit)) (group_at G g) (earlier_stages g) (under_stages heap (place_of G (first (group_at G g)).unit)) (group_stages g) (D.in_order.some g [] lt)
       (has_uses (earlier G g)) (shares G.families G.sharings (first (group_at G g)).unit (first (earlier G g)).queue (first (group_at G g)).queue) (is_import G (first (group_at G g)).unit) (has_uses (uses_under G heap (place_of G (first (group_at G g)).unit))) (is_some (first (group_at G g)).layout) refl refl e

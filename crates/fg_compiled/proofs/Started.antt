@@ -18,7 +18,7 @@ use Rattle.fg_compiled.proofs.Entries.{entry_cases, entry_left}
 use Rattle.fg_compiled.proofs.KeptCommands.{IsOp, ops_at, start, starts_rise, there_at, where_from}
 use Rattle.fg_compiled.proofs.Makers.{IsTouched, export_touched, found_touched, good_pass, starts_there, write_cases}
 use Rattle.fg_compiled.specs.Starts.{IsStart}
-use Rattle.fg_frame.specs.Good.{IsGood, IsGoodOp, IsGoodPass, has_contents, is_import, shapes_in}
+use Rattle.fg_frame.specs.Valid.{IsValid, IsValidOp, IsValidPass, has_contents, is_import, shapes_in}
 use Rattle.fg_frame.specs.Numbered.{NumberedFrame}
 use Rattle.fg_frame.specs.Uses.{reads_it, starts_whole, stores_whole, writes_it}
 use Rattle.fg_groups.specs.Commands.{commands, copy_out, export_command, export_commands, kept_commands}
@@ -58,7 +58,7 @@ copy_touches unit src dst shape e lt = go shape e
     go (Buffer size) h = either h
     go (Image width height texel) h = either h
 
-module _ (frame : NumberedFrame) (kept : List Bool) (good : IsGood frame) (A : AreKept frame kept) (unit : ℕ) (below : unit < length frame.units) (none : is_import frame.units unit ≡ false) where
+module _ (frame : NumberedFrame) (kept : List Bool) (good : IsValid frame) (A : AreKept frame kept) (unit : ℕ) (below : unit < length frame.units) (none : is_import frame.units unit ≡ false) where
   abbrev own : List Command
   own = kept_commands frame.passes kept
 
@@ -76,7 +76,7 @@ module _ (frame : NumberedFrame) (kept : List Bool) (good : IsGood frame) (A : A
         false≢true (sym (subst (λ x. touches unit x ≡ false) C.2 clear) ∙ t)
 
     module _ (p i : ℕ) (I : IsOp frame.passes kept b p i B.op) where
-      P : IsGoodPass frame (take p frame.passes) (pass_at frame p)
+      P : IsValidPass frame (take p frame.passes) (pass_at frame p)
       P = good_pass frame kept good A unit none p I.within
 
       untouched : IsTouched frame kept p unit → ⊥
@@ -89,8 +89,8 @@ module _ (frame : NumberedFrame) (kept : List Bool) (good : IsGood frame) (A : A
       declared : (writes_it (pass_at frame p) unit || reads_it (pass_at frame p) unit) ≡ true
       declared = go (Any-from_list_any (λ x. x == unit) (operands_of B.op) touched)
         where
-          D : IsGoodOp frame (pass_at frame p) B.op
-          D = entry_of (IsGoodOp frame (pass_at frame p)) (ops_at frame.passes p) i B.op P.ops_good I.at
+          D : IsValidOp frame (pass_at frame p) B.op
+          D = entry_of (IsValidOp frame (pass_at frame p)) (ops_at frame.passes p) i B.op P.ops_good I.at
 
           all : All (λ x. (writes_it (pass_at frame p) x || reads_it (pass_at frame p) x) ≡ true) (operands_of B.op)
           all = All-append (λ x. (writes_it (pass_at frame p) x || reads_it (pass_at frame p) x) ≡ true) (sources_of B.op) (destination_of B.op ∷ []) D.declared_sources

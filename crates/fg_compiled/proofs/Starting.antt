@@ -18,7 +18,7 @@ use Rattle.fg_compiled.proofs.Counting.{count_same}
 use Rattle.fg_compiled.proofs.ExportGroups.{copy_export, copy_group, copy_is, copy_parts, read_number, read_parts}
 use Rattle.fg_compiled.proofs.Exports.{copies_from}
 use Rattle.fg_compiled.proofs.Groups.{Member, commands_rise, next_unit, some_use, sourced, unit_known, unit_piece}
-use Rattle.fg_compiled.proofs.LaidBy.{turn_before}
+use Rattle.fg_compiled.proofs.LaidBy.{prologue_before}
 use Rattle.fg_compiled.proofs.Members.{found_unit, touch_has, touch_piece, touched, use_group}
 use Rattle.fg_compiled.proofs.Roles.{store_some}
 use Rattle.fg_compiled.proofs.Served.{copied_to}
@@ -27,15 +27,15 @@ use Rattle.fg_compiled.proofs.SpotFacts.{IsMemberOf, of_group, of_copy, lone_use
 use Rattle.fg_compiled.proofs.Spots.{piece_is, piece_late}
 use Rattle.fg_compiled.proofs.Storing.{group_stores, stores_late, stores_low}
 use Rattle.fg_compiled.proofs.Touches.{IsOf, a_load, a_store, acts, alike, destination_there, moved}
-use Rattle.fg_compiled.proofs.TurnAccesses.{turn_low}
+use Rattle.fg_compiled.proofs.PrologueAccesses.{prologue_low}
 use Rattle.fg_compiled.proofs.Uses.{sourced_use, used_by}
-use Rattle.fg_compiled.specs.Fed.{DoesTo, IsFed, Loads, Stores}
+use Rattle.fg_compiled.specs.Initialized.{DoesTo, IsInitialized, Loads, Stores}
 use Rattle.fg_compiled.specs.Nodes.{nodes_of}
 use Rattle.fg_compiled.specs.Plan.{export_at, is_copy, is_copy_of, plan_of, unit_of}
 use Rattle.fg_crossing.specs.Kinds.{is_entry, is_release}
 use Rattle.fg_crossing.specs.Nodes.{Nodes}
 use Rattle.fg_crossing.specs.Plans.{Plan}
-use Rattle.fg_crossing.specs.Spots.{OfTurn, OfMember, Spot, at_turn, at_member, at_release, at_reader}
+use Rattle.fg_crossing.specs.Spots.{OfPrologue, OfMember, Spot, at_prologue, at_member, at_release, at_reader}
 use Rattle.fg_groups.specs.Needs.{group_at, group_of, is_touched}
 use Rattle.fg_groups.specs.Placed.{is_import}
 use Rattle.fg_groups.specs.Uses.{no_use, is_write, role_writes}
@@ -45,7 +45,7 @@ use Rattle.fg_groups.specs.declared.unit_use.Use.{Use}
 use Rattle.fg_recorder.specs.Pieces.{has_piece, is_readback, piece_of}
 use Rattle.fg_subs.specs.Rules.{shapes_of}
 use Rattle.fg_subs.specs.declared.program.Program.{Program}
-use Rattle.fg_turns.specs.Turns.{first}
+use Rattle.fg_turns.specs.Prologues.{first}
 use Rattle.fg_turns.specs.Under.{Heap}
 use Rattle.fg_view.specs.AccessKinds.{loads, wanted}
 use Rattle.fg_view.specs.Views.{View, imported_at, view_of}
@@ -74,7 +74,7 @@ release_keeps (access_kinds.Acquire handover) e = absurd (false≢true e)
 store_writes : (role : Role) (bits : ℕ) → store_access role ≡ Some bits → not (role_writes role == 0) ≡ true
 store_writes role bits e = ap (λ o. not (unwrap_or o 0 == 0)) e ∙ ap not (store_some role bits e)
 
-module _ (G : Grouping) (heap : Heap) (P : Program) (S : IsSet G heap P) (fed : IsFed G) where
+module _ (G : Grouping) (heap : Heap) (P : Program) (S : IsSet G heap P) (initialized : IsInitialized G) where
   abbrev F : Plan
   F = plan_of G heap
 
@@ -130,7 +130,7 @@ module _ (G : Grouping) (heap : Heap) (P : Program) (S : IsSet G heap P) (fed : 
   -- a group with a member that loads comes after the group of the store
   before_load : (c g : ℕ) → (low : g < length G.groups) → Member G c g → is_import G (unit_of G g) ≡ false → DoesTo G c (unit_of G g) Loads → IsStoredBefore g
   before_load c g low M fresh L =
-      let E = fed c (unit_of G g) (unit_known G S.grouped S.known g low) fresh L in
+      let E = initialized c (unit_of G g) (unit_known G S.grouped S.known g low) fresh L in
       let d : ℕ = E.0 in
       let T = store_group d (unit_of G g) (unit_known G S.grouped S.known g low) E.2 in
       let earlier = E.1 in
@@ -211,14 +211,14 @@ module _ (G : Grouping) (heap : Heap) (P : Program) (S : IsSet G heap P) (fed : 
       (λ T. inl (list_any_at is_write (group_at G g) there.0 u there.1 (ap is_write there.2 ∙ ap is_write I.is ∙ store_writes I.touch.role T.0 T.1)))
       (acts I.touch.role I.touch.whole)
 
-  turn_start : (g : ℕ) (a : Access) → OfTurn F V N g a → loads a.kind ≡ true → imported_at V a.piece ≡ false → IsStoredBefore g
-  turn_start g a O k none =
+  prologue_start : (g : ℕ) (a : Access) → OfPrologue F V N g a → loads a.kind ≡ true → imported_at V a.piece ≡ false → IsStoredBefore g
+  prologue_start g a O k none =
       let W = entry_wants a.kind O.entry k in
-      let B = turn_before G heap P S g a W.0 O W.1 in
+      let B = prologue_before G heap P S g a W.0 O W.1 in
       let p : ℕ = B.0 in
       let number = B.1.after.number in
       let unit : unit_of G p ≡ unit_of G g = next_unit G S.grouped p B.1.after.goes ∙ ap (unit_of G) (sym number) in
-      let T = turn_low G heap P S g a O in
+      let T = prologue_low G heap P S g a O in
       let on : a.piece ≡ piece_of G (unit_of G p) = O.piece ∙ piece_is G heap P S g T.recorded.0 ∙ ap (piece_of G) (sym unit) in
       ⊎_elim
       (λ w. record { from = p; less = omega (arith, number); within = B.1.low; unit = unit; writes = w })
@@ -238,7 +238,7 @@ module _ (G : Grouping) (heap : Heap) (P : Program) (S : IsSet G heap P) (fed : 
       (E.from, piece_is G heap P S E.from E.within ∙ ap (piece_of G) E.unit ∙ sym (piece_is G heap P S g low), E.less, stores_low G heap P S E.from E.within ∙ E.writes)
 
   pub start : (x g : ℕ) (a : Access) → Spot F V N x a g → loads a.kind ≡ true → imported_at V a.piece ≡ false → Starts g
-  start x g a (at_turn e t) k none = unit_starts g (turn_low G heap P S g a t).recorded.0 (turn_start g a t k none)
+  start x g a (at_prologue e t) k none = unit_starts g (prologue_low G heap P S g a t).recorded.0 (prologue_start g a t k none)
   start x g a (at_member {c = c} e m) k none = go (member_cases G heap P S c g m.member)
     where
       go : IsMemberOf G c g → Starts g

@@ -15,9 +15,9 @@ use Rattle.fg_hb.specs.Nodes.{program_nodes}
 use Rattle.fg_recorder.specs.Marks.{unmarked}
 use Rattle.fg_recorder.specs.Pieces.{piece_of}
 use Rattle.fg_recorder.specs.Script.{script}
-use Rattle.fg_recorder.specs.Standing.{IsNeeded, IsRecorded, IsStanding, StandsAt, host_item, host_step, step, turn_item}
+use Rattle.fg_recorder.specs.Standing.{IsNeeded, IsRecorded, IsStanding, StandsAt, host_item, host_step, step, prologue_item}
 use Rattle.fg_recorder.specs.declared.mark.Mark.{Mark}
-use Rattle.fg_recorder.specs.declared.mark.Mark.TheVariants.{Command, Turn as OfTurn}
+use Rattle.fg_recorder.specs.declared.mark.Mark.TheVariants.{Command, Prologue as OfPrologue}
 use Rattle.fg_recorder.specs.declared.mark.Marked.TheVariants.{Does, Needs}
 use Rattle.fg_subs.specs.declared.program.Item.{Item}
 use Rattle.fg_subs.specs.declared.program.Item.TheVariants as item
@@ -26,7 +26,7 @@ use Rattle.fg_timeline.proofs.Latest.{item_queue}
 use Rattle.fg_timeline.specs.Steps.{has_item, is_item, queue_at}
 use Rattle.fg_timeline.specs.declared.step.Step.{Step}
 use Rattle.fg_timeline.specs.declared.step.Step.TheVariants as cases
-use Rattle.fg_turns.specs.Turns.{first}
+use Rattle.fg_turns.specs.Prologues.{first}
 use Rattle.fg_turns.specs.Under.{Heap}
 
 -- STEPS
@@ -52,8 +52,8 @@ module _ (G : Grouping) (heap : Heap) where
     pub command_at : (c : ℕ) (command : commands.Command) → slice_get G.commands c ≡ Some command → ItemAt G heap (queue_of G c) (step G heap (Command c)) (item.Command (mapped (piece_of G) command.op))
     command_at c command e = subst (λ q. ItemAt G heap q (step G heap (Command c)) (item.Command (mapped (piece_of G) command.op))) (sym (queue_there c command e)) (does_at (step G heap (Command c)) command.queue (Some (Command c)) (item.Command (mapped (piece_of G) command.op)) (S.each_command c command e))
 
-    pub turn_at : (g : ℕ) → IsRecorded G heap (OfTurn g) → ItemAt G heap (first (group_at G g)).queue (step G heap (OfTurn g)) (turn_item G heap g)
-    turn_at g r = does_at (step G heap (OfTurn g)) (first (group_at G g)).queue (Some (OfTurn g)) (turn_item G heap g) (S.each_turn g r)
+    pub prologue_at : (g : ℕ) → IsRecorded G heap (OfPrologue g) → ItemAt G heap (first (group_at G g)).queue (step G heap (OfPrologue g)) (prologue_item G heap g)
+    prologue_at g r = does_at (step G heap (OfPrologue g)) (first (group_at G g)).queue (Some (OfPrologue g)) (prologue_item G heap g) (S.each_prologue g r)
 
     pub copy_at : (c k : ℕ) (command : commands.Command) → slice_get G.commands c ≡ Some command → command.export ≡ Some k → ItemAt G heap (queue_of G c) (copied_step G heap c) (host_item G command)
     copy_at c k command e x =

@@ -3,7 +3,7 @@ use Rattle.std.proofs.Common.{◌≡◌, ℕ, ◌==◌, List, if◌then◌else�
 use Rattle.std.specs.List.{Contains}
 use Rattle.std.proofs.lemmas.List.Elements.{All-contains}
 use Rattle.fg_recorder.proofs.Contained.{contains_filter}
-use Rattle.fg_compiled.proofs.Barriers.{IsTaken, IsGiven}
+use Rattle.fg_compiled.proofs.Barriers.{IsSource, IsDestination}
 use Rattle.fg_groups.specs.declared.unit_use.Use.{Use}
 use Rattle.fg_turns.specs.Masks.{barrier_masks, release_masks, entry_masks}
 use Rattle.fg_turns.specs.Unions.{on, stages_on, accesses_on, writes_on, is_elsewhere}
@@ -23,18 +23,18 @@ module _ (A : List Use) (q : ℕ) (u : Use) (h : Contains A u) (own : u.queue �
   in_writes = All-contains (λ (v : Use). Inside v.writes.0 (writes_on A q)) (on q A) u (over_each (λ (v : Use). v.writes.0) (on q A)) has
 
   -- a barrier takes what the uses before it do on its queue
-  pub barrier_takes : (B : List Use) → IsTaken u (barrier_masks A B q)
+  pub barrier_takes : (B : List Use) → IsSource u (barrier_masks A B q)
   barrier_takes B = record {
     stage = inside_then u.stage.0 (stages_on A q) (bit_or (stages_on A q) (if is_elsewhere A q then stages_on B q else 0)) in_stages (inside_left (stages_on A q) (if is_elsewhere A q then stages_on B q else 0));
     writes = in_writes;
   }
 
-  pub release_takes : IsTaken u (release_masks A q)
+  pub release_takes : IsSource u (release_masks A q)
   release_takes = record { stage = in_stages; writes = in_writes }
 
   -- and gives to what those after it do
-  pub barrier_gives : (before : List Use) → IsGiven u (barrier_masks before A q)
+  pub barrier_gives : (before : List Use) → IsDestination u (barrier_masks before A q)
   barrier_gives before = record { stage = in_stages; accesses = in_accesses }
 
-  pub entry_gives : IsGiven u (entry_masks A q)
+  pub entry_gives : IsDestination u (entry_masks A q)
   entry_gives = record { stage = in_stages; accesses = in_accesses }

@@ -11,7 +11,7 @@ use Rattle.fg_crossing.specs.Nodes.{Nodes, IsBarrier}
 use Rattle.fg_crossing.specs.Plans.{Plan, Grouped}
 use Rattle.fg_crossing.specs.Spots.{Spots}
 use Rattle.fg_crossing.specs.States.{Laid, Owned, Handed, Changed}
-use Rattle.fg_frame.specs.Good.{IsGood}
+use Rattle.fg_frame.specs.Valid.{IsValid}
 use Rattle.fg_frame.specs.Numbered.{NumberedFrame}
 use Rattle.fg_groups.specs.Groups.{grouping}
 use Rattle.fg_groups.specs.Placed.{sizes}
@@ -25,7 +25,7 @@ use Rattle.fg_view.specs.Views.{View, imported_at, overlap, view_of}
 abbrev pub OfCompiled : (Plan → View → Nodes → Type 0) → Type 0
 OfCompiled IsSo =
     (frame : NumberedFrame) (kept : List Bool) (ordered : ℕ → ℕ → Bool) (places : Places) →
-    IsGood frame →
+    IsValid frame →
     IsOrdered (grouping frame kept) ordered →
     IsLeast (sizes (grouping frame kept)) ordered places →
     IsSo (plan_of (grouping frame kept) (heap_with ordered places)) (view_of (recorded frame kept ordered places)) (nodes_of (grouping frame kept) (heap_with ordered places))
@@ -39,9 +39,9 @@ IsGrouped F V N = Grouped F
 abbrev pub AreOrdered : Plan → View → Nodes → Type 0
 AreOrdered F V N = (g h : ℕ) → g < F.groups → h < F.groups → F.piece g ≢ F.piece h → overlap V (F.piece g) (F.piece h) ≡ true → Beside F g h ⊎ Beside F h g
 
--- between them stands an alias barrier, up to the turn of the later one's first group
+-- between them stands an alias barrier, up to the prologue of the later one's first group
 abbrev pub HaveBarriers : Plan → View → Nodes → Type 0
-HaveBarriers F V N = (g h : ℕ) → F.over g h ≡ true → IsBarrier V (N.alias h) × UpTo V (N.alias h) (N.turn h)
+HaveBarriers F V N = (g h : ℕ) → F.over g h ≡ true → IsBarrier V (N.alias h) × UpTo V (N.alias h) (N.prologue h)
 
 -- and the last group of the earlier one is not released
 abbrev pub AreUnreleased : Plan → View → Nodes → Type 0

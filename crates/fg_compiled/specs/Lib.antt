@@ -1,4 +1,4 @@
-pub mod Fed
+pub mod Initialized
 pub mod Laws
 pub mod Nodes
 pub mod Plan

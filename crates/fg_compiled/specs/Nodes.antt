@@ -11,13 +11,13 @@ use Rattle.fg_recorder.specs.Marks.{steps_of}
 use Rattle.fg_recorder.specs.Script.{is_released, script}
 use Rattle.fg_recorder.specs.Standing.{host_step, step}
 use Rattle.fg_recorder.specs.Wanted.{is_there}
-use Rattle.fg_recorder.specs.declared.mark.Mark.TheVariants.{Command, Turn as OfTurn, Release}
+use Rattle.fg_recorder.specs.declared.mark.Mark.TheVariants.{Command, Prologue as OfPrologue, Release}
 use Rattle.fg_timeline.specs.Places.{item_number}
 use Rattle.fg_timeline.specs.declared.step.Step.{Step}
-use Rattle.fg_turns.specs.Turns.{first, last, turn_of}
+use Rattle.fg_turns.specs.Prologues.{first, last, prologue_of}
 use Rattle.fg_turns.specs.Under.{Heap}
-use Rattle.fg_turns.specs.declared.turn.TurnKind.{TurnKind}
-use Rattle.fg_turns.specs.declared.turn.TurnKind.TheVariants.{AliasInit}
+use Rattle.fg_turns.specs.declared.prologue.PrologueKind.{PrologueKind}
+use Rattle.fg_turns.specs.declared.prologue.PrologueKind.TheVariants.{AliasInit}
 
 abbrev pub steps : Grouping → Heap → List Step
 steps G heap = steps_of (script G heap)
@@ -31,26 +31,26 @@ command_node G heap c = item_at G heap (queue_of G c) (step G heap (Command c))
 
 -- TURNS OF UNITS
 
--- the queue of the turn of group g, and of the release after it
-abbrev pub turn_queue : Grouping → ℕ → ℕ
-turn_queue G g = (first (group_at G g)).queue
+-- the queue of the prologue of group g, and of the release after it
+abbrev pub prologue_queue : Grouping → ℕ → ℕ
+prologue_queue G g = (first (group_at G g)).queue
 
 abbrev pub release_queue : Grouping → ℕ → ℕ
 release_queue G g = (last (group_at G g)).queue
 
-abbrev pub turn_node : Grouping → Heap → ℕ → ℕ
-turn_node G heap g = item_at G heap (turn_queue G g) (step G heap (OfTurn g))
+abbrev pub prologue_node : Grouping → Heap → ℕ → ℕ
+prologue_node G heap g = item_at G heap (prologue_queue G g) (step G heap (OfPrologue g))
 
--- how many steps an alias barrier stands before the item with the mark of the turn
-abbrev pub steps_before : TurnKind → ℕ
+-- how many steps an alias barrier stands before the item with the mark of the prologue
+abbrev pub steps_before : PrologueKind → ℕ
 steps_before AliasInit = 1
 steps_before kind = 0
 
 abbrev pub alias_step : Grouping → Heap → ℕ → ℕ
-alias_step G heap g = step G heap (OfTurn g) - steps_before (turn_of G heap g).kind
+alias_step G heap g = step G heap (OfPrologue g) - steps_before (prologue_of G heap g).kind
 
 abbrev pub alias_node : Grouping → Heap → ℕ → ℕ
-alias_node G heap g = item_at G heap (turn_queue G g) (alias_step G heap g)
+alias_node G heap g = item_at G heap (prologue_queue G g) (alias_step G heap g)
 
 abbrev pub release_node : Grouping → Heap → ℕ → ℕ
 release_node G heap g = item_at G heap (release_queue G g) (step G heap (Release g))
@@ -76,8 +76,8 @@ read_node G heap k = read_number (steps G heap) (length G.families) k
 abbrev pub nodes_of : Grouping → Heap → Nodes
 nodes_of G heap = record {
   command = command_node G heap;
-  turn = λ g. if is_of_unit G g then turn_node G heap g else copied_node G heap (export_at G g);
-  turned = λ g. if is_of_unit G g then is_there (turn_of G heap g).kind else is_read G g;
+  prologue = λ g. if is_of_unit G g then prologue_node G heap g else copied_node G heap (export_at G g);
+  has_prologue = λ g. if is_of_unit G g then is_there (prologue_of G heap g).kind else is_read G g;
   alias = alias_node G heap;
   release = release_node G heap;
   released = is_released G heap;

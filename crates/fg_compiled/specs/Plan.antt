@@ -7,7 +7,7 @@ use Rattle.fg_groups.specs.Placed.{placed}
 use Rattle.fg_groups.specs.declared.command.Command.{Command}
 use Rattle.fg_groups.specs.declared.grouping.Grouping.{Grouping}
 use Rattle.fg_recorder.specs.Pieces.{piece_of}
-use Rattle.fg_turns.specs.Turns.{first}
+use Rattle.fg_turns.specs.Prologues.{first}
 use Rattle.fg_turns.specs.Under.{Heap, is_under, place_of}
 
 -- GROUPS

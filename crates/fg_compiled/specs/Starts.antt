@@ -2,7 +2,7 @@
 use Rattle.std.specs.Prelude.{◌≡◌, ℕ, ◌<◌, ◌≤◌, List, Bool, true, false, length, slice_get, Some}
 use Rattle.fg_base.specs.Operands.{touches}
 use Rattle.fg_base.specs.declared.shape.Shape.{Shape}
-use Rattle.fg_frame.specs.Good.{is_import, shapes_in}
+use Rattle.fg_frame.specs.Valid.{is_import, shapes_in}
 use Rattle.fg_frame.specs.Numbered.{NumberedFrame}
 use Rattle.fg_frame.specs.Uses.{stores_whole}
 use Rattle.fg_groups.specs.Commands.{commands}

@@ -10,7 +10,7 @@ use fg_groups::group_laws;
 use fg_recorder::script_laws;
 use fg_timeline::timeline_laws;
 
-/// Each access of a compiled program is of a group: of its turn, a member, its release or its host read (`spots`). On one queue
+/// Each access of a compiled program is of a group: of its prologue, a member, its release or its host read (`spots`). On one queue
 /// the masks of barriers serve the accesses of the groups round them (`masks`), and alias barriers those of the units that had
 /// the bytes before (`aliases`). It does nothing.
 pub fn accesses_law()

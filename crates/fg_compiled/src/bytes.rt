@@ -1,6 +1,6 @@
 //! Laws of the bytes of compiled programs.
 
-ghost use Rattle.fg_compiled.specs.Fed.{OfFed};
+ghost use Rattle.fg_compiled.specs.Initialized.{OfInitialized};
 ghost use Rattle.fg_compiled.specs.Laws.{HasSoundOrder};
 ghost use Rattle.fg_crossing.specs.States.{Changed};
 
@@ -15,8 +15,8 @@ use fg_timeline::timeline_laws;
 /// Where commands load what others stored before them: which groups store is known, what loads from no import loads what an
 /// earlier group of its unit stored, and imports are let alone (`changed`). So the program is sound (`sound`). It does nothing.
 pub fn bytes_law()
-    ensures changed { OfFed Changed }
-    ensures sound { OfFed HasSoundOrder }
+    ensures changed { OfInitialized Changed }
+    ensures sound { OfInitialized HasSoundOrder }
 {
     group_laws();
     script_laws();

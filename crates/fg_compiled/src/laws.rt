@@ -10,8 +10,8 @@ use fg_recorder::script_laws;
 use fg_valid::faultless_law;
 use fg_view::view_law;
 
-/// Of each program that is compiled of a good frame: the groups of its plan stand by their pieces (`grouped`). Commands, turns,
-/// releases and host reads are what they are called (`roles`), and a turn comes after the commands before it and before its
+/// Of each program that is compiled of a good frame: the groups of its plan stand by their pieces (`grouped`). Commands, prologues,
+/// releases and host reads are what they are called (`roles`), and a prologue comes after the commands before it and before its
 /// own, with a release between where the family changes (`placed`). It does nothing.
 pub fn places_law()
     ensures grouped { OfCompiled IsGrouped }

@@ -2,7 +2,7 @@
 
 ghost use Rattle.std.specs.Prelude.{List, Bool};
 ghost use Rattle.fg_checker.specs.Sound.{IsSound};
-ghost use Rattle.fg_frame.specs.Good.{IsGood};
+ghost use Rattle.fg_frame.specs.Valid.{IsValid};
 ghost use Rattle.fg_frame.specs.Numbered.{NumberedFrame};
 ghost use Rattle.fg_place.specs.Placing.{Places};
 ghost use Rattle.fg_recorder.specs.Recorded.{IsCompiled};
@@ -14,7 +14,7 @@ use crate::starts::starts_law;
 
 /// A program that is compiled of a good frame's kept passes is sound. It does nothing.
 pub fn sound_program_law()
-    ensures { (frame : NumberedFrame) (kept : List Bool) (places : Places) (program : Program) → IsGood frame → AreKept frame kept → IsCompiled frame kept places program → IsSound program }
+    ensures { (frame : NumberedFrame) (kept : List Bool) (places : Places) (program : Program) → IsValid frame → AreKept frame kept → IsCompiled frame kept places program → IsSound program }
 {
     bytes_law();
     starts_law();

@@ -1,16 +1,16 @@
 //! What kept commands do first, and what follows of their bytes.
 
 ghost use Rattle.std.specs.Prelude.{List, Bool};
-ghost use Rattle.fg_compiled.specs.Fed.{IsFed};
+ghost use Rattle.fg_compiled.specs.Initialized.{IsInitialized};
 ghost use Rattle.fg_compiled.specs.Starts.{AreStarted};
-ghost use Rattle.fg_frame.specs.Good.{IsGood};
+ghost use Rattle.fg_frame.specs.Valid.{IsValid};
 ghost use Rattle.fg_frame.specs.Numbered.{NumberedFrame};
 ghost use Rattle.fg_groups.specs.Groups.{grouping};
 ghost use Rattle.fg_versions.specs.Culled.{AreKept};
 
 /// Of the commands of a good frame's kept passes and its exports the first that touches a unit, where that is no import, stores
-/// all of it (`started`). So what a command loads of such a unit, an earlier one stored to (`fed`). It does nothing.
+/// all of it (`started`). So what a command loads of such a unit, an earlier one stored to (`initialized`). It does nothing.
 pub fn starts_law()
-    ensures started { (frame : NumberedFrame) (kept : List Bool) → IsGood frame → AreKept frame kept → AreStarted frame kept }
-    ensures fed { (frame : NumberedFrame) (kept : List Bool) → IsGood frame → AreKept frame kept → IsFed (grouping frame kept) }
+    ensures started { (frame : NumberedFrame) (kept : List Bool) → IsValid frame → AreKept frame kept → AreStarted frame kept }
+    ensures initialized { (frame : NumberedFrame) (kept : List Bool) → IsValid frame → AreKept frame kept → IsInitialized (grouping frame kept) }
 {}

@@ -8,7 +8,7 @@ use fg_groups::group_laws;
 use fg_recorder::script_laws;
 use fg_timeline::timeline_laws;
 
-/// The layout of each group is the one that its members want, and turns set it (`laid`). Nodes of a group are on queues of its
+/// The layout of each group is the one that its members want, and prologues set it (`laid`). Nodes of a group are on queues of its
 /// family (`owned`), and each change of the family is handed over (`handed`). It does nothing.
 pub fn states_law()
     ensures laid { OfCompiled Laid }

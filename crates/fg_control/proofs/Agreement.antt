@@ -6,11 +6,11 @@ use Rattle.fg_bits.specs.declared.layout.Layout.TheVariants.{Undefined}
 use Rattle.fg_caches.specs.Lines.{Bytes}
 use Rattle.fg_control.proofs.Listing.{any_begun}
 use Rattle.fg_control.proofs.Lists.{set_put, put_same, copies}
-use Rattle.fg_control.specs.Code.Running.{is_among, any_of, Runs}
+use Rattle.fg_control.specs.Internal.Running.{is_among, any_of, Runs}
 use Rattle.fg_control.specs.Controls.{Control, phase_of, layout_of, owner_of, counter_of, Agrees}
 use Rattle.fg_control.specs.declared.running.Running.{Running}
-use Rattle.fg_stated.specs.Stated.{needs_owner}
-use Rattle.fg_steps.specs.Ready.{kind_at, some_node, is_torn, is_wrong, is_foreign, is_spoilt, stores_over, hits, marked_by}
+use Rattle.fg_stated.specs.StateValid.{needs_owner}
+use Rattle.fg_steps.specs.Ready.{kind_at, some_node, is_torn, is_wrong, is_foreign, loads_undefined, stores_over, hits, marked_by}
 use Rattle.fg_steps.specs.States.{is_begun, State, put, opened}
 use Rattle.fg_steps.specs.Steps.{owned_after, laid_after, begun, ended, raised_by, raised, synced, hosted}
 use Rattle.fg_steps.specs.declared.owner.Owner.{Owner}
@@ -49,9 +49,9 @@ module _ (old : Control) (s : State) (A : Agrees old s) (r : Running) (R : Runs 
   pub torn : (p : ℕ) → any_of r (λ x. not (x == n) && stores_over V p x) ≡ is_torn V s n p
   torn p = begun_some (λ x. not (x == n) && stores_over V p x) ∙ ap (some_node V) (fun_ext (λ x. turned (is_begun (s.phase x)) (not (x == n)) (stores_over V p x)))
 
-  pub spoilt : (a : Access) (layout : Layout) (owner : Owner) → layout ≡ layout_of old a.piece → owner ≡ owner_of old a.piece
-      → (any_of r (λ x. not (x == n) && stores_over V a.piece x) || (is_wrong (wanted a.kind) layout || (needs_owner V (node_access n a) && is_foreign owner (family_at V n)))) ≡ is_spoilt V s n a
-  spoilt a layout owner lay own =
+  pub undefined : (a : Access) (layout : Layout) (owner : Owner) → layout ≡ layout_of old a.piece → owner ≡ owner_of old a.piece
+      → (any_of r (λ x. not (x == n) && stores_over V a.piece x) || (is_wrong (wanted a.kind) layout || (needs_owner V (node_access n a) && is_foreign owner (family_at V n)))) ≡ loads_undefined V s n a
+  undefined a layout owner lay own =
       ap (λ b. b || (is_wrong (wanted a.kind) layout || (needs_owner V (node_access n a) && is_foreign owner (family_at V n)))) (torn a.piece)
       ∙ ap (λ l. is_torn V s n a.piece || (is_wrong (wanted a.kind) l || (needs_owner V (node_access n a) && is_foreign owner (family_at V n)))) (lay ∙ A.layout a.piece)
       ∙ ap (λ o. is_torn V s n a.piece || (is_wrong (wanted a.kind) (s.layout a.piece) || (needs_owner V (node_access n a) && is_foreign o (family_at V n)))) (own ∙ A.owner a.piece)

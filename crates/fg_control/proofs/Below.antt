@@ -1,7 +1,7 @@
 -- Numbers below a bound that pass a test.
 use Rattle.std.proofs.Common.{◌≡◌, ℕ, zero, suc, ◌+◌, ◌<◌, Bool, true, false, ◌||◌, Some, refl, sym, ap, ◌∙◌, ⊎_elim, add-one, if◌then◌else◌, arith}
 use Rattle.std.proofs.lemmas.Bool.{cases_lt, cases_Bool, false≢true, or_cases, or_left, or_right, or_from}
-use Rattle.fg_control.specs.Code.Held.{some_below, last_below}
+use Rattle.fg_control.specs.Internal.Blocked.{some_below, last_below}
 
 pub some_at : (f : ℕ → Bool) (n x : ℕ) → x < n → f x ≡ true → some_below f n ≡ true
 some_at f zero x lt h = absurd (omega (arith, lt))

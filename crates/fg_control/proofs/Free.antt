@@ -11,8 +11,8 @@ use Rattle.fg_bits.specs.Sets.{meets}
 use Rattle.fg_control.proofs.Below.{some_at, some_one, last_at, last_is, IsLast}
 use Rattle.fg_control.proofs.Ranges.{every_node, at_node, all_items, item_all}
 use Rattle.fg_control.proofs.Signals.{next_some, next_none, next_is, next_is_none}
-use Rattle.fg_control.specs.Code.Held.{is_open, holds_all, holds_by_sync, signal_below, Gathers, is_held, AreLast, is_free}
-use Rattle.fg_control.specs.declared.held.Held.{Held}
+use Rattle.fg_control.specs.Internal.Blocked.{is_open, blocks_all, blocks_by_sync, signal_below, Gathers, is_blocked, AreLast, is_free}
+use Rattle.fg_control.specs.declared.blocked.Blocked.{Blocked}
 use Rattle.fg_hb.proofs.Bridge.{is_same}
 use Rattle.fg_hb.specs.Edges.{is_signal, is_sync, is_host, is_at, signals, reaches, holds_back, next_signal, meeting, goes_to, signalled, node_at, edge}
 use Rattle.fg_hb.specs.Nodes.{no_node}
@@ -22,7 +22,7 @@ use Rattle.fg_hb.specs.declared.node.Node.{Node}
 use Rattle.fg_steps.specs.Ready.{kind_at, each_node}
 use Rattle.fg_steps.specs.States.{is_done}
 use Rattle.fg_steps.specs.declared.phase.Phase.{Phase}
-use Rattle.fg_view.specs.ShapedView.{ShapedView}
+use Rattle.fg_view.specs.ValidView.{ValidView}
 use Rattle.fg_view.specs.Views.{View, queue_at}
 
 -- EDGES
@@ -64,17 +64,17 @@ module _ (V : View) (phase : ℕ → Phase) (n : ℕ) (lt : n < length V.nodes) 
   pub edge_done : (x : ℕ) → x < length V.nodes → edge V.nodes x n ≡ true → is_done (phase x) ≡ true
   edge_done x l e = ⊎_elim (λ k. absurd (false≢true (sym (ap not e) ∙ k))) (λ k. k) (or_cases (not (edge V.nodes x n)) (is_done (phase x)) (at_node V (λ x. not (edge V.nodes x n) || is_done (phase x)) h x l))
 
-  -- no open node of its queue holds it back
-  pub line_clash : (x : ℕ) → x < n → holds_all V phase (queue_at V n) (node_at V.nodes n).src_stages.0 x ≡ true → (is_sync (kind_at V x) || is_sync (kind_at V n)) ≡ true → ⊥
+  -- no open node of its queue blocks it
+  pub line_clash : (x : ℕ) → x < n → blocks_all V phase (queue_at V n) (node_at V.nodes n).src_stages.0 x ≡ true → (is_sync (kind_at V x) || is_sync (kind_at V n)) ≡ true → ⊥
   line_clash x l k sync =
-      let held = (node_at V.nodes x).dst_stages.0 in
+      let blocked = (node_at V.nodes x).dst_stages.0 in
       let waits = (node_at V.nodes n).src_stages.0 in
-      let p = and_parts ((queue_at V x == queue_at V n) && not (is_done (phase x))) (meets held waits) k in
+      let p = and_parts ((queue_at V x == queue_at V n) && not (is_done (phase x))) (meets blocked waits) k in
       let q = and_parts (queue_at V x == queue_at V n) (not (is_done (phase x))) p.0 in
-      let back = and_from (queue_at V x == queue_at V n) ((is_sync (kind_at V x) || is_sync (kind_at V n)) && meets held waits) q.0 (and_from (is_sync (kind_at V x) || is_sync (kind_at V n)) (meets held waits) sync p.1) in
+      let back = and_from (queue_at V x == queue_at V n) ((is_sync (kind_at V x) || is_sync (kind_at V n)) && meets blocked waits) q.0 (and_from (is_sync (kind_at V x) || is_sync (kind_at V n)) (meets blocked waits) sync p.1) in
       false≢true (sym (not-true (is_done (phase x)) q.1) ∙ edge_done x (omega (arith, l, lt)) (line_edge V.nodes x n l back))
 
-module _ (V : View) (S : ShapedView V) (phase : ℕ → Phase) (n : ℕ) (lt : n < length V.nodes) (held : Held) (G : Gathers V phase (queue_at V n) n held) (lasts : List (Option ℕ)) (L : AreLast V lasts) where
+module _ (V : View) (S : ValidView V) (phase : ℕ → Phase) (n : ℕ) (lt : n < length V.nodes) (blocked : Blocked) (G : Gathers V phase (queue_at V n) n blocked) (lasts : List (Option ℕ)) (L : AreLast V lasts) where
   abbrev at : ℕ → Node
   at x = node_at V.nodes x
 
@@ -89,7 +89,7 @@ module _ (V : View) (S : ShapedView V) (phase : ℕ → Phase) (n : ℕ) (lt : n
 
   -- what is gathered of stages
   abbrev waits : Bool → Bool
-  waits sync = meets (if sync then held.by_all.0 else held.by_syncs.0) (at n).src_stages.0
+  waits sync = meets (if sync then blocked.by_all.0 else blocked.by_syncs.0) (at n).src_stages.0
 
   signal_at : (x : ℕ) → is_signal (at x).kind ≡ true → (q : ℕ) → (at x).queue ≡ q → signals q (at x) ≡ true
   signal_at x s q e = and_from ((at x).queue == q) (is_signal (at x).kind) (eq-eqb (at x).queue q e) s
@@ -99,18 +99,18 @@ module _ (V : View) (S : ShapedView V) (phase : ℕ → Phase) (n : ℕ) (lt : n
 
   -- WHERE IT IS FREE
 
-  module _ (h : is_free V phase lasts held n ≡ true) where
-    outer : (not (is_held held (at n)) ≡ true) × ((not (is_open phase met) && (not (is_host (kind_at V n)) || list_all done_last lasts)) ≡ true)
-    outer = and_parts (not (is_held held (at n))) (not (is_open phase met) && (not (is_host (kind_at V n)) || list_all done_last lasts)) h
+  module _ (h : is_free V phase lasts blocked n ≡ true) where
+    outer : (not (is_blocked blocked (at n)) ≡ true) × ((not (is_open phase met) && (not (is_host (kind_at V n)) || list_all done_last lasts)) ≡ true)
+    outer = and_parts (not (is_blocked blocked (at n))) (not (is_open phase met) && (not (is_host (kind_at V n)) || list_all done_last lasts)) h
 
     inner : (not (is_open phase met) ≡ true) × ((not (is_host (kind_at V n)) || list_all done_last lasts) ≡ true)
     inner = and_parts (not (is_open phase met)) (not (is_host (kind_at V n)) || list_all done_last lasts) outer.1
 
-    not_held : is_held held (at n) ≡ true → ⊥
-    not_held e = false≢true (sym (ap not e) ∙ outer.0)
+    not_blocked : is_blocked blocked (at n) ≡ true → ⊥
+    not_blocked e = false≢true (sym (ap not e) ∙ outer.0)
 
     by_line : (x : ℕ) → x < n → holds_back (at x) (at n) ≡ true → is_done (phase x) ≡ true
-    by_line x l b = ⊎_elim (λ e. e) (λ e. absurd (held_at e (is_sync (at n).kind) refl)) (cases_Bool (is_done (phase x)))
+    by_line x l b = ⊎_elim (λ e. e) (λ e. absurd (blocked_at e (is_sync (at n).kind) refl)) (cases_Bool (is_done (phase x)))
       where
         p : (((at x).queue == (at n).queue) ≡ true) × (((is_sync (at x).kind || is_sync (at n).kind) && meets (at x).dst_stages.0 (at n).src_stages.0) ≡ true)
         p = and_parts ((at x).queue == (at n).queue) ((is_sync (at x).kind || is_sync (at n).kind) && meets (at x).dst_stages.0 (at n).src_stages.0) b
@@ -118,17 +118,17 @@ module _ (V : View) (S : ShapedView V) (phase : ℕ → Phase) (n : ℕ) (lt : n
         q : ((is_sync (at x).kind || is_sync (at n).kind) ≡ true) × (meets (at x).dst_stages.0 (at n).src_stages.0 ≡ true)
         q = and_parts (is_sync (at x).kind || is_sync (at n).kind) (meets (at x).dst_stages.0 (at n).src_stages.0) p.1
 
-        all : is_done (phase x) ≡ false → holds_all V phase (queue_at V n) (at n).src_stages.0 x ≡ true
+        all : is_done (phase x) ≡ false → blocks_all V phase (queue_at V n) (at n).src_stages.0 x ≡ true
         all e = and_from ((queue_at V x == queue_at V n) && not (is_done (phase x))) (meets (at x).dst_stages.0 (at n).src_stages.0) (and_from (queue_at V x == queue_at V n) (not (is_done (phase x))) p.0 (ap not e)) q.1
 
         waits_on : is_done (phase x) ≡ false → (b : Bool) → is_sync (at n).kind ≡ b → waits b ≡ true
-        waits_on e true s = G.by_all (at n).src_stages.0 ∙ some_at (holds_all V phase (queue_at V n) (at n).src_stages.0) n x l (all e)
+        waits_on e true s = G.by_all (at n).src_stages.0 ∙ some_at (blocks_all V phase (queue_at V n) (at n).src_stages.0) n x l (all e)
         waits_on e false s =
             let t = ⊎_elim (λ k. k) (λ k. absurd (false≢true (sym s ∙ k))) (or_cases (is_sync (at x).kind) (is_sync (at n).kind) q.0) in
-            G.by_syncs (at n).src_stages.0 ∙ some_at (holds_by_sync V phase (queue_at V n) (at n).src_stages.0) n x l (and_from (is_sync (at x).kind) (holds_all V phase (queue_at V n) (at n).src_stages.0 x) t (all e))
+            G.by_syncs (at n).src_stages.0 ∙ some_at (blocks_by_sync V phase (queue_at V n) (at n).src_stages.0) n x l (and_from (is_sync (at x).kind) (blocks_all V phase (queue_at V n) (at n).src_stages.0 x) t (all e))
 
-        held_at : is_done (phase x) ≡ false → (b : Bool) → is_sync (at n).kind ≡ b → ⊥
-        held_at e b s = not_held (or_left (waits (is_sync (at n).kind)) (is_signal (at n).kind && held.signal) (ap waits s ∙ waits_on e b s))
+        blocked_at : is_done (phase x) ≡ false → (b : Bool) → is_sync (at n).kind ≡ b → ⊥
+        blocked_at e b s = not_blocked (or_left (waits (is_sync (at n).kind)) (is_signal (at n).kind && blocked.signal) (ap waits s ∙ waits_on e b s))
 
     by_next : (x : ℕ) → is_signal (at x).kind ≡ true → next_signal V.nodes x ≡ Some n → is_done (phase x) ≡ true
     by_next x s e =
@@ -136,11 +136,11 @@ module _ (V : View) (S : ShapedView V) (phase : ℕ → Phase) (n : ℕ) (lt : n
         let k = and_parts ((at n).queue == (at x).queue) (is_signal (at n).kind) f.signal in
         let on : (at x).queue ≡ queue_at V n = sym (eqb-true (at n).queue (at x).queue k.0) in
         let last : signal_below V (queue_at V n) n ≡ Some x = subst (λ q. signal_below V q n ≡ Some x) on (last_is (λ y. signals (at x).queue (at y)) n x (record { below = f.after; passes = signal_at x s (at x).queue refl; none = f.none })) in
-        let signal : held.signal ≡ is_open phase (Some x) = G.signal ∙ ap (is_open phase) last in
+        let signal : blocked.signal ≡ is_open phase (Some x) = G.signal ∙ ap (is_open phase) last in
         ⊎_elim
-        (λ t. absurd (not_held (or_right (waits (is_sync (at n).kind)) (is_signal (at n).kind && held.signal) (and_from (is_signal (at n).kind) held.signal k.1 t))))
+        (λ t. absurd (not_blocked (or_right (waits (is_sync (at n).kind)) (is_signal (at n).kind && blocked.signal) (and_from (is_signal (at n).kind) blocked.signal k.1 t))))
         (λ t. open_some x (sym signal ∙ t))
-        (cases_Bool held.signal)
+        (cases_Bool blocked.signal)
 
     by_last : (x : ℕ) → is_signal (at x).kind ≡ true → next_signal V.nodes x ≡ None → is_host (at n).kind ≡ true → is_done (phase x) ≡ true
     by_last x s e host =
@@ -178,11 +178,11 @@ module _ (V : View) (S : ShapedView V) (phase : ℕ → Phase) (n : ℕ) (lt : n
 
     no_waits : (b : Bool) → is_sync (at n).kind ≡ b → waits b ≡ true → ⊥
     no_waits true s w =
-        let r = some_one (holds_all V phase (queue_at V n) (at n).src_stages.0) n (sym (G.by_all (at n).src_stages.0) ∙ w) in
+        let r = some_one (blocks_all V phase (queue_at V n) (at n).src_stages.0) n (sym (G.by_all (at n).src_stages.0) ∙ w) in
         line_clash V phase n lt h r.0 r.1 r.2 (or_right (is_sync (at r.0).kind) (is_sync (at n).kind) s)
     no_waits false s w =
-        let r = some_one (holds_by_sync V phase (queue_at V n) (at n).src_stages.0) n (sym (G.by_syncs (at n).src_stages.0) ∙ w) in
-        let p = and_parts (is_sync (at r.0).kind) (holds_all V phase (queue_at V n) (at n).src_stages.0 r.0) r.2 in
+        let r = some_one (blocks_by_sync V phase (queue_at V n) (at n).src_stages.0) n (sym (G.by_syncs (at n).src_stages.0) ∙ w) in
+        let p = and_parts (is_sync (at r.0).kind) (blocks_all V phase (queue_at V n) (at n).src_stages.0 r.0) r.2 in
         line_clash V phase n lt h r.0 r.1 p.1 (or_left (is_sync (at r.0).kind) (is_sync (at n).kind) p.0)
 
     no_signal_open : is_signal (at n).kind ≡ true → (o : Option ℕ) → signal_below V (queue_at V n) n ≡ o → is_open phase o ≡ true → ⊥
@@ -194,10 +194,10 @@ module _ (V : View) (S : ShapedView V) (phase : ℕ → Phase) (n : ℕ) (lt : n
         let next : next_signal V.nodes x ≡ Some n = next_is V.nodes x n (subst (λ q. IsLast (λ y. signals q (at y)) n x) on last) lt (subst (λ q. signals q (at n) ≡ true) on (signal_at n s (queue_at V n) refl)) in
         clash x (omega (arith, last.below, lt)) (signal_edge V.nodes x n p.1 (ap (goes_to V.nodes n) next ∙ eq-eqb n n refl)) (not-true (is_done (phase x)) k)
 
-    free : is_held held (at n) ≡ false
-    free = or_from (waits (is_sync (at n).kind)) (is_signal (at n).kind && held.signal)
+    free : is_blocked blocked (at n) ≡ false
+    free = or_from (waits (is_sync (at n).kind)) (is_signal (at n).kind && blocked.signal)
         (⊎_elim (λ e. absurd (no_waits (is_sync (at n).kind) refl e)) (λ e. e) (cases_Bool (waits (is_sync (at n).kind))))
-        (⊎_elim (λ e. absurd (let p = and_parts (is_signal (at n).kind) held.signal e in no_signal_open p.0 (signal_below V (queue_at V n) n) refl (sym G.signal ∙ p.1))) (λ e. e) (cases_Bool (is_signal (at n).kind && held.signal)))
+        (⊎_elim (λ e. absurd (let p = and_parts (is_signal (at n).kind) blocked.signal e in no_signal_open p.0 (signal_below V (queue_at V n) n) refl (sym G.signal ∙ p.1))) (λ e. e) (cases_Bool (is_signal (at n).kind && blocked.signal)))
 
     met_done : (o : Option ℕ) → met ≡ o → is_open phase o ≡ false
     met_done None e = refl
@@ -216,10 +216,10 @@ module _ (V : View) (S : ShapedView V) (phase : ℕ → Phase) (n : ℕ) (lt : n
     lasts_done false e = refl
     lasts_done true e = all_items done_last lasts None (λ q l. let small = subst (λ m. q < m) L.size l in ap done_last (L.each q small) ∙ last_done e q small (signal_below V q (length V.nodes)) refl)
 
-    each_free : is_free V phase lasts held n ≡ true
+    each_free : is_free V phase lasts blocked n ≡ true
     each_free =
-        and_from (not (is_held held (at n))) (not (is_open phase met) && (not (is_host (kind_at V n)) || list_all done_last lasts)) (ap not free)
+        and_from (not (is_blocked blocked (at n))) (not (is_open phase met) && (not (is_host (kind_at V n)) || list_all done_last lasts)) (ap not free)
         (and_from (not (is_open phase met)) (not (is_host (kind_at V n)) || list_all done_last lasts) (ap not (met_done met refl)) (lasts_done (is_host (at n).kind) refl))
 
-  pub free_edges : is_free V phase lasts held n ≡ each_node V goes
-  free_edges = both_ways (is_free V phase lasts held n) (each_node V goes) free_each each_free
+  pub free_edges : is_free V phase lasts blocked n ≡ each_node V goes
+  free_edges = both_ways (is_free V phase lasts blocked n) (each_node V goes) free_each each_free

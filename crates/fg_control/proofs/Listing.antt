@@ -6,7 +6,7 @@ use Rattle.std.specs.Cmp.{both_ways}
 use Rattle.fg_control.proofs.Below.{some_at, some_one, none_below, some_more, some_same}
 use Rattle.fg_control.proofs.Pigeons.{Differ, pigeons}
 use Rattle.fg_control.proofs.Ranges.{node_is, one_node}
-use Rattle.fg_control.specs.Code.Running.{is_among, any_of, Runs}
+use Rattle.fg_control.specs.Internal.Running.{is_among, any_of, Runs}
 use Rattle.fg_control.specs.declared.running.Running.{Running}
 use Rattle.fg_steps.proofs.Control.{put_at, put_other}
 use Rattle.fg_steps.specs.Ready.{some_node}

@@ -4,7 +4,7 @@ use Rattle.std.proofs.Math.Bool.{and-false}
 use Rattle.fg_base.proofs.Booleans.{or_false, or_true}
 use Rattle.fg_control.proofs.Below.{some_more}
 use Rattle.fg_control.proofs.Lists.{set_by}
-use Rattle.fg_control.specs.Code.Running.{is_among}
+use Rattle.fg_control.specs.Internal.Running.{is_among}
 use Rattle.fg_steps.specs.Ready.{hits}
 use Rattle.fg_view.specs.Views.{View}
 

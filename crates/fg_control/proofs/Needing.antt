@@ -4,11 +4,11 @@ use Rattle.std.proofs.lemmas.Bool.{and_parts, cases_Bool, cases_lt, false≢true
 use Rattle.std.proofs.lemmas.List.{get_or_append_left, get_or_push, length-append}
 use Rattle.fg_control.proofs.Below.{some_one}
 use Rattle.fg_control.proofs.Free.{edge_done, line_clash, met_edge, met_within}
-use Rattle.fg_control.proofs.Readiness.{NoneBelow, busy, follows, held_up}
-use Rattle.fg_control.specs.Code.Held.{holds_all, holds_by_sync, is_open, Gathers}
-use Rattle.fg_control.specs.Code.Needs.{waits_at, no_need, HoldAll, IsListed, NeedsBelow, NoLooseReady, NoneReadyFrom}
+use Rattle.fg_control.proofs.Readiness.{NoneBelow, busy, follows, blocked_up}
+use Rattle.fg_control.specs.Internal.Blocked.{blocks_all, blocks_by_sync, is_open, Gathers}
+use Rattle.fg_control.specs.Internal.Needs.{waits_at, no_need, BlockAll, IsListed, NeedsBelow, NoLooseReady, NoneReadyFrom}
 use Rattle.fg_control.specs.Controls.{Control, counter_of, is_ready, phase_of, NoneReady}
-use Rattle.fg_control.specs.declared.held.Held.{Held}
+use Rattle.fg_control.specs.declared.blocked.Blocked.{Blocked}
 use Rattle.fg_control.specs.declared.needs.Need.{Need}
 use Rattle.fg_hb.specs.Edges.{is_sync, meeting}
 use Rattle.fg_steps.specs.Ready.{kind_at}
@@ -47,7 +47,7 @@ module _ (c : Control) (n : ℕ) (lt : n < length c.view.nodes) where
 
   open_waits : (o : Option ℕ) → meeting c.view.nodes (kind_at c.view n) ≡ o → is_open (phase_of c) o ≡ true → is_ready c n ≡ false
   open_waits None e h = absurd (false≢true h)
-  open_waits (Some x) e h = held_up c.view (phase_of c) (counter_of c) n (⊎_elim
+  open_waits (Some x) e h = blocked_up c.view (phase_of c) (counter_of c) n (⊎_elim
       (λ t. absurd (false≢true (sym (ap not (edge_done c.view (phase_of c) n lt t x (met_within c.view.nodes (kind_at c.view n) x e) (met_edge c.view.nodes x n e))) ∙ h)))
       (λ f. f)
       (cases_Bool (follows c.view (phase_of c) (counter_of c) n)))
@@ -62,22 +62,22 @@ module _ (c : Control) (n : ℕ) (lt : n < length c.view.nodes) where
       still true h = refl
       still false h = absurd (false≢true (sym h))
 
--- what holds back each node that waits at some stage
-pub all_waiting : (c : Control) (queue n : ℕ) (held : Held) → Gathers c.view (phase_of c) queue n held → HoldAll c.view queue (length c.view.nodes) held.by_syncs.0 → NoLooseReady c queue → NoneReadyFrom c queue n
-all_waiting c queue n held G H none m le lt on = ⊎_elim
+-- what blocks each node that waits at some stage
+pub all_waiting : (c : Control) (queue n : ℕ) (blocked : Blocked) → Gathers c.view (phase_of c) queue n blocked → BlockAll c.view queue (length c.view.nodes) blocked.by_syncs.0 → NoLooseReady c queue → NoneReadyFrom c queue n
+all_waiting c queue n blocked G H none m le lt on = ⊎_elim
     (λ (loose : (waits_at c.view m == 0) ≡ true). none m lt on loose)
     (λ (some : (waits_at c.view m == 0) ≡ false).
-    let below = some_one (holds_by_sync c.view (phase_of c) queue (waits_at c.view m)) n (sym (G.by_syncs (waits_at c.view m)) ∙ H m lt on some) in
-    held_up c.view (phase_of c) (counter_of c) m (⊎_elim
+    let below = some_one (blocks_by_sync c.view (phase_of c) queue (waits_at c.view m)) n (sym (G.by_syncs (waits_at c.view m)) ∙ H m lt on some) in
+    blocked_up c.view (phase_of c) (counter_of c) m (⊎_elim
     (λ t. absurd (stuck below.0 below.1 below.2 t))
     (λ f. f)
     (cases_Bool (follows c.view (phase_of c) (counter_of c) m))))
     (cases_Bool (waits_at c.view m == 0))
   where
-    stuck : (x : ℕ) → x < n → holds_by_sync c.view (phase_of c) queue (waits_at c.view m) x ≡ true → follows c.view (phase_of c) (counter_of c) m ≡ true → ⊥
+    stuck : (x : ℕ) → x < n → blocks_by_sync c.view (phase_of c) queue (waits_at c.view m) x ≡ true → follows c.view (phase_of c) (counter_of c) m ≡ true → ⊥
     stuck x l h t =
-        let p = and_parts (is_sync (kind_at c.view x)) (holds_all c.view (phase_of c) queue (waits_at c.view m) x) h in
-        line_clash c.view (phase_of c) m lt t x (omega (arith, l, le)) (subst (λ q. holds_all c.view (phase_of c) q (waits_at c.view m) x ≡ true) (sym on) p.1) (or_left (is_sync (kind_at c.view x)) (is_sync (kind_at c.view m)) p.0)
+        let p = and_parts (is_sync (kind_at c.view x)) (blocks_all c.view (phase_of c) queue (waits_at c.view m) x) h in
+        line_clash c.view (phase_of c) m lt t x (omega (arith, l, le)) (subst (λ q. blocks_all c.view (phase_of c) q (waits_at c.view m) x ≡ true) (sym on) p.1) (or_left (is_sync (kind_at c.view x)) (is_sync (kind_at c.view m)) p.0)
 
 -- no node below n and none from it on
 pub none_below_from : (c : Control) (queue n : ℕ) → NoneBelow c queue n → NoneReadyFrom c queue n → NoneReady c queue

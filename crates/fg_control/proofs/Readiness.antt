@@ -7,8 +7,8 @@ use Rattle.std.proofs.lemmas.Option.{slice_get_within}
 use Rattle.fg_control.proofs.Free.{signal_not_host}
 use Rattle.fg_control.proofs.Listing.{runs_on}
 use Rattle.fg_control.proofs.Lists.{set_put}
-use Rattle.fg_control.specs.Code.Running.{Runs}
-use Rattle.fg_control.specs.Code.Spans.{Spanned}
+use Rattle.fg_control.specs.Internal.Running.{Runs}
+use Rattle.fg_control.specs.Internal.Spans.{Spanned}
 use Rattle.fg_control.specs.Controls.{Control, phase_of, is_ready, IsNext, NoneReady}
 use Rattle.fg_control.specs.declared.running.Running.{Running}
 use Rattle.fg_control.specs.declared.spans.Spans.{Spans}
@@ -18,7 +18,7 @@ use Rattle.fg_steps.specs.Ready.{kind_at, each_node, reached, may_go}
 use Rattle.fg_steps.specs.States.{is_idle, is_begun, is_done, put}
 use Rattle.fg_steps.specs.declared.phase.Phase.{Phase}
 use Rattle.fg_steps.specs.declared.phase.Phase.TheVariants.{Idle, Begun, Done}
-use Rattle.fg_view.specs.ShapedView.{ShapedView}
+use Rattle.fg_view.specs.ValidView.{ValidView}
 use Rattle.fg_view.specs.Views.{View, queue_at}
 
 -- PHASES
@@ -68,8 +68,8 @@ module _ (V : View) (phase : ℕ → Phase) (counter : ℕ → ℕ) (n : ℕ) wh
   pub busy : is_idle (phase n) ≡ false → may_go V phase counter n ≡ false
   busy e = fails_second (nat_lt n (length V.nodes)) (is_idle (phase n)) (follows && reached (kind_at V n) counter) e
 
-  pub held_up : follows ≡ false → may_go V phase counter n ≡ false
-  held_up e = fails_third (nat_lt n (length V.nodes)) (is_idle (phase n)) follows (reached (kind_at V n) counter) e
+  pub blocked_up : follows ≡ false → may_go V phase counter n ≡ false
+  blocked_up e = fails_third (nat_lt n (length V.nodes)) (is_idle (phase n)) follows (reached (kind_at V n) counter) e
 
   pub waits_only : n < length V.nodes → is_idle (phase n) ≡ true → follows ≡ true → may_go V phase counter n ≡ reached (kind_at V n) counter
   waits_only lt idle done =
@@ -127,5 +127,5 @@ module _ (c : Control) (queue n : ℕ) where
 -- TIMELINES
 
 -- a signal has a queue
-pub signal_within : (V : View) → ShapedView V → (n : ℕ) → n < length V.nodes → is_signal (kind_at V n) ≡ true → queue_at V n < length V.families
+pub signal_within : (V : View) → ValidView V → (n : ℕ) → n < length V.nodes → is_signal (kind_at V n) ≡ true → queue_at V n < length V.families
 signal_within V S n lt s = let f = S.family n lt (signal_not_host (kind_at V n) s) in slice_get_within V.families (queue_at V n) f.0 f.1

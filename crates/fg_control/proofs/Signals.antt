@@ -10,7 +10,7 @@ use Rattle.std.specs.Prelude.{nat_lt, if◌then◌else◌}
 use Rattle.fg_base.proofs.Absence.{some_same}
 use Rattle.fg_control.proofs.Below.{IsLast, last_more}
 use Rattle.fg_control.proofs.Lists.{set_by}
-use Rattle.fg_control.specs.Code.Held.{signal_below}
+use Rattle.fg_control.specs.Internal.Blocked.{signal_below}
 use Rattle.fg_hb.specs.Edges.{is_signal, signals, next_signal, node_at}
 use Rattle.fg_hb.specs.Nodes.{no_node}
 use Rattle.fg_hb.specs.declared.node.Node.{Node}

@@ -1,7 +1,7 @@
 -- Spans of queues as nodes are done.
 use Rattle.std.proofs.Common.{◌≡◌, ℕ, ◌<◌, ◌≤◌, true, length, sym, ap, ◌∙◌, ⊎_elim, arith}
 use Rattle.std.proofs.lemmas.Bool.{cases_eq}
-use Rattle.fg_control.specs.Code.Spans.{from_of, Spanned}
+use Rattle.fg_control.specs.Internal.Spans.{from_of, Spanned}
 use Rattle.fg_control.specs.declared.spans.Spans.{Spans}
 use Rattle.fg_steps.proofs.Control.{put_at, put_other}
 use Rattle.fg_steps.specs.States.{is_done, put}

@@ -8,7 +8,7 @@ use Rattle.fg_control.proofs.Lists.{set_by, read_at}
 use Rattle.fg_steps.specs.Steps.{owner_by, layout_by, owned_after, laid_after}
 use Rattle.fg_steps.specs.declared.owner.Owner.{Owner}
 use Rattle.fg_steps.specs.declared.owner.Owner.TheVariants.{Unused}
-use Rattle.fg_view.specs.ShapedView.{ShapedView}
+use Rattle.fg_view.specs.ValidView.{ValidView}
 use Rattle.fg_view.specs.Views.{View, accesses_of, family_at}
 use Rattle.fg_view.specs.declared.access.Access.{Access}
 
@@ -20,7 +20,7 @@ abbrev pub OwnedFrom : View → ℕ → List Access → ℕ → List Owner → L
 OwnedFrom V n accesses i first owners = (p : ℕ) → owned_after V n (drop i accesses) p (get_or owners p Unused) ≡ owned_after V n accesses p (get_or first p Unused)
 
 -- each access is of a piece
-pub piece_there : (V : View) → ShapedView V → (n : ℕ) (accesses : List Access) → accesses ≡ accesses_of V n → (i : ℕ) (d : Access) → i < length accesses → (pieces : ℕ) → pieces ≡ length V.pieces → (get_or accesses i d).piece < pieces
+pub piece_there : (V : View) → ValidView V → (n : ℕ) (accesses : List Access) → accesses ≡ accesses_of V n → (i : ℕ) (d : Access) → i < length accesses → (pieces : ℕ) → pieces ≡ length V.pieces → (get_or accesses i d).piece < pieces
 piece_there V S n accesses e i d lt pieces count =
     subst (λ m. (get_or accesses i d).piece < m) (sym count) (S.known n i (get_or accesses i d) (subst (λ l. slice_get l i ≡ Some (get_or accesses i d)) e (slice_get-get_or accesses i d lt)))
 

@@ -2,31 +2,31 @@
 
 ghost use Rattle.std.specs.Prelude.{◌≡◌, ◌<◌, ◌+◌, ◌==◌, ◌&&◌, ◌↔◌, ℕ, List, length, true, false, IsTrue, IfOk, IfSome, IfNone};
 ghost use Rattle.fg_caches.specs.Lines.{Bytes};
-ghost use Rattle.fg_control.specs.Code.Held.{Gathers};
-ghost use Rattle.fg_control.specs.Code.Needs.{NoLooseReady, NoneReadyFrom};
+ghost use Rattle.fg_control.specs.Internal.Blocked.{Gathers};
+ghost use Rattle.fg_control.specs.Internal.Needs.{NoLooseReady, NoneReadyFrom};
 ghost use Rattle.fg_control.specs.Controls.{phase_of, mark_of, counter_of, is_ready, Agrees, IsNext, NoneReady};
 ghost use Rattle.fg_steps.specs.Laws.{AllDone};
-ghost use Rattle.fg_steps.specs.Ready.{is_spoilt};
+ghost use Rattle.fg_steps.specs.Ready.{loads_undefined};
 ghost use Rattle.fg_steps.specs.States.{State, is_begun, is_done, opened};
 ghost use Rattle.fg_steps.specs.Steps.{begun, ended, synced, hosted};
-ghost use Rattle.fg_view.specs.ShapedView.{ShapedView};
+ghost use Rattle.fg_view.specs.ValidView.{ValidView};
 ghost use Rattle.fg_view.specs.Views.{view_of, queue_at};
 
 use crate::fresh::Fresh;
 use crate::going::{may_go, might_go};
-use crate::held::Held;
+use crate::blocked::Blocked;
 use crate::lasts::last_signals;
 use crate::marks::{hits_running, mark};
 use crate::needs::Needs;
 use crate::pieces::{lay, own};
 use crate::running::Running;
 use crate::spans::{Spans, finish};
-use crate::spoilt::is_spoilt;
+use crate::undefined::loads_undefined;
 use crate::timeline::raise;
 use fg_base::{List, NoMemory};
 use fg_bits::Layout;
 use fg_steps::{Owner, Phase};
-use fg_subs::Shaped;
+use fg_subs::ValidProgram;
 use fg_view::{Access, View, view_of};
 use std::alloc::Global;
 use std::marker::Model;
@@ -50,7 +50,7 @@ pub struct Control {
 
 impl Model for Control {
     ghost use Rattle.fg_control.specs.Controls.{Control};
-    ghost use Rattle.fg_control.specs.Code.Kept.{control_in, IsKept};
+    ghost use Rattle.fg_control.specs.Internal.Kept.{control_in, IsKept};
 
     ghost Value = { Control };
 
@@ -61,7 +61,7 @@ impl Model for Control {
 
 impl Control {
     /// Of a program of which nothing has run.
-    pub fn new(alloc: Global, program: &Shaped) -> Result<Self, NoMemory>
+    pub fn new(alloc: Global, program: &ValidProgram) -> Result<Self, NoMemory>
         ensures view { IfOk result (λ control. control.view ≡ view_of program.now) }
         ensures agrees { IfOk result (λ control. (main : Bytes) → Agrees control (opened main)) }
     {
@@ -89,28 +89,28 @@ impl Control {
     /// The program as it is checked.
     pub fn view(&self) -> &View
         ensures view { result.now ≡ self.now.view }
-        ensures shaped { ShapedView self.now.view }
+        ensures shaped { ValidView self.now.view }
     {
         &self.view
     }
 
-    // What is held back after one number more.
-    fn past(&self, held: Held, queue: u32, n: u32) -> Held
+    // What is blocked after one number more.
+    fn past(&self, blocked: Blocked, queue: u32, n: u32) -> Blocked
         requires n { n < length self.now.view.nodes }
-        requires held { Gathers self.now.view (phase_of self.now) queue n held }
+        requires blocked { Gathers self.now.view (phase_of self.now) queue n blocked }
         ensures { Gathers self.now.view (phase_of self.now) queue (n + 1) result }
     {
         let node = self.view.node(n);
         if node.queue != queue {
-            return held;
+            return blocked;
         }
-        held.past(&node, self.phases[n as usize].is_done())
+        blocked.past(&node, self.phases[n as usize].is_done())
     }
 
-    // Whether the node may go on, where it is known what is held back.
-    fn may_go(&self, held: Held, n: u32) -> bool
+    // Whether the node may go on, where it is known what is blocked.
+    fn may_go(&self, blocked: Blocked, n: u32) -> bool
         requires n { n < length self.now.view.nodes }
-        requires held { Gathers self.now.view (phase_of self.now) (queue_at self.now.view n) n held }
+        requires blocked { Gathers self.now.view (phase_of self.now) (queue_at self.now.view n) n blocked }
         ensures { result ≡ is_ready self.now n }
     {
         may_go(
@@ -118,21 +118,21 @@ impl Control {
             &self.phases,
             &self.counters,
             &self.lasts,
-            held,
+            blocked,
             n,
         )
     }
 
-    // Whether the node is of the queue and may go on, where it is known what the queue holds back.
-    fn is_next(&self, held: Held, queue: u32, n: u32) -> bool
+    // Whether the node is of the queue and may go on, where it is known what the queue blocks.
+    fn is_next(&self, blocked: Blocked, queue: u32, n: u32) -> bool
         requires n { n < length self.now.view.nodes }
-        requires held { Gathers self.now.view (phase_of self.now) queue n held }
+        requires blocked { Gathers self.now.view (phase_of self.now) queue n blocked }
         ensures { result ≡ ((queue_at self.now.view n == queue) && is_ready self.now n) }
     {
         if self.view.node(n).queue != queue {
             return false;
         }
-        self.may_go(held, n)
+        self.may_go(blocked, n)
     }
 
     /// Whether the node is idle, and all that it waits for is done.
@@ -141,11 +141,11 @@ impl Control {
         ensures { result ≡ is_ready self.now node }
     {
         let queue = self.view.node(node).queue;
-        let mut held = Held::nothing();
+        let mut blocked = Blocked::nothing();
         for n in self.spans.from(queue as usize).min(node)..node {
-            held = self.past(held, queue, n);
+            blocked = self.past(blocked, queue, n);
         }
-        self.may_go(held, node)
+        self.may_go(blocked, node)
     }
 
     // Whether the node, if it waits at no stage, is of the queue and might go on.
@@ -168,12 +168,12 @@ impl Control {
         false
     }
 
-    // Whether what is held back before number n holds back every node of the queue from it on that waits at some stage.
-    fn all_wait(&self, held: Held, queue: u32, n: u32) -> bool
-        requires held { Gathers self.now.view (phase_of self.now) queue n held }
+    // Whether what is blocked before number n blocks every node of the queue from it on that waits at some stage.
+    fn all_wait(&self, blocked: Blocked, queue: u32, n: u32) -> bool
+        requires blocked { Gathers self.now.view (phase_of self.now) queue n blocked }
         ensures { IsTrue result → NoLooseReady self.now queue → NoneReadyFrom self.now queue n }
     {
-        self.needs.hold_all(held.by_syncs, queue)
+        self.needs.block_all(blocked.by_syncs, queue)
     }
 
     /// The least ready node of a queue; host reads are of the number after the last queue.
@@ -181,15 +181,15 @@ impl Control {
         ensures some { IfSome result (IsNext self.now queue) }
         ensures none { IfNone result (NoneReady self.now queue) }
     {
-        let mut held = Held::nothing();
+        let mut blocked = Blocked::nothing();
         let mut looked = false;
         let from = self.spans.from(queue as usize);
         for n in from..self.spans.to(&self.view, queue as usize) {
-            if self.is_next(held, queue, n) {
+            if self.is_next(blocked, queue, n) {
                 return Some(n);
             }
-            held = self.past(held, queue, n);
-            if !looked && self.all_wait(held, queue, n + 1) {
+            blocked = self.past(blocked, queue, n);
+            if !looked && self.all_wait(blocked, queue, n + 1) {
                 if !self.some_might_come(queue) {
                     return None;
                 }
@@ -200,14 +200,14 @@ impl Control {
     }
 
     /// Whether the bytes that the node loads by this access are junk.
-    pub fn is_spoilt(&self, node: u32, access: Access) -> bool
+    pub fn loads_undefined(&self, node: u32, access: Access) -> bool
         requires node { node < length self.now.view.nodes }
         requires piece { access.piece < length self.now.view.pieces }
-        ensures { (s : State) → Agrees self.now s → result ≡ is_spoilt self.now.view s node access }
+        ensures { (s : State) → Agrees self.now s → result ≡ loads_undefined self.now.view s node access }
     {
         let piece = access.piece as usize;
         let (layout, owner) = (self.layouts[piece], self.owners[piece]);
-        is_spoilt(&self.view, &self.running, layout, owner, node, access)
+        loads_undefined(&self.view, &self.running, layout, owner, node, access)
     }
 
     // How far the node is; one that is not there is idle.

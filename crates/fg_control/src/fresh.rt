@@ -2,7 +2,7 @@
 
 ghost use Rattle.std.specs.Prelude.{◌≡◌, length, replicate, false, IfOk};
 ghost use Rattle.fg_bits.specs.declared.layout.Layout.TheVariants.{Undefined};
-ghost use Rattle.fg_control.specs.Code.Fresh.{IsFresh};
+ghost use Rattle.fg_control.specs.Internal.Fresh.{IsFresh};
 ghost use Rattle.fg_steps.specs.declared.owner.Owner.TheVariants.{Unused};
 ghost use Rattle.fg_steps.specs.declared.phase.Phase.TheVariants.{Idle};
 

@@ -1,62 +1,62 @@
 //! Which nodes may go on.
 
 ghost use Rattle.std.specs.Prelude.{◌≡◌, ◌<◌, ◌&&◌, ◌||◌, not, length, get_or};
-ghost use Rattle.fg_control.specs.Code.Held.{is_free, is_open, AreLast, Gathers};
+ghost use Rattle.fg_control.specs.Internal.Blocked.{is_free, is_open, AreLast, Gathers};
 ghost use Rattle.fg_hb.specs.Edges.{edge, meeting};
 ghost use Rattle.fg_steps.specs.Ready.{each_node, kind_at, may_go};
 ghost use Rattle.fg_steps.specs.States.{is_done, is_idle};
 ghost use Rattle.fg_steps.specs.declared.phase.Phase.TheVariants.{Idle};
-ghost use Rattle.fg_view.specs.ShapedView.{ShapedView};
+ghost use Rattle.fg_view.specs.ValidView.{ValidView};
 ghost use Rattle.fg_view.specs.Views.{queue_at};
 
-use crate::held::Held;
+use crate::blocked::Blocked;
 use crate::lasts::{is_open, none_open};
 use fg_steps::{Phase, has_reached};
 use fg_view::View;
 
-// Whether nothing holds node n back: what its queue holds back before it, the signal that meets it, and for a host read the last
+// Whether nothing blocks node n: what its queue blocks before it, the signal that meets it, and for a host read the last
 // signals.
-fn is_free(view: &View, phases: &[Phase], lasts: &[Option<usize>], held: Held, n: u32) -> bool
+fn is_free(view: &View, phases: &[Phase], lasts: &[Option<usize>], blocked: Blocked, n: u32) -> bool
     requires n { n < length view.now.nodes }
-    ensures { result ≡ is_free view.now (λ x. get_or phases.now x Idle) lasts.now held n }
+    ensures { result ≡ is_free view.now (λ x. get_or phases.now x Idle) lasts.now blocked n }
 {
     let node = view.node(n);
-    !held.holds(&node)
+    !blocked.blocks(&node)
         && !is_open(phases, view.edges().met(n as usize))
         && (!node.kind.is_host() || none_open(phases, lasts))
 }
 
 // Whether each node with a direct edge to node n is done.
-fn follows_done(view: &View, phases: &[Phase], lasts: &[Option<usize>], held: Held, n: u32) -> bool
-    requires shaped { ShapedView view.now }
+fn follows_done(view: &View, phases: &[Phase], lasts: &[Option<usize>], blocked: Blocked, n: u32) -> bool
+    requires shaped { ValidView view.now }
     requires n { n < length view.now.nodes }
     requires lasts { AreLast view.now lasts.now }
-    requires held { Gathers view.now (λ x. get_or phases.now x Idle) (queue_at view.now n) n held }
+    requires blocked { Gathers view.now (λ x. get_or phases.now x Idle) (queue_at view.now n) n blocked }
     ensures { result ≡ each_node view.now (λ x. not (edge view.now.nodes x n) || is_done (get_or phases.now x Idle)) }
 {
-    is_free(view, phases, lasts, held, n)
+    is_free(view, phases, lasts, blocked, n)
 }
 
-/// Whether the node may go on, where it is known what the earlier ones of its queue hold back.
+/// Whether the node may go on, where it is known what the earlier ones of its queue block.
 pub(crate) fn may_go(
     view: &View,
     phases: &[Phase],
     counters: &[u64],
     lasts: &[Option<usize>],
-    held: Held,
+    blocked: Blocked,
     n: u32,
 ) -> bool
-    requires shaped { ShapedView view.now }
+    requires shaped { ValidView view.now }
     requires n { n < length view.now.nodes }
     requires size { length phases.now ≡ length view.now.nodes }
     requires lasts { AreLast view.now lasts.now }
-    requires held { Gathers view.now (λ x. get_or phases.now x Idle) (queue_at view.now n) n held }
+    requires blocked { Gathers view.now (λ x. get_or phases.now x Idle) (queue_at view.now n) n blocked }
     ensures { result ≡ may_go view.now (λ x. get_or phases.now x Idle) (λ q. get_or counters.now q 0) n }
 {
     if !phases[n as usize].is_idle() {
         return false;
     }
-    if !follows_done(view, phases, lasts, held, n) {
+    if !follows_done(view, phases, lasts, blocked, n) {
         return false;
     }
     has_reached(view.node(n).kind, counters)

@@ -2,9 +2,9 @@
 
 ghost use Rattle.std.specs.Prelude.{◌≡◌, ◌<◌, ◌+◌, ℕ, not, length, get_or, IfOk, None};
 ghost use Rattle.std.specs.List.{list_all};
-ghost use Rattle.fg_control.specs.Code.Held.{is_open, signal_below, AreLast};
+ghost use Rattle.fg_control.specs.Internal.Blocked.{is_open, signal_below, AreLast};
 ghost use Rattle.fg_steps.specs.declared.phase.Phase.TheVariants.{Idle};
-ghost use Rattle.fg_view.specs.ShapedView.{ShapedView};
+ghost use Rattle.fg_view.specs.ValidView.{ValidView};
 
 use fg_base::{List, NoMemory};
 use fg_steps::Phase;
@@ -13,7 +13,7 @@ use std::alloc::Global;
 
 // Goes past node n.
 fn put_signal(lasts: &mut List<Option<usize>>, view: &View, n: u32)
-    requires shaped { ShapedView view.now }
+    requires shaped { ValidView view.now }
     requires n { n < length view.now.nodes }
     requires size { length lasts.old ≡ length view.now.families }
     ensures size { length lasts.new ≡ length lasts.old }
@@ -32,7 +32,7 @@ pub(crate) fn last_signals(
     view: &View,
     queues: usize,
 ) -> Result<List<Option<usize>>, NoMemory>
-    requires shaped { ShapedView view.now }
+    requires shaped { ValidView view.now }
     requires queues { queues ≡ length view.now.families }
     ensures { IfOk result (λ lasts. AreLast view.now lasts) }
 {

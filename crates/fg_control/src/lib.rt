@@ -4,14 +4,14 @@
 mod control;
 mod fresh;
 mod going;
-mod held;
+mod blocked;
 mod lasts;
 mod marks;
 mod needs;
 mod pieces;
 mod running;
 mod spans;
-mod spoilt;
+mod undefined;
 mod timeline;
 
 pub use control::Control;

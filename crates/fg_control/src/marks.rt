@@ -2,10 +2,10 @@
 
 ghost use Rattle.std.specs.Prelude.{◌≡◌, ◌<◌, ◌==◌, ◌&&◌, ◌||◌, ℕ, not, length, get_or, false};
 ghost use Rattle.std.specs.List.{list_any};
-ghost use Rattle.fg_control.specs.Code.Running.{is_among, IsOfNodes, any_of};
+ghost use Rattle.fg_control.specs.Internal.Running.{is_among, IsOfNodes, any_of};
 ghost use Rattle.fg_steps.specs.Ready.{hits, stores_over};
 ghost use Rattle.fg_view.specs.AccessKinds.{transfers};
-ghost use Rattle.fg_view.specs.ShapedView.{ShapedView};
+ghost use Rattle.fg_view.specs.ValidView.{ValidView};
 ghost use Rattle.fg_view.specs.Views.{accesses_of, clash};
 
 use crate::running::Running;
@@ -14,7 +14,7 @@ use fg_view::{Access, View};
 
 // Whether the access clashes with what node n does, but for transfers.
 fn clashes(view: &View, a: Access, n: u32) -> bool
-    requires shaped { ShapedView view.now }
+    requires shaped { ValidView view.now }
     requires n { n < length view.now.nodes }
     requires piece { a.piece < length view.now.pieces }
     ensures { result ≡ list_any (λ b. not (transfers b.kind) && clash view.now a b) (accesses_of view.now n) }
@@ -29,7 +29,7 @@ fn clashes(view: &View, a: Access, n: u32) -> bool
 
 /// Whether a change by node x clashes with what node n does.
 pub(crate) fn hits(view: &View, x: u32, n: u32) -> bool
-    requires shaped { ShapedView view.now }
+    requires shaped { ValidView view.now }
     requires x { x < length view.now.nodes }
     requires n { n < length view.now.nodes }
     ensures { result ≡ hits view.now x n }
@@ -47,7 +47,7 @@ pub(crate) fn hits(view: &View, x: u32, n: u32) -> bool
 
 // Whether node x stores to bytes of the piece.
 fn stores_over(view: &View, piece: u32, x: u32) -> bool
-    requires shaped { ShapedView view.now }
+    requires shaped { ValidView view.now }
     requires x { x < length view.now.nodes }
     requires piece { piece < length view.now.pieces }
     ensures { result ≡ stores_over view.now piece x }
@@ -62,7 +62,7 @@ fn stores_over(view: &View, piece: u32, x: u32) -> bool
 
 // Marks node x, where its store clashes with what node n does.
 fn mark_one(marked: &mut List<bool>, view: &View, x: u32, n: u32)
-    requires shaped { ShapedView view.now }
+    requires shaped { ValidView view.now }
     requires x { x < length view.now.nodes }
     requires n { n < length view.now.nodes }
     requires size { length marked.old ≡ length view.now.nodes }
@@ -77,7 +77,7 @@ fn mark_one(marked: &mut List<bool>, view: &View, x: u32, n: u32)
 
 /// Marks the begun commands whose store clashes with what node n does.
 pub(crate) fn mark(marked: &mut List<bool>, view: &View, running: &Running, n: u32)
-    requires shaped { ShapedView view.now }
+    requires shaped { ValidView view.now }
     requires n { n < length view.now.nodes }
     requires nodes { IsOfNodes (length view.now.nodes) running.now }
     requires size { length marked.old ≡ length view.now.nodes }
@@ -91,7 +91,7 @@ pub(crate) fn mark(marked: &mut List<bool>, view: &View, running: &Running, n: u
 
 /// Whether node n's store clashes with what a begun command does.
 pub(crate) fn hits_running(view: &View, running: &Running, n: u32) -> bool
-    requires shaped { ShapedView view.now }
+    requires shaped { ValidView view.now }
     requires n { n < length view.now.nodes }
     requires nodes { IsOfNodes (length view.now.nodes) running.now }
     ensures { result ≡ any_of running.now (λ x. hits view.now n x) }
@@ -106,7 +106,7 @@ pub(crate) fn hits_running(view: &View, running: &Running, n: u32) -> bool
 
 /// Whether a begun command but node n stores to bytes of the piece.
 pub(crate) fn is_torn(view: &View, running: &Running, n: u32, piece: u32) -> bool
-    requires shaped { ShapedView view.now }
+    requires shaped { ValidView view.now }
     requires piece { piece < length view.now.pieces }
     requires nodes { IsOfNodes (length view.now.nodes) running.now }
     ensures { result ≡ any_of running.now (λ x. not (x == n) && stores_over view.now piece x) }

@@ -1,7 +1,7 @@
 //! What the nodes of queues wait for, known beforehand.
 
 ghost use Rattle.std.specs.Prelude.{◌≡◌, ◌<◌, ◌+◌, ℕ, length, IfOk, IsTrue};
-ghost use Rattle.fg_control.specs.Code.Needs.{AreNodes, HoldAll, IsListed, LooseBelow, Needed, NeedsBelow};
+ghost use Rattle.fg_control.specs.Internal.Needs.{AreNodes, BlockAll, IsListed, LooseBelow, Needed, NeedsBelow};
 
 use bitflags::Flags;
 use fg_base::{List, NoMemory};
@@ -16,7 +16,7 @@ pub(crate) struct Need {
     pub(crate) stages: Stages,
 }
 
-/// The stages at which nodes wait, and the nodes that wait at none. What holds back one stage of each need of a queue holds back
+/// The stages at which nodes wait, and the nodes that wait at none. What blocks one stage of each need of a queue blocks
 /// every node of it that waits at some stage, so a search for the next node has to look no further but at those that wait at none.
 #[derive(Debug, Drop)]
 pub(crate) struct Needs {
@@ -96,13 +96,13 @@ impl Needs {
         })
     }
 
-    /// Whether these stages hold back each node of the queue that waits at some stage.
-    pub(crate) fn hold_all(&self, held: Stages, queue: u32) -> bool
-        ensures { IsTrue result → (V : _) (n : ℕ) → NeedsBelow V n self.now.list → HoldAll V queue n held.0 }
+    /// Whether these stages block each node of the queue that waits at some stage.
+    pub(crate) fn block_all(&self, blocked: Stages, queue: u32) -> bool
+        ensures { IsTrue result → (V : _) (n : ℕ) → NeedsBelow V n self.now.list → BlockAll V queue n blocked.0 }
     {
         for i in 0..self.list.len() {
             let need = self.list[i];
-            if need.queue == queue && !need.stages.is_empty() && !held.intersects(need.stages) {
+            if need.queue == queue && !need.stages.is_empty() && !blocked.intersects(need.stages) {
                 return false;
             }
         }

@@ -4,7 +4,7 @@ ghost use Rattle.std.specs.Prelude.{◌≡◌, ◌<◌, ℕ, length, get_or};
 ghost use Rattle.fg_bits.specs.declared.layout.Layout.TheVariants.{Undefined};
 ghost use Rattle.fg_steps.specs.Steps.{laid_after, owned_after};
 ghost use Rattle.fg_steps.specs.declared.owner.Owner.TheVariants.{Unused};
-ghost use Rattle.fg_view.specs.ShapedView.{ShapedView};
+ghost use Rattle.fg_view.specs.ValidView.{ValidView};
 ghost use Rattle.fg_view.specs.Views.{accesses_of};
 
 use fg_base::List;
@@ -14,7 +14,7 @@ use fg_view::View;
 
 /// The layouts after node n's accesses.
 pub(crate) fn lay(layouts: &mut List<Layout>, view: &View, n: u32)
-    requires shaped { ShapedView view.now }
+    requires shaped { ValidView view.now }
     requires n { n < length view.now.nodes }
     requires size { length layouts.old ≡ length view.now.pieces }
     ensures size { length layouts.new ≡ length layouts.old }
@@ -29,7 +29,7 @@ pub(crate) fn lay(layouts: &mut List<Layout>, view: &View, n: u32)
 
 /// The owners after node n's accesses.
 pub(crate) fn own(owners: &mut List<Owner>, view: &View, n: u32)
-    requires shaped { ShapedView view.now }
+    requires shaped { ValidView view.now }
     requires n { n < length view.now.nodes }
     requires size { length owners.old ≡ length view.now.pieces }
     ensures size { length owners.new ≡ length owners.old }

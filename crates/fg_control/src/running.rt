@@ -2,7 +2,7 @@
 
 ghost use Rattle.std.specs.Prelude.{◌≡◌, ◌<◌, ◌≤◌, ◌+◌, ℕ, length, get_or, true, false, IfOk};
 ghost use Rattle.fg_base.specs.Maxima.{max_nodes};
-ghost use Rattle.fg_control.specs.Code.Running.{Runs};
+ghost use Rattle.fg_control.specs.Internal.Running.{Runs};
 ghost use Rattle.fg_steps.specs.States.{is_begun, put};
 ghost use Rattle.fg_steps.specs.declared.phase.Phase.{Phase};
 ghost use Rattle.fg_steps.specs.declared.phase.Phase.TheVariants.{Begun, Done};

@@ -2,7 +2,7 @@
 
 ghost use Rattle.std.specs.Prelude.{◌≡◌, ◌<◌, ◌≤◌, ◌+◌, ℕ, length, get_or, slice_set, true, IfOk};
 ghost use Rattle.fg_base.specs.Maxima.{max_nodes};
-ghost use Rattle.fg_control.specs.Code.Spans.{from_of, to_of, Spanned, Ends};
+ghost use Rattle.fg_control.specs.Internal.Spans.{from_of, to_of, Spanned, Ends};
 ghost use Rattle.fg_steps.specs.States.{is_done};
 ghost use Rattle.fg_steps.specs.declared.phase.Phase.TheVariants.{Idle, Done};
 ghost use Rattle.fg_view.specs.Views.{queue_at};

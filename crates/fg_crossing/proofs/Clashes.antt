@@ -5,12 +5,12 @@ use Rattle.fg_base.specs.Shapes.{bytes_of}
 use Rattle.fg_crossing.proofs.KindTables.{plain_keeps}
 use Rattle.fg_crossing.specs.Kinds.{is_plain}
 use Rattle.fg_view.specs.AccessKinds.{changes, transfers}
-use Rattle.fg_view.specs.ShapedView.{Has, ShapedView}
+use Rattle.fg_view.specs.ValidView.{Has, ValidView}
 use Rattle.fg_view.specs.Views.{View, clash, is_before_end, overlap, piece_at}
 use Rattle.fg_view.specs.declared.access.Access.{Access}
 
 -- the piece of an access has bytes, so it overlaps itself
-pub itself : (V : View) → ShapedView V → (n : ℕ) (a : Access) → Has V n a → overlap V a.piece a.piece ≡ true
+pub itself : (V : View) → ValidView V → (n : ℕ) (a : Access) → Has V n a → overlap V a.piece a.piece ≡ true
 itself V S n a (i, e) =
     let P = piece_at V a.piece in
     let some = S.some a.piece (S.known n i a e) in

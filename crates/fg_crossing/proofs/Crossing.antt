@@ -78,15 +78,15 @@ module _ (V : View) (D : IsFull V) where
   -- THE LAW
 
   module _ (F : Plan) (N : Nodes) (P : Places F V N) where
-    -- from a member of a group to the turn of the next group of its unit
-    into_next : (g c : ℕ) → F.piece g ≡ F.piece (g + 1) → F.member c g ≡ true → Later V.nodes (N.command c) (N.turn (g + 1))
+    -- from a member of a group to the prologue of the next group of its unit
+    into_next : (g c : ℕ) → F.piece g ≡ F.piece (g + 1) → F.member c g ≡ true → Later V.nodes (N.command c) (N.prologue (g + 1))
     into_next g c e m = go (cases_Bool (N.released g))
       where
-        go : (N.released g ≡ true) ⊎ (N.released g ≡ false) → Later V.nodes (N.command c) (N.turn (g + 1))
-        go (inl r) = later_then (N.command c) (N.release g) (N.turn (g + 1)) (P.into_release g c r m) (inr (P.into_acquire g (g + 1) r (next_leads F g e)))
-        go (inr r) = P.into_turn g c e r m
+        go : (N.released g ≡ true) ⊎ (N.released g ≡ false) → Later V.nodes (N.command c) (N.prologue (g + 1))
+        go (inl r) = later_then (N.command c) (N.release g) (N.prologue (g + 1)) (P.into_release g c r m) (inr (P.into_acquire g (g + 1) r (next_leads F g e)))
+        go (inr r) = P.into_prologue g c e r m
 
     pub crossing : (c d : ℕ) → Reach F c d → Later V.nodes (N.command c) (N.command d)
     crossing c d (by_queue e lt h) = inl (P.steps c d e lt h)
-    crossing c d (by_need {g = g} e hc hd) = later_then (N.command c) (N.turn (g + 1)) (N.command d) (into_next g c e hc) (P.onto (g + 1) d (P.turned g (g + 1) (next_leads F g e)) hd)
+    crossing c d (by_need {g = g} e hc hd) = later_then (N.command c) (N.prologue (g + 1)) (N.command d) (into_next g c e hc) (P.onto (g + 1) d (P.has_prologue g (g + 1) (next_leads F g e)) hd)
     crossing c d (then_reach {d = m} p q) = later_then (N.command c) (N.command m) (N.command d) (crossing c m p) (crossing m d q)

@@ -109,7 +109,7 @@ change_stores (Discard layout) h n = absurd (n refl)
 change_stores (Release handover) h n = absurd (false≢true h)
 change_stores (Acquire handover) h n = absurd (false≢true h)
 
--- a discard is what a turn does
+-- a discard is what a prologue does
 pub discard_entry : (d : AccessKind) → is_discard d ≡ true → (is_plain d ≡ false) × (is_release d ≡ false)
 discard_entry (Load agent layout) h = absurd (false≢true h)
 discard_entry (Store agent layout) h = absurd (false≢true h)

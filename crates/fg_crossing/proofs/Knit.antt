@@ -1,17 +1,17 @@
--- Groups that lead to one another by turns tie all accesses that clash.
+-- Groups that lead to one another by prologues sync_hazard all accesses that clash.
 use Rattle.std.proofs.Common.{◌≡◌, ◌⊎◌, inl, inr, ℕ, Bool, true, refl, sym, subst}
-use Rattle.fg_crossing.proofs.Passing.{Enters, Ties, enters_then, ties_through}
+use Rattle.fg_crossing.proofs.Passing.{Enters, Synchronizes, enters_then, synchronizes_through}
 use Rattle.fg_crossing.specs.Masks.{Leaves}
 use Rattle.fg_reach.specs.Paths.{Path, one, then_on}
 use Rattle.fg_ties.proofs.Passes.{up_to_on}
 use Rattle.fg_ties.specs.Passing.{Before, UpTo, Passed}
-use Rattle.fg_ties.specs.Tied.{Clashing, Tied}
-use Rattle.fg_view.specs.ShapedView.{Has}
+use Rattle.fg_ties.specs.Synchronized.{Clashing, Synchronized}
+use Rattle.fg_view.specs.ValidView.{Has}
 use Rattle.fg_view.specs.Views.{View}
 use Rattle.fg_view.specs.declared.access.Access.{Access}
 
 abbrev pub Either : View → ℕ → Access → ℕ → Access → Type 0
-Either V x a y b = Ties V x a y b ⊎ Ties V y b x a
+Either V x a y b = Synchronizes V x a y b ⊎ Synchronizes V y b x a
 
 -- one group, or a way from one to the other
 abbrev pub OnAWay : (ℕ → ℕ → Bool) → ℕ → ℕ → Type 0
@@ -21,25 +21,25 @@ OnAWay leads g h = (g ≡ h) ⊎ Path leads g h ⊎ Path leads h g
 abbrev pub Acyclic : View → Type 0
 Acyclic V = (x : ℕ) → Before V x x → ⊥
 
--- leads g h: each access of group g goes through the turn of group h to each access of h
-pub record Knit (V : View) (leads : ℕ → ℕ → Bool) (turn : ℕ → ℕ) (Spot : ℕ → Access → ℕ → Type 0) : Type 0 where
+-- leads g h: each access of group g goes through the prologue of group h to each access of h
+pub record Knit (V : View) (leads : ℕ → ℕ → Bool) (prologue : ℕ → ℕ) (Spot : ℕ → Access → ℕ → Type 0) : Type 0 where
   pub spot : (x : ℕ) (a : Access) → Has V x a → (g : ℕ) × Spot x a g
-  pub enters : (x : ℕ) (a : Access) (g h : ℕ) → Spot x a g → leads g h ≡ true → Enters V x a (turn h)
-  pub leaves : (y : ℕ) (b : Access) (g h : ℕ) → Spot y b h → leads g h ≡ true → Leaves V (turn h) y b
-  pub through : (g h k : ℕ) → leads g h ≡ true → leads h k ≡ true → Before V (turn h) (turn k)
+  pub enters : (x : ℕ) (a : Access) (g h : ℕ) → Spot x a g → leads g h ≡ true → Enters V x a (prologue h)
+  pub leaves : (y : ℕ) (b : Access) (g h : ℕ) → Spot y b h → leads g h ≡ true → Leaves V (prologue h) y b
+  pub through : (g h k : ℕ) → leads g h ≡ true → leads h k ≡ true → Before V (prologue h) (prologue k)
   pub inside : (x y : ℕ) (a b : Access) (g : ℕ) → Spot x a g → Spot y b g → Clashing V x a y b → Either V x a y b
   pub apart : (x y : ℕ) (a b : Access) (g h : ℕ) → Spot x a g → Spot y b h → Clashing V x a y b → OnAWay leads g h
 
--- the first turn on the way from g to h, and the group right before h
-record Way (V : View) (leads : ℕ → ℕ → Bool) (turn : ℕ → ℕ) (g h : ℕ) : Type 0 where
+-- the first prologue on the way from g to h, and the group right before h
+record Way (V : View) (leads : ℕ → ℕ → Bool) (prologue : ℕ → ℕ) (g h : ℕ) : Type 0 where
   start : ℕ
   last : ℕ
   starts : leads g start ≡ true
   ends : leads last h ≡ true
-  along : UpTo V (turn start) (turn h)
+  along : UpTo V (prologue start) (prologue h)
 
-module _ (V : View) (leads : ℕ → ℕ → Bool) (turn : ℕ → ℕ) (Spot : ℕ → Access → ℕ → Type 0) (K : Knit V leads turn Spot) where
-  way : (g h : ℕ) → Path leads g h → Way V leads turn g h
+module _ (V : View) (leads : ℕ → ℕ → Bool) (prologue : ℕ → ℕ) (Spot : ℕ → Access → ℕ → Type 0) (K : Knit V leads prologue Spot) where
+  way : (g h : ℕ) → Path leads g h → Way V leads prologue g h
   way g h (one e) = record { start = h; last = g; starts = e; ends = e; along = inl refl }
   way g h (then_on {b = m} p q) =
       let A = way g m p in
@@ -49,27 +49,27 @@ module _ (V : View) (leads : ℕ → ℕ → Bool) (turn : ℕ → ℕ) (Spot : 
         last = B.last;
         starts = A.starts;
         ends = B.ends;
-        along = up_to_on V (turn A.start) (turn m) (turn h) A.along (up_to_on V (turn m) (turn B.start) (turn h) (inr (K.through A.last m B.start A.ends B.starts)) B.along);
+        along = up_to_on V (prologue A.start) (prologue m) (prologue h) A.along (up_to_on V (prologue m) (prologue B.start) (prologue h) (inr (K.through A.last m B.start A.ends B.starts)) B.along);
       }
 
-  pub ties_chain : (x y : ℕ) (a b : Access) (g h : ℕ) → Spot x a g → Spot y b h → Path leads g h → Ties V x a y b
-  ties_chain x y a b g h sa sb p =
+  pub synchronizes_chain : (x y : ℕ) (a b : Access) (g h : ℕ) → Spot x a g → Spot y b h → Path leads g h → Synchronizes V x a y b
+  synchronizes_chain x y a b g h sa sb p =
       let A = way g h p in
-      ties_through V x a (turn h) y b (enters_then V x a (turn A.start) (turn h) (K.enters x a g A.start sa A.starts) A.along) (K.leaves y b A.last h sb A.ends)
+      synchronizes_through V x a (prologue h) y b (enters_then V x a (prologue A.start) (prologue h) (K.enters x a g A.start sa A.starts) A.along) (K.leaves y b A.last h sb A.ends)
 
   pair : (x y : ℕ) (a b : Access) → Has V x a → Has V y b → Clashing V x a y b → Either V x a y b
   pair x y a b ha hb c = go (K.spot x a ha) (K.spot y b hb)
     where
       by : (g h : ℕ) → Spot x a g → Spot y b h → OnAWay leads g h → Either V x a y b
       by g h sa sb (inl e) = K.inside x y a b g sa (subst (λ z. Spot y b z) (sym e) sb) c
-      by g h sa sb (inr (inl p)) = inl (ties_chain x y a b g h sa sb p)
-      by g h sa sb (inr (inr p)) = inr (ties_chain y x b a h g sb sa p)
+      by g h sa sb (inr (inl p)) = inl (synchronizes_chain x y a b g h sa sb p)
+      by g h sa sb (inr (inr p)) = inr (synchronizes_chain y x b a h g sb sa p)
 
       go : (g : ℕ) × Spot x a g → (h : ℕ) × Spot y b h → Either V x a y b
       go (g, sa) (h, sb) = by g h sa sb (K.apart x y a b g h sa sb c)
 
-  pub knit_tied : Acyclic V → Tied V
-  knit_tied A = record { ordered = λ x y a b ha hb c. order (pair x y a b ha hb c); passed = λ x y a b ha hb c p changes keeps. pass x y a b p (pair x y a b ha hb c) }
+  pub knit_synchronized : Acyclic V → Synchronized V
+  knit_synchronized A = record { ordered = λ x y a b ha hb c. order (pair x y a b ha hb c); passed = λ x y a b ha hb c p changes keeps. pass x y a b p (pair x y a b ha hb c) }
     where
       order : {x y : ℕ} {a b : Access} → Either V x a y b → Before V x y ⊎ Before V y x
       order (inl t) = inl t.before

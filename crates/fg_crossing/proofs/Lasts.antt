@@ -4,7 +4,7 @@ use Rattle.std.proofs.lemmas.Bool.{cases_eq, cases_lt, and_from, and_parts}
 use Rattle.fg_crossing.proofs.Clashes.{piece_clash}
 use Rattle.fg_crossing.proofs.Knit.{Acyclic}
 use Rattle.fg_crossing.proofs.Ranks.{rank, phase, phase_small, At, at_of, at_has, rank_before, rank_same, before_rank}
-use Rattle.fg_crossing.proofs.Tying.{spot_piece}
+use Rattle.fg_crossing.proofs.Synchronizing.{spot_piece}
 use Rattle.fg_crossing.specs.Crossings.{IsFull}
 use Rattle.fg_crossing.specs.Local.{Local}
 use Rattle.fg_crossing.specs.Nodes.{Nodes}
@@ -13,7 +13,7 @@ use Rattle.fg_crossing.specs.Spots.{Spot}
 use Rattle.fg_stated.specs.PieceStates.{on_piece}
 use Rattle.fg_ties.specs.Passing.{Before}
 use Rattle.fg_view.specs.AccessKinds.{changes, transfers}
-use Rattle.fg_view.specs.ShapedView.{Has}
+use Rattle.fg_view.specs.ValidView.{Has}
 use Rattle.fg_view.specs.Views.{View, clash, node_access, overlap}
 use Rattle.fg_view.specs.declared.access.Access.{Access}
 use Rattle.fg_view.specs.declared.access.AccessKind.{AccessKind}
@@ -47,7 +47,7 @@ last_below P known (suc q) = go (known q) (last_below P known q)
     go (inr other) (inl (r, lt, p, none)) = inl (r, omega (arith, lt), p, λ k l m s. ⊎_elim (λ e. other (subst P e s)) (λ ne. none k l (omega (arith, m, ne)) s) (cases_eq k q))
     go (inr other) (inr none) = inr (λ k m s. ⊎_elim (λ e. other (subst P e s)) (λ ne. none k (omega (arith, m, ne)) s) (cases_eq k q))
 
--- each number is the rank of a turn, of members, or of a release
+-- each number is the rank of a prologue, of members, or of a release
 by_phase : (r : ℕ) → (g : ℕ) × ((r ≡ rank g 0) ⊎ ((r ≡ rank g 1) ⊎ (r ≡ rank g 2)))
 by_phase zero = (0, inl (omega arith))
 by_phase (suc r) = go (by_phase r)
@@ -68,7 +68,7 @@ Known P = P ⊎ (P → ⊥)
 
 -- it is known which groups have accesses of the sort, and in which phase
 pub record Sorted (F : Plan) (V : View) (N : Nodes) (sort : AccessKind → Bool) : Type 0 where
-  pub turn : (g : ℕ) → Known (InPhase F V N sort g 0)
+  pub prologue : (g : ℕ) → Known (InPhase F V N sort g 0)
   pub member : (g : ℕ) → Known (InPhase F V N sort g 1)
   pub release : (g : ℕ) → Known (InPhase F V N sort g 2)
 
@@ -126,7 +126,7 @@ module _ (F : Plan) (V : View) (N : Nodes) (sort : AccessKind → Bool) (p : ℕ
       known r = by (by_phase r)
         where
           by : (g : ℕ) × ((r ≡ rank g 0) ⊎ ((r ≡ rank g 1) ⊎ (r ≡ rank g 2))) → Known (SomeAt r)
-          by (g, inl e) = phase_known r g 0 (omega arith) e (S.turn g)
+          by (g, inl e) = phase_known r g 0 (omega arith) e (S.prologue g)
           by (g, inr (inl e)) = phase_known r g 1 (omega arith) e (S.member g)
           by (g, inr (inr e)) = phase_known r g 2 (omega arith) e (S.release g)
 

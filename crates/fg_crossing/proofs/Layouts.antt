@@ -16,17 +16,17 @@ use Rattle.fg_crossing.specs.Crossings.{IsFull}
 use Rattle.fg_crossing.specs.Local.{Local}
 use Rattle.fg_crossing.specs.Nodes.{Nodes}
 use Rattle.fg_crossing.specs.Plans.{Plan, First}
-use Rattle.fg_crossing.specs.Spots.{Spot, at_turn, at_member, at_release, at_reader, OfTurn}
+use Rattle.fg_crossing.specs.Spots.{Spot, at_prologue, at_member, at_release, at_reader, OfPrologue}
 use Rattle.fg_crossing.specs.States.{Laid}
 use Rattle.fg_hb.specs.Laws.{IsAsymmetric, IsIrreflexive}
 use Rattle.fg_hb.specs.Orders.{Order}
 use Rattle.fg_stated.specs.PieceStates.{last_on, layout_after, on_piece}
-use Rattle.fg_stated.specs.Stated.{LayoutAt}
+use Rattle.fg_stated.specs.StateValid.{LayoutAt}
 use Rattle.fg_ties.proofs.Ordered.{listed_of}
-use Rattle.fg_ties.specs.Tied.{Tied}
+use Rattle.fg_ties.specs.Synchronized.{Synchronized}
 use Rattle.fg_view.proofs.KindFacts.{layout_changes, wanting_keeps}
 use Rattle.fg_view.specs.AccessKinds.{changes, sets_layout, sets_owner, transfers, wanted}
-use Rattle.fg_view.specs.ShapedView.{Has, NodeAccessAt, ShapedView}
+use Rattle.fg_view.specs.ValidView.{Has, NodeAccessAt, ValidView}
 use Rattle.fg_view.specs.Views.{View, node_accesses_of}
 use Rattle.fg_view.specs.declared.access.Access.{Access}
 use Rattle.fg_view.specs.declared.access.AccessKind.{AccessKind}
@@ -35,8 +35,8 @@ use Rattle.fg_view.specs.declared.node_access.NodeAccess.{NodeAccess}
 layout_moves : (d : AccessKind) → sets_layout d ≡ true → (changes d || transfers d) ≡ true
 layout_moves d h = or_left (changes d) (transfers d) (layout_changes d h)
 
-module _ (F : Plan) (V : View) (N : Nodes) (D : IsFull V) (X : Local F V N) (S : ShapedView V) (Y : Laid F V N) where
-  -- an access at rank q wants the layout of group g, whose turn or members it comes after, up to the next turn; and the unit begins with one
+module _ (F : Plan) (V : View) (N : Nodes) (D : IsFull V) (X : Local F V N) (S : ValidView V) (Y : Laid F V N) where
+  -- an access at rank q wants the layout of group g, whose prologue or members it comes after, up to the next prologue; and the unit begins with one
   record Wants (p q : ℕ) (l : Layout) : Type 0 where
     group : ℕ
     piece : F.piece group ≡ p
@@ -47,10 +47,10 @@ module _ (F : Plan) (V : View) (N : Nodes) (D : IsFull V) (X : Local F V N) (S :
 
   wants_in : (n g : ℕ) (a : Access) (l : Layout) (s : Spot F V N n a g) → wanted a.kind ≡ Some l → Wants a.piece (rank g (phase F V N n a g s)) l
   wants_in n g a l (at_member {c = c} e m) w = record { group = g; piece = sym m.piece; layout = Y.member c g a l m w; after = omega arith; up_to = omega arith; begins = λ i first. Y.begins n g i a l (at_member e m) w first }
-  wants_in n g a l (at_turn e t) w =
-      let u = Y.turn g a l t w in
+  wants_in n g a l (at_prologue e t) w =
+      let u = Y.prologue g a l t w in
       let next : g ≡ u.0 + 1 = u.1 in
-      record { group = u.0; piece = u.2 ∙ sym t.piece; layout = u.3; after = omega (arith, next); up_to = omega (arith, next); begins = λ i first. Y.begins n g i a l (at_turn e t) w (record { same = first.same ∙ u.2; least = λ h k. first.least h (k ∙ sym u.2) }) }
+      record { group = u.0; piece = u.2 ∙ sym t.piece; layout = u.3; after = omega (arith, next); up_to = omega (arith, next); begins = λ i first. Y.begins n g i a l (at_prologue e t) w (record { same = first.same ∙ u.2; least = λ h k. first.least h (k ∙ sym u.2) }) }
   wants_in n g a l (at_release e r) w = absurd (release_wants_none a.kind l r.release w)
   wants_in n g a l (at_reader e r) w = absurd (none (sym (ap wanted (S.host (N.reader g) r.has.0 a r.has.1 (X.roles.readers g r.host))) ∙ w))
     where
@@ -60,23 +60,23 @@ module _ (F : Plan) (V : View) (N : Nodes) (D : IsFull V) (X : Local F V N) (S :
   wants_at : (n q : ℕ) (a : Access) (l : Layout) → At F V N n a q → wanted a.kind ≡ Some l → Wants a.piece q l
   wants_at n q a l A w = subst (λ z. Wants a.piece z l) A.is (wants_in n A.group a l A.spot w)
 
-  -- a layout is set by a turn
-  set_by_turn : (x g : ℕ) (a : Access) (s : Spot F V N x a g) → sets_layout a.kind ≡ true → (phase F V N x a g s ≡ 0) × OfTurn F V N g a
-  set_by_turn x g a (at_turn e t) so = (refl, t)
-  set_by_turn x g a (at_member e m) so = absurd (plain_sets_none a.kind m.plain (or_left (sets_layout a.kind) (sets_owner a.kind) so))
-  set_by_turn x g a (at_reader e r) so = absurd (plain_sets_none a.kind r.plain (or_left (sets_layout a.kind) (sets_owner a.kind) so))
-  set_by_turn x g a (at_release e r) so = absurd (release_changes_none a.kind r.release (or_right (changes a.kind) (sets_layout a.kind) so))
+  -- a layout is set by a prologue
+  set_by_prologue : (x g : ℕ) (a : Access) (s : Spot F V N x a g) → sets_layout a.kind ≡ true → (phase F V N x a g s ≡ 0) × OfPrologue F V N g a
+  set_by_prologue x g a (at_prologue e t) so = (refl, t)
+  set_by_prologue x g a (at_member e m) so = absurd (plain_sets_none a.kind m.plain (or_left (sets_layout a.kind) (sets_owner a.kind) so))
+  set_by_prologue x g a (at_reader e r) so = absurd (plain_sets_none a.kind r.plain (or_left (sets_layout a.kind) (sets_owner a.kind) so))
+  set_by_prologue x g a (at_release e r) so = absurd (release_changes_none a.kind r.release (or_right (changes a.kind) (sets_layout a.kind) so))
 
   -- the last one set is that of the group
   module _ (p q : ℕ) (l : Layout) (W : Wants p q l) where
-    turn_sets : (k : ℕ) → F.piece k ≡ p → Y.sets k ≡ true → (x : ℕ) × (a : Access) × SortAt F V N sets_layout p x a (rank k 0)
-    turn_sets k pk h = let t = Y.there k h in sort_at F V N sets_layout p k 0 pk (N.turn k, t.0, at_turn refl t.1, refl, t.2)
+    prologue_sets : (k : ℕ) → F.piece k ≡ p → Y.sets k ≡ true → (x : ℕ) × (a : Access) × SortAt F V N sets_layout p x a (rank k 0)
+    prologue_sets k pk h = let t = Y.there k h in sort_at F V N sets_layout p k 0 pk (N.prologue k, t.0, at_prologue refl t.1, refl, t.2)
 
     is_laid : (t r : ℕ) (d : Access) → LastAt F V N sets_layout p q t d r → layout_after d.kind ≡ l
-    is_laid t r d L = go (set_by_turn t L.is.at.group d L.is.at.spot L.is.sorted) L.is.at.is
+    is_laid t r d L = go (set_by_prologue t L.is.at.group d L.is.at.spot L.is.sorted) L.is.at.is
       where
-        go : (phase F V N t d L.is.at.group L.is.at.spot ≡ 0) × OfTurn F V N L.is.at.group d → rank L.is.at.group (phase F V N t d L.is.at.group L.is.at.spot) ≡ r → layout_after d.kind ≡ l
-        go (w, turn) is = (Y.known L.is.at.group d turn L.is.sorted).1 ∙ steady F X.grouped Y.layout p L.is.at.group W.group (sym turn.piece ∙ L.is.piece) W.piece low (λ k a b pk pn. Y.steady k (pk ∙ sym pn) (unset k a b pn)) ∙ W.layout
+        go : (phase F V N t d L.is.at.group L.is.at.spot ≡ 0) × OfPrologue F V N L.is.at.group d → rank L.is.at.group (phase F V N t d L.is.at.group L.is.at.spot) ≡ r → layout_after d.kind ≡ l
+        go (w, prologue) is = (Y.known L.is.at.group d prologue L.is.sorted).1 ∙ steady F X.grouped Y.layout p L.is.at.group W.group (sym prologue.piece ∙ L.is.piece) W.piece low (λ k a b pk pn. Y.steady k (pk ∙ sym pn) (unset k a b pn)) ∙ W.layout
           where
             here : r ≡ rank L.is.at.group 0
             here = omega (arith, is, w)
@@ -85,7 +85,7 @@ module _ (F : Plan) (V : View) (N : Nodes) (D : IsFull V) (X : Local F V N) (S :
             low = let under = L.below in let over = W.up_to in omega (arith, here, under, over)
 
             unset : (k : ℕ) → L.is.at.group ≤ k → k < W.group → F.piece (k + 1) ≡ p → Y.sets (k + 1) ≡ false
-            unset k a b pn = ⊎_elim (λ h. absurd (hit (turn_sets (k + 1) pn h))) (λ h. h) (cases_Bool (Y.sets (k + 1)))
+            unset k a b pn = ⊎_elim (λ h. absurd (hit (prologue_sets (k + 1) pn h))) (λ h. h) (cases_Bool (Y.sets (k + 1)))
               where
                 hit : (x : ℕ) × (c : Access) × SortAt F V N sets_layout p x c (rank (k + 1) 0) → ⊥
                 hit (x, c, A) = let after = W.after in L.none x (rank (k + 1) 0) c A (omega (arith, here, a)) (omega (arith, b, after))
@@ -95,7 +95,7 @@ module _ (F : Plan) (V : View) (N : Nodes) (D : IsFull V) (X : Local F V N) (S :
       where
         go : (i : ℕ) × First F W.group i → ⊥
         go (i, first) =
-            let A = turn_sets i (first.same ∙ W.piece) (W.begins i first) in
+            let A = prologue_sets i (first.same ∙ W.piece) (W.begins i first) in
             let low = first.least W.group refl in
             let after = W.after in
             none A.0 (rank i 0) A.1 A.2 (omega (arith, low, after))
@@ -111,7 +111,7 @@ module _ (F : Plan) (V : View) (N : Nodes) (D : IsFull V) (X : Local F V N) (S :
           go W (inr none) = absurd (some_laid a.piece q l W none)
 
   -- in every order each access finds the layout that it wants
-  pub laid_at : (order : List ℕ) (O : Order V.nodes order) → IsIrreflexive V.nodes → IsAsymmetric V.nodes → Tied V → (j : ℕ) (b : NodeAccess) → NodeAccessAt (node_accesses_of V order) j b → LayoutAt (node_accesses_of V order) j b
+  pub laid_at : (order : List ℕ) (O : Order V.nodes order) → IsIrreflexive V.nodes → IsAsymmetric V.nodes → Synchronized V → (j : ℕ) (b : NodeAccess) → NodeAccessAt (node_accesses_of V order) j b → LayoutAt (node_accesses_of V order) j b
   laid_at order O I A T j b hb l w = by (laid_by (I order O) b.node l b.access has w)
     where
       has : Has V b.node b.access

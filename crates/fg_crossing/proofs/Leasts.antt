@@ -1,7 +1,7 @@
 -- Nodes that have an order have a least one: again and again the least node that may come next.
 use Rattle.std.proofs.Common.{◌≡◌, ◌⊎◌, inl, inr, ℕ, zero, suc, ◌<◌, ◌≤◌, Bool, true, false, ◌&&◌, ◌||◌, ◌==◌, nat_lt, Option, Some, None, is_none, List, [], ◌∷◌, length, if◌then◌else◌, refl, sym, ap, ◌∙◌, subst, ⊎_elim, eq-eqb, eqb-true, arith}
 use Rattle.std.proofs.lemmas.Bool.{cases_lt, cases_Bool, false≢true, and_parts, and_from, or_cases, or_left, or_right, lt-ltb, ltb-true}
-use Rattle.fg_crossing.specs.Laws.{HasLeast}
+use Rattle.fg_crossing.specs.Laws.{OrderGivesLeast}
 use Rattle.fg_hb.proofs.Bridge.{meets_edge, to_walk, never_false}
 use Rattle.fg_hb.proofs.Places.{among_before}
 use Rattle.fg_hb.proofs.Steps.{Needs, Available, Greedy, WholeWalk, LeastWalk, Whole, add, nothing, placed-in, placed-split, greedy-whole, stuck-walk, walk-earlier, walk-met, walk-once, walk-small}
@@ -186,7 +186,7 @@ module _ (nodes : List Node) where
     once = walk-once N nothing list w.walk;
     all = λ n lt. ⊎_elim (λ e. absurd (false≢true e)) (λ a. a) (placed-split list nothing n (w.whole n lt));
     only = λ n a. walk-small N nothing list w.walk n a;
-    turns = record {
+    prologues = record {
       queue = λ x n a q lt same. earlier x n a (or_right (edge nodes x n) (is_queued nodes n && (((node_at nodes x).queue == (node_at nodes n).queue) && nat_lt x n)) (and_from (is_queued nodes n) (((node_at nodes x).queue == (node_at nodes n).queue) && nat_lt x n) q (and_from ((node_at nodes x).queue == (node_at nodes n).queue) (nat_lt x n) (eq-eqb (node_at nodes x).queue (node_at nodes n).queue same) (lt-ltb x n lt))));
       met = λ n a k.
           let m = is_met (is_wait (node_at nodes n).kind) (meeting nodes (node_at nodes n).kind) (walk-met N nothing list w.walk n a) k in
@@ -205,19 +205,19 @@ module _ (nodes : List Node) where
     earlier : (x n : ℕ) → Among n list → N.needs x n ≡ true → Earlier list x n
     earlier x n a h = ⊎_elim
         (λ e. O.forward x n a e)
-        (λ e. let q = on_queue x n e in O.turns.queue x n a q.0 q.2 q.1)
+        (λ e. let q = on_queue x n e in O.prologues.queue x n a q.0 q.2 q.1)
         (or_cases (edge nodes x n) (is_queued nodes n && (((node_at nodes x).queue == (node_at nodes n).queue) && nat_lt x n)) h)
 
     walked : WholeWalk N list
     walked = record {
-      walk = to_walk N list O.once (λ n a. (O.only n a, never_false (is_wait (node_at nodes n).kind) (meeting nodes (node_at nodes n).kind) (λ k. let m = O.turns.met n a k in (m.0, m.1)))) earlier;
+      walk = to_walk N list O.once (λ n a. (O.only n a, never_false (is_wait (node_at nodes n).kind) (meeting nodes (node_at nodes n).kind) (λ k. let m = O.prologues.met n a k in (m.0, m.1)))) earlier;
       whole = λ n lt. placed-in list nothing n (O.all n lt);
     }
 
     below : (x n : ℕ) → n < length nodes → N.needs x n ≡ true → x < length nodes
     below x n lt h = O.only x (among_before list x n (earlier x n (O.all n lt) h))
 
-  pub has_least : HasLeast nodes
+  pub has_least : OrderGivesLeast nodes
   has_least list O =
       let found = least_walk N (below list O) list (walked list O) in
       (found.0, record { order = in_order found.0 found.1.order; least = λ other P. found.1.least other (walked other P) })

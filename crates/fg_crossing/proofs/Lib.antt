@@ -17,5 +17,5 @@ pub mod Runs
 pub mod Sorts
 pub mod Soundness
 pub mod Transfers
-pub mod Tying
+pub mod Synchronizing
 pub mod Worked

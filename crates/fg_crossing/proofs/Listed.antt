@@ -11,9 +11,9 @@ use Rattle.fg_stated.specs.PieceStates.{last_that}
 use Rattle.fg_ties.proofs.Ordered.{listed_of}
 use Rattle.fg_ties.proofs.Through.{change_plain}
 use Rattle.fg_ties.specs.Passing.{Before}
-use Rattle.fg_ties.specs.Tied.{Tied}
+use Rattle.fg_ties.specs.Synchronized.{Synchronized}
 use Rattle.fg_view.specs.AccessKinds.{changes, sets_owner, transfers}
-use Rattle.fg_view.specs.ShapedView.{Has, NodeAccessAt, Precedes, ShapedView}
+use Rattle.fg_view.specs.ValidView.{Has, NodeAccessAt, Precedes, ValidView}
 use Rattle.fg_view.specs.Views.{View, clash, node_access, node_accesses_of}
 use Rattle.fg_view.specs.declared.access.Access.{Access}
 use Rattle.fg_view.specs.declared.node_access.NodeAccess.{NodeAccess}
@@ -49,7 +49,7 @@ pub record Finds (V : View) (test : NodeAccess → Bool) (n : ℕ) (a : Access) 
   pub single : (v : ℕ) (c d : Access) → Precedes V v c d → test (node_access v c) ≡ true → test (node_access v d) ≡ true → ⊥
 
 -- a change is the last thing that a node does but its half of a transfer
-pub finds_change : (V : View) → ShapedView V → (test : NodeAccess → Bool) → ((v : ℕ) (c : Access) → test (node_access v c) ≡ true → changes c.kind ≡ true) → (n : ℕ) (a : Access) → transfers a.kind ≡ false → ((v : ℕ) (c : Access) → test (node_access v c) ≡ true → clash V c a ≡ true) → Finds V test n a
+pub finds_change : (V : View) → ValidView V → (test : NodeAccess → Bool) → ((v : ℕ) (c : Access) → test (node_access v c) ≡ true → changes c.kind ≡ true) → (n : ℕ) (a : Access) → transfers a.kind ≡ false → ((v : ℕ) (c : Access) → test (node_access v c) ≡ true → clash V c a ≡ true) → Finds V test n a
 finds_change V S test is n a keeps clashes = record {
   clashes = λ v c h t. clashes v c t;
   own = λ c p t. false≢true (sym keeps ∙ after n c a p (is n c t));
@@ -60,7 +60,7 @@ finds_change V S test is n a keeps clashes = record {
     after v c d p k = S.last v p.0 p.1 c d p.3 p.4 p.2 k
 
 -- and what decides the owner is the last thing
-pub finds_owner : (V : View) → ShapedView V → (test : NodeAccess → Bool) → ((v : ℕ) (c : Access) → test (node_access v c) ≡ true → sets_owner c.kind ≡ true) → (n : ℕ) (a : Access) → ((v : ℕ) (c : Access) → test (node_access v c) ≡ true → clash V c a ≡ true) → Finds V test n a
+pub finds_owner : (V : View) → ValidView V → (test : NodeAccess → Bool) → ((v : ℕ) (c : Access) → test (node_access v c) ≡ true → sets_owner c.kind ≡ true) → (n : ℕ) (a : Access) → ((v : ℕ) (c : Access) → test (node_access v c) ≡ true → clash V c a ≡ true) → Finds V test n a
 finds_owner V S test is n a clashes = record {
   clashes = λ v c h t. clashes v c t;
   own = λ c p t. never n c a p (is n c t);
@@ -70,7 +70,7 @@ finds_owner V S test is n a clashes = record {
     never : (v : ℕ) (c d : Access) → Precedes V v c d → sets_owner c.kind ≡ true → ⊥
     never v c d p k = false≢true (sym (S.final v p.0 p.1 c d p.3 p.4 p.2) ∙ k)
 
-module _ (V : View) (S : ShapedView V) (T : Tied V) (order : List ℕ) (O : Order V.nodes order) (I : IsIrreflexive V.nodes) (N : IsAsymmetric V.nodes) where
+module _ (V : View) (S : ValidView V) (T : Synchronized V) (order : List ℕ) (O : Order V.nodes order) (I : IsIrreflexive V.nodes) (N : IsAsymmetric V.nodes) where
   -- of two listed accesses that of the later node does not come first
   pub not_later : (i j : ℕ) (a b : NodeAccess) → NodeAccessAt (node_accesses_of V order) i a → NodeAccessAt (node_accesses_of V order) j b → i < j → Before V b.node a.node → ⊥
   not_later i j a b ha hb lt p = go (in_turn V order O.once i j a b ha hb lt)

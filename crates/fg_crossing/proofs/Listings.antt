@@ -8,7 +8,7 @@ use Rattle.fg_hb.specs.Orders.{Among, before_in, Distinct, Earlier}
 use Rattle.fg_ties.proofs.Ordered.{listed_of}
 use Rattle.fg_view.proofs.Listing.{made_of}
 use Rattle.fg_view.specs.Effects.{no_effect}
-use Rattle.fg_view.specs.ShapedView.{Has, NodeAccessAt, Precedes, ShapedView}
+use Rattle.fg_view.specs.ValidView.{Has, NodeAccessAt, Precedes, ValidView}
 use Rattle.fg_view.specs.Views.{View, accesses_of, node_access, node_accesses_of}
 use Rattle.fg_view.specs.declared.access.Access.{Access}
 use Rattle.fg_view.specs.declared.node_access.NodeAccess.{NodeAccess}
@@ -35,7 +35,7 @@ of_node : (V : View) (n i : ℕ) (a : NodeAccess) → NodeAccessAt (map (node_ac
 of_node V n i a e = made_of n (slice_get (accesses_of V n) i) a (sym (slice_get-map (node_access n) (accesses_of V n) i) ∙ e)
 
 -- what has accesses is a node
-pub has_within : (V : View) → ShapedView V → (n : ℕ) (a : Access) → Has V n a → n < length V.nodes
+pub has_within : (V : View) → ValidView V → (n : ℕ) (a : Access) → Has V n a → n < length V.nodes
 has_within V S n a (i, h) = ⊎_elim
     (λ lt. subst (λ m. n < m) S.effects lt)
     (λ past. absurd (none (subst (λ u. slice_get u.accesses i ≡ Some a) (get_or_past V.effects n no_effect past) h)))

@@ -3,31 +3,31 @@ use Rattle.std.proofs.Common.{◌≡◌, ◌⊎◌, inl, inr, ℕ, ◌<◌, ◌�
 use Rattle.std.proofs.lemmas.Bool.{cases_Bool, cases_eq, cases_lt, and_from, and_parts, false≢true}
 use Rattle.fg_crossing.proofs.Clashes.{change_clash, itself}
 use Rattle.fg_crossing.proofs.KindTables.{change_stores, discard_entry}
-use Rattle.fg_crossing.proofs.Knit.{Acyclic, ties_chain}
+use Rattle.fg_crossing.proofs.Knit.{Acyclic, synchronizes_chain}
 use Rattle.fg_crossing.proofs.Lasts.{LastOf, NoneOf, LastAt, NoneAt, SortAt, last_or_none, sort_at}
 use Rattle.fg_crossing.proofs.Listed.{Finds, finds_change, last_listed, none_listed}
 use Rattle.fg_crossing.proofs.Ranks.{rank, phase, At, at_has, at_low, at_of, at_piece, rank_before, rank_same, before_rank}
 use Rattle.fg_crossing.proofs.Runs.{beside_path}
 use Rattle.fg_crossing.proofs.Sorts.{changes_sorted}
-use Rattle.fg_crossing.proofs.Tying.{local_knit}
+use Rattle.fg_crossing.proofs.Synchronizing.{local_knit}
 use Rattle.fg_crossing.specs.Aliases.{Beside}
 use Rattle.fg_crossing.specs.Crossings.{IsFull}
 use Rattle.fg_crossing.specs.Local.{Local}
 use Rattle.fg_crossing.specs.Nodes.{Nodes}
 use Rattle.fg_crossing.specs.Plans.{Plan, leads}
-use Rattle.fg_crossing.specs.Spots.{Spot, at_turn, at_member, at_release, at_reader, OfTurn}
+use Rattle.fg_crossing.specs.Spots.{Spot, at_prologue, at_member, at_release, at_reader, OfPrologue}
 use Rattle.fg_crossing.specs.States.{Laid, Changed}
 use Rattle.fg_hb.specs.Laws.{IsAsymmetric, IsIrreflexive}
 use Rattle.fg_hb.specs.Orders.{Order}
 use Rattle.fg_reach.specs.Paths.{then_on}
-use Rattle.fg_stated.specs.Fed.{Feeds, FedAt}
+use Rattle.fg_stated.specs.Initialized.{Initializes, InitializedAt}
 use Rattle.fg_stated.specs.PieceStates.{changes_bytes, last_change}
 use Rattle.fg_ties.proofs.Ordered.{listed_of}
 use Rattle.fg_ties.specs.Passing.{Before}
-use Rattle.fg_ties.specs.Tied.{Tied}
+use Rattle.fg_ties.specs.Synchronized.{Synchronized}
 use Rattle.fg_view.proofs.KindFacts.{load_keeps}
 use Rattle.fg_view.specs.AccessKinds.{changes, is_discard, loads, stores}
-use Rattle.fg_view.specs.ShapedView.{Has, NodeAccessAt, ShapedView}
+use Rattle.fg_view.specs.ValidView.{Has, NodeAccessAt, ValidView}
 use Rattle.fg_view.specs.Views.{View, imported_at, node_access, node_accesses_of, overlap}
 use Rattle.fg_view.specs.declared.access.Access.{Access}
 use Rattle.fg_view.specs.declared.node_access.NodeAccess.{NodeAccess}
@@ -35,14 +35,14 @@ use Rattle.fg_view.specs.declared.node_access.NodeAccess.{NodeAccess}
 changed : (V : View) (p v : ℕ) (c : Access) → changes_bytes V p (node_access v c) ≡ true → (overlap V c.piece p ≡ true) × (changes c.kind ≡ true)
 changed V p v c h = and_parts (overlap V c.piece p) (changes c.kind) h
 
--- a discard is a turn's
-discard_spot : (F : Plan) (V : View) (N : Nodes) (x g : ℕ) (a : Access) (s : Spot F V N x a g) → is_discard a.kind ≡ true → (phase F V N x a g s ≡ 0) × OfTurn F V N g a
-discard_spot F V N x g a (at_turn e t) so = (refl, t)
+-- a discard is a prologue's
+discard_spot : (F : Plan) (V : View) (N : Nodes) (x g : ℕ) (a : Access) (s : Spot F V N x a g) → is_discard a.kind ≡ true → (phase F V N x a g s ≡ 0) × OfPrologue F V N g a
+discard_spot F V N x g a (at_prologue e t) so = (refl, t)
 discard_spot F V N x g a (at_member e m) so = absurd (false≢true (sym (discard_entry a.kind so).0 ∙ m.plain))
 discard_spot F V N x g a (at_reader e r) so = absurd (false≢true (sym (discard_entry a.kind so).0 ∙ r.plain))
 discard_spot F V N x g a (at_release e r) so = absurd (false≢true (sym (discard_entry a.kind so).1 ∙ r.release))
 
-module _ (F : Plan) (V : View) (N : Nodes) (D : IsFull V) (X : Local F V N) (S : ShapedView V) (L : Laid F V N) (Y : Changed F V N) (C : Acyclic V) where
+module _ (F : Plan) (V : View) (N : Nodes) (D : IsFull V) (X : Local F V N) (S : ValidView V) (L : Laid F V N) (Y : Changed F V N) (C : Acyclic V) where
   -- access a of node n stands at rank q
   module _ (n q : ℕ) (a : Access) (B : At F V N n a q) where
     ha : Has V n a
@@ -62,8 +62,8 @@ module _ (F : Plan) (V : View) (N : Nodes) (D : IsFull V) (X : Local F V N) (S :
         pn = sym pt ∙ at_piece F V N n a q B
 
         go : Beside F W.group E.group ⊎ Beside F E.group W.group → Before V v t
-        go (inl Z) = (ties_chain V (leads F) N.turn (Spot F V N) (local_knit F V N D X) v t c d W.group E.group W.spot E.spot (beside_path F X.grouped W.group E.group Z)).before
-        go (inr Z) = absurd (C n (then_on (ties_chain V (leads F) N.turn (Spot F V N) (local_knit F V N D X) n v a c B.group W.group B.spot W.spot (beside_path F X.grouped B.group W.group (record { last = Z.last; first = Z.first; same_last = Z.same_last ∙ pn; same_first = Z.same_first; over = Z.over }))).before p))
+        go (inl Z) = (synchronizes_chain V (leads F) N.prologue (Spot F V N) (local_knit F V N D X) v t c d W.group E.group W.spot E.spot (beside_path F X.grouped W.group E.group Z)).before
+        go (inr Z) = absurd (C n (then_on (synchronizes_chain V (leads F) N.prologue (Spot F V N) (local_knit F V N D X) n v a c B.group W.group B.spot W.spot (beside_path F X.grouped B.group W.group (record { last = Z.last; first = Z.first; same_last = Z.same_last ∙ pn; same_first = Z.same_first; over = Z.over }))).before p))
 
     -- the last change through the piece is the last one of its bytes
     last_change_of : (t r : ℕ) (d : Access) → LastAt F V N changes a.piece q t d r → LastOf V (changes_bytes V a.piece) n t d
@@ -106,15 +106,15 @@ module _ (F : Plan) (V : View) (N : Nodes) (D : IsFull V) (X : Local F V N) (S :
     not_discard : (t r : ℕ) (d : Access) → LastAt F V N changes a.piece q t d r → loads a.kind ≡ true → is_discard d.kind ≡ true → ⊥
     not_discard t r d E tk so = go (cases_Bool (imported_at V a.piece))
       where
-        turn : (phase F V N t d E.is.at.group E.is.at.spot ≡ 0) × OfTurn F V N E.is.at.group d
-        turn = discard_spot F V N t E.is.at.group d E.is.at.spot so
+        prologue : (phase F V N t d E.is.at.group E.is.at.spot ≡ 0) × OfPrologue F V N E.is.at.group d
+        prologue = discard_spot F V N t E.is.at.group d E.is.at.spot so
 
         here : r ≡ rank E.is.at.group 0
-        here = let is = E.is.at.is in let w = turn.0 in omega (arith, is, w)
+        here = let is = E.is.at.is in let w = prologue.0 in omega (arith, is, w)
 
         hit : (i : ℕ) × (F.piece i ≡ a.piece) × (rank i 1 < q) × ((x : ℕ) × (b : Access) × SortAt F V N changes a.piece x b (rank i 1)) → ⊥
         hit (i, pi, lt, (x, b, W)) =
-            let low = (Y.discards E.is.at.group d turn.1 so).least i (pi ∙ sym E.is.piece ∙ turn.1.piece) in
+            let low = (Y.discards E.is.at.group d prologue.1 so).least i (pi ∙ sym E.is.piece ∙ prologue.1.piece) in
             E.none x (rank i 1) b W (omega (arith, here, low)) lt
 
         go : (imported_at V a.piece ≡ true) ⊎ (imported_at V a.piece ≡ false) → ⊥
@@ -132,28 +132,28 @@ module _ (F : Plan) (V : View) (N : Nodes) (D : IsFull V) (X : Local F V N) (S :
         go (inr fresh) = absurd (hit (stored tk fresh))
 
   -- what a load finds
-  data FedBy (n : ℕ) (a : Access) : Type 0 where
-    by_change : {t : ℕ} {d : Access} → LastOf V (changes_bytes V a.piece) n t d → d.piece ≡ a.piece → stores d.kind ≡ true → FedBy n a
-    by_import : NoneOf V (changes_bytes V a.piece) n → imported_at V a.piece ≡ true → FedBy n a
+  data InitializedBy (n : ℕ) (a : Access) : Type 0 where
+    by_change : {t : ℕ} {d : Access} → LastOf V (changes_bytes V a.piece) n t d → d.piece ≡ a.piece → stores d.kind ≡ true → InitializedBy n a
+    by_import : NoneOf V (changes_bytes V a.piece) n → imported_at V a.piece ≡ true → InitializedBy n a
 
-  fed_by : (n : ℕ) (a : Access) → Has V n a → loads a.kind ≡ true → FedBy n a
-  fed_by n a ha tk = at (at_of F V N D X n a ha)
+  initialized_by : (n : ℕ) (a : Access) → Has V n a → loads a.kind ≡ true → InitializedBy n a
+  initialized_by n a ha tk = at (at_of F V N D X n a ha)
     where
-      at : (q : ℕ) × At F V N n a q → FedBy n a
+      at : (q : ℕ) × At F V N n a q → InitializedBy n a
       at (q, B) = go (last_or_none F V N changes a.piece (changes_sorted F V N S X L Y) q)
         where
-          go : ((t : ℕ) × (d : Access) × (r : ℕ) × LastAt F V N changes a.piece q t d r) ⊎ NoneAt F V N changes a.piece q → FedBy n a
+          go : ((t : ℕ) × (d : Access) × (r : ℕ) × LastAt F V N changes a.piece q t d r) ⊎ NoneAt F V N changes a.piece q → InitializedBy n a
           go (inl (t, d, r, E)) = by_change {t = t} {d = d} (last_change_of n q a B t r d E) E.is.piece (change_stores d.kind E.is.sorted (not_discard n q a B t r d E tk))
           go (inr none) = let im = none_imported n q a B tk none in by_import (none_change_of n q a B im none) im
 
   -- in every order each load finds bytes
-  pub fed_at : (order : List ℕ) (O : Order V.nodes order) → IsIrreflexive V.nodes → IsAsymmetric V.nodes → Tied V → (j : ℕ) (b : NodeAccess) → NodeAccessAt (node_accesses_of V order) j b → FedAt V (node_accesses_of V order) j b
-  fed_at order O I A T j b hb tk = go (fed_by b.node b.access (listed_of V order j b hb).1 tk)
+  pub initialized_at : (order : List ℕ) (O : Order V.nodes order) → IsIrreflexive V.nodes → IsAsymmetric V.nodes → Synchronized V → (j : ℕ) (b : NodeAccess) → NodeAccessAt (node_accesses_of V order) j b → InitializedAt V (node_accesses_of V order) j b
+  initialized_at order O I A T j b hb tk = go (initialized_by b.node b.access (listed_of V order j b hb).1 tk)
     where
       finds : Finds V (changes_bytes V b.access.piece) b.node b.access
       finds = finds_change V S (changes_bytes V b.access.piece) (λ v c h. (changed V b.access.piece v c h).1) b.node b.access (load_keeps b.access.kind tk)
           (λ v c h. let u = changed V b.access.piece v c h in change_clash V c b.access u.0 u.1)
 
-      go : FedBy b.node b.access → Feeds V b.access.piece (last_change V (node_accesses_of V order) j b.access.piece)
-      go (by_change {t = t} {d = d} E p s) = subst (Feeds V b.access.piece) (sym (last_listed V S T order O I A (changes_bytes V b.access.piece) j b hb finds t d E)) (p, s)
-      go (by_import none im) = subst (Feeds V b.access.piece) (sym (none_listed V S T order O I A (changes_bytes V b.access.piece) j b hb finds none)) im
+      go : InitializedBy b.node b.access → Initializes V b.access.piece (last_change V (node_accesses_of V order) j b.access.piece)
+      go (by_change {t = t} {d = d} E p s) = subst (Initializes V b.access.piece) (sym (last_listed V S T order O I A (changes_bytes V b.access.piece) j b hb finds t d E)) (p, s)
+      go (by_import none im) = subst (Initializes V b.access.piece) (sym (none_listed V S T order O I A (changes_bytes V b.access.piece) j b hb finds none)) im

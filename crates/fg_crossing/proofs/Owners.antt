@@ -13,14 +13,14 @@ use Rattle.fg_crossing.specs.Crossings.{IsFull}
 use Rattle.fg_crossing.specs.Local.{Local}
 use Rattle.fg_crossing.specs.Nodes.{Nodes}
 use Rattle.fg_crossing.specs.Plans.{Plan, First}
-use Rattle.fg_crossing.specs.Spots.{Spot, at_turn, at_member, at_release, at_reader, OfTurn, OfRelease}
+use Rattle.fg_crossing.specs.Spots.{Spot, at_prologue, at_member, at_release, at_reader, OfPrologue, OfRelease}
 use Rattle.fg_crossing.specs.States.{Owned, Handed}
 use Rattle.fg_hb.proofs.Lines.{sync_no_host}
 use Rattle.fg_hb.specs.Edges.{is_host, node_at}
 use Rattle.fg_stated.specs.PieceStates.{on_piece, owner_after}
-use Rattle.fg_stated.specs.Stated.{acquires}
+use Rattle.fg_stated.specs.StateValid.{acquires}
 use Rattle.fg_view.specs.AccessKinds.{is_acquire, sets_layout, sets_owner, transfers}
-use Rattle.fg_view.specs.ShapedView.{Has, ShapedView}
+use Rattle.fg_view.specs.ValidView.{Has, ValidView}
 use Rattle.fg_view.specs.Views.{View, accesses_of, family_at, shared_at}
 use Rattle.fg_view.specs.declared.access.Access.{Access}
 use Rattle.fg_view.specs.declared.access.AccessKind.TheVariants.{Acquire}
@@ -31,16 +31,16 @@ acquires_by : (V : View) (n : ℕ) (a : Access) (what : Handover) → Has V n a 
 acquires_by V n a what (i, at) e = any_passes_from_place (λ c. is_acquire c.kind) (accesses_of V n) i a at (ap is_acquire e)
 
 module _ (F : Plan) (V : View) (N : Nodes) (X : Local F V N) (Y : Owned F V N) (H : Handed F V N) where
-  -- what decides the owner is a turn's, or a release
-  pub owner_place : (x g : ℕ) (a : Access) (s : Spot F V N x a g) → sets_owner a.kind ≡ true → ((phase F V N x a g s ≡ 0) × OfTurn F V N g a) ⊎ ((phase F V N x a g s ≡ 2) × OfRelease F V N g a)
-  owner_place x g a (at_turn e t) so = inl (refl, t)
+  -- what decides the owner is a prologue's, or a release
+  pub owner_place : (x g : ℕ) (a : Access) (s : Spot F V N x a g) → sets_owner a.kind ≡ true → ((phase F V N x a g s ≡ 0) × OfPrologue F V N g a) ⊎ ((phase F V N x a g s ≡ 2) × OfRelease F V N g a)
+  owner_place x g a (at_prologue e t) so = inl (refl, t)
   owner_place x g a (at_release e r) so = inr (refl, r)
   owner_place x g a (at_member e m) so = absurd (plain_sets_none a.kind m.plain (or_right (sets_layout a.kind) (sets_owner a.kind) so))
   owner_place x g a (at_reader e r) so = absurd (plain_sets_none a.kind r.plain (or_right (sets_layout a.kind) (sets_owner a.kind) so))
 
   -- so its node is of a queue
   pub owner_queued : (x g : ℕ) (a : Access) → Spot F V N x a g → sets_owner a.kind ≡ true → is_host (node_at V.nodes x).kind ≡ false
-  owner_queued x g a (at_turn e t) so = subst (λ z. is_host (node_at V.nodes z).kind ≡ false) (sym e) (sync_no_host (node_at V.nodes (N.turn g)).kind (X.roles.turns g t.turned).sync)
+  owner_queued x g a (at_prologue e t) so = subst (λ z. is_host (node_at V.nodes z).kind ≡ false) (sym e) (sync_no_host (node_at V.nodes (N.prologue g)).kind (X.roles.prologues g t.has_prologue).sync)
   owner_queued x g a (at_release e r) so = subst (λ z. is_host (node_at V.nodes z).kind ≡ false) (sym e) (sync_no_host (node_at V.nodes (N.release g)).kind (X.roles.releases g r.released).sync)
   owner_queued x g a (at_member e m) so = absurd (plain_sets_none a.kind m.plain (or_right (sets_layout a.kind) (sets_owner a.kind) so))
   owner_queued x g a (at_reader e r) so = absurd (plain_sets_none a.kind r.plain (or_right (sets_layout a.kind) (sets_owner a.kind) so))
@@ -69,12 +69,12 @@ module _ (F : Plan) (V : View) (N : Nodes) (X : Local F V N) (Y : Owned F V N) (
         hit : (k : ℕ) → k < B.group → (x : ℕ) × (c : Access) × SortAt F V N sets_owner a.piece x c (rank k 2) → ⊥
         hit k lt (x, c, A) = let low = (at_low F V N n a q B).0 in none x (rank k 2) c A (omega (arith, lt, low))
 
-    -- a turn decided it last
-    runs_turn : (t r : ℕ) (d : Access) (L : LastAt F V N sets_owner a.piece q t d r) → phase F V N t d L.is.at.group L.is.at.spot ≡ 0 → OfTurn F V N L.is.at.group d → owner_after d.kind (family_at V t) ≡ family_at V n
-    runs_turn t r d L w turn = entry_owner d.kind (family_at V t) turn.entry ∙ Y.runs t L.is.at.group d L.is.at.spot (unshared L.is.at.group pt) (owner_queued t L.is.at.group d L.is.at.spot L.is.sorted) ∙ runs_from L.is.at.group pt le (λ k lo hi pk h. hit k lo hi (release_at a.piece k pk h))
+    -- a prologue decided it last
+    runs_prologue : (t r : ℕ) (d : Access) (L : LastAt F V N sets_owner a.piece q t d r) → phase F V N t d L.is.at.group L.is.at.spot ≡ 0 → OfPrologue F V N L.is.at.group d → owner_after d.kind (family_at V t) ≡ family_at V n
+    runs_prologue t r d L w prologue = entry_owner d.kind (family_at V t) prologue.entry ∙ Y.runs t L.is.at.group d L.is.at.spot (unshared L.is.at.group pt) (owner_queued t L.is.at.group d L.is.at.spot L.is.sorted) ∙ runs_from L.is.at.group pt le (λ k lo hi pk h. hit k lo hi (release_at a.piece k pk h))
       where
         pt : F.piece L.is.at.group ≡ a.piece
-        pt = sym turn.piece ∙ L.is.piece
+        pt = sym prologue.piece ∙ L.is.piece
 
         here : r ≡ rank L.is.at.group 0
         here = let is = L.is.at.is in omega (arith, is, w)
@@ -88,7 +88,7 @@ module _ (F : Plan) (V : View) (N : Nodes) (X : Local F V N) (Y : Owned F V N) (
         hit : (k : ℕ) → L.is.at.group ≤ k → k < B.group → (x : ℕ) × (c : Access) × SortAt F V N sets_owner a.piece x c (rank k 2) → ⊥
         hit k lo hi (x, c, A) = let low = range.0 in L.none x (rank k 2) c A (omega (arith, here, lo)) (omega (arith, hi, low))
 
-    -- a release did: then the next turn acquires, and comes before n or is n
+    -- a release did: then the next prologue acquires, and comes before n or is n
     not_release : (t r : ℕ) (d : Access) (L : LastAt F V N sets_owner a.piece q t d r) → phase F V N t d L.is.at.group L.is.at.spot ≡ 2 → OfRelease F V N L.is.at.group d → acquires V n ≡ false → ⊥
     not_release t r d L w release plain = next (H.acquire L.is.at.group release.released)
       where
@@ -98,15 +98,15 @@ module _ (F : Plan) (V : View) (N : Nodes) (X : Local F V N) (Y : Owned F V N) (
         pn : F.piece (L.is.at.group + 1) ≡ a.piece
         pn = sym (H.next L.is.at.group release.released) ∙ sym release.piece ∙ L.is.piece
 
-        next : (c : Access) × OfTurn F V N (L.is.at.group + 1) c × (c.kind ≡ Acquire (H.handover L.is.at.group)) → ⊥
-        next (c, turn, e) = go (cases_lt (rank (L.is.at.group + 1) 0) q)
+        next : (c : Access) × OfPrologue F V N (L.is.at.group + 1) c × (c.kind ≡ Acquire (H.handover L.is.at.group)) → ⊥
+        next (c, prologue, e) = go (cases_lt (rank (L.is.at.group + 1) 0) q)
           where
             A : (x : ℕ) × (b : Access) × SortAt F V N sets_owner a.piece x b (rank (L.is.at.group + 1) 0)
-            A = sort_at F V N sets_owner a.piece (L.is.at.group + 1) 0 pn (N.turn (L.is.at.group + 1), c, at_turn refl turn, refl, transfer_sets_owner c.kind (ap transfers e))
+            A = sort_at F V N sets_owner a.piece (L.is.at.group + 1) 0 pn (N.prologue (L.is.at.group + 1), c, at_prologue refl prologue, refl, transfer_sets_owner c.kind (ap transfers e))
 
-            -- n stands at the rank of the turn that acquires
-            it : (g : ℕ) (s : Spot F V N n a g) → rank g (phase F V N n a g s) ≡ q → q ≡ rank (L.is.at.group + 1) 0 → n ≡ N.turn (L.is.at.group + 1)
-            it g (at_turn f u) is at = f ∙ ap N.turn (omega (arith, is, at))
+            -- n stands at the rank of the prologue that acquires
+            it : (g : ℕ) (s : Spot F V N n a g) → rank g (phase F V N n a g s) ≡ q → q ≡ rank (L.is.at.group + 1) 0 → n ≡ N.prologue (L.is.at.group + 1)
+            it g (at_prologue f u) is at = f ∙ ap N.prologue (omega (arith, is, at))
             it g (at_member f u) is at = absurd (omega (arith, is, at))
             it g (at_reader f u) is at = absurd (omega (arith, is, at))
             it g (at_release f u) is at = absurd (omega (arith, is, at))
@@ -115,10 +115,10 @@ module _ (F : Plan) (V : View) (N : Nodes) (X : Local F V N) (Y : Owned F V N) (
             go (inl lt) = L.none A.0 (rank (L.is.at.group + 1) 0) A.1 A.2 (omega (arith, here)) lt
             go (inr le) =
                 let under = L.below in
-                let same : n ≡ N.turn (L.is.at.group + 1) = it B.group B.spot B.is (omega (arith, here, under, le)) in
-                false≢true (sym plain ∙ ap (acquires V) same ∙ acquires_by V (N.turn (L.is.at.group + 1)) c (H.handover L.is.at.group) turn.has e)
+                let same : n ≡ N.prologue (L.is.at.group + 1) = it B.group B.spot B.is (omega (arith, here, under, le)) in
+                false≢true (sym plain ∙ ap (acquires V) same ∙ acquires_by V (N.prologue (L.is.at.group + 1)) c (H.handover L.is.at.group) prologue.has e)
 
-module _ (F : Plan) (V : View) (N : Nodes) (D : IsFull V) (X : Local F V N) (S : ShapedView V) (Y : Owned F V N) (H : Handed F V N) where
+module _ (F : Plan) (V : View) (N : Nodes) (D : IsFull V) (X : Local F V N) (S : ValidView V) (Y : Owned F V N) (H : Handed F V N) where
   -- what an access finds of owners
   pub data OwnedBy (n : ℕ) (a : Access) : Type 0 where
     set : {t : ℕ} {d : Access} → LastOf V (on_piece a.piece sets_owner) n t d → owner_after d.kind (family_at V t) ≡ family_at V n → OwnedBy n a
@@ -130,8 +130,8 @@ module _ (F : Plan) (V : View) (N : Nodes) (D : IsFull V) (X : Local F V N) (S :
       at : (q : ℕ) × At F V N n a q → OwnedBy n a
       at (q, B) = go (last_or_none F V N sets_owner a.piece (owners_sorted F V N Y H) q)
         where
-          by_last : (t r : ℕ) (d : Access) (L : LastAt F V N sets_owner a.piece q t d r) → ((phase F V N t d L.is.at.group L.is.at.spot ≡ 0) × OfTurn F V N L.is.at.group d) ⊎ ((phase F V N t d L.is.at.group L.is.at.spot ≡ 2) × OfRelease F V N L.is.at.group d) → owner_after d.kind (family_at V t) ≡ family_at V n
-          by_last t r d L (inl (w, turn)) = runs_turn F V N X Y H n q a B shared queued t r d L w turn
+          by_last : (t r : ℕ) (d : Access) (L : LastAt F V N sets_owner a.piece q t d r) → ((phase F V N t d L.is.at.group L.is.at.spot ≡ 0) × OfPrologue F V N L.is.at.group d) ⊎ ((phase F V N t d L.is.at.group L.is.at.spot ≡ 2) × OfRelease F V N L.is.at.group d) → owner_after d.kind (family_at V t) ≡ family_at V n
+          by_last t r d L (inl (w, prologue)) = runs_prologue F V N X Y H n q a B shared queued t r d L w prologue
           by_last t r d L (inr (w, release)) = absurd (not_release F V N X Y H n q a B shared queued t r d L w release plain)
 
           first : (i : ℕ) × First F B.group i → NoneAt F V N sets_owner a.piece q → OwnedBy n a

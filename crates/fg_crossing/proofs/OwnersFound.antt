@@ -20,11 +20,11 @@ use Rattle.fg_hb.specs.Edges.{is_host, node_at}
 use Rattle.fg_hb.specs.Laws.{IsAsymmetric, IsIrreflexive}
 use Rattle.fg_hb.specs.Orders.{Order}
 use Rattle.fg_stated.specs.PieceStates.{first_owner, found_owner, on_piece, on_queue, owner_after}
-use Rattle.fg_stated.specs.Stated.{acquires, OwnerAt}
+use Rattle.fg_stated.specs.StateValid.{acquires, OwnerAt}
 use Rattle.fg_ties.proofs.Ordered.{listed_of}
-use Rattle.fg_ties.specs.Tied.{Tied}
+use Rattle.fg_ties.specs.Synchronized.{Synchronized}
 use Rattle.fg_view.specs.AccessKinds.{is_discard, sets_owner}
-use Rattle.fg_view.specs.ShapedView.{Has, NodeAccessAt, ShapedView}
+use Rattle.fg_view.specs.ValidView.{Has, NodeAccessAt, ValidView}
 use Rattle.fg_view.specs.Views.{View, family_at, node_access, node_accesses_of, shared_at}
 use Rattle.fg_view.specs.declared.node_access.NodeAccess.{NodeAccess}
 
@@ -59,7 +59,7 @@ none_of_four false true c d e = absurd (false≢true e)
 none_of_four false false true d e = absurd (false≢true e)
 none_of_four false false false true e = absurd (false≢true e)
 
-module _ (F : Plan) (V : View) (N : Nodes) (D : IsFull V) (X : Local F V N) (S : ShapedView V) (Y : Owned F V N) (H : Handed F V N) (T : Tied V) (order : List ℕ) (O : Order V.nodes order) (I : IsIrreflexive V.nodes) (A : IsAsymmetric V.nodes) where
+module _ (F : Plan) (V : View) (N : Nodes) (D : IsFull V) (X : Local F V N) (S : ValidView V) (Y : Owned F V N) (H : Handed F V N) (T : Synchronized V) (order : List ℕ) (O : Order V.nodes order) (I : IsIrreflexive V.nodes) (A : IsAsymmetric V.nodes) where
   -- before the first access of a piece by a queue nothing decides its owner
   none_first : (p : ℕ) (B : FirstThat (on_queue V p) (node_accesses_of V order)) (q : ℕ) → At F V N B.found.node B.found.access q → B.found.access.piece ≡ p → NoneAt F V N sets_owner B.found.access.piece q
   none_first p B q W pb v k c L lt = go (listed_in V order v c (O.all v (has_within V S v c has)) has)

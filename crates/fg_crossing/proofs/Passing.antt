@@ -8,7 +8,7 @@ use Rattle.fg_hb.specs.Edges.{edge}
 use Rattle.fg_reach.specs.Paths.{one, then_on}
 use Rattle.fg_ties.proofs.Passes.{up_to_on}
 use Rattle.fg_ties.specs.Passing.{Before, UpTo, AvailableBy, VisibleBy, Available, Passed}
-use Rattle.fg_view.specs.ShapedView.{Has}
+use Rattle.fg_view.specs.ValidView.{Has}
 use Rattle.fg_view.specs.Views.{View}
 use Rattle.fg_view.specs.declared.access.Access.{Access}
 use Rattle.fg_view.specs.declared.access.AccessKind.{AccessKind}
@@ -20,7 +20,7 @@ pub record Enters (V : View) (x : ℕ) (a : Access) (t : ℕ) : Type 0 where
   pub available : Available V x a t
 
 -- access a of node x is done before access b of node y, and is passed on to it
-pub record Ties (V : View) (x : ℕ) (a : Access) (y : ℕ) (b : Access) : Type 0 where
+pub record Synchronizes (V : View) (x : ℕ) (a : Access) (y : ℕ) (b : Access) : Type 0 where
   pub before : Before V x y
   pub passed : Passed V x a y b
 
@@ -40,8 +40,8 @@ enters_then V x a t u E f = let s = E.available in record { before = before_up V
 leaves_after : (V : View) (s t y : ℕ) (b : Access) → UpTo V s t → Leaves V t y b → Leaves V s y b
 leaves_after V s t y b f L = let z = L.shown in record { from = up_to_on V s t y f L.from; shown = (z.0, up_to_on V s t z.0 f z.1, z.2) }
 
-pub ties_through : (V : View) (x : ℕ) (a : Access) (t y : ℕ) (b : Access) → Enters V x a t → Leaves V t y b → Ties V x a y b
-ties_through V x a t y b E L =
+pub synchronizes_through : (V : View) (x : ℕ) (a : Access) (t y : ℕ) (b : Access) → Enters V x a t → Leaves V t y b → Synchronizes V x a y b
+synchronizes_through V x a t y b E L =
     let s = E.available in
     let z = L.shown in
     record { before = before_up V x t y E.before L.from; passed = (s.0, z.0, s.1, up_to_on V s.0 t z.0 s.2 z.1, z.2) }

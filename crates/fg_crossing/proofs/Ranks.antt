@@ -1,26 +1,26 @@
--- The accesses of one piece stand in ranks: the turn of a group, its members, its release, and then the next group.
+-- The accesses of one piece stand in ranks: the prologue of a group, its members, its release, and then the next group.
 use Rattle.std.proofs.Common.{◌≡◌, ◌⊎◌, inl, inr, ℕ, ◌+◌, ◌<◌, ◌≤◌, Bool, true, false, refl, sym, ap, ◌∙◌, subst, arith}
 use Rattle.std.proofs.lemmas.Bool.{cases_eq, cases_lt, false≢true}
-use Rattle.fg_crossing.proofs.Knit.{Acyclic, ties_chain}
+use Rattle.fg_crossing.proofs.Knit.{Acyclic, synchronizes_chain}
 use Rattle.fg_crossing.proofs.Runs.{run_either}
-use Rattle.fg_crossing.proofs.Tying.{spot_piece, spot_has, spot_leaves, member_release, turn_release, one_member, local_knit}
+use Rattle.fg_crossing.proofs.Synchronizing.{spot_piece, spot_has, spot_leaves, member_release, prologue_release, one_member, local_knit}
 use Rattle.fg_crossing.specs.Crossings.{IsFull}
 use Rattle.fg_crossing.specs.Local.{Local}
 use Rattle.fg_crossing.specs.Masks.{Leaves}
 use Rattle.fg_crossing.specs.Nodes.{Nodes}
 use Rattle.fg_crossing.specs.Plans.{Plan, leads}
-use Rattle.fg_crossing.specs.Spots.{Spot, at_turn, at_member, at_release, at_reader, OfTurn, OfMember, OfRelease, OfReader}
+use Rattle.fg_crossing.specs.Spots.{Spot, at_prologue, at_member, at_release, at_reader, OfPrologue, OfMember, OfRelease, OfReader}
 use Rattle.fg_hb.proofs.Lines.{sync_no_host}
 use Rattle.fg_hb.specs.Edges.{is_host, is_sync, node_at}
 use Rattle.fg_reach.specs.Paths.{Path, then_on}
 use Rattle.fg_ties.specs.Passing.{Before, UpTo}
-use Rattle.fg_view.specs.ShapedView.{Has}
+use Rattle.fg_view.specs.ValidView.{Has}
 use Rattle.fg_view.specs.Views.{View, clash}
 use Rattle.fg_view.specs.declared.access.Access.{Access}
 
--- in a group its turn comes first, then what its members and host reads do, and then the release
+-- in a group its prologue comes first, then what its members and host reads do, and then the release
 abbrev pub phase : (F : Plan) (V : View) (N : Nodes) (x : ℕ) (a : Access) (g : ℕ) → Spot F V N x a g → ℕ
-phase F V N x a g (at_turn e t) = 0
+phase F V N x a g (at_prologue e t) = 0
 phase F V N x a g (at_member e m) = 1
 phase F V N x a g (at_reader e r) = 1
 phase F V N x a g (at_release e r) = 2
@@ -35,26 +35,26 @@ pub record At (F : Plan) (V : View) (N : Nodes) (x : ℕ) (a : Access) (r : ℕ)
   pub is : rank group (phase F V N x a group spot) ≡ r
 
 pub phase_small : (F : Plan) (V : View) (N : Nodes) (x : ℕ) (a : Access) (g : ℕ) (s : Spot F V N x a g) → phase F V N x a g s < 3
-phase_small F V N x a g (at_turn e t) = omega arith
+phase_small F V N x a g (at_prologue e t) = omega arith
 phase_small F V N x a g (at_member e m) = omega arith
 phase_small F V N x a g (at_reader e r) = omega arith
 phase_small F V N x a g (at_release e r) = omega arith
 
 -- what stands in each phase
-pub in_turn : (F : Plan) (V : View) (N : Nodes) (x : ℕ) (a : Access) (g : ℕ) (s : Spot F V N x a g) → phase F V N x a g s ≡ 0 → (x ≡ N.turn g) × OfTurn F V N g a
-in_turn F V N x a g (at_turn e t) w = (e, t)
+pub in_turn : (F : Plan) (V : View) (N : Nodes) (x : ℕ) (a : Access) (g : ℕ) (s : Spot F V N x a g) → phase F V N x a g s ≡ 0 → (x ≡ N.prologue g) × OfPrologue F V N g a
+in_turn F V N x a g (at_prologue e t) w = (e, t)
 in_turn F V N x a g (at_member e m) w = absurd (omega (arith, w))
 in_turn F V N x a g (at_reader e r) w = absurd (omega (arith, w))
 in_turn F V N x a g (at_release e r) w = absurd (omega (arith, w))
 
 pub in_members : (F : Plan) (V : View) (N : Nodes) (x : ℕ) (a : Access) (g : ℕ) (s : Spot F V N x a g) → phase F V N x a g s ≡ 1 → ((c : ℕ) × OfMember F V N c g a) ⊎ ((x ≡ N.reader g) × OfReader F V N g a)
-in_members F V N x a g (at_turn e t) w = absurd (omega (arith, w))
+in_members F V N x a g (at_prologue e t) w = absurd (omega (arith, w))
 in_members F V N x a g (at_member {c = c} e m) w = inl (c, m)
 in_members F V N x a g (at_reader e r) w = inr (e, r)
 in_members F V N x a g (at_release e r) w = absurd (omega (arith, w))
 
 pub in_release : (F : Plan) (V : View) (N : Nodes) (x : ℕ) (a : Access) (g : ℕ) (s : Spot F V N x a g) → phase F V N x a g s ≡ 2 → (x ≡ N.release g) × OfRelease F V N g a
-in_release F V N x a g (at_turn e t) w = absurd (omega (arith, w))
+in_release F V N x a g (at_prologue e t) w = absurd (omega (arith, w))
 in_release F V N x a g (at_member e m) w = absurd (omega (arith, w))
 in_release F V N x a g (at_reader e r) w = absurd (omega (arith, w))
 in_release F V N x a g (at_release e r) w = (e, r)
@@ -86,43 +86,43 @@ module _ (F : Plan) (V : View) (N : Nodes) (D : IsFull V) (X : Local F V N) wher
       go (inl e) = absurd (ne e)
       go (inr p) = p
 
-  turn_first : (y : ℕ) (b : Access) (g : ℕ) → N.turned g ≡ true → (u : Spot F V N y b g) → 0 < phase F V N y b g u → Before V (N.turn g) y
-  turn_first y b g t (at_turn e u) lt = absurd (omega (arith, lt))
-  turn_first y b g t (at_member {c = c} e m) lt = leaves_before (N.turn g) y b
-      (apart (N.turn g) y (λ n. is_sync (node_at V.nodes n).kind) (X.roles.turns g t).sync (ap (λ n. is_sync (node_at V.nodes n).kind) e ∙ ap is_sync (X.roles.commands c g m.member).kind))
+  prologue_first : (y : ℕ) (b : Access) (g : ℕ) → N.has_prologue g ≡ true → (u : Spot F V N y b g) → 0 < phase F V N y b g u → Before V (N.prologue g) y
+  prologue_first y b g t (at_prologue e u) lt = absurd (omega (arith, lt))
+  prologue_first y b g t (at_member {c = c} e m) lt = leaves_before (N.prologue g) y b
+      (apart (N.prologue g) y (λ n. is_sync (node_at V.nodes n).kind) (X.roles.prologues g t).sync (ap (λ n. is_sync (node_at V.nodes n).kind) e ∙ ap is_sync (X.roles.commands c g m.member).kind))
       (spot_leaves F V N D X y b g t (at_member e m))
-  turn_first y b g t (at_release e r) lt = subst (λ z. Before V (N.turn g) z) (sym e) (turn_release F V N D X g t r.released)
-  turn_first y b g t (at_reader e r) lt = leaves_before (N.turn g) y b
-      (λ same. false≢true (sym (sync_no_host (node_at V.nodes (N.turn g)).kind (X.roles.turns g t).sync) ∙ ap (λ n. is_host (node_at V.nodes n).kind) (same ∙ e) ∙ X.roles.readers g r.host))
+  prologue_first y b g t (at_release e r) lt = subst (λ z. Before V (N.prologue g) z) (sym e) (prologue_release F V N D X g t r.released)
+  prologue_first y b g t (at_reader e r) lt = leaves_before (N.prologue g) y b
+      (λ same. false≢true (sym (sync_no_host (node_at V.nodes (N.prologue g)).kind (X.roles.prologues g t).sync) ∙ ap (λ n. is_host (node_at V.nodes n).kind) (same ∙ e) ∙ X.roles.readers g r.host))
       (spot_leaves F V N D X y b g t (at_reader e r))
 
   inside_before : (x y : ℕ) (a b : Access) (g : ℕ) (s : Spot F V N x a g) (u : Spot F V N y b g) → phase F V N x a g s < phase F V N y b g u → Before V x y
-  inside_before x y a b g (at_turn e t) u lt = subst (λ z. Before V z y) (sym e) (turn_first y b g t.turned u lt)
+  inside_before x y a b g (at_prologue e t) u lt = subst (λ z. Before V z y) (sym e) (prologue_first y b g t.has_prologue u lt)
   inside_before x y a b g (at_member {c = c} e m) (at_release f r) lt = subst (λ z. Before V z y) (sym e) (subst (λ z. Before V (N.command c) z) (sym f) (member_release F V N D X g c a r.released m).before)
-  inside_before x y a b g (at_member e m) (at_turn f u) lt = absurd (omega (arith, lt))
+  inside_before x y a b g (at_member e m) (at_prologue f u) lt = absurd (omega (arith, lt))
   inside_before x y a b g (at_member e m) (at_member f u) lt = absurd (omega (arith, lt))
   inside_before x y a b g (at_member e m) (at_reader f u) lt = absurd (omega (arith, lt))
   inside_before x y a b g (at_reader e r) (at_release f s) lt = absurd (false≢true (sym (X.spots.host_kept g s.released) ∙ r.host))
-  inside_before x y a b g (at_reader e r) (at_turn f u) lt = absurd (omega (arith, lt))
+  inside_before x y a b g (at_reader e r) (at_prologue f u) lt = absurd (omega (arith, lt))
   inside_before x y a b g (at_reader e r) (at_member f u) lt = absurd (omega (arith, lt))
   inside_before x y a b g (at_reader e r) (at_reader f u) lt = absurd (omega (arith, lt))
   inside_before x y a b g (at_release e r) u lt = let small = phase_small F V N y b g u in absurd (omega (arith, lt, small))
 
   inside_same : (x y : ℕ) (a b : Access) (g : ℕ) (s : Spot F V N x a g) (u : Spot F V N y b g) → clash V a b ≡ true → phase F V N x a g s ≡ phase F V N y b g u → x ≡ y
-  inside_same x y a b g (at_turn e t) (at_turn f u) cl w = e ∙ sym f
-  inside_same x y a b g (at_turn e t) (at_member f u) cl w = absurd (omega (arith, w))
-  inside_same x y a b g (at_turn e t) (at_release f u) cl w = absurd (omega (arith, w))
-  inside_same x y a b g (at_turn e t) (at_reader f u) cl w = absurd (omega (arith, w))
+  inside_same x y a b g (at_prologue e t) (at_prologue f u) cl w = e ∙ sym f
+  inside_same x y a b g (at_prologue e t) (at_member f u) cl w = absurd (omega (arith, w))
+  inside_same x y a b g (at_prologue e t) (at_release f u) cl w = absurd (omega (arith, w))
+  inside_same x y a b g (at_prologue e t) (at_reader f u) cl w = absurd (omega (arith, w))
   inside_same x y a b g (at_member {c = c} e m) (at_member {c = d} f n) cl w = e ∙ ap N.command (one_member F V N D X a b g c d m n cl) ∙ sym f
   inside_same x y a b g (at_member {c = c} e m) (at_reader f r) cl w = absurd (X.spots.host_alone g c r.host m.member)
-  inside_same x y a b g (at_member e m) (at_turn f u) cl w = absurd (omega (arith, w))
+  inside_same x y a b g (at_member e m) (at_prologue f u) cl w = absurd (omega (arith, w))
   inside_same x y a b g (at_member e m) (at_release f u) cl w = absurd (omega (arith, w))
   inside_same x y a b g (at_reader e r) (at_reader f s) cl w = e ∙ sym f
   inside_same x y a b g (at_reader e r) (at_member {c = c} f m) cl w = absurd (X.spots.host_alone g c r.host m.member)
-  inside_same x y a b g (at_reader e r) (at_turn f u) cl w = absurd (omega (arith, w))
+  inside_same x y a b g (at_reader e r) (at_prologue f u) cl w = absurd (omega (arith, w))
   inside_same x y a b g (at_reader e r) (at_release f u) cl w = absurd (omega (arith, w))
   inside_same x y a b g (at_release e r) (at_release f s) cl w = e ∙ sym f
-  inside_same x y a b g (at_release e r) (at_turn f u) cl w = absurd (omega (arith, w))
+  inside_same x y a b g (at_release e r) (at_prologue f u) cl w = absurd (omega (arith, w))
   inside_same x y a b g (at_release e r) (at_member f u) cl w = absurd (omega (arith, w))
   inside_same x y a b g (at_release e r) (at_reader f u) cl w = absurd (omega (arith, w))
 
@@ -149,7 +149,7 @@ module _ (F : Plan) (V : View) (N : Nodes) (D : IsFull V) (X : Local F V N) wher
 
       go : (A.group ≡ B.group) ⊎ Path (leads F) A.group B.group → Before V x y
       go (inl f) = inside (in_group x a r B.group A f)
-      go (inr p) = (ties_chain V (leads F) N.turn (Spot F V N) (local_knit F V N D X) x y a b A.group B.group A.spot B.spot p).before
+      go (inr p) = (synchronizes_chain V (leads F) N.prologue (Spot F V N) (local_knit F V N D X) x y a b A.group B.group A.spot B.spot p).before
 
   -- two accesses of one rank that clash are of one node
   pub rank_same : (x y : ℕ) (a b : Access) (r q : ℕ) → clash V a b ≡ true → At F V N x a r → At F V N y b q → r ≡ q → x ≡ y

@@ -8,11 +8,11 @@ use Rattle.fg_crossing.specs.Kinds.{is_plain, is_release}
 use Rattle.fg_crossing.specs.Local.{Local}
 use Rattle.fg_crossing.specs.Nodes.{Nodes}
 use Rattle.fg_crossing.specs.Plans.{Plan}
-use Rattle.fg_crossing.specs.Spots.{at_turn, at_member, at_release, OfReader}
+use Rattle.fg_crossing.specs.Spots.{at_prologue, at_member, at_release, OfReader}
 use Rattle.fg_crossing.specs.States.{Laid, Owned, Handed, Changed}
 use Rattle.fg_view.proofs.KindFacts.{layout_changes}
 use Rattle.fg_view.specs.AccessKinds.{changes, sets_layout, sets_owner}
-use Rattle.fg_view.specs.ShapedView.{ShapedView}
+use Rattle.fg_view.specs.ValidView.{ValidView}
 use Rattle.fg_view.specs.Views.{View}
 use Rattle.fg_view.specs.declared.access.Access.{Access}
 use Rattle.fg_view.specs.declared.access.AccessKind.{AccessKind}
@@ -33,7 +33,7 @@ module _ (F : Plan) (V : View) (N : Nodes) where
 
   pub layouts_sorted : Laid F V N → Sorted F V N sets_layout
   layouts_sorted L = record {
-    turn = λ g. go g (cases_Bool (L.sets g));
+    prologue = λ g. go g (cases_Bool (L.sets g));
     member = no_members sets_layout (λ d h k. plain_sets_none d h (or_left (sets_layout d) (sets_owner d) k));
     release = no_release sets_layout (λ d h k. release_changes_none d h (or_right (changes d) (sets_layout d) k));
   }
@@ -42,12 +42,12 @@ module _ (F : Plan) (V : View) (N : Nodes) where
       none g e (x, a, s, w, so) = false≢true (sym e ∙ (L.known g a (in_turn F V N x a g s w).1 so).0)
 
       go : (g : ℕ) → (L.sets g ≡ true) ⊎ (L.sets g ≡ false) → Known (InPhase F V N sets_layout g 0)
-      go g (inl e) = let t = L.there g e in inl (N.turn g, t.0, at_turn refl t.1, refl, t.2)
+      go g (inl e) = let t = L.there g e in inl (N.prologue g, t.0, at_prologue refl t.1, refl, t.2)
       go g (inr e) = inr (none g e)
 
   pub owners_sorted : Owned F V N → Handed F V N → Sorted F V N sets_owner
   owners_sorted L H = record {
-    turn = λ g. go g (cases_Bool (L.sets g));
+    prologue = λ g. go g (cases_Bool (L.sets g));
     member = no_members sets_owner (λ d h k. plain_sets_none d h (or_right (sets_layout d) (sets_owner d) k));
     release = λ g. released g (cases_Bool (N.released g));
   }
@@ -56,7 +56,7 @@ module _ (F : Plan) (V : View) (N : Nodes) where
       none g e (x, a, s, w, so) = false≢true (sym e ∙ L.known g a (in_turn F V N x a g s w).1 so)
 
       go : (g : ℕ) → (L.sets g ≡ true) ⊎ (L.sets g ≡ false) → Known (InPhase F V N sets_owner g 0)
-      go g (inl e) = let t = L.there g e in inl (N.turn g, t.0, at_turn refl t.1, refl, t.2)
+      go g (inl e) = let t = L.there g e in inl (N.prologue g, t.0, at_prologue refl t.1, refl, t.2)
       go g (inr e) = inr (none g e)
 
       kept : (g : ℕ) → N.released g ≡ false → InPhase F V N sets_owner g 2 → ⊥
@@ -66,9 +66,9 @@ module _ (F : Plan) (V : View) (N : Nodes) where
       released g (inl e) = let t = H.release g e in inl (N.release g, t.0, at_release refl t.1, refl, release_sets_owner t.0.kind t.1.release)
       released g (inr e) = inr (kept g e)
 
-  pub changes_sorted : ShapedView V → Local F V N → Laid F V N → Changed F V N → Sorted F V N changes
+  pub changes_sorted : ValidView V → Local F V N → Laid F V N → Changed F V N → Sorted F V N changes
   changes_sorted S X L Y = record {
-    turn = λ g. go g (cases_Bool (L.sets g));
+    prologue = λ g. go g (cases_Bool (L.sets g));
     member = λ g. stored g (cases_Bool (Y.stores g));
     release = no_release changes (λ d h k. release_changes_none d h (or_left (changes d) (sets_layout d) k));
   }
@@ -77,7 +77,7 @@ module _ (F : Plan) (V : View) (N : Nodes) where
       none g e (x, a, s, w, so) = let t = (in_turn F V N x a g s w).1 in false≢true (sym e ∙ (L.known g a t (entry_change a.kind t.entry so)).0)
 
       go : (g : ℕ) → (L.sets g ≡ true) ⊎ (L.sets g ≡ false) → Known (InPhase F V N changes g 0)
-      go g (inl e) = let t = L.there g e in inl (N.turn g, t.0, at_turn refl t.1, refl, layout_changes t.0.kind t.2)
+      go g (inl e) = let t = L.there g e in inl (N.prologue g, t.0, at_prologue refl t.1, refl, layout_changes t.0.kind t.2)
       go g (inr e) = inr (none g e)
 
       -- a host read loads

@@ -14,17 +14,17 @@ use Rattle.fg_crossing.specs.Kinds.{is_plain, is_entry, is_release}
 use Rattle.fg_crossing.specs.Local.{Local}
 use Rattle.fg_crossing.specs.Nodes.{Nodes}
 use Rattle.fg_crossing.specs.Plans.{Plan}
-use Rattle.fg_crossing.specs.Spots.{Spot, at_turn, at_member, at_release, at_reader, OfTurn, OfRelease}
+use Rattle.fg_crossing.specs.Spots.{Spot, at_prologue, at_member, at_release, at_reader, OfPrologue, OfRelease}
 use Rattle.fg_crossing.specs.States.{Handed}
 use Rattle.fg_hb.specs.Laws.{IsAsymmetric, IsIrreflexive}
 use Rattle.fg_hb.specs.Orders.{Order}
 use Rattle.fg_stated.specs.PieceStates.{kind_of, last_transfer, next_transfer, on_piece}
-use Rattle.fg_stated.specs.Stated.{MatchAt, Matches}
+use Rattle.fg_stated.specs.StateValid.{MatchAt, Matches}
 use Rattle.fg_ties.proofs.Ordered.{listed_of}
 use Rattle.fg_ties.specs.Passing.{Before}
-use Rattle.fg_ties.specs.Tied.{Tied}
+use Rattle.fg_ties.specs.Synchronized.{Synchronized}
 use Rattle.fg_view.specs.AccessKinds.{changes, transfers}
-use Rattle.fg_view.specs.ShapedView.{Has, NodeAccessAt, Precedes, ShapedView}
+use Rattle.fg_view.specs.ValidView.{Has, NodeAccessAt, Precedes, ValidView}
 use Rattle.fg_view.specs.Views.{View, clash, node_access, node_accesses_of, overlap}
 use Rattle.fg_view.specs.declared.access.Access.{Access}
 use Rattle.fg_view.specs.declared.access.AccessKind.{AccessKind}
@@ -59,15 +59,15 @@ find_after test accesses j i a lt at is none = find_is test (drop (suc j) access
 
 -- HALVES
 
--- a release is one of a released group, and an acquire is a turn's
+-- a release is one of a released group, and an acquire is a prologue's
 release_spot : (F : Plan) (V : View) (N : Nodes) (n g : ℕ) (a : Access) (s : Spot F V N n a g) (what : Handover) → a.kind ≡ Release what → (phase F V N n a g s ≡ 2) × OfRelease F V N g a
 release_spot F V N n g a (at_release x r) what e = (refl, r)
-release_spot F V N n g a (at_turn x t) what e = absurd (false≢true (sym (ap is_entry e) ∙ t.entry))
+release_spot F V N n g a (at_prologue x t) what e = absurd (false≢true (sym (ap is_entry e) ∙ t.entry))
 release_spot F V N n g a (at_member x m) what e = absurd (false≢true (sym (ap is_plain e) ∙ m.plain))
 release_spot F V N n g a (at_reader x r) what e = absurd (false≢true (sym (ap is_plain e) ∙ r.plain))
 
-acquire_spot : (F : Plan) (V : View) (N : Nodes) (n g : ℕ) (a : Access) (s : Spot F V N n a g) (what : Handover) → a.kind ≡ Acquire what → (phase F V N n a g s ≡ 0) × OfTurn F V N g a
-acquire_spot F V N n g a (at_turn x t) what e = (refl, t)
+acquire_spot : (F : Plan) (V : View) (N : Nodes) (n g : ℕ) (a : Access) (s : Spot F V N n a g) (what : Handover) → a.kind ≡ Acquire what → (phase F V N n a g s ≡ 0) × OfPrologue F V N g a
+acquire_spot F V N n g a (at_prologue x t) what e = (refl, t)
 acquire_spot F V N n g a (at_release x r) what e = absurd (false≢true (sym (ap is_release e) ∙ r.release))
 acquire_spot F V N n g a (at_member x m) what e = absurd (false≢true (sym (ap is_plain e) ∙ m.plain))
 acquire_spot F V N n g a (at_reader x r) what e = absurd (false≢true (sym (ap is_plain e) ∙ r.plain))
@@ -78,7 +78,7 @@ one_handover a b e = cc
 transfer_moves : (d : AccessKind) → transfers d ≡ true → (changes d || transfers d) ≡ true
 transfer_moves d h = or_right (changes d) (transfers d) h
 
-module _ (F : Plan) (V : View) (N : Nodes) (D : IsFull V) (X : Local F V N) (S : ShapedView V) (H : Handed F V N) (T : Tied V) (order : List ℕ) (O : Order V.nodes order) (I : IsIrreflexive V.nodes) (A : IsAsymmetric V.nodes) where
+module _ (F : Plan) (V : View) (N : Nodes) (D : IsFull V) (X : Local F V N) (S : ValidView V) (H : Handed F V N) (T : Synchronized V) (order : List ℕ) (O : Order V.nodes order) (I : IsIrreflexive V.nodes) (A : IsAsymmetric V.nodes) where
   -- a transfer clashes with what touches its piece, and it is the last thing that its node does
   transfer_before : (i j : ℕ) (a b : NodeAccess) → NodeAccessAt (node_accesses_of V order) i a → NodeAccessAt (node_accesses_of V order) j b → i < j → transfers a.access.kind ≡ true → clash V a.access b.access ≡ true → Before V a.node b.node
   transfer_before i j a b ha hb lt t c = ⊎_elim (λ z. absurd (never z.1)) (λ p. p) (listed_before V S T order O I A i j a b ha hb lt c)
@@ -109,7 +109,7 @@ module _ (F : Plan) (V : View) (N : Nodes) (D : IsFull V) (X : Local F V N) (S :
               (before_rank F V N D X (I order O) b.node c.node b.access c.access r s (sym pc) bc B W (transfer_before j k b c hb hc l tb bc))
               (before_rank F V N D X (I order O) c.node a.node c.access a.access s q (pc ∙ sym e) ca W E (transfer_before k i c a hc ha m tc ca))
 
-  -- between the release of a group and the turn of the next one there is no rank
+  -- between the release of a group and the prologue of the next one there is no rank
   none_between : (g k : ℕ) → rank g 2 < k → k < rank (g + 1) 0 → ⊥
   none_between g k l m = omega (arith, l, m)
 
@@ -126,11 +126,11 @@ module _ (F : Plan) (V : View) (N : Nodes) (D : IsFull V) (X : Local F V N) (S :
           r : OfRelease F V N g b.access
           r = (release_spot F V N b.node g b.access s what e).1
 
-          found : (a : Access) × OfTurn F V N (g + 1) a × (a.kind ≡ Acquire (H.handover g)) → next_transfer (node_accesses_of V order) j b.access.piece ≡ Some (Acquire what)
+          found : (a : Access) × OfPrologue F V N (g + 1) a × (a.kind ≡ Acquire (H.handover g)) → next_transfer (node_accesses_of V order) j b.access.piece ≡ Some (Acquire what)
           found (a, t, k) =
-              let i = listed_in V order (N.turn (g + 1)) a (O.all (N.turn (g + 1)) (has_within V S (N.turn (g + 1)) a t.has)) t.has in
+              let i = listed_in V order (N.prologue (g + 1)) a (O.all (N.prologue (g + 1)) (has_within V S (N.prologue (g + 1)) a t.has)) t.has in
               let piece : a.piece ≡ b.access.piece = t.piece ∙ sym (H.next g r.released) ∙ sym r.piece in
-              ap kind_of (next_at j i.0 b (node_access (N.turn (g + 1)) a) (rank g 2) (rank (g + 1) 0) hb i.1 (record { group = g; spot = s; is = ap (rank g) here }) (record { group = g + 1; spot = at_turn refl t; is = refl }) (ap transfers e) (ap transfers k) piece (omega arith) (λ z l m. none_between g z l m))
+              ap kind_of (next_at j i.0 b (node_access (N.prologue (g + 1)) a) (rank g 2) (rank (g + 1) 0) hb i.1 (record { group = g; spot = s; is = ap (rank g) here }) (record { group = g + 1; spot = at_prologue refl t; is = refl }) (ap transfers e) (ap transfers k) piece (omega arith) (λ z l m. none_between g z l m))
               ∙ ap (λ z. Some z) (k ∙ ap (λ z. Acquire z) (one_handover (H.handover g) what (sym (H.released g b.access r) ∙ e)))
 
   -- and before an acquire its release came last
@@ -148,13 +148,13 @@ module _ (F : Plan) (V : View) (N : Nodes) (D : IsFull V) (X : Local F V N) (S :
           (λ v c h. let t = sorted_on transfers b.access.piece v c h in piece_clash V b.access.piece c b.access over t.0 refl (transfer_moves c.kind t.1))
 
       by : (h : ℕ) × Spot F V N b.node b.access h → last_transfer (node_accesses_of V order) j b.access.piece ≡ Some (Release what)
-      by (h, s) = go (H.acquired h b.access what turn e)
+      by (h, s) = go (H.acquired h b.access what prologue e)
         where
           here : phase F V N b.node b.access h s ≡ 0
           here = (acquire_spot F V N b.node h b.access s what e).0
 
-          turn : OfTurn F V N h b.access
-          turn = (acquire_spot F V N b.node h b.access s what e).1
+          prologue : OfPrologue F V N h b.access
+          prologue = (acquire_spot F V N b.node h b.access s what e).1
 
           go : (g : ℕ) × (h ≡ g + 1) × (N.released g ≡ true) × (what ≡ H.handover g) → last_transfer (node_accesses_of V order) j b.access.piece ≡ Some (Release what)
           go (g, next, kept, same) = found (H.release g kept)
@@ -169,7 +169,7 @@ module _ (F : Plan) (V : View) (N : Nodes) (D : IsFull V) (X : Local F V N) (S :
                   is = H.released g a r
 
                   piece : a.piece ≡ b.access.piece
-                  piece = r.piece ∙ H.next g kept ∙ ap F.piece (sym next) ∙ sym turn.piece
+                  piece = r.piece ∙ H.next g kept ∙ ap F.piece (sym next) ∙ sym prologue.piece
 
                   last : LastOf V (on_piece b.access.piece transfers) b.node (N.release g) a
                   last = last_of F V N D X (I order O) transfers transfer_moves b.node (rank (g + 1) 0) b.access B over (N.release g) (rank g 2) a

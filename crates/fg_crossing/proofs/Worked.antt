@@ -8,7 +8,7 @@ use Rattle.fg_bits.specs.Stages.{clear, expand, host}
 use Rattle.fg_bits.specs.declared.layout.Layout.TheVariants.{Undefined}
 use Rattle.fg_bits.specs.declared.sharing.Sharing.TheVariants.{Exclusive}
 use Rattle.fg_crossing.proofs.Crossing.{leads_cases}
-use Rattle.fg_crossing.proofs.Tying.{spot_has}
+use Rattle.fg_crossing.proofs.Synchronizing.{spot_has}
 use Rattle.fg_crossing.specs.Crossings.{Flushes, IsFull, signal_stages}
 use Rattle.fg_crossing.specs.Facts.{Facts}
 use Rattle.fg_crossing.specs.Kinds.{is_plain}
@@ -16,7 +16,7 @@ use Rattle.fg_crossing.specs.Local.{Local}
 use Rattle.fg_crossing.specs.Masks.{Leaves}
 use Rattle.fg_crossing.specs.Nodes.{Nodes}
 use Rattle.fg_crossing.specs.Plans.{Plan, leads}
-use Rattle.fg_crossing.specs.Spots.{Spot, at_turn, at_member, at_release, at_reader, OfTurn, OfMember, OfReader}
+use Rattle.fg_crossing.specs.Spots.{Spot, at_prologue, at_member, at_release, at_reader, OfPrologue, OfMember, OfReader}
 use Rattle.fg_crossing.specs.States.{Laid, Owned, Handed, Changed}
 use Rattle.fg_hb.specs.Edges.{is_host, is_signal, is_wait, node_at}
 use Rattle.fg_hb.specs.Nodes.{node}
@@ -25,7 +25,7 @@ use Rattle.fg_reach.specs.Paths.{one, then_on}
 use Rattle.fg_ties.specs.Passing.{Before}
 use Rattle.fg_view.specs.AccessKinds.{loads, wanted}
 use Rattle.fg_view.specs.Effects.{plain_effect}
-use Rattle.fg_view.specs.ShapedView.{Has}
+use Rattle.fg_view.specs.ValidView.{Has}
 use Rattle.fg_view.specs.Views.{View, family_at, imported_at}
 use Rattle.fg_view.specs.declared.access.Access.{Access}
 use Rattle.fg_view.specs.declared.access.Agent.TheVariants as agents
@@ -57,7 +57,7 @@ abbrev F : Plan
 F = record { count = 1; queue = λ c. 0; groups = 2; piece = λ g. g - 1; member = λ c g. (c == 0) && (g == 0); host = λ g. g == 1; over = λ g h. false }
 
 abbrev N : Nodes
-N = record { command = λ c. 0; turn = λ h. 1; turned = λ h. h == 1; alias = λ h. 1; release = λ g. 2; released = λ g. false; reader = λ h. 3 }
+N = record { command = λ c. 0; prologue = λ h. 1; has_prologue = λ h. h == 1; alias = λ h. 1; release = λ g. 2; released = λ g. false; reader = λ h. 3 }
 
 -- WHAT IS THERE
 
@@ -103,8 +103,8 @@ leads_one g h l = go (leads_cases F g h l)
 stores : (c g : ℕ) (a : Access) → OfMember F V N c g a → a ≡ store
 stores c g a m = ⊎_elim (λ t. t.1) (λ t. absurd (omega (arith, t.0))) (two_accesses 0 a m.has)
 
-no_turn : (g : ℕ) (a : Access) → OfTurn F V N g a → ⊥
-no_turn g a t = ⊎_elim (λ z. absurd (omega (arith, z.0))) (λ z. absurd (omega (arith, z.0))) (two_accesses 1 a t.has)
+no_prologue : (g : ℕ) (a : Access) → OfPrologue F V N g a → ⊥
+no_prologue g a t = ⊎_elim (λ z. absurd (omega (arith, z.0))) (λ z. absurd (omega (arith, z.0))) (two_accesses 1 a t.has)
 
 reads : (g : ℕ) (a : Access) → OfReader F V N g a → a ≡ load
 reads g a r = ⊎_elim (λ t. absurd (omega (arith, t.0))) (λ t. t.1) (two_accesses 3 a r.has)
@@ -133,7 +133,7 @@ spot_of x a (inl (e, f)) = (0, at_member {c = 0} e (record { member = refl; has 
 spot_of x a (inr (e, f)) = (1, at_reader e (record { host = refl; has = subst (Has V 3) (sym f) (0, refl); plain = ap (λ z. is_plain z.kind) f; piece = ap (λ z. z.piece) f }))
 
 within : (x : ℕ) (a : Access) (g : ℕ) → Spot F V N x a g → g < 2
-within x a g (at_turn e t) = absurd (no_turn g a t)
+within x a g (at_prologue e t) = absurd (no_prologue g a t)
 within x a g (at_member {c = c} e m) = let z = (member_zero c g m.member).1 in omega (arith, z)
 within x a g (at_release e r) = absurd (false≢true r.released)
 within x a g (at_reader e r) = let z = eqb-true g 1 r.host in omega (arith, z)
@@ -152,20 +152,20 @@ local = record {
   };
   roles = record {
     commands = λ c g m. record { kind = refl; opened = record { into = refl; out = refl } };
-    turns = λ h t. record { sync = refl; opened = record { into = refl; out = refl } };
+    prologues = λ h t. record { sync = refl; opened = record { into = refl; out = refl } };
     releases = λ g r. absurd (false≢true r);
     readers = λ h e. refl;
   };
   places = record {
     steps = λ c d e lt below. absurd (omega (arith, lt, below));
-    turned = λ g h l. eq-eqb h 1 (leads_one g h l).1;
-    into_turn = λ g c e r m. inl (record { same = refl; less = omega arith });
+    has_prologue = λ g h l. eq-eqb h 1 (leads_one g h l).1;
+    into_prologue = λ g c e r m. inl (record { same = refl; less = omega arith });
     onto = λ h d t m. let z = eqb-true h 1 t in let w = (member_zero d h m).1 in absurd (omega (arith, z, w));
     into_release = λ g c r m. absurd (false≢true r);
     into_acquire = λ g h r l. absurd (false≢true r);
   };
   masks = record {
-    takes_turn = λ g c a e r m s. record { stage = refl; flushes = subst (λ z. Flushes z.kind V 1 z.piece) (sym (stores c g a m)) refl };
+    takes_prologue = λ g c a e r m s. record { stage = refl; flushes = subst (λ z. Flushes z.kind V 1 z.piece) (sym (stores c g a m)) refl };
     takes_release = λ g c a r m s. absurd (false≢true r);
     gives = λ h d b t m s. let z = eqb-true h 1 t in let w = (member_zero d h m.member).1 in absurd (omega (arith, z, w));
     reads = λ h b t r. subst (Leaves V 1 3) (sym (reads h b r)) (record { from = inr reaches_host; shown = (1, inl refl, (inr (refl, reaches_host), refl)) });
@@ -185,10 +185,10 @@ laid = record {
   sets = λ g. false;
   layout = λ g. Undefined;
   there = λ g s. absurd (false≢true s);
-  known = λ g a t. absurd (no_turn g a t);
+  known = λ g a t. absurd (no_prologue g a t);
   steady = λ g e s. refl;
   member = λ c g a l m w. absurd (none_some (sym (wants_none 0 a m.has) ∙ w));
-  turn = λ h a l t. absurd (no_turn h a t);
+  prologue = λ h a l t. absurd (no_prologue h a t);
   begins = λ x g i a l s w. absurd (none_some (sym (wants_none x a (spot_has F V N x a g s)) ∙ w));
 }
 
@@ -197,7 +197,7 @@ owned = record {
   sets = λ g. false;
   family = λ g. Some Graphics;
   there = λ g s. absurd (false≢true s);
-  known = λ g a t. absurd (no_turn g a t);
+  known = λ g a t. absurd (no_prologue g a t);
   runs = λ x g a s shared queued. ⊎_elim
       (λ t. ap (family_at V) t.0)
       (λ t. absurd (false≢true (sym queued ∙ ap (λ z. is_host (node_at V.nodes z).kind) t.0)))
@@ -212,11 +212,11 @@ handed = record {
   release = λ g r. absurd (false≢true r);
   acquire = λ g r. absurd (false≢true r);
   released = λ g a r. absurd (false≢true r.released);
-  acquired = λ h a what t. absurd (no_turn h a t);
+  acquired = λ h a what t. absurd (no_prologue h a t);
 }
 
 loads_after : (x g : ℕ) (a : Access) → Spot F V N x a g → loads a.kind ≡ true → (i : ℕ) × (F.piece i ≡ F.piece g) × (i < g) × ((i == 0) ≡ true)
-loads_after x g a (at_turn e t) tk = absurd (no_turn g a t)
+loads_after x g a (at_prologue e t) tk = absurd (no_prologue g a t)
 loads_after x g a (at_member {c = c} e m) tk = absurd (false≢true (sym (ap (λ z. loads z.kind) (stores c g a m)) ∙ tk))
 loads_after x g a (at_release e r) tk = absurd (false≢true r.released)
 loads_after x g a (at_reader e r) tk = let z = eqb-true g 1 r.host in (0, omega (arith, z), omega (arith, z), refl)
@@ -226,7 +226,7 @@ changed = record {
   stores = λ g. g == 0;
   there = λ g s. let z = eqb-true g 0 s in (0, store, record { member = s; has = (0, refl); plain = refl; piece = omega (arith, z) }, refl);
   known = λ c g a m k. eq-eqb g 0 (member_zero c g m.member).1;
-  discards = λ g a t. absurd (no_turn g a t);
+  discards = λ g a t. absurd (no_prologue g a t);
   start = λ x g a s tk fresh. loads_after x g a s tk;
   alone = λ x p a h im. absurd (false≢true (sym (no_import p) ∙ im));
   undiscarded = λ x a h d. no_import a.piece;

@@ -24,5 +24,5 @@ pub record Aliases (F : Plan) (V : View) (N : Nodes) : Type 0 where
   pub barriers : (g h : ℕ) → F.over g h ≡ true → IsBarrier V (N.alias h)
   pub into : (g h c : ℕ) → F.over g h ≡ true → F.member c g ≡ true → Later V.nodes (N.command c) (N.alias h)
   pub takes : (g h c : ℕ) (a : Access) → F.over g h ≡ true → OfMember F V N c g a → Sooner V.nodes (N.command c) (N.alias h) → Takes V (N.command c) a (N.alias h)
-  pub onto : (g h : ℕ) → F.over g h ≡ true → UpTo V (N.alias h) (N.turn h)
+  pub onto : (g h : ℕ) → F.over g h ≡ true → UpTo V (N.alias h) (N.prologue h)
   pub kept : (g h : ℕ) → F.over g h ≡ true → N.released g ≡ false

@@ -7,7 +7,7 @@ use Rattle.fg_hb.specs.Edges.{edge, is_signal, is_wait, node_at}
 use Rattle.fg_hb.specs.declared.kind.Kind.TheVariants.{Command}
 use Rattle.fg_hb.specs.declared.node.Node.{Node}
 use Rattle.fg_reach.specs.Paths.{Path}
-use Rattle.fg_view.specs.ShapedView.{Has}
+use Rattle.fg_view.specs.ValidView.{Has}
 use Rattle.fg_view.specs.Views.{View, makes_available, makes_visible}
 use Rattle.fg_view.specs.declared.access.Access.{Access}
 use Rattle.fg_view.specs.declared.access.AccessKind.{AccessKind}

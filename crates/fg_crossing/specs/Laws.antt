@@ -8,7 +8,7 @@ use Rattle.fg_crossing.specs.Nodes.{Nodes, Places}
 use Rattle.fg_crossing.specs.Plans.{Plan, Reach}
 use Rattle.fg_hb.specs.Orders.{Earlier, IsLeast, IsStuck, Order}
 use Rattle.fg_hb.specs.declared.node.Node.{Node}
-use Rattle.fg_view.specs.ShapedView.{ShapedView}
+use Rattle.fg_view.specs.ValidView.{ValidView}
 use Rattle.fg_view.specs.Views.{View}
 
 -- a command comes later than what it needs, on one queue or over a signal and a wait, where signals and waits are of all commands
@@ -17,20 +17,20 @@ Crosses F V N = IsFull V → Places F V N → (c d : ℕ) → Reach F c d → La
 
 -- a shaped view that has the facts of a plan is sound in its least order
 abbrev pub MakesSound : Plan → View → Nodes → Type 0
-MakesSound F V N = ShapedView V → Facts F V N → (order : List ℕ) → IsLeast V.nodes order → Sound V order
+MakesSound F V N = ValidView V → Facts F V N → (order : List ℕ) → IsLeast V.nodes order → Sound V order
 
 -- of two numbers the one with the lower level stands first, and on one level the lower one
 abbrev pub LowerFirst : (ℕ → ℕ) → ℕ → Type 0
 LowerFirst level count = (x n : ℕ) → x < count → n < count → Under level x n → Earlier (by_level level count) x n
 
 -- nodes by their levels are in order
-abbrev pub HasOrder : List Node → (ℕ → ℕ) → Type 0
-HasOrder nodes level = Leveled nodes level → Order nodes (by_level level (length nodes))
+abbrev pub LevelsGiveOrder : List Node → (ℕ → ℕ) → Type 0
+LevelsGiveOrder nodes level = Leveled nodes level → Order nodes (by_level level (length nodes))
 
 -- and their queues get through
-abbrev pub IsNeverStuck : List Node → (ℕ → ℕ) → Type 0
-IsNeverStuck nodes level = Leveled nodes level → (q n : ℕ) → IsStuck nodes q n → ⊥
+abbrev pub LevelsNeverStick : List Node → (ℕ → ℕ) → Type 0
+LevelsNeverStick nodes level = Leveled nodes level → (q n : ℕ) → IsStuck nodes q n → ⊥
 
 -- of nodes that have an order one order is the least
-abbrev pub HasLeast : List Node → Type 0
-HasLeast nodes = (order : List ℕ) → Order nodes order → (least : List ℕ) × IsLeast nodes least
+abbrev pub OrderGivesLeast : List Node → Type 0
+OrderGivesLeast nodes = (order : List ℕ) → Order nodes order → (least : List ℕ) × IsLeast nodes least

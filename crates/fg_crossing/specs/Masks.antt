@@ -25,10 +25,10 @@ pub record Leaves (V : View) (t y : ℕ) (b : Access) : Type 0 where
   pub from : UpTo V t y
   pub shown : (z : ℕ) × UpTo V t z × MadeVisibleBy V y b z
 
--- on one queue a turn serves the members of the group before it and of its own, and a release those of its group; what stands
+-- on one queue a prologue serves the members of the group before it and of its own, and a release those of its group; what stands
 -- before a host read serves that
 pub record Masks (F : Plan) (V : View) (N : Nodes) : Type 0 where
-  pub takes_turn : (g c : ℕ) (a : Access) → F.piece g ≡ F.piece (g + 1) → N.released g ≡ false → OfMember F V N c g a → Sooner V.nodes (N.command c) (N.turn (g + 1)) → Takes V (N.command c) a (N.turn (g + 1))
+  pub takes_prologue : (g c : ℕ) (a : Access) → F.piece g ≡ F.piece (g + 1) → N.released g ≡ false → OfMember F V N c g a → Sooner V.nodes (N.command c) (N.prologue (g + 1)) → Takes V (N.command c) a (N.prologue (g + 1))
   pub takes_release : (g c : ℕ) (a : Access) → N.released g ≡ true → OfMember F V N c g a → Sooner V.nodes (N.command c) (N.release g) → Takes V (N.command c) a (N.release g)
-  pub gives : (h d : ℕ) (b : Access) → N.turned h ≡ true → OfMember F V N d h b → Sooner V.nodes (N.turn h) (N.command d) → Gives V (N.turn h) (N.command d) b
-  pub reads : (h : ℕ) (b : Access) → N.turned h ≡ true → OfReader F V N h b → Leaves V (N.turn h) (N.reader h) b
+  pub gives : (h d : ℕ) (b : Access) → N.has_prologue h ≡ true → OfMember F V N d h b → Sooner V.nodes (N.prologue h) (N.command d) → Gives V (N.prologue h) (N.command d) b
+  pub reads : (h : ℕ) (b : Access) → N.has_prologue h ≡ true → OfReader F V N h b → Leaves V (N.prologue h) (N.reader h) b

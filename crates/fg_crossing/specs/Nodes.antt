@@ -9,9 +9,9 @@ use Rattle.fg_view.specs.Views.{View}
 pub record Nodes : Type 0 where
   -- the node of a command
   pub command : ℕ → ℕ
-  -- what stands right before a group: its turn, a barrier, or an acquire, whichever stands last; and whether something does
-  pub turn : ℕ → ℕ
-  pub turned : ℕ → Bool
+  -- what stands right before a group: its prologue, a barrier, or an acquire, whichever stands last; and whether something does
+  pub prologue : ℕ → ℕ
+  pub has_prologue : ℕ → Bool
   -- the barrier before a group whose bytes another unit had
   pub alias : ℕ → ℕ
   -- the release after a group, and whether there is one
@@ -33,7 +33,7 @@ pub record IsBarrier (V : View) (n : ℕ) : Type 0 where
 
 pub record Roles (F : Plan) (V : View) (N : Nodes) : Type 0 where
   pub commands : (c g : ℕ) → F.member c g ≡ true → IsCommand V (N.command c)
-  pub turns : (h : ℕ) → N.turned h ≡ true → IsBarrier V (N.turn h)
+  pub prologues : (h : ℕ) → N.has_prologue h ≡ true → IsBarrier V (N.prologue h)
   pub releases : (g : ℕ) → N.released g ≡ true → IsBarrier V (N.release g)
   pub readers : (h : ℕ) → F.host h ≡ true → is_host (node_at V.nodes (N.reader h)).kind ≡ true
 
@@ -42,10 +42,10 @@ pub record Roles (F : Plan) (V : View) (N : Nodes) : Type 0 where
 pub record Places (F : Plan) (V : View) (N : Nodes) : Type 0 where
   -- commands of one queue in their order
   pub steps : (c d : ℕ) → F.queue c ≡ F.queue d → c < d → d < F.count → Sooner V.nodes (N.command c) (N.command d)
-  -- a turn stands before each group that another leads to, after the members of the group before it and before its own members
-  pub turned : (g h : ℕ) → leads F g h ≡ true → N.turned h ≡ true
-  pub into_turn : (g c : ℕ) → F.piece g ≡ F.piece (g + 1) → N.released g ≡ false → F.member c g ≡ true → Later V.nodes (N.command c) (N.turn (g + 1))
-  pub onto : (h d : ℕ) → N.turned h ≡ true → F.member d h ≡ true → Later V.nodes (N.turn h) (N.command d)
+  -- a prologue stands before each group that another leads to, after the members of the group before it and before its own members
+  pub has_prologue : (g h : ℕ) → leads F g h ≡ true → N.has_prologue h ≡ true
+  pub into_prologue : (g c : ℕ) → F.piece g ≡ F.piece (g + 1) → N.released g ≡ false → F.member c g ≡ true → Later V.nodes (N.command c) (N.prologue (g + 1))
+  pub onto : (h d : ℕ) → N.has_prologue h ≡ true → F.member d h ≡ true → Later V.nodes (N.prologue h) (N.command d)
   -- where a group is released, the release stands between
   pub into_release : (g c : ℕ) → N.released g ≡ true → F.member c g ≡ true → Later V.nodes (N.command c) (N.release g)
-  pub into_acquire : (g h : ℕ) → N.released g ≡ true → leads F g h ≡ true → Crossed V.nodes (N.release g) (N.turn h)
+  pub into_acquire : (g h : ℕ) → N.released g ≡ true → leads F g h ≡ true → Crossed V.nodes (N.release g) (N.prologue h)

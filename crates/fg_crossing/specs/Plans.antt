@@ -16,7 +16,7 @@ pub record Plan : Type 0 where
   -- over g h: g is the last group of a placed unit, and h the first one of a unit that is ordered after it and overlaps it
   pub over : ℕ → ℕ → Bool
 
--- each access of group g goes through the turn of group h to each access of h
+-- each access of group g goes through the prologue of group h to each access of h
 abbrev pub leads : Plan → ℕ → ℕ → Bool
 leads F g h = ((h == g + 1) && (F.piece g == F.piece h)) || F.over g h
 

@@ -4,14 +4,14 @@ use Rattle.fg_crossing.specs.Kinds.{is_plain, is_entry, is_release}
 use Rattle.fg_crossing.specs.Nodes.{Nodes}
 use Rattle.fg_crossing.specs.Plans.{Plan, leads}
 use Rattle.fg_view.specs.AccessKinds.{changes}
-use Rattle.fg_view.specs.ShapedView.{Has}
+use Rattle.fg_view.specs.ValidView.{Has}
 use Rattle.fg_view.specs.Views.{View}
 use Rattle.fg_view.specs.declared.access.Access.{Access}
 
--- access a is of the turn of group g
-pub record OfTurn (F : Plan) (V : View) (N : Nodes) (g : ℕ) (a : Access) : Type 0 where
-  pub turned : N.turned g ≡ true
-  pub has : Has V (N.turn g) a
+-- access a is of the prologue of group g
+pub record OfPrologue (F : Plan) (V : View) (N : Nodes) (g : ℕ) (a : Access) : Type 0 where
+  pub has_prologue : N.has_prologue g ≡ true
+  pub has : Has V (N.prologue g) a
   pub entry : is_entry a.kind ≡ true
   pub piece : a.piece ≡ F.piece g
 
@@ -38,7 +38,7 @@ pub record OfReader (F : Plan) (V : View) (N : Nodes) (g : ℕ) (a : Access) : T
 
 -- access a of node x is of group g
 pub data Spot (F : Plan) (V : View) (N : Nodes) (x : ℕ) (a : Access) (g : ℕ) : Type 0 where
-  at_turn : x ≡ N.turn g → OfTurn F V N g a → Spot F V N x a g
+  at_prologue : x ≡ N.prologue g → OfPrologue F V N g a → Spot F V N x a g
   at_member : {c : ℕ} → x ≡ N.command c → OfMember F V N c g a → Spot F V N x a g
   at_release : x ≡ N.release g → OfRelease F V N g a → Spot F V N x a g
   at_reader : x ≡ N.reader g → OfReader F V N g a → Spot F V N x a g
@@ -47,8 +47,8 @@ pub record Spots (F : Plan) (V : View) (N : Nodes) : Type 0 where
   -- each access is of a group
   pub all : (x : ℕ) (a : Access) → Has V x a → (g : ℕ) × Spot F V N x a g
   pub within : (x : ℕ) (a : Access) (g : ℕ) → Spot F V N x a g → g < F.groups
-  -- a group with a turn has a member that does something, unless it is a host read's
-  pub some : (g : ℕ) → N.turned g ≡ true → F.host g ≡ false → (c : ℕ) × (a : Access) × OfMember F V N c g a
+  -- a group with a prologue has a member that does something, unless it is a host read's
+  pub some : (g : ℕ) → N.has_prologue g ≡ true → F.host g ≡ false → (c : ℕ) × (a : Access) × OfMember F V N c g a
   -- a member that changes the unit is the only one
   pub alone : (c d g : ℕ) (a : Access) → OfMember F V N c g a → changes a.kind ≡ true → F.member d g ≡ true → c ≡ d
   -- the group of a host read has no members, and is the last one of its unit

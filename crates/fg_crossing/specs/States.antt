@@ -4,11 +4,11 @@ use Rattle.fg_base.specs.declared.shape.Family.{Family}
 use Rattle.fg_bits.specs.declared.layout.Layout.{Layout}
 use Rattle.fg_crossing.specs.Nodes.{Nodes}
 use Rattle.fg_crossing.specs.Plans.{Plan, First}
-use Rattle.fg_crossing.specs.Spots.{Spot, OfTurn, OfMember, OfRelease}
+use Rattle.fg_crossing.specs.Spots.{Spot, OfPrologue, OfMember, OfRelease}
 use Rattle.fg_hb.specs.Edges.{is_host, node_at}
 use Rattle.fg_stated.specs.PieceStates.{layout_after}
 use Rattle.fg_view.specs.AccessKinds.{changes, is_discard, loads, sets_layout, sets_owner, wanted}
-use Rattle.fg_view.specs.ShapedView.{Has}
+use Rattle.fg_view.specs.ValidView.{Has}
 use Rattle.fg_view.specs.Views.{View, family_at, imported_at, overlap, shared_at}
 use Rattle.fg_view.specs.declared.access.Access.{Access}
 use Rattle.fg_view.specs.declared.access.AccessKind.TheVariants.{Release, Acquire}
@@ -17,26 +17,26 @@ use Rattle.fg_view.specs.declared.access.Handover.{Handover}
 -- LAYOUTS
 
 pub record Laid (F : Plan) (V : View) (N : Nodes) : Type 0 where
-  -- whether the turn of a group sets a layout, and that of the group
+  -- whether the prologue of a group sets a layout, and that of the group
   pub sets : ℕ → Bool
   pub layout : ℕ → Layout
-  pub there : (g : ℕ) → sets g ≡ true → (a : Access) × OfTurn F V N g a × (sets_layout a.kind ≡ true)
-  pub known : (g : ℕ) (a : Access) → OfTurn F V N g a → sets_layout a.kind ≡ true → (sets g ≡ true) × (layout_after a.kind ≡ layout g)
+  pub there : (g : ℕ) → sets g ≡ true → (a : Access) × OfPrologue F V N g a × (sets_layout a.kind ≡ true)
+  pub known : (g : ℕ) (a : Access) → OfPrologue F V N g a → sets_layout a.kind ≡ true → (sets g ≡ true) × (layout_after a.kind ≡ layout g)
   pub steady : (g : ℕ) → F.piece g ≡ F.piece (g + 1) → sets (g + 1) ≡ false → layout g ≡ layout (g + 1)
-  -- a member wants the layout of its group, and a turn that of the group before
+  -- a member wants the layout of its group, and a prologue that of the group before
   pub member : (c g : ℕ) (a : Access) (layout_wanted : Layout) → OfMember F V N c g a → wanted a.kind ≡ Some layout_wanted → layout g ≡ layout_wanted
-  pub turn : (h : ℕ) (a : Access) (layout_wanted : Layout) → OfTurn F V N h a → wanted a.kind ≡ Some layout_wanted → (g : ℕ) × (h ≡ g + 1) × (F.piece g ≡ F.piece h) × (layout g ≡ layout_wanted)
-  -- where one is wanted, the turn of the unit's first group sets one
+  pub prologue : (h : ℕ) (a : Access) (layout_wanted : Layout) → OfPrologue F V N h a → wanted a.kind ≡ Some layout_wanted → (g : ℕ) × (h ≡ g + 1) × (F.piece g ≡ F.piece h) × (layout g ≡ layout_wanted)
+  -- where one is wanted, the prologue of the unit's first group sets one
   pub begins : (x g i : ℕ) (a : Access) (layout_wanted : Layout) → Spot F V N x a g → wanted a.kind ≡ Some layout_wanted → First F g i → sets i ≡ true
 
 -- OWNERS
 
 pub record Owned (F : Plan) (V : View) (N : Nodes) : Type 0 where
-  -- whether the turn of a group decides who owns the unit, and the family of the group
+  -- whether the prologue of a group decides who owns the unit, and the family of the group
   pub sets : ℕ → Bool
   pub family : ℕ → Option Family
-  pub there : (g : ℕ) → sets g ≡ true → (a : Access) × OfTurn F V N g a × (sets_owner a.kind ≡ true)
-  pub known : (g : ℕ) (a : Access) → OfTurn F V N g a → sets_owner a.kind ≡ true → sets g ≡ true
+  pub there : (g : ℕ) → sets g ≡ true → (a : Access) × OfPrologue F V N g a × (sets_owner a.kind ≡ true)
+  pub known : (g : ℕ) (a : Access) → OfPrologue F V N g a → sets_owner a.kind ≡ true → sets g ≡ true
   -- of a unit that is not shared, nodes of a group are on queues of its family, and it changes by a release alone
   pub runs : (x g : ℕ) (a : Access) → Spot F V N x a g → shared_at V (F.piece g) ≡ false → is_host (node_at V.nodes x).kind ≡ false → family_at V x ≡ family g
   pub steady : (g : ℕ) → F.piece g ≡ F.piece (g + 1) → shared_at V (F.piece g) ≡ false → N.released g ≡ false → family g ≡ family (g + 1)
@@ -46,13 +46,13 @@ pub record Owned (F : Plan) (V : View) (N : Nodes) : Type 0 where
 pub record Handed (F : Plan) (V : View) (N : Nodes) : Type 0 where
   -- what is handed over after a group
   pub handover : ℕ → Handover
-  -- after a released group comes one of its unit, whose turn acquires
+  -- after a released group comes one of its unit, whose prologue acquires
   pub next : (g : ℕ) → N.released g ≡ true → F.piece g ≡ F.piece (g + 1)
   pub release : (g : ℕ) → N.released g ≡ true → (a : Access) × OfRelease F V N g a
-  pub acquire : (g : ℕ) → N.released g ≡ true → (a : Access) × OfTurn F V N (g + 1) a × (a.kind ≡ Acquire (handover g))
+  pub acquire : (g : ℕ) → N.released g ≡ true → (a : Access) × OfPrologue F V N (g + 1) a × (a.kind ≡ Acquire (handover g))
   -- and nothing else releases or acquires
   pub released : (g : ℕ) (a : Access) → OfRelease F V N g a → a.kind ≡ Release (handover g)
-  pub acquired : (h : ℕ) (a : Access) (what : Handover) → OfTurn F V N h a → a.kind ≡ Acquire what → (g : ℕ) × (h ≡ g + 1) × (N.released g ≡ true) × (what ≡ handover g)
+  pub acquired : (h : ℕ) (a : Access) (what : Handover) → OfPrologue F V N h a → a.kind ≡ Acquire what → (g : ℕ) × (h ≡ g + 1) × (N.released g ≡ true) × (what ≡ handover g)
 
 -- BYTES
 
@@ -61,8 +61,8 @@ pub record Changed (F : Plan) (V : View) (N : Nodes) : Type 0 where
   pub stores : ℕ → Bool
   pub there : (g : ℕ) → stores g ≡ true → (c : ℕ) × (a : Access) × OfMember F V N c g a × (changes a.kind ≡ true)
   pub known : (c g : ℕ) (a : Access) → OfMember F V N c g a → changes a.kind ≡ true → stores g ≡ true
-  -- only the turn of a unit's first group discards
-  pub discards : (g : ℕ) (a : Access) → OfTurn F V N g a → is_discard a.kind ≡ true → First F g g
+  -- only the prologue of a unit's first group discards
+  pub discards : (g : ℕ) (a : Access) → OfPrologue F V N g a → is_discard a.kind ≡ true → First F g g
   -- what loads from no import, loads what an earlier group stored
   pub start : (x g : ℕ) (a : Access) → Spot F V N x a g → loads a.kind ≡ true → imported_at V a.piece ≡ false → (i : ℕ) × (F.piece i ≡ F.piece g) × (i < g) × (stores i ≡ true)
   -- nothing else lies in the bytes of an import, and it is not discarded

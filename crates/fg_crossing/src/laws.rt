@@ -1,7 +1,7 @@
 //! Laws of recorded programs.
 
 ghost use Rattle.std.specs.Prelude.{ℕ, List};
-ghost use Rattle.fg_crossing.specs.Laws.{Crosses, MakesSound, LowerFirst, HasOrder, HasLeast, IsNeverStuck};
+ghost use Rattle.fg_crossing.specs.Laws.{Crosses, MakesSound, LowerFirst, LevelsGiveOrder, OrderGivesLeast, LevelsNeverStick};
 ghost use Rattle.fg_crossing.specs.Nodes.{Nodes};
 ghost use Rattle.fg_crossing.specs.Plans.{Plan};
 ghost use Rattle.fg_hb.specs.declared.node.Node.{Node};
@@ -23,7 +23,7 @@ pub fn crossing_laws()
 /// (`order`), and the queues get through (`never_stuck`). Nodes that have an order have a least one (`least`). It does nothing.
 pub fn leveled_laws()
     ensures lower_first { (level : ℕ → ℕ) (count : ℕ) → LowerFirst level count }
-    ensures order { (nodes : List Node) (level : ℕ → ℕ) → HasOrder nodes level }
-    ensures least { (nodes : List Node) → HasLeast nodes }
-    ensures never_stuck { (nodes : List Node) (level : ℕ → ℕ) → IsNeverStuck nodes level }
+    ensures order { (nodes : List Node) (level : ℕ → ℕ) → LevelsGiveOrder nodes level }
+    ensures least { (nodes : List Node) → OrderGivesLeast nodes }
+    ensures never_stuck { (nodes : List Node) (level : ℕ → ℕ) → LevelsNeverStick nodes level }
 {}

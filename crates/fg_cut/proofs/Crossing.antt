@@ -16,7 +16,7 @@ use Rattle.fg_hb.specs.declared.kind.Kind.TheVariants as kinds
 use Rattle.fg_hb.specs.declared.node.Node.{Node}
 use Rattle.fg_reach.specs.Paths.{one}
 use Rattle.fg_subs.specs.Entries.{OfSignal}
-use Rattle.fg_subs.specs.declared.program.Item as subs
+use Rattle.fg_subs.specs.declared.program.Item as programs
 use Rattle.fg_subs.specs.declared.program.Program.{Program}
 use Rattle.fg_timeline.proofs.Latest.{item_there}
 use Rattle.fg_timeline.specs.Laws.{AllThere, InOrder, IsFor, AreFor, IsMet, AreMet, AreRising}

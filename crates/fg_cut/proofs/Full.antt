@@ -32,7 +32,7 @@ use Rattle.fg_subs.specs.declared.program.Item.TheVariants.{Command, Global, Buf
 use Rattle.fg_subs.specs.declared.program.Program.{Program}
 use Rattle.fg_timeline.specs.declared.step.Step.{Step}
 use Rattle.fg_view.specs.Effects.{entry_effect, access, role_agent, touch_load, touch_store, touch_accesses, command_accesses, all_agents, no_effect}
-use Rattle.fg_view.specs.ShapedView.{Has}
+use Rattle.fg_view.specs.ValidView.{Has}
 use Rattle.fg_view.specs.Views.{View, effect_at, queue_at, is_on, view_of}
 use Rattle.fg_view.specs.declared.access.Access.{Access}
 use Rattle.fg_view.specs.declared.access.AccessKind.{AccessKind}

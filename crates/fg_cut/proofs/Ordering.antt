@@ -1,6 +1,6 @@
 -- The order by steps.
 use Rattle.std.proofs.Common.{◌≡◌, inl, ℕ, ◌<◌, List, length, true, arith}
-use Rattle.fg_crossing.specs.Laws.{HasOrder, LowerFirst}
+use Rattle.fg_crossing.specs.Laws.{LevelsGiveOrder, LowerFirst}
 use Rattle.fg_crossing.specs.Levels.{Leveled, by_level}
 use Rattle.fg_cut.specs.Levels.{level_of, AreSteps, IsByStep}
 use Rattle.fg_cut.specs.Standing.{AllStand}
@@ -12,7 +12,7 @@ use Rattle.fg_timeline.specs.Places.{item_number}
 use Rattle.fg_timeline.specs.Steps.{has_item, IsScript}
 use Rattle.fg_timeline.specs.declared.step.Step.{Step}
 
-module _ (P : Program) (script : List Step) (count : ℕ) (T : AllStand P script count) (steps : AreSteps script count) (K : IsScript script count) (leveled : Leveled (program_nodes P) (level_of script count)) (has_order : HasOrder (program_nodes P) (level_of script count)) (sorted : LowerFirst (level_of script count) (length (program_nodes P))) where
+module _ (P : Program) (script : List Step) (count : ℕ) (T : AllStand P script count) (steps : AreSteps script count) (K : IsScript script count) (leveled : Leveled (program_nodes P) (level_of script count)) (has_order : LevelsGiveOrder (program_nodes P) (level_of script count)) (sorted : LowerFirst (level_of script count) (length (program_nodes P))) where
   abbrev order : List ℕ
   order = by_level (level_of script count) (length (program_nodes P))
 

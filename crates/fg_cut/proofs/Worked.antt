@@ -8,7 +8,7 @@ use Rattle.fg_cut.specs.Standing.{IsCut, read_number}
 use Rattle.fg_hb.specs.Edges.{edge}
 use Rattle.fg_hb.specs.Nodes.{program_nodes}
 use Rattle.fg_hb.specs.declared.kind.Kind.TheVariants.{Barrier, Wait, Signal, Host}
-use Rattle.fg_subs.specs.declared.program.Item as subs
+use Rattle.fg_subs.specs.declared.program.Item as programs
 use Rattle.fg_subs.specs.declared.program.Item.TheVariants.{Global}
 use Rattle.fg_subs.specs.declared.program.Program.{Program}
 use Rattle.fg_timeline.specs.Batches.{queues}
@@ -16,7 +16,7 @@ use Rattle.fg_timeline.specs.Places.{wait_number, item_number, signal_number}
 use Rattle.fg_timeline.specs.declared.step.Step.{Step}
 use Rattle.fg_timeline.specs.declared.step.Step.TheVariants.{Item, Need}
 
-abbrev x : subs.Item
+abbrev x : programs.Item
 x = Global (record { src_stages = record { 0 = 0 }; src_accesses = record { 0 = 0 }; dst_stages = record { 0 = 0 }; dst_accesses = record { 0 = 0 } })
 
 abbrev script : List Step

@@ -6,7 +6,7 @@ use Rattle.fg_hb.specs.Nodes.{entry_node, program_nodes}
 use Rattle.fg_hb.specs.Orders.{is_queued}
 use Rattle.fg_subs.specs.Entries.{Entry, OfWait, OfItem, OfSignal, OfHost, entries_of}
 use Rattle.fg_subs.specs.Rules.{shapes_of}
-use Rattle.fg_subs.specs.declared.program.Item as subs
+use Rattle.fg_subs.specs.declared.program.Item as programs
 use Rattle.fg_subs.specs.declared.program.Program.{Program}
 use Rattle.fg_timeline.specs.Batches.{queues}
 use Rattle.fg_timeline.specs.Parts.{wait_for, signal_after}
@@ -37,14 +37,14 @@ read_number script count k = length (places script count) + k
 -- each wait, item, signal and host read stands at its number
 pub record AllStand (program : Program) (script : List Step) (count : ℕ) : Type 0 where
   pub wait : (q i p : ℕ) → q < count → p < count → has_item script q i ≡ true → waits script q i p ≡ true → StandsFor program (wait_number script count q i p) (OfWait q (wait_for script count q i p))
-  pub item : (q i : ℕ) (item : subs.Item) → q < count → slice_get script i ≡ Some (Item q item) → StandsFor program (item_number script count q i) (OfItem q item)
+  pub item : (q i : ℕ) (item : programs.Item) → q < count → slice_get script i ≡ Some (Item q item) → StandsFor program (item_number script count q i) (OfItem q item)
   pub signal : (q i : ℕ) → q < count → has_signal script count q i ≡ true → StandsFor program (signal_number script count q i) (OfSignal q (signal_after script count i))
   pub read : (k piece : ℕ) → slice_get program.readbacks k ≡ Some piece → StandsFor program (read_number script count k) (OfHost piece)
 
 -- node n is a wait before an item, an item, the signal after one, or a host read
 pub data IsOneOf (program : Program) (script : List Step) (count n : ℕ) : Type 0 where
   as_wait : (q i p : ℕ) → q < count → p < count → has_item script q i ≡ true → waits script q i p ≡ true → n ≡ wait_number script count q i p → IsOneOf program script count n
-  as_item : (q i : ℕ) (item : subs.Item) → q < count → slice_get script i ≡ Some (Item q item) → n ≡ item_number script count q i → IsOneOf program script count n
+  as_item : (q i : ℕ) (item : programs.Item) → q < count → slice_get script i ≡ Some (Item q item) → n ≡ item_number script count q i → IsOneOf program script count n
   as_signal : (q i : ℕ) → q < count → has_signal script count q i ≡ true → n ≡ signal_number script count q i → IsOneOf program script count n
   as_read : (k piece : ℕ) → slice_get program.readbacks k ≡ Some piece → n ≡ read_number script count k → IsOneOf program script count n
 

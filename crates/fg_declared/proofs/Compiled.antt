@@ -4,7 +4,7 @@ use Rattle.fg_cut.specs.Laws.{OfCut, OfScript, HasOrder}
 use Rattle.fg_cut.specs.Standing.{IsCut, AllStand, AreThese}
 use Rattle.fg_declared.proofs.Commands.{commands_declared}
 use Rattle.fg_declared.specs.Laws.{HasDeclaredOrder}
-use Rattle.fg_frame.specs.Good.{IsGood}
+use Rattle.fg_frame.specs.Valid.{IsValid}
 use Rattle.fg_frame.specs.Numbered.{NumberedFrame}
 use Rattle.fg_groups.specs.Groups.{grouping}
 use Rattle.fg_place.specs.Placing.{Places}
@@ -29,6 +29,6 @@ module _ (stand : OfCut AllStand) (all : OfCut AreThese) (has_order : OfScript H
         },
       )
 
-  module _ (in_turn : (frame : NumberedFrame) (kept : List Bool) (heap : Heap) → IsGood frame → IsScript (steps_of (script (grouping frame kept) heap)) (length frame.queues)) (standing : (frame : NumberedFrame) (kept : List Bool) (heap : Heap) → IsStanding (grouping frame kept) heap) where
-    pub compiled_order : (frame : NumberedFrame) (kept : List Bool) (places : Places) (P : Program) → IsGood frame → IsCompiled frame kept places P → HasDeclaredOrder frame kept P
+  module _ (in_turn : (frame : NumberedFrame) (kept : List Bool) (heap : Heap) → IsValid frame → IsScript (steps_of (script (grouping frame kept) heap)) (length frame.queues)) (standing : (frame : NumberedFrame) (kept : List Bool) (heap : Heap) → IsStanding (grouping frame kept) heap) where
+    pub compiled_order : (frame : NumberedFrame) (kept : List Bool) (places : Places) (P : Program) → IsValid frame → IsCompiled frame kept places P → HasDeclaredOrder frame kept P
     compiled_order frame kept places P good compiled = let heap = heap_with compiled.ordered places in recorded_order frame kept heap P (standing frame kept heap) (in_turn frame kept heap good) (ap (λ (p : Program). p.queues) compiled.recorded)

@@ -5,7 +5,7 @@ use Rattle.std.proofs.lemmas.Option.{slice_get-map}
 use Rattle.fg_base.specs.declared.op.Op.{Op}
 use Rattle.fg_checker.specs.Apart.{op_of}
 use Rattle.fg_declared.proofs.Listed.{nothing}
-use Rattle.fg_declared.proofs.Quiet.{turn_quiet}
+use Rattle.fg_declared.proofs.Quiet.{prologue_quiet}
 use Rattle.fg_groups.specs.declared.command.Command as commands
 use Rattle.fg_groups.specs.declared.grouping.Grouping.{Grouping}
 use Rattle.fg_recorder.proofs.Entries.{entry_there}
@@ -13,30 +13,30 @@ use Rattle.fg_recorder.specs.Marks.{unmarked, steps_of}
 use Rattle.fg_recorder.specs.Script.{script}
 use Rattle.fg_recorder.specs.Standing.{step, IsRecorded, IsKnown, by_mark, by_alias, by_copy, IsStanding, StandsAt}
 use Rattle.fg_recorder.specs.declared.mark.Mark.{Mark}
-use Rattle.fg_recorder.specs.declared.mark.Mark.TheVariants.{Command, Turn as OfTurn, Release}
+use Rattle.fg_recorder.specs.declared.mark.Mark.TheVariants.{Command, Prologue as OfPrologue, Release}
 use Rattle.fg_recorder.specs.declared.mark.Marked.{Marked}
 use Rattle.fg_recorder.specs.declared.mark.Marked.TheVariants.{Does, Needs}
-use Rattle.fg_subs.specs.declared.program.Item as subs
+use Rattle.fg_subs.specs.declared.program.Item as programs
 use Rattle.fg_timeline.specs.declared.step.Step.TheVariants as steps
 use Rattle.fg_turns.specs.Under.{Heap}
 
 -- STEPS
 
 -- what the list does at a step, if that is an item of queue q
-record IsDone (script : List Marked) (i q : ℕ) (item : subs.Item) : Type 0 where
+record IsDone (script : List Marked) (i q : ℕ) (item : programs.Item) : Type 0 where
   mark : Option Mark
   there : slice_get script i ≡ Some (Does q mark item)
 
-pub step_of_done : (script : List Marked) (i q : ℕ) (mark : Option Mark) (item : subs.Item) → slice_get script i ≡ Some (Does q mark item) → slice_get (steps_of script) i ≡ Some (steps.Item q item)
+pub step_of_done : (script : List Marked) (i q : ℕ) (mark : Option Mark) (item : programs.Item) → slice_get script i ≡ Some (Does q mark item) → slice_get (steps_of script) i ≡ Some (steps.Item q item)
 step_of_done script i q mark item e = slice_get-map (unmarked script) script i ∙ ap (option_map (unmarked script)) e
 
-done_at : (script : List Marked) (i q : ℕ) (item : subs.Item) → slice_get (steps_of script) i ≡ Some (steps.Item q item) → IsDone script i q item
+done_at : (script : List Marked) (i q : ℕ) (item : programs.Item) → slice_get (steps_of script) i ≡ Some (steps.Item q item) → IsDone script i q item
 done_at script i q item e = go (slice_get script i) refl (sym (slice_get-map (unmarked script) script i) ∙ e)
   where
-    queue_same : (r : ℕ) (other : subs.Item) → Some (steps.Item r other) ≡ Some (steps.Item q item) → r ≡ q
+    queue_same : (r : ℕ) (other : programs.Item) → Some (steps.Item r other) ≡ Some (steps.Item q item) → r ≡ q
     queue_same r other h = cc
 
-    item_same : (r : ℕ) (other : subs.Item) → Some (steps.Item r other) ≡ Some (steps.Item q item) → other ≡ item
+    item_same : (r : ℕ) (other : programs.Item) → Some (steps.Item r other) ≡ Some (steps.Item q item) → other ≡ item
     item_same r other h = cc
 
     go : (o : Option Marked) → slice_get script i ≡ o → option_map (unmarked script) o ≡ Some (steps.Item q item) → IsDone script i q item
@@ -46,7 +46,7 @@ done_at script i q item e = go (slice_get script i) refl (sym (slice_get-map (un
 
 -- COMMANDS
 
-same_queue : {q r : ℕ} {of other : Option Mark} {item it : subs.Item} → Some (Does q of item) ≡ Some (Does r other it) → q ≡ r
+same_queue : {q r : ℕ} {of other : Option Mark} {item it : programs.Item} → Some (Does q of item) ≡ Some (Does r other it) → q ≡ r
 same_queue e = cc
 
 -- the operation that is done
@@ -64,10 +64,10 @@ pub record IsCommand (G : Grouping) (heap : Heap) (i q : ℕ) : Type 0 where
 
 module _ (G : Grouping) (heap : Heap) (S : IsStanding G heap) where
   -- an item that does not do an operation
-  quiet : (item : subs.Item) (op : Op ℕ) → op_of item ≡ None → op_of item ≡ Some op → ⊥
+  quiet : (item : programs.Item) (op : Op ℕ) → op_of item ≡ None → op_of item ≡ Some op → ⊥
   quiet item op none some = nothing op (sym some ∙ none)
 
-  marked : (i q : ℕ) (of : Option Mark) (item : subs.Item) (op : Op ℕ) → StandsAt G heap i (Does q of item) → op_of item ≡ Some op → (mark : Mark) → IsRecorded G heap mark → i ≡ step G heap mark → IsCommand G heap i q
+  marked : (i q : ℕ) (of : Option Mark) (item : programs.Item) (op : Op ℕ) → StandsAt G heap i (Does q of item) → op_of item ≡ Some op → (mark : Mark) → IsRecorded G heap mark → i ≡ step G heap mark → IsCommand G heap i q
   marked i q of item op at does (Command c) known is =
       let C = entry_there G.commands c known in
       record {
@@ -77,10 +77,10 @@ module _ (G : Grouping) (heap : Heap) (S : IsStanding G heap) where
         step_is = is;
         queue_is = same_queue (sym at ∙ ap (slice_get (script G heap)) is ∙ S.each_command c C.0 C.1);
       }
-  marked i q of item op at does (OfTurn g) known is = absurd (quiet item op (ap (option_and_then done) (sym at ∙ ap (slice_get (script G heap)) is ∙ S.each_turn g known) ∙ turn_quiet G heap g) does)
+  marked i q of item op at does (OfPrologue g) known is = absurd (quiet item op (ap (option_and_then done) (sym at ∙ ap (slice_get (script G heap)) is ∙ S.each_prologue g known) ∙ prologue_quiet G heap g) does)
   marked i q of item op at does (Release g) known is = absurd (quiet item op (ap (option_and_then done) (sym at ∙ ap (slice_get (script G heap)) is ∙ S.each_release g known)) does)
 
-  pub command_at : (i q : ℕ) (item : subs.Item) (op : Op ℕ) → slice_get (steps_of (script G heap)) i ≡ Some (steps.Item q item) → op_of item ≡ Some op → IsCommand G heap i q
+  pub command_at : (i q : ℕ) (item : programs.Item) (op : Op ℕ) → slice_get (steps_of (script G heap)) i ≡ Some (steps.Item q item) → op_of item ≡ Some op → IsCommand G heap i q
   command_at i q item op e does = go (S.only i q D.mark item D.there)
     where
       D : IsDone (script G heap) i q item

@@ -9,13 +9,13 @@ use Rattle.fg_groups.specs.declared.grouping.Grouping.{Grouping}
 use Rattle.fg_groups.specs.declared.unit_use.Use.{Use}
 use Rattle.fg_recorder.specs.Items.{both, barrier, init, layouts_between}
 use Rattle.fg_recorder.specs.Pieces.{piece_of}
-use Rattle.fg_recorder.specs.Standing.{item_by, turn_item}
+use Rattle.fg_recorder.specs.Standing.{item_by, prologue_item}
 use Rattle.fg_turns.specs.Masks.{entry_masks}
-use Rattle.fg_turns.specs.Turns.{earlier, first, turn_of}
+use Rattle.fg_turns.specs.Prologues.{earlier, first, prologue_of}
 use Rattle.fg_turns.specs.Under.{Heap}
-use Rattle.fg_turns.specs.declared.turn.Turn.{Turn}
-use Rattle.fg_turns.specs.declared.turn.TurnKind.{TurnKind}
-use Rattle.fg_turns.specs.declared.turn.TurnKind.TheVariants.{Nothing, Barrier, Transfer, Alias, Init, AliasInit}
+use Rattle.fg_turns.specs.declared.prologue.Prologue.{Prologue}
+use Rattle.fg_turns.specs.declared.prologue.PrologueKind.{PrologueKind}
+use Rattle.fg_turns.specs.declared.prologue.PrologueKind.TheVariants.{Nothing, Barrier, Transfer, Alias, Init, AliasInit}
 
 barrier_quiet : (piece : ℕ) (layouts : Option Layouts) (masks : Masks) → op_of (barrier piece layouts masks) ≡ None
 barrier_quiet piece (Some layouts) masks = refl
@@ -24,13 +24,13 @@ barrier_quiet piece None masks = refl
 init_quiet : (G : Grouping) (B : List Use) → op_of (init G B) ≡ None
 init_quiet G B = barrier_quiet (piece_of G (first B).unit) (both (Some Undefined) (first B).layout) (entry_masks B (first B).queue)
 
-item_quiet : (kind : TurnKind) (G : Grouping) (turn : Turn) (A B : List Use) → op_of (item_by kind G turn A B) ≡ None
-item_quiet Nothing G turn A B = refl
-item_quiet Barrier G turn A B = barrier_quiet (piece_of G (first B).unit) (layouts_between A B) turn.masks
-item_quiet Transfer G turn A B = refl
-item_quiet Alias G turn A B = refl
-item_quiet Init G turn A B = init_quiet G B
-item_quiet AliasInit G turn A B = init_quiet G B
+item_quiet : (kind : PrologueKind) (G : Grouping) (prologue : Prologue) (A B : List Use) → op_of (item_by kind G prologue A B) ≡ None
+item_quiet Nothing G prologue A B = refl
+item_quiet Barrier G prologue A B = barrier_quiet (piece_of G (first B).unit) (layouts_between A B) prologue.masks
+item_quiet Transfer G prologue A B = refl
+item_quiet Alias G prologue A B = refl
+item_quiet Init G prologue A B = init_quiet G B
+item_quiet AliasInit G prologue A B = init_quiet G B
 
-pub turn_quiet : (G : Grouping) (heap : Heap) (g : ℕ) → op_of (turn_item G heap g) ≡ None
-turn_quiet G heap g = item_quiet (turn_of G heap g).kind G (turn_of G heap g) (earlier G g) (group_at G g)
+pub prologue_quiet : (G : Grouping) (heap : Heap) (g : ℕ) → op_of (prologue_item G heap g) ≡ None
+prologue_quiet G heap g = item_quiet (prologue_of G heap g).kind G (prologue_of G heap g) (earlier G g) (group_at G g)

@@ -5,17 +5,17 @@ use Rattle.std.specs.Prelude.{vec_capacity}
 use Rattle.fg_base.specs.declared.event.Event.{Event}
 use Rattle.fg_caches.specs.Tables.{Table}
 use Rattle.fg_control.specs.Controls.{Control}
-use Rattle.fg_device.specs.Code.Kept.{device_in, IsKept}
-use Rattle.fg_device.specs.Code.Parts.{HasState, HasRoom}
-use Rattle.fg_device.specs.Code.Tables.{FitsProgram}
+use Rattle.fg_device.specs.Internal.Kept.{device_in, IsKept}
+use Rattle.fg_device.specs.Internal.Fields.{HasState, HasRoom}
+use Rattle.fg_device.specs.Internal.Tables.{FitsProgram}
 use Rattle.fg_device.specs.declared.device.Device.TheInside.{Inside}
-use Rattle.fg_device.specs.declared.held.Held.{Held}
+use Rattle.fg_device.specs.declared.pending.Pending.{Pending}
 use Rattle.fg_steps.specs.Coming.{AreEnabled}
 use Rattle.fg_steps.specs.Devices.{state_of}
 use Rattle.fg_steps.specs.States.{State}
 
-module _ (i : Inside) (K : IsKept i) (control : Control) (table : Table) (held : Vec (Option Held) Global) (reads : Vec (List ℕ) Global) (history : Vec Event Global) (moves : ℕ) where
-  pub kept_with : control.view ≡ i.control.view → length held.items ≡ length i.held.items → FitsProgram table (arc_value i.program) i.fill → (r : State) → state_of (device_in (record i { control = control; table = table; held = held; reads = reads; history = history; moves = moves })) ≡ r → HasState (arc_value i.program) control table held.items reads.items r → HasRoom (arc_value i.program) r moves table.cuts_left table.stores_left (vec_len history) (vec_capacity history) → AreEnabled (arc_value i.program) i.fill history.items (length history.items) → IsKept (record i { control = control; table = table; held = held; reads = reads; history = history; moves = moves })
+module _ (i : Inside) (K : IsKept i) (control : Control) (table : Table) (pending : Vec (Option Pending) Global) (reads : Vec (List ℕ) Global) (history : Vec Event Global) (moves : ℕ) where
+  pub kept_with : control.view ≡ i.control.view → length pending.items ≡ length i.pending.items → FitsProgram table (arc_value i.program) i.fill → (r : State) → state_of (device_in (record i { control = control; table = table; pending = pending; reads = reads; history = history; moves = moves })) ≡ r → HasState (arc_value i.program) control table pending.items reads.items r → HasRoom (arc_value i.program) r moves table.cuts_left table.stores_left (vec_len history) (vec_capacity history) → AreEnabled (arc_value i.program) i.fill history.items (length history.items) → IsKept (record i { control = control; table = table; pending = pending; reads = reads; history = history; moves = moves })
   kept_with view places fits r is has room came = record {
     faultless = K.faultless;
     sound = K.sound;
@@ -25,7 +25,7 @@ module _ (i : Inside) (K : IsKept i) (control : Control) (table : Table) (held :
     shapes = K.shapes;
     places = places ∙ K.places;
     table = fits;
-    state = subst (HasState (arc_value i.program) control table held.items reads.items) (sym is) has;
+    state = subst (HasState (arc_value i.program) control table pending.items reads.items) (sym is) has;
     came = came;
     room = subst (λ (z : State). HasRoom (arc_value i.program) z moves table.cuts_left table.stores_left (vec_len history) (vec_capacity history)) (sym is) room;
   }

@@ -12,14 +12,14 @@ use Rattle.fg_control.specs.Controls.{phase_of, mark_of}
 use Rattle.fg_device.proofs.Events.{room_for_begun}
 use Rattle.fg_device.proofs.Keeping.{begun_is, not_both}
 use Rattle.fg_device.proofs.Runnable.{room_is}
-use Rattle.fg_device.proofs.Stored.{begun_inside, not_none, is_held, made_is}
+use Rattle.fg_device.proofs.Stored.{begun_inside, not_none, is_pending, made_is}
 use Rattle.fg_device.proofs.Touching.{formed, agent_known, piece_known, stores_there}
-use Rattle.fg_device.specs.Code.Kept.{device_in, IsKept}
-use Rattle.fg_device.specs.Code.Loads.{store_size, held_at, IsWork, IsHeld}
-use Rattle.fg_device.specs.Code.Parts.{node_count}
-use Rattle.fg_device.specs.Code.Tables.{IsCutOut}
+use Rattle.fg_device.specs.Internal.Kept.{device_in, IsKept}
+use Rattle.fg_device.specs.Internal.Loads.{store_size, pending_at, IsWork, IsPending}
+use Rattle.fg_device.specs.Internal.Fields.{node_count}
+use Rattle.fg_device.specs.Internal.Tables.{IsCutOut}
 use Rattle.fg_device.specs.declared.device.Device.TheInside.{Inside}
-use Rattle.fg_device.specs.declared.held.Held.{Held}
+use Rattle.fg_device.specs.declared.pending.Pending.{Pending}
 use Rattle.fg_hb.specs.Edges.{is_host}
 use Rattle.fg_steps.proofs.Cases.{not_host}
 use Rattle.fg_steps.specs.Agents.{agent_of, piece_range}
@@ -30,39 +30,39 @@ use Rattle.fg_steps.specs.States.{is_begun}
 use Rattle.fg_steps.specs.Steps.{store_of, made}
 use Rattle.fg_steps.specs.declared.phase.Phase.TheVariants.{Begun}
 use Rattle.fg_subs.specs.Rules.{shapes_of}
-use Rattle.fg_view.specs.ShapedView.{Has}
+use Rattle.fg_view.specs.ValidView.{Has}
 use Rattle.fg_view.specs.Views.{View, view_of}
 
 module _ (i : Inside) (K : IsKept i) (n : ℕ) (begun : is_begun (phase_of i.control n) ≡ true) where
   pub begun_in : is_begun ((state_of (device_in i)).phase n) ≡ true
   begun_in = ap is_begun (sym (K.state.agrees.phase n)) ∙ begun
 
-  pub held_there : n < length i.held.items
-  held_there = begun_inside (arc_value i.program) i.held.items (state_of (device_in i)) K.state.holds n begun_in
+  pub pending_there : n < length i.pending.items
+  pending_there = begun_inside (arc_value i.program) i.pending.items (state_of (device_in i)) K.state.holds n begun_in
 
   pub node_there : n < node_count (arc_value i.program)
-  node_there = omega (arith, held_there, K.places)
+  node_there = omega (arith, pending_there, K.places)
 
-  pub something : held_at i.held.items n ≡ None → ⊥
-  something none = not_none (arc_value i.program) i.held.items (state_of (device_in i)) K.state.holds n none begun_in
+  pub something : pending_at i.pending.items n ≡ None → ⊥
+  something none = not_none (arc_value i.program) i.pending.items (state_of (device_in i)) K.state.holds n none begun_in
 
-  module _ (h : Held) (is : Some h ≡ held_at i.held.items n) where
-    pub held_is : IsHeld (arc_value i.program) (state_of (device_in i)) n h
-    held_is = is_held (arc_value i.program) i.held.items (state_of (device_in i)) K.state.holds n h is
+  module _ (h : Pending) (is : Some h ≡ pending_at i.pending.items n) where
+    pub pending_is : IsPending (arc_value i.program) (state_of (device_in i)) n h
+    pending_is = is_pending (arc_value i.program) i.pending.items (state_of (device_in i)) K.state.holds n h is
 
     pub is_no_read : is_host (kind_at (view_of (arc_value i.program)) n) ≡ false
-    is_no_read = not_both (is_host (kind_at (view_of (arc_value i.program)) n)) (λ e. not_host (kind_at (view_of (arc_value i.program)) n) held_is.command e)
+    is_no_read = not_both (is_host (kind_at (view_of (arc_value i.program)) n)) (λ e. not_host (kind_at (view_of (arc_value i.program)) n) pending_is.command e)
 
     -- what the operation needs
     module _ (op : Op ℕ) (at : op_at (arc_value i.program) n ≡ Some op) (shapes : List Shape) (same : shapes ≡ i.shapes) where
-      pub held_works : IsWork shapes op h.loaded h.work
-      held_works = subst (λ (shapes : List Shape). IsWork shapes op h.loaded h.work) (sym (same ∙ K.shapes)) (held_is.work op at)
+      pub pending_works : IsWork shapes op h.loaded h.work
+      pending_works = subst (λ (shapes : List Shape). IsWork shapes op h.loaded h.work) (sym (same ∙ K.shapes)) (pending_is.work op at)
 
       zeros : replicate (store_size (view_of (arc_value i.program)) n) 0 ≡ no_old (shapes_of (arc_value i.program)) op
-      zeros = room_is (arc_value i.program) K.obeys n node_there held_is.command op at (formed (arc_value i.program) K.faultless K.small n)
+      zeros = room_is (arc_value i.program) K.obeys n node_there pending_is.command op at (formed (arc_value i.program) K.faultless K.small n)
 
-      pub held_room : h.room ≡ no_old shapes op
-      held_room = held_is.room ∙ zeros ∙ ap (λ (shapes : List Shape). no_old shapes op) (sym (same ∙ K.shapes))
+      pub pending_room : h.room ≡ no_old shapes op
+      pending_room = pending_is.room ∙ zeros ∙ ap (λ (shapes : List Shape). no_old shapes op) (sym (same ∙ K.shapes))
 
       sized : bytes_of (shape_at shapes (destination_of op)) ≡ store_size (view_of (arc_value i.program)) n
       sized =
@@ -75,7 +75,7 @@ module _ (i : Inside) (K : IsKept i) (n : ℕ) (begun : is_begun (phase_of i.con
       module _ (bytes : List ℕ) (v : View) (view : v ≡ i.control.view) where
         pub is_made : (junk : Option ℕ) (marked : Bool) → marked ≡ mark_of i.control n → junk ≡ (if marked then Some i.fill else None) → IfSome junk (λ byte. bytes ≡ replicate (length h.room) byte) → IfNone junk (bytes ≡ stored_by shapes op h.loaded) → bytes ≡ made (arc_value i.program) (state_of (device_in i)) n (i.fill ∷ [])
         is_made junk marked mark is some none =
-            made_is (arc_value i.program) (state_of (device_in i)) n i.fill h held_is op at bytes junk
+            made_is (arc_value i.program) (state_of (device_in i)) n i.fill h pending_is op at bytes junk
             (is ∙ ap (λ b. if b then Some i.fill else None) (mark ∙ K.state.agrees.mark n)) some
             (subst (λ (shapes : List Shape). IfNone junk (bytes ≡ stored_by shapes op h.loaded)) (same ∙ K.shapes) none)
 
@@ -85,13 +85,13 @@ module _ (i : Inside) (K : IsKept i) (n : ℕ) (begun : is_begun (phase_of i.con
     -- where it is stored
     module _ (v : View) (view : v ≡ i.control.view) where
       has : Has (view_of (arc_value i.program)) n (store_of (view_of (arc_value i.program)) n)
-      has = stores_there (arc_value i.program) K.faultless K.small n node_there held_is.command
+      has = stores_there (arc_value i.program) K.faultless K.small n node_there pending_is.command
 
       pub store_piece : (store_of v n).piece < length v.pieces
       store_piece = subst (λ (v : View). (store_of v n).piece < length v.pieces) (sym (view ∙ K.view)) (piece_known (arc_value i.program) K.faultless K.small n (store_of (view_of (arc_value i.program)) n) has)
 
       pub store_agent : agent_of (store_of v n).kind < i.table.agents
-      store_agent = omega (arith, ap (λ (v : View). agent_of (store_of v n).kind) (view ∙ K.view), agent_known (arc_value i.program) K.faultless K.small n (store_of (view_of (arc_value i.program)) n) has held_is.command, K.table.agents)
+      store_agent = omega (arith, ap (λ (v : View). agent_of (store_of v n).kind) (view ∙ K.view), agent_known (arc_value i.program) K.faultless K.small n (store_of (view_of (arc_value i.program)) n) has pending_is.command, K.table.agents)
 
       pub store_cut : IsCutOut i.table (piece_range v (store_of v n).piece)
       store_cut = subst (λ (v : View). IsCutOut i.table (piece_range v (store_of v n).piece)) (sym (view ∙ K.view)) (K.table.cuts.pieces (store_of (view_of (arc_value i.program)) n).piece (piece_known (arc_value i.program) K.faultless K.small n (store_of (view_of (arc_value i.program)) n) has))

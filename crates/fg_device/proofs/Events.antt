@@ -6,12 +6,12 @@ use Rattle.fg_base.specs.Shapes.{bytes_of}
 use Rattle.fg_caches.specs.Effects as effects
 use Rattle.fg_caches.specs.Tables.{Table, caches_of}
 use Rattle.fg_control.specs.Controls.{Control, Agrees}
-use Rattle.fg_device.specs.Code.Parts.{HasState, HasRoom, node_count}
-use Rattle.fg_device.specs.Code.Loads.{IsHeld}
-use Rattle.fg_device.specs.Code.Rooms.{events_left, stores_left}
-use Rattle.fg_device.specs.Code.Tables.{HasBytes}
-use Rattle.fg_device.specs.declared.held.Held.{Held}
-use Rattle.fg_device.proofs.Holding.{holds_still, holds_set, reads_still, reads_set}
+use Rattle.fg_device.specs.Internal.Fields.{HasState, HasRoom, node_count}
+use Rattle.fg_device.specs.Internal.Loads.{IsPending}
+use Rattle.fg_device.specs.Internal.Rooms.{events_left, stores_left}
+use Rattle.fg_device.specs.Internal.Tables.{HasBytes}
+use Rattle.fg_device.specs.declared.pending.Pending.{Pending}
+use Rattle.fg_device.proofs.Holding.{pending_still, pending_set, reads_still, reads_set}
 use Rattle.fg_device.proofs.Lefts.{same_left, left_put}
 use Rattle.fg_device.proofs.SeenBytes.{stores}
 use Rattle.fg_hb.specs.Edges.{is_host}
@@ -21,7 +21,7 @@ use Rattle.fg_steps.proofs.Places.{host_at}
 use Rattle.fg_steps.specs.Agents.{agent_of, piece_range}
 use Rattle.fg_steps.specs.Ready.{kind_at, read_node}
 use Rattle.fg_steps.specs.States.{is_begun, State, put}
-use Rattle.fg_steps.specs.Steps.{store_of, taken, begun, ended, synced, host_takes, hosted}
+use Rattle.fg_steps.specs.Steps.{store_of, loaded_by, begun, ended, synced, host_takes, hosted}
 use Rattle.fg_steps.specs.declared.phase.Phase.TheVariants.{Idle, Begun, Done}
 use Rattle.fg_subs.specs.declared.program.Program.{Program}
 use Rattle.fg_view.specs.Views.{view_of, accesses_of, loads_of, piece_at}
@@ -30,20 +30,20 @@ use Rattle.fg_view.specs.Views.{view_of, accesses_of, loads_of, piece_at}
 pub no_read : (program : Program) (n : ℕ) → is_host (kind_at (view_of program) n) ≡ false → (k p : ℕ) → slice_get program.readbacks k ≡ Some p → read_node program k ≢ n
 no_read program n not_host k p is e = absurd (false≢true (sym not_host ∙ ap (λ z. is_host (kind_at (view_of program) z)) (sym e) ∙ ap (λ x. is_host x.kind) (host_at program (read_node program k) p (read_entry program k p is)).node))
 
-module _ (program : Program) (control next : Control) (table : Table) (held : List (Option Held)) (reads : List (List ℕ)) (s : State) (H : HasState program control table held reads s) (n : ℕ) (junk : List ℕ) where
-  pub begins : control.view ≡ view_of program → ((s : State) (junk : List ℕ) → Agrees control s → Agrees next (begun control.view s n junk)) → (h : Held) → n < length held → is_host (kind_at (view_of program) n) ≡ false → IsHeld program (begun (view_of program) s n junk) n h → HasState program next table (slice_set held n (Some h)) reads (begun (view_of program) s n junk)
+module _ (program : Program) (control next : Control) (table : Table) (pending : List (Option Pending)) (reads : List (List ℕ)) (s : State) (H : HasState program control table pending reads s) (n : ℕ) (junk : List ℕ) where
+  pub begins : control.view ≡ view_of program → ((s : State) (junk : List ℕ) → Agrees control s → Agrees next (begun control.view s n junk)) → (h : Pending) → n < length pending → is_host (kind_at (view_of program) n) ≡ false → IsPending program (begun (view_of program) s n junk) n h → HasState program next table (slice_set pending n (Some h)) reads (begun (view_of program) s n junk)
   begins view agrees h inside not_host is =
       let r : State = begun (view_of program) s n junk in
       record {
         agrees = subst (λ v. Agrees next (begun v s n junk)) view (agrees s junk H.agrees);
         bytes = record { main = H.bytes.main; line = H.bytes.line };
-        holds = holds_set program held s r H.holds n (Some h) inside is (λ k ne. ap is_begun (put_other s.phase n k Begun ne)) (λ k ne. put_other s.loaded n k (map (taken (view_of program) s n junk) (loads_of (view_of program) n)) ne);
+        holds = pending_set program pending s r H.holds n (Some h) inside is (λ k ne. ap is_begun (put_other s.phase n k Begun ne)) (λ k ne. put_other s.loaded n k (map (loaded_by (view_of program) s n junk) (loads_of (view_of program) n)) ne);
         has_read = reads_still program reads s r H.has_read (λ k p is. put_other s.phase n (read_node program k) Begun (no_read program n not_host k p is)) (λ k. refl);
       }
 
-module _ (program : Program) (control next : Control) (old table : Table) (held : List (Option Held)) (reads : List (List ℕ)) (s : State) (H : HasState program control old held reads s) (n : ℕ) where
+module _ (program : Program) (control next : Control) (old table : Table) (pending : List (Option Pending)) (reads : List (List ℕ)) (s : State) (H : HasState program control old pending reads s) (n : ℕ) where
   -- a command that was begun stores
-  pub ends : (bytes : List ℕ) → control.view ≡ view_of program → ((s : State) (bytes : List ℕ) → Agrees control s → Agrees next (ended control.view s n bytes)) → n < length held → is_host (kind_at (view_of program) n) ≡ false → caches_of table ≡ effects.put (agent_of (store_of (view_of program) n).kind) (piece_range (view_of program) (store_of (view_of program) n).piece) bytes (caches_of old) → HasState program next table (slice_set held n None) reads (ended (view_of program) s n bytes)
+  pub ends : (bytes : List ℕ) → control.view ≡ view_of program → ((s : State) (bytes : List ℕ) → Agrees control s → Agrees next (ended control.view s n bytes)) → n < length pending → is_host (kind_at (view_of program) n) ≡ false → caches_of table ≡ effects.put (agent_of (store_of (view_of program) n).kind) (piece_range (view_of program) (store_of (view_of program) n).piece) bytes (caches_of old) → HasState program next table (slice_set pending n None) reads (ended (view_of program) s n bytes)
   ends bytes view agrees inside not_host is =
       let V = view_of program in
       let r : State = ended V s n bytes in
@@ -52,7 +52,7 @@ module _ (program : Program) (control next : Control) (old table : Table) (held 
       record {
         agrees = subst (λ v. Agrees next (ended v s n bytes)) view (agrees s bytes H.agrees);
         bytes = subst (λ c. HasBytes program c r) (sym is) kept;
-        holds = holds_set program held s r H.holds n None inside (ap is_begun (put_at s.phase n n Done refl)) (λ k ne. ap is_begun (put_other s.phase n k Done ne)) (λ k ne. refl);
+        holds = pending_set program pending s r H.holds n None inside (ap is_begun (put_at s.phase n n Done refl)) (λ k ne. ap is_begun (put_other s.phase n k Done ne)) (λ k ne. refl);
         has_read = reads_still program reads s r H.has_read (λ k p is. put_other s.phase n (read_node program k) Done (no_read program n not_host k p is)) (λ k. refl);
       }
 
@@ -63,18 +63,18 @@ module _ (program : Program) (control next : Control) (old table : Table) (held 
       (λ (ne : k ≢ n). ap is_begun (put_other s.phase n k Done ne))
       (cases_eq k n)
 
-  pub syncs : (junk : List ℕ) → control.view ≡ view_of program → ((s : State) (junk : List ℕ) → Agrees control s → Agrees next (synced control.view s n junk)) → is_begun (s.phase n) ≡ false → is_host (kind_at (view_of program) n) ≡ false → HasBytes program (caches_of table) (synced (view_of program) s n junk) → HasState program next table held reads (synced (view_of program) s n junk)
+  pub syncs : (junk : List ℕ) → control.view ≡ view_of program → ((s : State) (junk : List ℕ) → Agrees control s → Agrees next (synced control.view s n junk)) → is_begun (s.phase n) ≡ false → is_host (kind_at (view_of program) n) ≡ false → HasBytes program (caches_of table) (synced (view_of program) s n junk) → HasState program next table pending reads (synced (view_of program) s n junk)
   syncs junk view agrees fresh not_host is =
       let r : State = synced (view_of program) s n junk in
       record {
         agrees = subst (λ v. Agrees next (synced v s n junk)) view (agrees s junk H.agrees);
         bytes = is;
-        holds = holds_still program held s r H.holds (not_begun fresh) (λ k. refl);
+        holds = pending_still program pending s r H.holds (not_begun fresh) (λ k. refl);
         has_read = reads_still program reads s r H.has_read (λ k p is. put_other s.phase n (read_node program k) Done (no_read program n not_host k p is)) (λ k. refl);
       }
 
   -- the host reads into the room of read-back q
-  pub hosts : (junk : List ℕ) (q p : ℕ) → n ≡ read_node program q → slice_get program.readbacks q ≡ Some p → control.view ≡ view_of program → ((s : State) (junk : List ℕ) → Agrees control s → Agrees next (hosted control.view s n junk)) → is_begun (s.phase n) ≡ false → q < length reads → (bytes : List ℕ) → length bytes ≡ bytes_of (piece_at (view_of program) p).shape → bytes ≡ host_takes (view_of program) s n junk (accesses_of (view_of program) n) → HasState program next old held (slice_set reads q bytes) (hosted (view_of program) s n junk)
+  pub hosts : (junk : List ℕ) (q p : ℕ) → n ≡ read_node program q → slice_get program.readbacks q ≡ Some p → control.view ≡ view_of program → ((s : State) (junk : List ℕ) → Agrees control s → Agrees next (hosted control.view s n junk)) → is_begun (s.phase n) ≡ false → q < length reads → (bytes : List ℕ) → length bytes ≡ bytes_of (piece_at (view_of program) p).shape → bytes ≡ host_takes (view_of program) s n junk (accesses_of (view_of program) n) → HasState program next old pending (slice_set reads q bytes) (hosted (view_of program) s n junk)
   hosts junk q p node there view agrees fresh inside bytes long is =
       let V = view_of program in
       let r : State = hosted V s n junk in
@@ -82,7 +82,7 @@ module _ (program : Program) (control next : Control) (old table : Table) (held 
       record {
         agrees = subst (λ v. Agrees next (hosted v s n junk)) view (agrees s junk H.agrees);
         bytes = record { main = H.bytes.main; line = H.bytes.line };
-        holds = holds_still program held s r H.holds (not_begun fresh) (λ k. refl);
+        holds = pending_still program pending s r H.holds (not_begun fresh) (λ k. refl);
         has_read = reads_set program reads s r H.has_read q bytes inside
             (λ o e. ap length refl ∙ long ∙ ap (λ z. bytes_of (piece_at (view_of program) z).shape) (some_same (sym there ∙ e)))
             (is ∙ sym (put_at s.host n (read_node program q) (host_takes V s n junk (accesses_of V n)) (sym node)))
@@ -91,11 +91,11 @@ module _ (program : Program) (control next : Control) (old table : Table) (held 
       }
 
 -- lines of caches move
-pub moves : (program : Program) (control : Control) (old table : Table) (held : List (Option Held)) (reads : List (List ℕ)) (s r : State) → HasState program control old held reads s → Agrees control r → HasBytes program (caches_of table) r → ((n : ℕ) → r.phase n ≡ s.phase n) → ((n : ℕ) → r.loaded n ≡ s.loaded n) → ((n : ℕ) → r.host n ≡ s.host n) → HasState program control table held reads r
-moves program control old table held reads s r H agrees bytes phase loaded host = record {
+pub moves : (program : Program) (control : Control) (old table : Table) (pending : List (Option Pending)) (reads : List (List ℕ)) (s r : State) → HasState program control old pending reads s → Agrees control r → HasBytes program (caches_of table) r → ((n : ℕ) → r.phase n ≡ s.phase n) → ((n : ℕ) → r.loaded n ≡ s.loaded n) → ((n : ℕ) → r.host n ≡ s.host n) → HasState program control table pending reads r
+moves program control old table pending reads s r H agrees bytes phase loaded host = record {
   agrees = agrees;
   bytes = bytes;
-  holds = holds_still program held s r H.holds (λ n. ap is_begun (phase n)) loaded;
+  holds = pending_still program pending s r H.holds (λ n. ap is_begun (phase n)) loaded;
   has_read = reads_still program reads s r H.has_read (λ k p is. phase (read_node program k)) host;
 }
 

@@ -7,8 +7,8 @@ use Rattle.std.proofs.lemmas.List.{get_or-map, get_or_past, length-map}
 use Rattle.std.proofs.lemmas.Option.{slice_get-get_or}
 use Rattle.fg_base.specs.Maxima.{max_size}
 use Rattle.fg_base.specs.Shapes.{bytes_of}
-use Rattle.fg_device.specs.Code.Opened.{piece_in}
-use Rattle.fg_device.specs.Code.Syncs.{IsThere}
+use Rattle.fg_device.specs.Internal.Opened.{piece_in}
+use Rattle.fg_device.specs.Internal.Syncs.{IsThere}
 use Rattle.fg_device.proofs.Starting.{Lies}
 use Rattle.fg_steps.specs.Agents.{piece_range}
 use Rattle.fg_subs.specs.Entries.{Entry, OfWait, OfItem, OfSignal, OfHost, entries_of}

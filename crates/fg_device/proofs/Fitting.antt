@@ -3,7 +3,7 @@ use Rattle.std.proofs.Common.{◌≡◌, ℕ, ◌+◌, ◌<◌, ◌≤◌, Bool,
 use Rattle.std.specs.Prelude.{List, slice_index}
 use Rattle.fg_caches.specs.Lines.{Range}
 use Rattle.fg_caches.specs.Tables.{Table, is_cut, missing, InMemory, Keeps}
-use Rattle.fg_device.specs.Code.Tables.{IsCutOut, HasCut, FitsProgram, Stays}
+use Rattle.fg_device.specs.Internal.Tables.{IsCutOut, HasCut, FitsProgram, Stays}
 use Rattle.fg_steps.specs.Agents.{piece_range}
 use Rattle.fg_subs.specs.declared.program.Program.{Program}
 use Rattle.fg_view.specs.Views.{View, view_of}

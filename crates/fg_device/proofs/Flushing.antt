@@ -6,15 +6,15 @@ use Rattle.std.proofs.lemmas.Bool.{cases_eq, cases_lt, le-ltb}
 use Rattle.fg_bits.specs.Sets.{meets}
 use Rattle.fg_caches.specs.Effects.{Caches, overwrite}
 use Rattle.fg_caches.specs.Lines.{Line, written, cleaned, dropped}
-use Rattle.fg_device.specs.Code.Syncs.{has_agent_at, moved_line, moved_one, moved_agents, moved_by, junked, synced_caches}
-use Rattle.fg_device.specs.Code.Tables.{HasBytes}
+use Rattle.fg_device.specs.Internal.Syncs.{has_agent_at, moved_line, moved_one, moved_agents, moved_by, junked, synced_caches}
+use Rattle.fg_device.specs.Internal.Tables.{HasBytes}
 use Rattle.fg_device.specs.declared.syncing.Move.{Move}
 use Rattle.fg_device.specs.declared.syncing.Move.TheVariants.{WriteBack, DropClean}
 use Rattle.fg_device.proofs.Junk.{one_junk}
 use Rattle.fg_device.proofs.SeenBytes.{in_range}
 use Rattle.fg_steps.specs.Agents.{covers, piece_range, in_scope, flushes_at, shows_at}
 use Rattle.fg_steps.specs.States.{State, junk_at}
-use Rattle.fg_steps.specs.Steps.{flushed, junks, turned, agent_count, synced}
+use Rattle.fg_steps.specs.Steps.{flushed, junks, after_junk, agent_count, synced}
 use Rattle.fg_subs.specs.declared.program.Program.{Program}
 use Rattle.fg_view.specs.Views.{View, view_of, piece_at, queue_at, effect_at, accesses_of}
 use Rattle.fg_view.specs.declared.access.Access.{Access}
@@ -125,8 +125,8 @@ module _ (V : View) (pass : ℕ → Bool) (scope : Scope) (c : Caches) where
 
 module _ (V : View) (s : State) (n fill : ℕ) (junk : List ℕ) (all : (k : ℕ) → k < length junk → slice_index junk k ≡ fill) where
   -- one access
-  turned_once : (c : Caches) (a : Access) (m i : ℕ) → (piece_range V a.piece).len ≤ length junk → (if junks V s n a then overwrite (piece_range V a.piece) junk c else c).main m i ≡ (if covers V a.piece m i && junks V s n a then junk_at (fill ∷ []) (i - (piece_at V a.piece).offset) else c.main m i)
-  turned_once c a m i long = by_tests (junks V s n a) (covers V a.piece m i) refl
+  after_junk_once : (c : Caches) (a : Access) (m i : ℕ) → (piece_range V a.piece).len ≤ length junk → (if junks V s n a then overwrite (piece_range V a.piece) junk c else c).main m i ≡ (if covers V a.piece m i && junks V s n a then junk_at (fill ∷ []) (i - (piece_at V a.piece).offset) else c.main m i)
+  after_junk_once c a m i long = by_tests (junks V s n a) (covers V a.piece m i) refl
     where
       by_tests : (j b : Bool) → covers V a.piece m i ≡ b → (if j then overwrite (piece_range V a.piece) junk c else c).main m i ≡ (if b && j then junk_at (fill ∷ []) (i - (piece_at V a.piece).offset) else c.main m i)
       by_tests true true e =
@@ -138,15 +138,15 @@ module _ (V : View) (s : State) (n fill : ℕ) (junk : List ℕ) (all : (k : ℕ
       by_tests false false e = refl
 
   -- all accesses of a list
-  pub turns_main : (list : List Access) (c : Caches) (m i : ℕ) → ((k : ℕ) (d : Access) → k < length list → (piece_range V (get_or list k d).piece).len ≤ length junk) → (junked V s n junk list c).main m i ≡ turned V s n (fill ∷ []) list m i (c.main m i)
-  turns_main [] c m i long = refl
-  turns_main (a ∷ rest) c m i long =
-      turns_main rest (if junks V s n a then overwrite (piece_range V a.piece) junk c else c) m i (λ k d lt. long (suc k) d (omega (arith, lt)))
-      ∙ ap (turned V s n (fill ∷ []) rest m i) (turned_once c a m i (long 0 a (omega arith)))
+  pub junk_main : (list : List Access) (c : Caches) (m i : ℕ) → ((k : ℕ) (d : Access) → k < length list → (piece_range V (get_or list k d).piece).len ≤ length junk) → (junked V s n junk list c).main m i ≡ after_junk V s n (fill ∷ []) list m i (c.main m i)
+  junk_main [] c m i long = refl
+  junk_main (a ∷ rest) c m i long =
+      junk_main rest (if junks V s n a then overwrite (piece_range V a.piece) junk c else c) m i (λ k d lt. long (suc k) d (omega (arith, lt)))
+      ∙ ap (after_junk V s n (fill ∷ []) rest m i) (after_junk_once c a m i (long 0 a (omega arith)))
 
-  pub turns_lines : (list : List Access) (c : Caches) → (junked V s n junk list c).line ≡ c.line
-  turns_lines [] c = refl
-  turns_lines (a ∷ rest) c = turns_lines rest (if junks V s n a then overwrite (piece_range V a.piece) junk c else c) ∙ by_test (junks V s n a)
+  pub junk_lines : (list : List Access) (c : Caches) → (junked V s n junk list c).line ≡ c.line
+  junk_lines [] c = refl
+  junk_lines (a ∷ rest) c = junk_lines rest (if junks V s n a then overwrite (piece_range V a.piece) junk c else c) ∙ by_test (junks V s n a)
     where
       by_test : (j : Bool) → (if j then overwrite (piece_range V a.piece) junk c else c).line ≡ c.line
       by_test true = refl
@@ -181,14 +181,14 @@ module _ (program : Program) (n fill : ℕ) (junk : List ℕ) (all : (k : ℕ) �
       record {
         main = λ m i lt.
             ap (λ f. f m i) (agents_drop V (has_agent_at (queue_at V n) (effect_at V n).visible) scope second (agent_count V))
-            ∙ turns_main V s n fill junk all list first m i long
-            ∙ ap (turned V s n (fill ∷ []) list m i) (
+            ∙ junk_main V s n fill junk all list first m i long
+            ∙ ap (after_junk V s n (fill ∷ []) list m i) (
             agents_main V (has_agent_at (queue_at V n) (effect_at V n).available) scope c (agent_count V) m i
             ∙ ap₂ (λ l v. flushed (agent_count V) (λ g. flushes_at V n g m i) l v) (fun_ext (λ g. B.line g m i)) (B.main m i lt));
         line = λ g m i.
             lines_by V n queue DropClean (effect_at V n).visible second g m i
             ∙ ap (λ l. if shows_at V n g m i then dropped l else l) (
-            ap (λ f. f g m i) (turns_lines V s n fill junk all list first)
+            ap (λ f. f g m i) (junk_lines V s n fill junk all list first)
             ∙ lines_by V n queue WriteBack (effect_at V n).available c g m i
             ∙ ap (λ l. if flushes_at V n g m i then cleaned l else l) (B.line g m i));
       }

@@ -3,27 +3,27 @@ use Rattle.std.proofs.Common.{◌≡◌, ◌≢◌, ℕ, ◌<◌, List, [], leng
 use Rattle.std.proofs.lemmas.Bool.{cases_eq}
 use Rattle.std.proofs.lemmas.List.{get_or-set_same, get_or-set_other, length-set}
 use Rattle.fg_base.specs.Shapes.{bytes_of}
-use Rattle.fg_device.specs.Code.Loads.{Holds, HoldsAll, held_at, HasReadAll}
-use Rattle.fg_device.specs.declared.held.Held.{Held}
+use Rattle.fg_device.specs.Internal.Loads.{HasPending, HasPendingAll, pending_at, HasReadAll}
+use Rattle.fg_device.specs.declared.pending.Pending.{Pending}
 use Rattle.fg_steps.specs.Ready.{read_node}
 use Rattle.fg_steps.specs.States.{is_begun, is_done, State}
 use Rattle.fg_subs.specs.declared.program.Program.{Program}
 use Rattle.fg_view.specs.Views.{view_of, piece_at}
 
-still : (program : Program) (s r : State) (n : ℕ) (held : Option Held) → is_begun (r.phase n) ≡ is_begun (s.phase n) → r.loaded n ≡ s.loaded n → Holds program s n held → Holds program r n held
+still : (program : Program) (s r : State) (n : ℕ) (pending : Option Pending) → is_begun (r.phase n) ≡ is_begun (s.phase n) → r.loaded n ≡ s.loaded n → HasPending program s n pending → HasPending program r n pending
 still program s r n None e l h = e ∙ h
-still program s r n (Some held) e l h = record { begun = e ∙ h.begun; command = h.command; loaded = h.loaded ∙ sym l; room = h.room; work = h.work }
+still program s r n (Some pending) e l h = record { begun = e ∙ h.begun; command = h.command; loaded = h.loaded ∙ sym l; room = h.room; work = h.work }
 
-module _ (program : Program) (list : List (Option Held)) (s r : State) (H : HoldsAll program list s) where
+module _ (program : Program) (list : List (Option Pending)) (s r : State) (H : HasPendingAll program list s) where
   -- where no other command is begun, and none has ended
-  pub holds_still : ((n : ℕ) → is_begun (r.phase n) ≡ is_begun (s.phase n)) → ((n : ℕ) → r.loaded n ≡ s.loaded n) → HoldsAll program list r
-  holds_still phase loaded n = still program s r n (held_at list n) (phase n) (loaded n) (H n)
+  pub pending_still : ((n : ℕ) → is_begun (r.phase n) ≡ is_begun (s.phase n)) → ((n : ℕ) → r.loaded n ≡ s.loaded n) → HasPendingAll program list r
+  pending_still phase loaded n = still program s r n (pending_at list n) (phase n) (loaded n) (H n)
 
   -- where another is, or has
-  pub holds_set : (n : ℕ) (held : Option Held) → n < length list → Holds program r n held → ((k : ℕ) → k ≢ n → is_begun (r.phase k) ≡ is_begun (s.phase k)) → ((k : ℕ) → k ≢ n → r.loaded k ≡ s.loaded k) → HoldsAll program (slice_set list n held) r
-  holds_set n held inside here phase loaded k = ⊎_elim
-      (λ (e : k ≡ n). subst (λ z. Holds program r z (held_at (slice_set list n held) z)) (sym e) (subst (Holds program r n) (sym (get_or-set_same list n held None inside)) here))
-      (λ (ne : k ≢ n). subst (Holds program r k) (sym (get_or-set_other list n k held None ne)) (still program s r k (held_at list k) (phase k ne) (loaded k ne) (H k)))
+  pub pending_set : (n : ℕ) (pending : Option Pending) → n < length list → HasPending program r n pending → ((k : ℕ) → k ≢ n → is_begun (r.phase k) ≡ is_begun (s.phase k)) → ((k : ℕ) → k ≢ n → r.loaded k ≡ s.loaded k) → HasPendingAll program (slice_set list n pending) r
+  pending_set n pending inside here phase loaded k = ⊎_elim
+      (λ (e : k ≡ n). subst (λ z. HasPending program r z (pending_at (slice_set list n pending) z)) (sym e) (subst (HasPending program r n) (sym (get_or-set_same list n pending None inside)) here))
+      (λ (ne : k ≢ n). subst (HasPending program r k) (sym (get_or-set_other list n k pending None ne)) (still program s r k (pending_at list k) (phase k ne) (loaded k ne) (H k)))
       (cases_eq k n)
 
 module _ (program : Program) (list : List (List ℕ)) (s r : State) (H : HasReadAll program list s) where

@@ -9,21 +9,21 @@ use Rattle.fg_control.specs.Controls.{Control, Agrees}
 use Rattle.fg_device.proofs.Events.{hosts}
 use Rattle.fg_device.proofs.Sights.{read_long, host_reads}
 use Rattle.fg_device.proofs.Touching.{piece_known}
-use Rattle.fg_device.specs.Code.Kept.{device_in, IsKept}
-use Rattle.fg_device.specs.Code.Parts.{HasState}
-use Rattle.fg_device.specs.Code.Reads.{read_into}
+use Rattle.fg_device.specs.Internal.Kept.{device_in, IsKept}
+use Rattle.fg_device.specs.Internal.Fields.{HasState}
+use Rattle.fg_device.specs.Internal.Reads.{read_into}
 use Rattle.fg_device.specs.declared.device.Device.TheInside.{Inside}
 use Rattle.fg_hb.specs.Edges.{is_host}
 use Rattle.fg_steps.proofs.HostNodes.{read_entry}
 use Rattle.fg_steps.proofs.Places.{host_at}
 use Rattle.fg_steps.specs.Devices.{state_of}
-use Rattle.fg_steps.specs.Ready.{kind_at, is_spoilt, read_node}
+use Rattle.fg_steps.specs.Ready.{kind_at, loads_undefined, read_node}
 use Rattle.fg_steps.specs.States.{is_begun, State}
 use Rattle.fg_steps.specs.Steps.{host_takes, hosted}
 use Rattle.fg_subs.specs.declared.program.Piece.{Piece}
 use Rattle.fg_subs.specs.declared.program.Program.{Program}
 use Rattle.fg_view.specs.Effects.{access}
-use Rattle.fg_view.specs.ShapedView.{Has}
+use Rattle.fg_view.specs.ValidView.{Has}
 use Rattle.fg_view.specs.Views.{View, view_of, piece_at, accesses_of}
 use Rattle.fg_view.specs.declared.access.Agent.TheVariants.{Host}
 use Rattle.fg_view.specs.declared.access.AccessKind.TheVariants.{Load}
@@ -59,8 +59,8 @@ module _ (i : Inside) (K : IsKept i) (k p : ℕ) (at : slice_get (arc_value i.pr
     pub in_memory : InMemory i.table x.memory x.offset (bytes_of x.shape)
     in_memory = subst (λ (x : Piece). InMemory i.table x.memory x.offset (bytes_of x.shape)) (sym read_is) (K.table.cuts.pieces p there).within
 
-    pub takes : (n : ℕ) → n ≡ read_node (arc_value i.program) k → (junk : Option ℕ) (spoilt : Bool) → ((s : State) → Agrees i.control s → spoilt ≡ is_spoilt i.control.view s n (access p (Load Host None))) → junk ≡ (if spoilt then Some i.fill else None) → read_into junk (range x.memory x.offset (bytes_of x.shape)) (caches_of i.table) ≡ host_takes (view_of (arc_value i.program)) (state_of (device_in i)) n (i.fill ∷ []) (accesses_of (view_of (arc_value i.program)) n)
-    takes n node junk spoilt test is =
+    pub takes : (n : ℕ) → n ≡ read_node (arc_value i.program) k → (junk : Option ℕ) (undefined : Bool) → ((s : State) → Agrees i.control s → undefined ≡ loads_undefined i.control.view s n (access p (Load Host None))) → junk ≡ (if undefined then Some i.fill else None) → read_into junk (range x.memory x.offset (bytes_of x.shape)) (caches_of i.table) ≡ host_takes (view_of (arc_value i.program)) (state_of (device_in i)) n (i.fill ∷ []) (accesses_of (view_of (arc_value i.program)) n)
+    takes n node junk undefined test is =
         let V = view_of (arc_value i.program) in
         let s = state_of (device_in i) in
         let C = caches_of i.table in
@@ -68,15 +68,15 @@ module _ (i : Inside) (K : IsKept i) (k p : ℕ) (at : slice_get (arc_value i.pr
         let within = (K.table.cuts.pieces p there).within in
         ap (λ (x : Piece). read_into junk (range x.memory x.offset (bytes_of x.shape)) C) read_is
         ∙ ap (λ junk. read_into junk (range q.memory q.offset (bytes_of q.shape)) C) is
-        ∙ host_reads (arc_value i.program) C s K.state.bytes n i.fill (access p (Load Host None)) (omega (arith, within.within, K.table.sizes q.memory)) (ap (accesses_of V) node ∙ only) spoilt (sym (test s K.state.agrees ∙ ap (λ (v : View). is_spoilt v s n (access p (Load Host None))) K.view))
+        ∙ host_reads (arc_value i.program) C s K.state.bytes n i.fill (access p (Load Host None)) (omega (arith, within.within, K.table.sizes q.memory)) (ap (accesses_of V) node ∙ only) undefined (sym (test s K.state.agrees ∙ ap (λ (v : View). loads_undefined v s n (access p (Load Host None))) K.view))
 
     -- the state after the read
-    pub reads : (n : ℕ) → n ≡ read_node (arc_value i.program) k → (junk : Option ℕ) (spoilt : Bool) → ((s : State) → Agrees i.control s → spoilt ≡ is_spoilt i.control.view s n (access p (Load Host None))) → junk ≡ (if spoilt then Some i.fill else None) → (next : Control) → ((s : State) (junk : List ℕ) → Agrees i.control s → Agrees next (hosted i.control.view s n junk)) → is_begun ((state_of (device_in i)).phase n) ≡ false → (list : List (List ℕ)) → list ≡ slice_set i.reads.items k (read_into junk (range x.memory x.offset (bytes_of x.shape)) (caches_of i.table)) → HasState (arc_value i.program) next i.table i.held.items list (hosted (view_of (arc_value i.program)) (state_of (device_in i)) n (i.fill ∷ []))
-    reads n node junk spoilt test is next agrees fresh list set =
+    pub reads : (n : ℕ) → n ≡ read_node (arc_value i.program) k → (junk : Option ℕ) (undefined : Bool) → ((s : State) → Agrees i.control s → undefined ≡ loads_undefined i.control.view s n (access p (Load Host None))) → junk ≡ (if undefined then Some i.fill else None) → (next : Control) → ((s : State) (junk : List ℕ) → Agrees i.control s → Agrees next (hosted i.control.view s n junk)) → is_begun ((state_of (device_in i)).phase n) ≡ false → (list : List (List ℕ)) → list ≡ slice_set i.reads.items k (read_into junk (range x.memory x.offset (bytes_of x.shape)) (caches_of i.table)) → HasState (arc_value i.program) next i.table i.pending.items list (hosted (view_of (arc_value i.program)) (state_of (device_in i)) n (i.fill ∷ []))
+    reads n node junk undefined test is next agrees fresh list set =
         let program = arc_value i.program in
         let s = state_of (device_in i) in
         let bytes = read_into junk (range x.memory x.offset (bytes_of x.shape)) (caches_of i.table) in
         let long : length bytes ≡ bytes_of (piece_at (view_of program) p).shape = read_long junk (range x.memory x.offset (bytes_of x.shape)) (caches_of i.table) ∙ ap (λ (x : Piece). bytes_of x.shape) read_is in
         let inside : k < length i.reads.items = omega (arith, K.state.has_read.count, slice_get_within program.readbacks k p at) in
-        subst (λ (list : List (List ℕ)). HasState program next i.table i.held.items list (hosted (view_of program) s n (i.fill ∷ []))) (sym set)
-        (hosts program i.control next i.table i.table i.held.items i.reads.items s K.state n (i.fill ∷ []) k p node at K.view agrees fresh inside bytes long (takes n node junk spoilt test is))
+        subst (λ (list : List (List ℕ)). HasState program next i.table i.pending.items list (hosted (view_of program) s n (i.fill ∷ []))) (sym set)
+        (hosts program i.control next i.table i.table i.pending.items i.reads.items s K.state n (i.fill ∷ []) k p node at K.view agrees fresh inside bytes long (takes n node junk undefined test is))

@@ -6,11 +6,11 @@ use Rattle.fg_base.specs.declared.event.Event.{Event}
 use Rattle.fg_caches.specs.Tables.{Table}
 use Rattle.fg_control.specs.Controls.{Control}
 use Rattle.fg_device.proofs.Changed.{kept_with}
-use Rattle.fg_device.specs.Code.Kept.{device_in, IsKept}
-use Rattle.fg_device.specs.Code.Parts.{HasState, HasRoom}
-use Rattle.fg_device.specs.Code.Tables.{FitsProgram}
+use Rattle.fg_device.specs.Internal.Kept.{device_in, IsKept}
+use Rattle.fg_device.specs.Internal.Fields.{HasState, HasRoom}
+use Rattle.fg_device.specs.Internal.Tables.{FitsProgram}
 use Rattle.fg_device.specs.declared.device.Device.TheInside.{Inside}
-use Rattle.fg_device.specs.declared.held.Held.{Held}
+use Rattle.fg_device.specs.declared.pending.Pending.{Pending}
 use Rattle.fg_hb.specs.Edges.{is_sync, is_host}
 use Rattle.fg_steps.proofs.Cases.{not_host, sync_not_host}
 use Rattle.fg_steps.proofs.Coming.{came_more}
@@ -40,16 +40,16 @@ not_both true no_way = absurd (no_way refl)
 not_both false no_way = refl
 
 -- one more event
-module _ (i : Inside) (event : Event) (r : State) (K : IsKept i) (is : state_of (did (device_in i) event) ≡ r) (control : Control) (table : Table) (held : Vec (Option Held) Global) (reads : Vec (List ℕ) Global) (history : Vec Event Global) (items : history.items ≡ i.history.items ++ event ∷ []) where
-  pub new_state : state_of (device_in (record i { control = control; table = table; held = held; reads = reads; history = history })) ≡ r
+module _ (i : Inside) (event : Event) (r : State) (K : IsKept i) (is : state_of (did (device_in i) event) ≡ r) (control : Control) (table : Table) (pending : Vec (Option Pending) Global) (reads : Vec (List ℕ) Global) (history : Vec Event Global) (items : history.items ≡ i.history.items ++ event ∷ []) where
+  pub new_state : state_of (device_in (record i { control = control; table = table; pending = pending; reads = reads; history = history })) ≡ r
   new_state = ap (λ (events : List Event). state_of (record { program = arc_value i.program; fill = i.fill; history = events; moves = i.moves })) items ∙ is
 
   -- the event could come
   came : is_enabled (arc_value i.program) (state_of (device_in i)) event ≡ true → AreEnabled (arc_value i.program) i.fill history.items (length history.items)
   came may = subst (λ (events : List Event). AreEnabled (arc_value i.program) i.fill events (length events)) (sym items) (came_more (device_in i) event K.came may)
 
-  pub kept_event : is_enabled (arc_value i.program) (state_of (device_in i)) event ≡ true → control.view ≡ i.control.view → length held.items ≡ length i.held.items → FitsProgram table (arc_value i.program) i.fill → HasState (arc_value i.program) control table held.items reads.items r → HasRoom (arc_value i.program) r i.moves table.cuts_left table.stores_left (vec_len history) (vec_capacity history) → IsKept (record i { control = control; table = table; held = held; reads = reads; history = history })
-  kept_event may view places fits has room = kept_with i K control table held reads history i.moves view places fits r new_state has room (came may)
+  pub kept_event : is_enabled (arc_value i.program) (state_of (device_in i)) event ≡ true → control.view ≡ i.control.view → length pending.items ≡ length i.pending.items → FitsProgram table (arc_value i.program) i.fill → HasState (arc_value i.program) control table pending.items reads.items r → HasRoom (arc_value i.program) r i.moves table.cuts_left table.stores_left (vec_len history) (vec_capacity history) → IsKept (record i { control = control; table = table; pending = pending; reads = reads; history = history })
+  kept_event may view places fits has room = kept_with i K control table pending reads history i.moves view places fits r new_state has room (came may)
 
 -- what a ready node is
 module _ (d : Device) (n : ℕ) (ready : is_ready d n ≡ true) where

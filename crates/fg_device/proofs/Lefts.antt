@@ -1,7 +1,7 @@
 -- What is still to come, where one node goes on.
 use Rattle.std.proofs.Common.{◌≡◌, ◌≢◌, ℕ, zero, suc, ◌+◌, ◌*◌, ◌<◌, refl, ap, ⊎_elim, arith}
 use Rattle.std.proofs.lemmas.Bool.{cases_eq}
-use Rattle.fg_device.specs.Code.Rooms.{events_left, stores_left, left_of}
+use Rattle.fg_device.specs.Internal.Rooms.{events_left, stores_left, left_of}
 use Rattle.fg_steps.proofs.Control.{put_at, put_other}
 use Rattle.fg_steps.specs.States.{put}
 use Rattle.fg_steps.specs.declared.phase.Phase.{Phase}

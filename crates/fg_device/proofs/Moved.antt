@@ -15,8 +15,8 @@ use Rattle.fg_device.proofs.Changed.{kept_with}
 use Rattle.fg_device.proofs.Events.{moves, room_moved}
 use Rattle.fg_device.proofs.Fitting.{missing_le, still_fits}
 use Rattle.fg_device.proofs.SeenBytes as seen
-use Rattle.fg_device.specs.Code.Kept.{device_in, IsKept}
-use Rattle.fg_device.specs.Code.Tables.{memory_size, HasBytes}
+use Rattle.fg_device.specs.Internal.Kept.{device_in, IsKept}
+use Rattle.fg_device.specs.Internal.Tables.{memory_size, HasBytes}
 use Rattle.fg_device.specs.declared.device.Device.TheInside.{Inside}
 use Rattle.fg_steps.proofs.Coming.{came_more}
 use Rattle.fg_steps.specs.Coming.{is_enabled, AreEnabled}
@@ -80,9 +80,9 @@ module _ (i : Inside) (K : IsKept i) {d : Device} (same : device_in i ≡ d) (ag
         let program = arc_value i.program in
         let s = state_of (device_in i) in
         let r : State = record s { main = main; line = lines } in
-        kept_with i K i.control u i.held i.reads h (i.moves - 1) refl refl (still_fits i.table u program i.fill keeps K.table) r
+        kept_with i K i.control u i.pending i.reads h (i.moves - 1) refl refl (still_fits i.table u program i.fill keeps K.table) r
         (ap (λ (history : List Event). state_of (record { program = program; fill = i.fill; history = history; moves = i.moves - 1 })) items ∙ is)
-        (moves program i.control i.table u i.held.items i.reads.items s r K.state (agrees_still i.control s main lines K.state.agrees) (subst (λ (c : Caches). HasBytes program c r) (sym made) bytes) (λ n. refl) (λ n. refl) (λ n. refl))
+        (moves program i.control i.table u i.pending.items i.reads.items s r K.state (agrees_still i.control s main lines K.state.agrees) (subst (λ (c : Caches). HasBytes program c r) (sym made) bytes) (λ n. refl) (λ n. refl) (λ n. refl))
         (room_moved program s r i.moves i.table.cuts_left i.table.stores_left (vec_len i.history) (vec_capacity i.history) u.cuts_left u.stores_left (vec_len h) (vec_capacity h) K.room asked.some (λ n. refl) (omega (arith, cuts, missing_le i.table memory start len)) stores longer capacity)
         (subst (λ (events : List Event). AreEnabled program i.fill events (length events)) (sym items) (came_more (device_in i) event K.came goes))
 

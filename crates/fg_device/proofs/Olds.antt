@@ -14,7 +14,7 @@ use Rattle.fg_base.specs.declared.op.Op.{Op}
 use Rattle.fg_base.specs.declared.shape.Shape.{Shape}
 use Rattle.fg_base.specs.declared.touch.Touch.{Touch}
 use Rattle.fg_device.proofs.Sources.{one_more, out_long}
-use Rattle.fg_device.specs.Code.Loads.{IsRunnable, LeadsOn}
+use Rattle.fg_device.specs.Internal.Loads.{IsRunnable, LeadsOn}
 use Rattle.fg_pixels.specs.Anew.{IgnoresOld}
 use Rattle.fg_steps.specs.Outputs.{no_old}
 

@@ -11,8 +11,8 @@ use Rattle.fg_checker.specs.Sound.{IsSound}
 use Rattle.fg_caches.specs.Tables.{Table, is_cut, slot_at, IsMade}
 use Rattle.fg_device.proofs.Facts.{lies, piece_small, memory_small, within_shapes}
 use Rattle.fg_device.proofs.Starting.{opened_sum, opened_size, cuts_within, opens_fitting}
-use Rattle.fg_device.specs.Code.Opened.{opened_memory, piece_in, piece_end, HasCuts}
-use Rattle.fg_device.specs.Code.Tables.{memory_size, FitsProgram}
+use Rattle.fg_device.specs.Internal.Opened.{opened_memory, piece_in, piece_end, HasCuts}
+use Rattle.fg_device.specs.Internal.Tables.{memory_size, FitsProgram}
 use Rattle.fg_steps.specs.Devices.{Device, fresh}
 use Rattle.fg_subs.specs.Limits.{memory_bytes}
 use Rattle.fg_subs.specs.Obeys.{Obeys, IsSmall}

@@ -11,11 +11,11 @@ use Rattle.fg_caches.specs.Tables.{caches_of}
 use Rattle.fg_checker.specs.Sound.{IsSound}
 use Rattle.fg_control.specs.Controls.{Agrees}
 use Rattle.fg_device.proofs.Starting.{none_at, opens_state, opens_room}
-use Rattle.fg_device.specs.Code.Kept.{device_in, IsKept}
-use Rattle.fg_device.specs.Code.Loads.{held_at}
-use Rattle.fg_device.specs.Code.Opened.{opened_memory, room_of}
-use Rattle.fg_device.specs.Code.Parts.{HasState, HasRoom, node_count}
-use Rattle.fg_device.specs.Code.Tables.{FitsProgram}
+use Rattle.fg_device.specs.Internal.Kept.{device_in, IsKept}
+use Rattle.fg_device.specs.Internal.Loads.{pending_at}
+use Rattle.fg_device.specs.Internal.Opened.{opened_memory, room_of}
+use Rattle.fg_device.specs.Internal.Fields.{HasState, HasRoom, node_count}
+use Rattle.fg_device.specs.Internal.Tables.{FitsProgram}
 use Rattle.fg_device.specs.declared.device.Device.TheInside.{Inside}
 use Rattle.fg_steps.specs.Coming.{AreEnabled}
 use Rattle.fg_steps.specs.Devices.{opening, state_of, fresh}
@@ -31,8 +31,8 @@ module _ (i : Inside) (count : ℕ) (history : i.history.items ≡ []) (opens : 
   state_is : state_of (device_in i) ≡ opened (opening (arc_value i.program) i.fill)
   state_is = ap (λ (h : List Event). state_of (record { program = arc_value i.program; fill = i.fill; history = h; moves = i.moves })) history ∙ opens
 
-  pub opens_kept : first_fault (arc_value i.program) ≡ None → (i.sound ≡ true → IsSound (arc_value i.program)) → IsSmall (arc_value i.program) → ((rule : Rule) → All (EntryObeys rule (arc_value i.program)) (entries_of (arc_value i.program))) → i.control.view ≡ view_of (arc_value i.program) → ((main : Bytes) → Agrees i.control (opened main)) → count ≡ node_count (arc_value i.program) → i.shapes ≡ shapes_of (arc_value i.program) → FitsProgram i.table (arc_value i.program) i.fill → caches_of i.table ≡ effects.opened (map (opened_memory i.fill) (arc_value i.program).memories) → 2 * i.moves ≤ i.table.cuts_left → i.table.stores_left ≡ count → i.held.items ≡ replicate count None → i.reads.items ≡ map (room_of (view_of (arc_value i.program))) (arc_value i.program).readbacks → (2 * count + i.moves) + vec_len i.history ≤ vec_capacity i.history → IsKept i
-  opens_kept faultless sound small obeys view agrees many shapes fits bytes cuts stores held reads room =
+  pub opens_kept : first_fault (arc_value i.program) ≡ None → (i.sound ≡ true → IsSound (arc_value i.program)) → IsSmall (arc_value i.program) → ((rule : Rule) → All (EntryObeys rule (arc_value i.program)) (entries_of (arc_value i.program))) → i.control.view ≡ view_of (arc_value i.program) → ((main : Bytes) → Agrees i.control (opened main)) → count ≡ node_count (arc_value i.program) → i.shapes ≡ shapes_of (arc_value i.program) → FitsProgram i.table (arc_value i.program) i.fill → caches_of i.table ≡ effects.opened (map (opened_memory i.fill) (arc_value i.program).memories) → 2 * i.moves ≤ i.table.cuts_left → i.table.stores_left ≡ count → i.pending.items ≡ replicate count None → i.reads.items ≡ map (room_of (view_of (arc_value i.program))) (arc_value i.program).readbacks → (2 * count + i.moves) + vec_len i.history ≤ vec_capacity i.history → IsKept i
+  opens_kept faultless sound small obeys view agrees many shapes fits bytes cuts stores pending reads room =
       let program = arc_value i.program in
       record {
         faultless = faultless;
@@ -41,9 +41,9 @@ module _ (i : Inside) (count : ℕ) (history : i.history.items ≡ []) (opens : 
         obeys = obeys;
         view = view;
         shapes = shapes;
-        places = ap length held ∙ length-replicate count None ∙ many;
+        places = ap length pending ∙ length-replicate count None ∙ many;
         table = fits;
-        state = subst (HasState program i.control i.table i.held.items i.reads.items) (sym state_is) (opens_state program i.fill i.control i.table i.held.items i.reads.items (agrees (opening program i.fill)) bytes (λ n. ap (λ list. held_at list n) held ∙ none_at count n) reads);
+        state = subst (HasState program i.control i.table i.pending.items i.reads.items) (sym state_is) (opens_state program i.fill i.control i.table i.pending.items i.reads.items (agrees (opening program i.fill)) bytes (λ n. ap (λ list. pending_at list n) pending ∙ none_at count n) reads);
         came = subst (λ (h : List Event). AreEnabled program i.fill h (length h)) (sym history) (λ k lt. absurd (omega (arith, lt)));
         room = subst (λ (s : State). HasRoom program s i.moves i.table.cuts_left i.table.stores_left (vec_len i.history) (vec_capacity i.history)) (sym state_is) (opens_room program i.fill i.moves i.table.cuts_left i.table.stores_left (vec_len i.history) (vec_capacity i.history) cuts (stores ∙ many) (omega (arith, room, many)));
       }

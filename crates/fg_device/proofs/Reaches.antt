@@ -16,23 +16,23 @@ use Rattle.fg_device.proofs.Facts.{piece_small}
 use Rattle.fg_device.proofs.Runnable.{loads_run, room_is}
 use Rattle.fg_device.proofs.Sights.{takes}
 use Rattle.fg_device.proofs.Touching.{formed, agent_known, agent_small, piece_known, stores_there}
-use Rattle.fg_device.specs.Code.Kept.{device_in, IsKept}
-use Rattle.fg_device.specs.Code.Loads.{store_size, IsRunnable, IsWork}
+use Rattle.fg_device.specs.Internal.Kept.{device_in, IsKept}
+use Rattle.fg_device.specs.Internal.Loads.{store_size, IsRunnable, IsWork}
 use Rattle.fg_device.specs.declared.device.Device.TheInside.{Inside}
 use Rattle.fg_device.specs.declared.work.Work.{Work}
 use Rattle.fg_steps.proofs.Formed.{Formed}
 use Rattle.fg_steps.specs.Agents.{agent_of}
 use Rattle.fg_steps.specs.Devices.{Device, state_of, view_in}
 use Rattle.fg_steps.specs.Outputs.{no_old}
-use Rattle.fg_steps.specs.Ready.{is_command, kind_at, is_spoilt}
+use Rattle.fg_steps.specs.Ready.{is_command, kind_at, loads_undefined}
 use Rattle.fg_steps.specs.States.{State}
-use Rattle.fg_steps.specs.Steps.{store_of, taken}
+use Rattle.fg_steps.specs.Steps.{store_of, loaded_by}
 use Rattle.fg_subs.specs.Entries.{entries_of}
 use Rattle.fg_subs.specs.Obeys.{EntryObeys}
 use Rattle.fg_subs.specs.Rules.{shapes_of}
 use Rattle.fg_subs.specs.declared.program.Piece.{Piece}
 use Rattle.fg_subs.specs.declared.rule.Rule.{Rule}
-use Rattle.fg_view.specs.ShapedView.{Has}
+use Rattle.fg_view.specs.ValidView.{Has}
 use Rattle.fg_view.specs.Views.{View, view_of, loads_of, piece_at}
 use Rattle.fg_view.specs.declared.access.Access.{Access}
 
@@ -68,18 +68,18 @@ module _ (i : Inside) (K : IsKept i) (d : Device) (is : device_in i ≡ d) (n : 
       in_memory = subst (λ (x : Piece). InMemory i.table x.memory x.offset (bytes_of x.shape)) (sym piece_read) (K.table.cuts.pieces a.piece there).within
 
       -- what a load gives
-      pub is_taken : (spoilt : Bool) (g : ℕ) (junk : List ℕ) → ((s : State) → Agrees i.control s → spoilt ≡ is_spoilt i.control.view s n a) → g ≡ agent_of a.kind → junk ≡ replicate (bytes_of x.shape) i.fill → (if spoilt then junk else load g (range x.memory x.offset (bytes_of x.shape)) (caches_of i.table)) ≡ taken (view_in d) (state_of d) n (d.fill ∷ []) a
-      is_taken spoilt g junk test agent filled =
+      pub is_taken : (undefined : Bool) (g : ℕ) (junk : List ℕ) → ((s : State) → Agrees i.control s → undefined ≡ loads_undefined i.control.view s n a) → g ≡ agent_of a.kind → junk ≡ replicate (bytes_of x.shape) i.fill → (if undefined then junk else load g (range x.memory x.offset (bytes_of x.shape)) (caches_of i.table)) ≡ loaded_by (view_in d) (state_of d) n (d.fill ∷ []) a
+      is_taken undefined g junk test agent filled =
           let V = view_of (arc_value i.program) in
           let s = state_of (device_in i) in
           let C = caches_of i.table in
           let p = piece_at V a.piece in
           let within = K.table.cuts.pieces a.piece there in
-          ap (λ (xs : List ℕ). if spoilt then xs else load g (range x.memory x.offset (bytes_of x.shape)) C) filled
-          ∙ ap (λ g. if spoilt then replicate (bytes_of x.shape) i.fill else load g (range x.memory x.offset (bytes_of x.shape)) C) agent
-          ∙ ap (λ (x : Piece). if spoilt then replicate (bytes_of x.shape) i.fill else load (agent_of a.kind) (range x.memory x.offset (bytes_of x.shape)) C) piece_read
-          ∙ takes (arc_value i.program) C s K.state.bytes n i.fill a (omega (arith, within.within.within, K.table.sizes p.memory)) spoilt (sym (test s K.state.agrees ∙ ap (λ (v : View). is_spoilt v s n a) K.view))
-          ∙ ap (λ (d : Device). taken (view_in d) (state_of d) n (d.fill ∷ []) a) is
+          ap (λ (xs : List ℕ). if undefined then xs else load g (range x.memory x.offset (bytes_of x.shape)) C) filled
+          ∙ ap (λ g. if undefined then replicate (bytes_of x.shape) i.fill else load g (range x.memory x.offset (bytes_of x.shape)) C) agent
+          ∙ ap (λ (x : Piece). if undefined then replicate (bytes_of x.shape) i.fill else load (agent_of a.kind) (range x.memory x.offset (bytes_of x.shape)) C) piece_read
+          ∙ takes (arc_value i.program) C s K.state.bytes n i.fill a (omega (arith, within.within.within, K.table.sizes p.memory)) undefined (sym (test s K.state.agrees ∙ ap (λ (v : View). loads_undefined v s n a) K.view))
+          ∙ ap (λ (d : Device). loaded_by (view_in d) (state_of d) n (d.fill ∷ []) a) is
 
   module _ (lt : n < length (view_in d).nodes) where
     pub has_store : Has (view_in d) n (store_of (view_in d) n)
@@ -89,7 +89,7 @@ module _ (i : Inside) (K : IsKept i) (d : Device) (is : device_in i ≡ d) (n : 
     obeying = subst (λ (d : Device). (rule : Rule) → All (EntryObeys rule d.program) (entries_of d.program)) is K.obeys
 
     module _ (op : Op ℕ) (at : op_at d.program n ≡ Some op) (shapes : List Shape) (shapes_are : shapes ≡ shapes_of d.program) where
-      pub runs_on : (loaded : List (List ℕ)) → loaded ≡ map (taken (view_in d) (state_of d) n (d.fill ∷ [])) (loads_of (view_in d) n) → IsRunnable shapes op loaded
+      pub runs_on : (loaded : List (List ℕ)) → loaded ≡ map (loaded_by (view_in d) (state_of d) n (d.fill ∷ [])) (loads_of (view_in d) n) → IsRunnable shapes op loaded
       runs_on loaded e = subst (λ (shapes : List Shape). IsRunnable shapes op loaded) (sym shapes_are) (subst (IsRunnable (shapes_of d.program) op) (sym e) (loads_run d.program obeying n lt command op at (state_of d) (d.fill ∷ [])))
 
       -- what is computed of that, of the operation as it is found

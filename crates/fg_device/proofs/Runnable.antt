@@ -14,7 +14,7 @@ use Rattle.fg_base.specs.declared.op.Op.{Op}
 use Rattle.fg_base.specs.declared.shape.Shape.{Shape}
 use Rattle.fg_base.specs.declared.shape.Shape.TheVariants.{Buffer}
 use Rattle.fg_checker.specs.Apart.{op_at}
-use Rattle.fg_device.specs.Code.Loads.{store_size, IsRunnable}
+use Rattle.fg_device.specs.Internal.Loads.{store_size, IsRunnable}
 use Rattle.fg_hb.specs.Edges.{is_host, node_at}
 use Rattle.fg_steps.proofs.Cases.{not_sync, not_host, store_changes}
 use Rattle.fg_steps.proofs.Formed.{Formed, At, of_change}
@@ -22,9 +22,9 @@ use Rattle.fg_steps.proofs.Operands.{old_of, command_loads, command_stores}
 use Rattle.fg_steps.proofs.Places.{IsOp, WhatAt, what_at}
 use Rattle.fg_steps.specs.Agents.{agent_of}
 use Rattle.fg_steps.specs.Outputs.{no_old}
-use Rattle.fg_steps.specs.Ready.{is_command, kind_at, is_spoilt}
+use Rattle.fg_steps.specs.Ready.{is_command, kind_at, loads_undefined}
 use Rattle.fg_steps.specs.States.{State, junk_at}
-use Rattle.fg_steps.specs.Steps.{store_of, sight, taken}
+use Rattle.fg_steps.specs.Steps.{store_of, sight, loaded_by}
 use Rattle.fg_subs.proofs.Within.{all_below}
 use Rattle.fg_subs.specs.Entries.{entries_of}
 use Rattle.fg_subs.specs.Obeys.{EntryObeys}
@@ -33,15 +33,15 @@ use Rattle.fg_subs.specs.declared.program.Program.{Program}
 use Rattle.fg_subs.specs.declared.rule.Rule.{Rule}
 use Rattle.fg_view.specs.AccessKinds.{loads}
 use Rattle.fg_view.specs.Effects.{access}
-use Rattle.fg_view.specs.ShapedView.{Has}
+use Rattle.fg_view.specs.ValidView.{Has}
 use Rattle.fg_view.specs.Views.{View, view_of, accesses_of, loads_of, no_piece, piece_at}
 use Rattle.fg_view.specs.declared.access.Access.{Access}
 use Rattle.fg_view.specs.declared.access.AccessKind.TheVariants.{Load}
 use Rattle.fg_view.specs.declared.access.Agent.TheVariants.{Host}
 
 -- each load is as long as its piece
-pub taken_long : (V : View) (s : State) (n : ℕ) (junk : List ℕ) (a : Access) → length (taken V s n junk a) ≡ bytes_of (piece_at V a.piece).shape
-taken_long V s n junk a = by_test (is_spoilt V s n a)
+pub loaded_by_long : (V : View) (s : State) (n : ℕ) (junk : List ℕ) (a : Access) → length (loaded_by V s n junk a) ≡ bytes_of (piece_at V a.piece).shape
+loaded_by_long V s n junk a = by_test (loads_undefined V s n a)
   where
     size : ℕ
     size = bytes_of (piece_at V a.piece).shape
@@ -90,10 +90,10 @@ module _ (program : Program) (obeys : (rule : Rule) → All (EntryObeys rule pro
   olds_are false = record { few = omega arith; alike = λ k low. refl }
 
   -- it runs on what it takes
-  pub loads_run : (s : State) (junk : List ℕ) → IsRunnable (shapes_of program) op (map (taken (view_of program) s n junk) (loads_of (view_of program) n))
+  pub loads_run : (s : State) (junk : List ℕ) → IsRunnable (shapes_of program) op (map (loaded_by (view_of program) s n junk) (loads_of (view_of program) n))
   loads_run s junk =
       let list = loads_of (view_of program) n in
-      let f = taken (view_of program) s n junk in
+      let f = loaded_by (view_of program) s n junk in
       let O = olds_are (is_whole (mapped (shape_at (shapes_of program)) op)) in
       let count : length list ≡ length (sources_of op ++ olds) = sym (length-map list (λ a. a.piece)) ∙ ap length pieces in
       let many : length (map f list) ≡ length list = length-map list f in
@@ -108,7 +108,7 @@ module _ (program : Program) (obeys : (rule : Rule) → All (EntryObeys rule pro
             let piece : (get_or list k (access 0 (Load Host None))).piece ≡ p = sym (get_or-map (λ a. a.piece) list k (access 0 (Load Host None)) 0 inside) ∙ ap (λ l. get_or l k 0) pieces ∙ O.alike k (omega (arith, inside, count)) in
             let within : p < length (shapes_of program) = operands k 0 (omega (arith, inside, count, O.few)) in
             ap length (get_or-map f list k (access 0 (Load Host None)) [] inside)
-            ∙ taken_long (view_of program) s n junk (get_or list k (access 0 (Load Host None)))
+            ∙ loaded_by_long (view_of program) s n junk (get_or list k (access 0 (Load Host None)))
             ∙ ap (λ z. bytes_of (piece_at (view_of program) z).shape) piece ∙ ap bytes_of (sym (shape_is p within));
       }
 

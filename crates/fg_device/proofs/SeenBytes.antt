@@ -6,7 +6,7 @@ use Rattle.std.proofs.lemmas.Bool.{and_parts, cases_Bool, leb-true, ltb-true}
 use Rattle.std.proofs.lemmas.List.FromFn.{fill_by_all, length-map-range_with_len, get_or-map-range_with_len}
 use Rattle.fg_caches.specs.Effects.{Caches, put, write_back, fill, drop_clean, load, read_main, stored_in}
 use Rattle.fg_caches.specs.Lines.{Dirty, Range, range, is_in, seen, written, cleaned, filled, dropped}
-use Rattle.fg_device.specs.Code.Tables.{memory_size, HasBytes}
+use Rattle.fg_device.specs.Internal.Tables.{memory_size, HasBytes}
 use Rattle.fg_steps.specs.States.{State}
 use Rattle.fg_steps.specs.Steps.{written_back, lines_filled, lines_dropped}
 use Rattle.fg_subs.specs.declared.program.Program.{Program}

@@ -11,16 +11,16 @@ use Rattle.fg_caches.specs.Effects.{Caches, load}
 use Rattle.fg_control.specs.Controls.{phase_of}
 use Rattle.fg_device.proofs.Junk.{all_junk}
 use Rattle.fg_device.proofs.SeenBytes.{loads_alike, reads_alike}
-use Rattle.fg_device.specs.Code.Kept.{device_in, IsKept}
-use Rattle.fg_device.specs.Code.Loads.{HasReadAll}
-use Rattle.fg_device.specs.Code.Reads.{read_into}
-use Rattle.fg_device.specs.Code.Tables.{memory_size, HasBytes}
+use Rattle.fg_device.specs.Internal.Kept.{device_in, IsKept}
+use Rattle.fg_device.specs.Internal.Loads.{HasReadAll}
+use Rattle.fg_device.specs.Internal.Reads.{read_into}
+use Rattle.fg_device.specs.Internal.Tables.{memory_size, HasBytes}
 use Rattle.fg_device.specs.declared.device.Device.TheInside.{Inside}
 use Rattle.fg_steps.specs.Agents.{agent_of, piece_range, bytes_in}
 use Rattle.fg_steps.specs.Devices.{Device, state_of}
-use Rattle.fg_steps.specs.Ready.{is_spoilt, read_node}
+use Rattle.fg_steps.specs.Ready.{loads_undefined, read_node}
 use Rattle.fg_steps.specs.States.{State, is_done, junk_bytes}
-use Rattle.fg_steps.specs.Steps.{sight, taken, host_takes}
+use Rattle.fg_steps.specs.Steps.{sight, loaded_by, host_takes}
 use Rattle.fg_subs.specs.declared.program.Program.{Program}
 use Rattle.fg_view.specs.Views.{View, view_of, piece_at, accesses_of}
 use Rattle.fg_view.specs.declared.access.Access.{Access}
@@ -33,12 +33,12 @@ module _ (program : Program) (c : Caches) (s : State) (B : HasBytes program c s)
   size = bytes_of (piece_at (view_of program) a.piece).shape
 
   -- by an agent
-  pub takes : (spoilt : Bool) → is_spoilt (view_of program) s n a ≡ spoilt → (if spoilt then replicate (bytes_of (piece_at (view_of program) a.piece).shape) fill else load (agent_of a.kind) (piece_range (view_of program) a.piece) c) ≡ taken (view_of program) s n (fill ∷ []) a
+  pub takes : (undefined : Bool) → loads_undefined (view_of program) s n a ≡ undefined → (if undefined then replicate (bytes_of (piece_at (view_of program) a.piece).shape) fill else load (agent_of a.kind) (piece_range (view_of program) a.piece) c) ≡ loaded_by (view_of program) s n (fill ∷ []) a
   takes true e = all_junk fill size ∙ sym (ap (λ b. if b then junk_bytes (fill ∷ []) size else sight V s a) e)
   takes false e = loads_alike program c s B (agent_of a.kind) (piece_at V a.piece).memory (piece_at V a.piece).offset size within ∙ sym (ap (λ b. if b then junk_bytes (fill ∷ []) size else sight V s a) e)
 
   -- by the host, whose node has this access alone
-  pub host_reads : accesses_of (view_of program) n ≡ a ∷ [] → (spoilt : Bool) → is_spoilt (view_of program) s n a ≡ spoilt → read_into (if spoilt then Some fill else None) (piece_range (view_of program) a.piece) c ≡ host_takes (view_of program) s n (fill ∷ []) (accesses_of (view_of program) n)
+  pub host_reads : accesses_of (view_of program) n ≡ a ∷ [] → (undefined : Bool) → loads_undefined (view_of program) s n a ≡ undefined → read_into (if undefined then Some fill else None) (piece_range (view_of program) a.piece) c ≡ host_takes (view_of program) s n (fill ∷ []) (accesses_of (view_of program) n)
   host_reads only true e = all_junk fill size ∙ sym (ap (host_takes V s n (fill ∷ [])) only ∙ ap (λ b. if b then junk_bytes (fill ∷ []) size else bytes_in V s.main a.piece) e)
   host_reads only false e = reads_alike program c s B (piece_at V a.piece).memory (piece_at V a.piece).offset size within ∙ sym (ap (host_takes V s n (fill ∷ [])) only ∙ ap (λ b. if b then junk_bytes (fill ∷ []) size else bytes_in V s.main a.piece) e)
 

@@ -10,7 +10,7 @@ use Rattle.fg_base.specs.Shapes.{bytes_of, shape_at}
 use Rattle.fg_base.specs.declared.op.Op.{Op}
 use Rattle.fg_base.specs.declared.shape.Shape.{Shape}
 use Rattle.fg_base.specs.declared.shape.Shape.TheVariants.{Buffer}
-use Rattle.fg_device.specs.Code.Loads.{IsRunnable}
+use Rattle.fg_device.specs.Internal.Loads.{IsRunnable}
 use Rattle.fg_pixels.specs.Sources.{source_bytes}
 use Rattle.fg_steps.specs.Outputs.{no_old}
 

@@ -5,10 +5,10 @@ use Rattle.fg_caches.specs.Effects.{Caches}
 use Rattle.fg_caches.specs.Tables.{Table, caches_of, Keeps}
 use Rattle.fg_device.proofs.Changed.{kept_with}
 use Rattle.fg_device.proofs.Fitting.{still_fits}
-use Rattle.fg_device.specs.Code.Kept.{device_in, IsKept}
-use Rattle.fg_device.specs.Code.Parts.{node_count}
-use Rattle.fg_device.specs.Code.Rooms.{stores_left, left_of}
-use Rattle.fg_device.specs.Code.Tables.{HasBytes}
+use Rattle.fg_device.specs.Internal.Kept.{device_in, IsKept}
+use Rattle.fg_device.specs.Internal.Fields.{node_count}
+use Rattle.fg_device.specs.Internal.Rooms.{stores_left, left_of}
+use Rattle.fg_device.specs.Internal.Tables.{HasBytes}
 use Rattle.fg_device.specs.declared.device.Device.TheInside.{Inside}
 use Rattle.fg_steps.specs.Devices.{state_of}
 
@@ -17,7 +17,7 @@ pub kept_table : (i : Inside) → IsKept i → (table : Table) → caches_of tab
 kept_table i K table bytes keeps cuts stores =
     let program = arc_value i.program in
     let s = state_of (device_in i) in
-    kept_with i K i.control table i.held i.reads i.history i.moves refl refl (still_fits i.table table program i.fill keeps K.table) s refl
+    kept_with i K i.control table i.pending i.reads i.history i.moves refl refl (still_fits i.table table program i.fill keeps K.table) s refl
     (record {
       agrees = K.state.agrees;
       bytes = subst (λ (c : Caches). HasBytes program c s) (sym bytes) K.state.bytes;

@@ -12,11 +12,11 @@ use Rattle.fg_caches.specs.Effects.{Caches}
 use Rattle.fg_caches.specs.Effects as effects
 use Rattle.fg_caches.specs.Tables.{Table, is_cut, slot_at, caches_of, size_of, IsMade}
 use Rattle.fg_control.specs.Controls.{Control, Agrees}
-use Rattle.fg_device.specs.Code.Loads.{Holds, held_at}
-use Rattle.fg_device.specs.Code.Opened.{opened_memory, room_of, piece_in, piece_end, HasCuts}
-use Rattle.fg_device.specs.Code.Parts.{HasState, HasRoom, node_count}
-use Rattle.fg_device.specs.declared.held.Held.{Held}
-use Rattle.fg_device.specs.Code.Tables.{memory_size, FitsProgram, HasBytes}
+use Rattle.fg_device.specs.Internal.Loads.{HasPending, pending_at}
+use Rattle.fg_device.specs.Internal.Opened.{opened_memory, room_of, piece_in, piece_end, HasCuts}
+use Rattle.fg_device.specs.Internal.Fields.{HasState, HasRoom, node_count}
+use Rattle.fg_device.specs.declared.pending.Pending.{Pending}
+use Rattle.fg_device.specs.Internal.Tables.{memory_size, FitsProgram, HasBytes}
 use Rattle.fg_device.proofs.Fitting.{none_missing}
 use Rattle.fg_device.proofs.Lefts.{first_events, first_stores}
 use Rattle.fg_steps.specs.Devices.{opening, opening_byte}
@@ -119,23 +119,23 @@ module _ (program : Program) (fill : ℕ) (cuts : List (ℕ × ℕ)) (C : HasCut
 
 -- THE FIELDS
 
-abbrev none_held : ℕ → List (Option Held)
-none_held count = replicate count None
+abbrev none_pending : ℕ → List (Option Pending)
+none_pending count = replicate count None
 
-pub none_at : (count n : ℕ) → held_at (replicate count None) n ≡ None
+pub none_at : (count n : ℕ) → pending_at (replicate count None) n ≡ None
 none_at count n =
-    let many : length (none_held count) ≡ count = length-replicate count None in
+    let many : length (none_pending count) ≡ count = length-replicate count None in
     ⊎_elim
     (λ (lt : n < count). get_or-replicate count n None None lt)
-    (λ (ge : count ≤ n). get_or_past (none_held count) n None (omega (arith, ge, many)))
+    (λ (ge : count ≤ n). get_or_past (none_pending count) n None (omega (arith, ge, many)))
     (cases_lt n count)
 
--- nothing is held, nothing has been read, and all is still to come
-pub opens_state : (program : Program) (fill : ℕ) (control : Control) (table : Table) (held : List (Option Held)) (reads : List (List ℕ)) → Agrees control (opened (opening program fill)) → caches_of table ≡ effects.opened (map (opened_memory fill) program.memories) → ((n : ℕ) → held_at held n ≡ None) → reads ≡ map (room_of (view_of program)) program.readbacks → HasState program control table held reads (opened (opening program fill))
-opens_state program fill control table held reads agrees bytes none rooms = record {
+-- nothing is pending, nothing has been read, and all is still to come
+pub opens_state : (program : Program) (fill : ℕ) (control : Control) (table : Table) (pending : List (Option Pending)) (reads : List (List ℕ)) → Agrees control (opened (opening program fill)) → caches_of table ≡ effects.opened (map (opened_memory fill) program.memories) → ((n : ℕ) → pending_at pending n ≡ None) → reads ≡ map (room_of (view_of program)) program.readbacks → HasState program control table pending reads (opened (opening program fill))
+opens_state program fill control table pending reads agrees bytes none rooms = record {
   agrees = agrees;
   bytes = opens_with program fill (caches_of table) bytes;
-  holds = λ n. subst (Holds program (opened (opening program fill)) n) (sym (none n)) refl;
+  holds = λ n. subst (HasPending program (opened (opening program fill)) n) (sym (none n)) refl;
   has_read = record {
     count = ap length rooms ∙ length-map program.readbacks (room_of (view_of program));
     each = λ k p e.

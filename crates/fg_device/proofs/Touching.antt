@@ -11,7 +11,7 @@ use Rattle.fg_steps.specs.Steps.{agent_count, store_of}
 use Rattle.fg_subs.specs.FirstFault.{first_fault}
 use Rattle.fg_subs.specs.Obeys.{IsSmall}
 use Rattle.fg_subs.specs.declared.program.Program.{Program}
-use Rattle.fg_view.specs.ShapedView.{Has}
+use Rattle.fg_view.specs.ValidView.{Has}
 use Rattle.fg_view.specs.Views.{View, view_of, accesses_of}
 use Rattle.fg_view.specs.declared.access.Access.{Access}
 use Rattle.fg_view.specs.declared.access.AccessKind.{AccessKind}

@@ -3,7 +3,7 @@ use Rattle.std.proofs.Common.{◌≡◌, ℕ, ◌+◌, ◌<◌, ◌≤◌, List,
 use Rattle.std.specs.List.{filter}
 use Rattle.std.proofs.lemmas.List.{append-nil}
 use Rattle.fg_caches.specs.Effects.{Caches, overwrite}
-use Rattle.fg_device.specs.Code.Syncs.{junked}
+use Rattle.fg_device.specs.Internal.Syncs.{junked}
 use Rattle.fg_steps.specs.Agents.{piece_range}
 use Rattle.fg_steps.specs.States.{State}
 use Rattle.fg_steps.specs.Steps.{junks}

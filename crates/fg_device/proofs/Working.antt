@@ -8,7 +8,7 @@ use Rattle.fg_base.specs.declared.op.Op.{Op}
 use Rattle.fg_base.specs.declared.shape.Shape.{Shape}
 use Rattle.fg_clears.specs.Simpler.{Reads, IsSimpler, left_of}
 use Rattle.fg_clears.specs.declared.simpler.Simpler.{Simpler}
-use Rattle.fg_device.specs.Code.Loads.{IsRunnable, IsWork}
+use Rattle.fg_device.specs.Internal.Loads.{IsRunnable, IsWork}
 use Rattle.fg_device.specs.declared.work.Work.{Work}
 use Rattle.fg_steps.specs.Outputs.{no_old}
 

@@ -1,3 +1,3 @@
 pub mod Carried
-pub mod Code
+pub mod Internal
 pub mod Landings

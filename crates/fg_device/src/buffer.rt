@@ -56,8 +56,8 @@ impl Buffer {
 }
 
 /// The byte of all junk, where something went wrong.
-pub(crate) fn junk_if(spoilt: bool, byte: u8) -> Option<u8>
-    ensures { result ≡ (if spoilt then Some byte else None) }
+pub(crate) fn junk_if(undefined: bool, byte: u8) -> Option<u8>
+    ensures { result ≡ (if undefined then Some byte else None) }
 {
-    if spoilt { Some(byte) } else { None }
+    if undefined { Some(byte) } else { None }
 }

@@ -15,7 +15,7 @@ ghost use Rattle.fg_steps.specs.Ready.{kind_at, read_node};
 ghost use Rattle.fg_steps.specs.States.{is_done};
 
 use crate::buffer::Buffer;
-use crate::held::Held;
+use crate::pending::Pending;
 use crate::helpers::Helpers;
 use crate::nodes::read_node;
 use crate::opening::{Lists, Stored, lists_of, stored_of};
@@ -27,7 +27,7 @@ use fg_control::Control;
 use fg_hb::Kind;
 use fg_same::Same;
 use fg_steps::{device_laws, event_laws};
-use fg_subs::Shaped;
+use fg_subs::ValidProgram;
 use std::alloc::Global;
 use std::marker::Model;
 use std::sync::Arc;
@@ -36,7 +36,7 @@ use std::sync::Arc;
 /// and elsewhere the fill byte, which is also all junk.
 #[derive(Drop)]
 pub struct Device {
-    program: Arc<Shaped, Global>,
+    program: Arc<ValidProgram, Global>,
     // Whether it is known to be sound.
     sound: bool,
     // About as many bytes as a comparison of the program reads.
@@ -48,7 +48,7 @@ pub struct Device {
     control: Control,
     table: Segments,
     // By the number of the node.
-    held: Vec<Option<Held>>,
+    pending: Vec<Option<Pending>>,
     // By the number of the read-back.
     reads: Vec<Buffer>,
     helpers: Helpers,
@@ -56,7 +56,7 @@ pub struct Device {
 
 impl Model for Device {
     ghost use Rattle.fg_steps.specs.Devices.{Device};
-    ghost use Rattle.fg_device.specs.Code.Kept.{device_in, IsKept};
+    ghost use Rattle.fg_device.specs.Internal.Kept.{device_in, IsKept};
 
     ghost Value = { Device };
 
@@ -94,7 +94,7 @@ impl Device {
     /// The same of a program that may be unsound.
     pub fn unchecked(
         alloc: Global,
-        program: Arc<Shaped, Global>,
+        program: Arc<ValidProgram, Global>,
         fill: u8,
         moves: u32,
     ) -> Result<Device, NoMemory>
@@ -106,7 +106,7 @@ impl Device {
     // The same of a program that may be said to be sound.
     fn opened(
         alloc: Global,
-        program: Arc<Shaped, Global>,
+        program: Arc<ValidProgram, Global>,
         sound: bool,
         fill: u8,
         moves: u32,
@@ -124,7 +124,7 @@ impl Device {
         let lists = lists_of(alloc, control.view(), &plain.readbacks, count, events)?;
         let Stored { table, shapes } = stored;
         let Lists {
-            held,
+            pending,
             reads,
             history,
         } = lists;
@@ -140,7 +140,7 @@ impl Device {
             history,
             control,
             table,
-            held,
+            pending,
             reads,
             helpers,
         })
@@ -203,7 +203,7 @@ impl Device {
     }
 
     /// The program that it runs.
-    pub fn program(&self) -> &Arc<Shaped, Global>
+    pub fn program(&self) -> &Arc<ValidProgram, Global>
         ensures { arc_value result.now ≡ self.now.program }
     {
         &self.program

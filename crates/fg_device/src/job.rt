@@ -2,8 +2,8 @@
 
 ghost use Rattle.std.specs.Prelude.{◌≡◌};
 ghost use Rattle.std.specs.Arc.{arc_value};
-ghost use Rattle.fg_device.specs.Code.Loads.{IsWork, LoadsIn};
-ghost use Rattle.fg_device.specs.Code.Results.{IsResult};
+ghost use Rattle.fg_device.specs.Internal.Loads.{IsWork, LoadsIn};
+ghost use Rattle.fg_device.specs.Internal.Results.{IsResult};
 ghost use Rattle.fg_steps.specs.Outputs.{no_old, stored_by};
 
 use crate::helpers::Helpers;
@@ -12,7 +12,7 @@ use crate::running::stored_fast;
 use crate::work::Work;
 use fg_base::{List, Op, Shape};
 use fg_caches::Contents;
-use fg_subs::Shaped;
+use fg_subs::ValidProgram;
 use std::alloc::Global;
 use std::marker::Model;
 use std::sync::Arc;
@@ -33,14 +33,14 @@ pub struct Job {
     work: Work,
     room: Room,
     // Of the device that began it.
-    program: Arc<Shaped, Global>,
+    program: Arc<ValidProgram, Global>,
     // How many it took: one for its caller, and those that it may start. None where none was left.
     threads: usize,
 }
 
 impl Model for Job {
     ghost use Rattle.fg_device.specs.declared.job.Command.{Command};
-    ghost use Rattle.fg_device.specs.Code.Jobs.{command_of, IsJob};
+    ghost use Rattle.fg_device.specs.Internal.Jobs.{command_of, IsJob};
 
     ghost Value = { Command };
 
@@ -53,13 +53,13 @@ impl Model for Job {
 pub struct Finished {
     command: Command,
     stored: Contents,
-    program: Arc<Shaped, Global>,
+    program: Arc<ValidProgram, Global>,
     threads: usize,
 }
 
 impl Model for Finished {
     ghost use Rattle.fg_device.specs.declared.job.Command.{Command};
-    ghost use Rattle.fg_device.specs.Code.Results.{command_of, IsFinished};
+    ghost use Rattle.fg_device.specs.Internal.Results.{command_of, IsFinished};
 
     ghost Value = { Command };
 
@@ -77,7 +77,7 @@ pub enum Landed {
 }
 
 impl Job {
-    pub(crate) fn new(command: Command, work: Work, room: Room, program: Arc<Shaped, Global>) -> Job
+    pub(crate) fn new(command: Command, work: Work, room: Room, program: Arc<ValidProgram, Global>) -> Job
         requires work { IsWork command.shapes command.op command.loaded work }
         requires loads { LoadsIn (arc_value program) command.node command.loaded }
         requires room { room ≡ no_old command.shapes command.op }
@@ -170,7 +170,7 @@ impl Finished {
     }
 
     /// The command, its bytes, and the program of the device that began it.
-    pub(crate) fn into_parts(self) -> (Command, Contents, Arc<Shaped, Global>)
+    pub(crate) fn into_parts(self) -> (Command, Contents, Arc<ValidProgram, Global>)
         ensures command { result.0 ≡ self }
         ensures bytes { IsResult self result.1 }
         ensures loads { LoadsIn (arc_value result.2) self.node self.loaded }

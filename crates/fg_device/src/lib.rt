@@ -6,7 +6,7 @@ mod agents;
 mod buffer;
 mod comparing;
 mod device;
-mod held;
+mod pending;
 mod helpers;
 mod job;
 mod nodes;

@@ -6,10 +6,10 @@ ghost use Rattle.fg_steps.specs.Ready.{is_command, kind_at, read_node};
 ghost use Rattle.fg_view.specs.Views.{view_of};
 
 use fg_base::Op;
-use fg_subs::{Entry, Item, Shaped};
+use fg_subs::{Entry, Item, ValidProgram};
 
 /// The operation of a command.
-pub(crate) fn op_of(program: &Shaped, node: u32) -> &Op<u32>
+pub(crate) fn op_of(program: &ValidProgram, node: u32) -> &Op<u32>
     requires command { is_command (kind_at (view_of program.now) node) ≡ true }
     requires node { node < length (view_of program.now).nodes }
     ensures { op_at program.now node ≡ Some result.now }
@@ -24,7 +24,7 @@ pub(crate) fn op_of(program: &Shaped, node: u32) -> &Op<u32>
 }
 
 /// The node of a read-back.
-pub(crate) fn read_node(program: &Shaped, k: u32) -> u32
+pub(crate) fn read_node(program: &ValidProgram, k: u32) -> u32
     requires { k < length program.now.readbacks }
     ensures node { result ≡ read_node program.now k }
     ensures within { result < length (view_of program.now).nodes }

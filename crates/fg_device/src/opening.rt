@@ -6,15 +6,15 @@ ghost use Rattle.fg_base.specs.Maxima.{max_nodes};
 ghost use Rattle.fg_base.specs.Shapes.{bytes_of};
 ghost use Rattle.fg_caches.specs.Effects.{opened};
 ghost use Rattle.fg_caches.specs.Tables.{caches_of};
-ghost use Rattle.fg_device.specs.Code.Opened.{opened_memory, room_of, piece_end, HasCuts};
-ghost use Rattle.fg_device.specs.Code.Tables.{FitsProgram};
+ghost use Rattle.fg_device.specs.Internal.Opened.{opened_memory, room_of, piece_end, HasCuts};
+ghost use Rattle.fg_device.specs.Internal.Tables.{FitsProgram};
 ghost use Rattle.fg_subs.specs.Obeys.{Obeys, IsSmall};
 ghost use Rattle.fg_subs.specs.Rules.{shapes_of};
 ghost use Rattle.fg_subs.specs.declared.rule.Rule.{Rule};
 ghost use Rattle.fg_view.specs.Views.{piece_at};
 
 use crate::buffer::Buffer;
-use crate::held::{Held, none_held};
+use crate::pending::{Pending, none_pending};
 use bytes::Bytes;
 use fg_base::{Event, List, NoMemory, Shape};
 use fg_caches::{Contents, Segments};
@@ -181,7 +181,7 @@ fn history(alloc: Global, count: usize) -> Result<Vec<Event>, NoMemory>
 /// What a device keeps of nodes, read-backs and events.
 #[derive(Drop)]
 pub(crate) struct Lists {
-    pub held: Vec<Option<Held>>,
+    pub pending: Vec<Option<Pending>>,
     pub reads: Vec<Buffer>,
     pub history: Vec<Event>,
 }
@@ -196,16 +196,16 @@ pub(crate) fn lists_of(
 ) -> Result<Lists, NoMemory>
     requires there { All (λ p. p < length view.now.pieces) readbacks.now }
     requires small { (p : ℕ) → p < length view.now.pieces → bytes_of (piece_at view.now p).shape < 2 ^ 32 }
-    ensures held { IfOk result (λ lists. lists.held.items ≡ replicate count None) }
+    ensures pending { IfOk result (λ lists. lists.pending.items ≡ replicate count None) }
     ensures reads { IfOk result (λ lists. lists.reads.items ≡ map (room_of view.now) readbacks.now) }
     ensures items { IfOk result (λ lists. lists.history.items ≡ []) }
     ensures room { IfOk result (λ lists. events + vec_len lists.history ≤ vec_capacity lists.history) }
 {
-    let held = none_held(alloc, count)?;
+    let pending = none_pending(alloc, count)?;
     let reads = rooms(alloc, view, readbacks)?;
     let history = history(alloc, events)?;
     Ok(Lists {
-        held,
+        pending,
         reads,
         history,
     })

@@ -16,7 +16,7 @@ pub(crate) struct Room {
 
 impl Model for Room {
     ghost use Rattle.std.specs.Prelude.{ℕ, List};
-    ghost use Rattle.fg_device.specs.Code.Untouched.{zeros_of};
+    ghost use Rattle.fg_device.specs.Internal.Untouched.{zeros_of};
 
     ghost Value = { List ℕ };
 

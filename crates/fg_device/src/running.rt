@@ -7,7 +7,7 @@ ghost use Rattle.fg_base.specs.Fits.{fits};
 ghost use Rattle.fg_base.specs.Operands.{sources_of, destination_of, operands_of, mapped};
 ghost use Rattle.fg_base.specs.Shapes.{bytes_of, shape_at};
 ghost use Rattle.fg_base.specs.Wholes.{is_whole};
-ghost use Rattle.fg_device.specs.Code.Loads.{IsRunnable, LeadsOn};
+ghost use Rattle.fg_device.specs.Internal.Loads.{IsRunnable, LeadsOn};
 ghost use Rattle.fg_steps.specs.Outputs.{no_old, stored_by};
 
 use crate::room::Room;

@@ -4,12 +4,12 @@ ghost use Rattle.std.specs.Prelude.{◌≡◌, ◌<◌, ◌^◌, length, if◌th
 ghost use Rattle.fg_caches.specs.Effects.{overwrite};
 ghost use Rattle.fg_caches.specs.Tables.{caches_of, junk_of};
 ghost use Rattle.fg_control.specs.Controls.{Agrees};
-ghost use Rattle.fg_device.specs.Code.Syncs.{range_of, passes, moved_one, moved_agents, moved_by, junked, synced_caches, IsThere};
-ghost use Rattle.fg_device.specs.Code.Tables.{HasCut, Stays};
+ghost use Rattle.fg_device.specs.Internal.Syncs.{range_of, passes, moved_one, moved_agents, moved_by, junked, synced_caches, IsThere};
+ghost use Rattle.fg_device.specs.Internal.Tables.{HasCut, Stays};
 ghost use Rattle.fg_steps.specs.Agents.{piece_range};
 ghost use Rattle.fg_steps.specs.States.{State};
 ghost use Rattle.fg_steps.specs.Steps.{agent_count, junks};
-ghost use Rattle.fg_view.specs.ShapedView.{ShapedView};
+ghost use Rattle.fg_view.specs.ValidView.{ValidView};
 ghost use Rattle.fg_view.specs.Views.{accesses_of, effect_at};
 
 use crate::agents::has_agent;
@@ -129,10 +129,10 @@ fn leaves_junk(control: &Control, node: u32, access: Access) -> bool
     requires piece { access.piece < length control.now.view.pieces }
     ensures { (s : State) → Agrees control.now s → result ≡ junks control.now.view s node access }
 {
-    access.kind.is_discard() || access.kind.loads() && control.is_spoilt(node, access)
+    access.kind.is_discard() || access.kind.loads() && control.loads_undefined(node, access)
 }
 
-fn turn_piece(table: &mut Segments, control: &Control, node: u32, access: Access)
+fn leave_junk_in(table: &mut Segments, control: &Control, node: u32, access: Access)
     requires cut { HasCut table.old control.now.view }
     requires node { node < length control.now.view.nodes }
     requires piece { access.piece < length control.now.view.pieces }
@@ -146,7 +146,7 @@ fn turn_piece(table: &mut Segments, control: &Control, node: u32, access: Access
 }
 
 // A piece that the node discards, or that it keeps while it cannot be loaded, becomes junk.
-fn turn(table: &mut Segments, control: &Control, node: u32)
+fn leave_junk(table: &mut Segments, control: &Control, node: u32)
     requires cut { HasCut table.old control.now.view }
     requires node { node < length control.now.view.nodes }
     ensures bytes { (s : State) → Agrees control.now s → caches_of table.new ≡ junked control.now.view s node (junk_of table.old) (accesses_of control.now.view node) (caches_of table.old) }
@@ -154,7 +154,7 @@ fn turn(table: &mut Segments, control: &Control, node: u32)
 {
     let accesses = control.view().effect_at(node).accesses.as_slice();
     for access in accesses {
-        turn_piece(table, control, node, *access);
+        leave_junk_in(table, control, node, *access);
     }
 }
 
@@ -167,11 +167,11 @@ pub(crate) fn synchronise(table: &mut Segments, control: &Control, node: u32)
     requires scope { IsThere control.now.view (effect_at control.now.view node).scope }
     ensures bytes { (s : State) → Agrees control.now s → caches_of table.new ≡ synced_caches control.now.view s node (junk_of table.old) (caches_of table.old) }
     ensures stays { Stays table.old table.new }
-    ensures shaped { ShapedView control.now.view }
+    ensures shaped { ValidView control.now.view }
 {
     let view = control.view();
     let effect = view.effect_at(node);
     move_by(table, view, node, Move::WriteBack, effect.available);
-    turn(table, control, node);
+    leave_junk(table, control, node);
     move_by(table, view, node, Move::DropClean, effect.visible);
 }

@@ -2,7 +2,7 @@
 
 ghost use Rattle.std.specs.Prelude.{◌≡◌, ◌<◌, ℕ, length, Some, None, IfOk};
 ghost use Rattle.fg_clears.specs.Simpler.{left_of};
-ghost use Rattle.fg_device.specs.Code.Loads.{IsRunnable, IsWork, op_in};
+ghost use Rattle.fg_device.specs.Internal.Loads.{IsRunnable, IsWork, op_in};
 
 use bytes::Bytes;
 use fg_base::{List, NoMemory, Op, Shape};

@@ -4,7 +4,7 @@ use Rattle.std.proofs.lemmas.List.{append-nil}
 use Rattle.std.proofs.lemmas.List.Elements.{filter-append}
 use Rattle.fg_base.specs.declared.event.Event.{Event}
 use Rattle.fg_base.specs.declared.event.Event.TheVariants.{Begin, End}
-use Rattle.fg_drive.specs.Code.Keepers.{to_come, Keeps, AsksAlike, Advanced}
+use Rattle.fg_drive.specs.Internal.Keepers.{to_come, Keeps, AsksAlike, Advanced}
 use Rattle.fg_drive.specs.Tended.{agents_of, sizes_of, tended_moves, Grew, Tended}
 use Rattle.fg_drive.specs.declared.keeper.Keeper.{Keeper}
 use Rattle.fg_steps.specs.Devices.{Device, did}

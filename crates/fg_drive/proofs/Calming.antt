@@ -1,7 +1,7 @@
 -- What cache moves leave as it is, and rounds of nodes with moves between their events.
 use Rattle.std.proofs.Common.{◌≡◌, ℕ, ◌+◌, Bool, true, length, refl, sym, ap, ◌∙◌}
 use Rattle.fg_base.specs.declared.event.Event.TheVariants.{Begin, End, Sync, Host}
-use Rattle.fg_drive.specs.Code.Keepers.{Calm}
+use Rattle.fg_drive.specs.Internal.Keepers.{Calm}
 use Rattle.fg_hb.specs.Edges.{is_sync, is_host}
 use Rattle.fg_hb.specs.declared.kind.Kind.{Kind}
 use Rattle.fg_steps.specs.Devices.{Device, state_of, view_in, fresh, did, is_ready, NoneBegun}

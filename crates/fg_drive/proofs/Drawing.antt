@@ -5,7 +5,7 @@ use Rattle.std.proofs.lemmas.Bool.{cases_Bool, false≢true}
 use Rattle.fg_base.specs.declared.event.Event.{Event}
 use Rattle.rand_pcg.specs.Lcg.{Lcg}
 use Rattle.fg_caches.specs.Draws.{may_draw, drawn, after_five, moves_from}
-use Rattle.fg_drive.specs.Code.Keepers.{moves_by, to_come}
+use Rattle.fg_drive.specs.Internal.Keepers.{moves_by, to_come}
 use Rattle.fg_drive.specs.declared.keeper.Keeper.{Keeper}
 
 -- where none is left none is to come

@@ -3,8 +3,8 @@ use Rattle.std.proofs.Common.{◌≡◌, ℕ, Bool, true, false, List, ◌∷◌
 use Rattle.std.specs.Prelude.{◌↔◌, MatchBool}
 use Rattle.std.proofs.lemmas.Bool.{false≢true}
 use Rattle.fg_base.specs.declared.event.Event.{Event}
-use Rattle.fg_drive.specs.Code.Following.{Follows, Strays}
-use Rattle.fg_drive.specs.Code.Keepers.{to_come}
+use Rattle.fg_drive.specs.Internal.Following.{Follows, Strays}
+use Rattle.fg_drive.specs.Internal.Keepers.{to_come}
 use Rattle.fg_drive.specs.declared.keeper.Keeper.{Keeper}
 use Rattle.fg_steps.specs.Histories.{is_move, moves_in}
 

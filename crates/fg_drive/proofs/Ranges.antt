@@ -8,7 +8,7 @@ use Rattle.fg_base.specs.declared.event.Event.{Event}
 use Rattle.fg_base.specs.declared.event.Event.TheVariants.{Begin, End, Sync, WriteBack, Fill, DropLine, Host}
 use Rattle.fg_caches.specs.Draws.{Moves, IsMove}
 use Rattle.fg_caches.specs.Lines.{range}
-use Rattle.fg_drive.specs.Code.Keepers.{Keeps, Calm}
+use Rattle.fg_drive.specs.Internal.Keepers.{Keeps, Calm}
 use Rattle.fg_drive.specs.Tended.{agents_of, sizes_of}
 use Rattle.fg_drive.specs.declared.keeper.Keeper.{Keeper}
 use Rattle.fg_steps.specs.Devices.{Device}

@@ -3,7 +3,7 @@
 ghost use Rattle.std.specs.Prelude.{◌≡◌, ◌<◌, ◌+◌, ◌^◌, ℕ, suc, [], ◌∷◌, length, IfOk, IfSome, IfNone, MatchBool};
 ghost use Rattle.std.specs.Option.{option_map};
 ghost use Rattle.fg_caches.specs.Draws.{seeded, IsMove};
-ghost use Rattle.fg_drive.specs.Code.Keepers.{to_come, Advanced, AsksAlike, Calm, Keeps};
+ghost use Rattle.fg_drive.specs.Internal.Keepers.{to_come, Advanced, AsksAlike, Calm, Keeps};
 ghost use Rattle.fg_drive.specs.Tended.{tended_moves};
 ghost use Rattle.fg_subs.specs.Obeys.{IsSmall};
 

@@ -1,7 +1,7 @@
 //! One node after another.
 
 ghost use Rattle.std.specs.Prelude.{◌≡◌, ◌<◌, length, true, IfSome, IfNone, OnOk};
-ghost use Rattle.fg_drive.specs.Code.Keepers.{Advanced, Keeps};
+ghost use Rattle.fg_drive.specs.Internal.Keepers.{Advanced, Keeps};
 ghost use Rattle.fg_drive.specs.Firsts.{IsFirst, NothingReady};
 ghost use Rattle.fg_hb.specs.Edges.{is_host, is_sync};
 ghost use Rattle.fg_steps.specs.Devices.{is_ready, NeverStands, NoneBegun};

@@ -2,7 +2,7 @@
 
 ghost use Rattle.std.specs.Prelude.{◌≡◌, [], OnOk};
 ghost use Rattle.fg_checker.specs.Sound.{IsSound};
-ghost use Rattle.fg_drive.specs.Code.Keepers.{to_come, Advanced, Calm, Keeps};
+ghost use Rattle.fg_drive.specs.Internal.Keepers.{to_come, Advanced, Calm, Keeps};
 ghost use Rattle.fg_drive.specs.Tended.{Grew, Tended};
 ghost use Rattle.fg_steps.specs.Devices.{IsComplete, NoneBegun};
 

@@ -1,7 +1,7 @@
 //! Whether a device has made the cache moves of a seed.
 
 ghost use Rattle.std.specs.Prelude.{◌≡◌, ◌<◌, ◌^◌, ◌↔◌, [], length, IsTrue, IfOk, MatchBool};
-ghost use Rattle.fg_drive.specs.Code.Following.{Follows, Makes, Strays};
+ghost use Rattle.fg_drive.specs.Internal.Following.{Follows, Makes, Strays};
 ghost use Rattle.fg_drive.specs.Tended.{tended_moves};
 ghost use Rattle.fg_steps.specs.Histories.{moves_in};
 

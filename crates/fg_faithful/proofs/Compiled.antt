@@ -7,7 +7,7 @@ use Rattle.fg_faithful.proofs.Declared.{reads_meaning}
 use Rattle.fg_faithful.proofs.Readbacks.{readback_count}
 use Rattle.fg_faithful.specs.Declared.{ops_in, declared_ops}
 use Rattle.fg_faithful.specs.Laws.{ReadsMeaning}
-use Rattle.fg_frame.specs.Good.{IsGood}
+use Rattle.fg_frame.specs.Valid.{IsValid}
 use Rattle.fg_frame.specs.Numbered.{NumberedFrame}
 use Rattle.fg_groups.specs.Groups.{grouping}
 use Rattle.fg_groups.specs.Laws.{IsGrouped, IsKnown}
@@ -17,7 +17,7 @@ use Rattle.fg_recorder.specs.Recorded.{IsCompiled}
 use Rattle.fg_subs.specs.declared.program.Program.{Program}
 use Rattle.fg_versions.specs.Culled.{AreKept}
 
-pub reads_compiled : ((op : Op Shape) → is_whole op ≡ true → IgnoresOld op) → (frame : NumberedFrame) (kept : List Bool) → IsGood frame → AreKept frame kept → IsGrouped (grouping frame kept) → IsKnown (grouping frame kept) → (places : Places) (program : Program) → IsCompiled frame kept places program → (order : List ℕ) → ops_in program order ≡ declared_ops (grouping frame kept) → ReadsMeaning frame program order
+pub reads_compiled : ((op : Op Shape) → is_whole op ≡ true → IgnoresOld op) → (frame : NumberedFrame) (kept : List Bool) → IsValid frame → AreKept frame kept → IsGrouped (grouping frame kept) → IsKnown (grouping frame kept) → (places : Places) (program : Program) → IsCompiled frame kept places program → (order : List ℕ) → ops_in program order ≡ declared_ops (grouping frame kept) → ReadsMeaning frame program order
 reads_compiled ignores frame kept good are grouped known places program compiled order declared = reads_meaning ignores frame kept good are (grouping frame kept) places.offsets places.heap program (record {
   shapes_are = refl;
   imports_are = refl;

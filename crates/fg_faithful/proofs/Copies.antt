@@ -12,7 +12,7 @@ use Rattle.fg_faithful.proofs.Copying.{copy_mapped, copy_operands, copy_count, c
 use Rattle.fg_faithful.proofs.Kept.{ops_of}
 use Rattle.fg_faithful.proofs.Mirrors.{Renumbers}
 use Rattle.fg_faithful.proofs.States.{AreSized}
-use Rattle.fg_frame.specs.Good.{shapes_in}
+use Rattle.fg_frame.specs.Valid.{shapes_in}
 use Rattle.fg_frame.specs.Numbered.{NumberedFrame}
 use Rattle.fg_groups.specs.Commands.{copy_out, export_command, export_commands}
 use Rattle.fg_groups.specs.declared.command.Command.{Command}

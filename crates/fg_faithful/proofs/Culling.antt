@@ -17,7 +17,7 @@ use Rattle.fg_faithful.proofs.Operations.{operands_all}
 use Rattle.fg_faithful.proofs.States.{AreSized, IsFit, ops_sized, ops_keep}
 use Rattle.fg_faithful.proofs.Whole.{Settles, ops_alike}
 use Rattle.fg_faithful.specs.Kept.{kept_passes}
-use Rattle.fg_frame.specs.Good.{IsGood, IsGoodPass, IsGoodOp, shapes_in}
+use Rattle.fg_frame.specs.Valid.{IsValid, IsValidPass, IsValidOp, shapes_in}
 use Rattle.fg_frame.specs.Numbered.{NumberedFrame, IsWithin}
 use Rattle.fg_frame.specs.Uses.{writes_it, reads_it, starts_whole}
 use Rattle.fg_frame.specs.declared.frame.Write.{Write}
@@ -54,7 +54,7 @@ written_how shapes pass u new e =
 
 -- PASS BY PASS
 
-module _ (ignores : (op : Op Shape) → is_whole op ≡ true → IgnoresOld op) (frame : NumberedFrame) (kept : List Bool) (good : IsGood frame) (are : AreKept frame kept) where
+module _ (ignores : (op : Op Shape) → is_whole op ≡ true → IgnoresOld op) (frame : NumberedFrame) (kept : List Bool) (good : IsValid frame) (are : AreKept frame kept) where
   abbrev shapes : List Shape
   shapes = shapes_in frame
 
@@ -93,7 +93,7 @@ module _ (ignores : (op : Op Shape) → is_whole op ≡ true → IgnoresOld op) 
     abbrev pass : NumberedPass
     pass = pass_at frame p
 
-    its_good : IsGoodPass frame (take p frame.passes) pass
+    its_good : IsValidPass frame (take p frame.passes) pass
     its_good = good.passes_good p no_pass lt
 
     its_within : IsWithin (length frame.queues) (length frame.units) pass
@@ -139,10 +139,10 @@ module _ (ignores : (op : Op Shape) → is_whole op ≡ true → IgnoresOld op) 
       operands_fine : All (λ op. All (Fine (suc p)) (operands_of op)) pass.ops
       operands_fine = λ k d less. go (get_or pass.ops k d) (its_good.ops_good k d less)
         where
-          destination_fine : (op : Op ℕ) → IsGoodOp frame pass op → Fine (suc p) (destination_of op)
+          destination_fine : (op : Op ℕ) → IsValidOp frame pass op → Fine (suc p) (destination_of op)
           destination_fine op g = declared_fine (destination_of op) (ap (λ t. t || reads_it pass (destination_of op)) g.declared_destination)
 
-          go : (op : Op ℕ) → IsGoodOp frame pass op → All (Fine (suc p)) (operands_of op)
+          go : (op : Op ℕ) → IsValidOp frame pass op → All (Fine (suc p)) (operands_of op)
           go op g = operands_all (Fine (suc p)) op (λ k e less. declared_fine (get_or (sources_of op) k e) (g.declared_sources k e less)) (destination_fine op g)
 
       settles : (u : ℕ) → Fine (suc p) u → Settles shapes pass.ops b d u

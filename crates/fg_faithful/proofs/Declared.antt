@@ -26,7 +26,7 @@ use Rattle.fg_faithful.proofs.Touched.{Has, operands_have}
 use Rattle.fg_faithful.specs.Declared.{ops_in, declared_ops}
 use Rattle.fg_faithful.specs.Kept.{kept_bytes}
 use Rattle.fg_faithful.specs.Laws.{ReadsMeaning}
-use Rattle.fg_frame.specs.Good.{IsGood, shapes_in}
+use Rattle.fg_frame.specs.Valid.{IsValid, shapes_in}
 use Rattle.fg_frame.specs.Numbered.{NumberedFrame}
 use Rattle.fg_groups.specs.Commands.{all_shapes, commands, kept_commands, export_commands}
 use Rattle.fg_groups.specs.Groups.{imports_in}
@@ -61,7 +61,7 @@ pub record IsMade (frame : NumberedFrame) (kept : List Bool) (G : Grouping) (off
   pub memories_are : program.memories ≡ memories frame G heap
   pub readbacks_are : program.readbacks ≡ readbacks G
 
-module _ (ignores : (op : Op Shape) → is_whole op ≡ true → IgnoresOld op) (frame : NumberedFrame) (kept : List Bool) (good : IsGood frame) (are : AreKept frame kept) (G : Grouping) (offsets : List ℕ) (heap : ℕ) (program : Program) (made : IsMade frame kept G offsets heap program) where
+module _ (ignores : (op : Op Shape) → is_whole op ≡ true → IgnoresOld op) (frame : NumberedFrame) (kept : List Bool) (good : IsValid frame) (are : AreKept frame kept) (G : Grouping) (offsets : List ℕ) (heap : ℕ) (program : Program) (made : IsMade frame kept G offsets heap program) where
   abbrev start : List (List ℕ)
   start = map (piece_bytes program.memories) program.pieces
 

@@ -15,7 +15,7 @@ use Rattle.fg_faithful.proofs.Pictures.{has_meaning}
 use Rattle.fg_faithful.proofs.States.{AreSized}
 use Rattle.fg_faithful.specs.Kept.{kept_bytes}
 use Rattle.fg_faithful.specs.Laws.{AreAsLong, KeptSuffice}
-use Rattle.fg_frame.specs.Good.{IsGood, shapes_in}
+use Rattle.fg_frame.specs.Valid.{IsValid, shapes_in}
 use Rattle.fg_frame.specs.Numbered.{NumberedFrame}
 use Rattle.fg_frame.specs.Units.{Unit as FrameUnit}
 use Rattle.fg_frame.specs.Uses.{import_fits}
@@ -27,7 +27,7 @@ use Rattle.fg_versions.specs.Versions.{all_versions, latest_maker}
 abbrev pub no_unit : FrameUnit
 no_unit = record { shape = Buffer 0; sharing = Exclusive; imported = None }
 
-module _ (frame : NumberedFrame) (good : IsGood frame) where
+module _ (frame : NumberedFrame) (good : IsValid frame) where
   pub unit_shape : (u : ℕ) → u < length frame.units → shape_at (shapes_in frame) u ≡ (get_or frame.units u no_unit).shape
   unit_shape u lt = get_or-map (λ (x : FrameUnit). x.shape) frame.units u no_unit (Buffer 0) lt
 

@@ -2,12 +2,12 @@
 use Rattle.std.proofs.Common.{◌≡◌, ℕ, ◌||◌, true, Some, None, if◌then◌else◌, ap}
 use Rattle.std.specs.List.{list_any}
 use Rattle.fg_base.specs.Applied.{bytes_at}
-use Rattle.fg_frame.specs.Good.{IsGood, is_import, renews}
+use Rattle.fg_frame.specs.Valid.{IsValid, is_import, renews}
 use Rattle.fg_frame.specs.Numbered.{NumberedFrame}
 use Rattle.fg_meaning.proofs.Exported.{all_renewed, or_more}
 use Rattle.fg_meaning.specs.Meaning.{stores_to, meaning, all_bytes}
 
-pub has_meaning : (frame : NumberedFrame) → IsGood frame → (unit : ℕ) → (is_import frame.units unit || list_any (renews unit) frame.passes) ≡ true → meaning frame unit ≡ Some (bytes_at (all_bytes frame) unit)
+pub has_meaning : (frame : NumberedFrame) → IsValid frame → (unit : ℕ) → (is_import frame.units unit || list_any (renews unit) frame.passes) ≡ true → meaning frame unit ≡ Some (bytes_at (all_bytes frame) unit)
 has_meaning frame good unit there =
     ap (λ b. if b then Some (bytes_at (all_bytes frame) unit) else None)
     (or_more (is_import frame.units unit) (list_any (renews unit) frame.passes) (list_any (stores_to unit) frame.passes) (all_renewed frame good unit) there)

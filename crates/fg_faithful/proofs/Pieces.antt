@@ -15,7 +15,7 @@ use Rattle.fg_faithful.proofs.Mirrors.{Renumbers}
 use Rattle.fg_faithful.proofs.Numbers.{stands_at}
 use Rattle.fg_faithful.proofs.Readbacks.{units_count, is_past}
 use Rattle.fg_faithful.proofs.Touched.{Has}
-use Rattle.fg_frame.specs.Good.{IsGood, shapes_in}
+use Rattle.fg_frame.specs.Valid.{IsValid, shapes_in}
 use Rattle.fg_frame.specs.Numbered.{NumberedFrame}
 use Rattle.fg_frame.specs.Units.{Unit as FrameUnit}
 use Rattle.fg_frame.specs.Uses.{import_fits}
@@ -34,7 +34,7 @@ use Rattle.fg_subs.specs.declared.program.Piece.{Piece}
 use Rattle.fg_subs.specs.declared.program.Program.{Program}
 use Rattle.fg_turns.specs.Under.{place_of}
 
-module _ (frame : NumberedFrame) (good : IsGood frame) (G : Grouping) (shapes_are : G.shapes ≡ all_shapes frame) (imports_are : G.imports ≡ imports_in frame) where
+module _ (frame : NumberedFrame) (good : IsValid frame) (G : Grouping) (shapes_are : G.shapes ≡ all_shapes frame) (imports_are : G.imports ≡ imports_in frame) where
   shapes_count : length (shapes_in frame) ≡ length frame.units
   shapes_count = length-map frame.units (λ u. u.shape)
 

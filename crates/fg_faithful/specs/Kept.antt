@@ -1,6 +1,6 @@
 -- The passes that are kept, run without the others.
 use Rattle.std.specs.Prelude.{ℕ, List, [], ◌∷◌, map, Bool, if◌then◌else◌}
-use Rattle.fg_frame.specs.Good.{shapes_in}
+use Rattle.fg_frame.specs.Valid.{shapes_in}
 use Rattle.fg_frame.specs.Numbered.{NumberedFrame}
 use Rattle.fg_frame.specs.declared.numbered.NumberedPass.{NumberedPass}
 use Rattle.fg_meaning.specs.Meaning.{first_bytes, after_passes}

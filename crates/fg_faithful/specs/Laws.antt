@@ -5,7 +5,7 @@ use Rattle.fg_base.specs.Applied.{bytes_at}
 use Rattle.fg_base.specs.Shapes.{bytes_of, shape_at}
 use Rattle.fg_checker.specs.Apart.{host_bytes}
 use Rattle.fg_faithful.specs.Kept.{kept_bytes}
-use Rattle.fg_frame.specs.Good.{shapes_in}
+use Rattle.fg_frame.specs.Valid.{shapes_in}
 use Rattle.fg_frame.specs.Numbered.{NumberedFrame}
 use Rattle.fg_hb.specs.Orders.{Order}
 use Rattle.fg_meaning.specs.Meaning.{all_bytes, meaning}

@@ -4,7 +4,7 @@ ghost use Rattle.std.specs.Prelude.{◌≡◌, ℕ, Bool, List, length, None};
 ghost use Rattle.fg_checker.specs.Sound.{IsSound};
 ghost use Rattle.fg_faithful.specs.Declared.{ops_in, declared_ops, InDeclaredOrder};
 ghost use Rattle.fg_faithful.specs.Laws.{AreAsLong, OrdersAgree, KeptSuffice, ReadsMeaning, IsReadMeant};
-ghost use Rattle.fg_frame.specs.Good.{IsGood};
+ghost use Rattle.fg_frame.specs.Valid.{IsValid};
 ghost use Rattle.fg_frame.specs.Numbered.{NumberedFrame};
 ghost use Rattle.fg_groups.specs.Groups.{grouping};
 ghost use Rattle.fg_place.specs.Placing.{Places};
@@ -24,8 +24,8 @@ use fg_steps::{device_laws, event_laws, round_laws};
 /// such an order, in every order. It does nothing.
 pub fn meaning_laws()
     ensures agree { (program : Program) → first_fault program ≡ None → IsSound program → OrdersAgree program }
-    ensures culled { (frame : NumberedFrame) (kept : List Bool) → IsGood frame → AreKept frame kept → KeptSuffice frame kept }
-    ensures long { (frame : NumberedFrame) (kept : List Bool) → IsGood frame → AreKept frame kept → AreAsLong frame }
+    ensures culled { (frame : NumberedFrame) (kept : List Bool) → IsValid frame → AreKept frame kept → KeptSuffice frame kept }
+    ensures long { (frame : NumberedFrame) (kept : List Bool) → IsValid frame → AreKept frame kept → AreAsLong frame }
     ensures readbacks { (frame : NumberedFrame) (kept : List Bool) (places : Places) (program : Program) → IsCompiled frame kept places program → length program.readbacks ≡ length frame.exports }
     ensures declared { OfRecorded (λ frame kept places program. (order : List ℕ) → ops_in program order ≡ declared_ops (grouping frame kept) → ReadsMeaning frame program order) }
     ensures means { OfRecorded (λ frame kept places program. first_fault program ≡ None → IsSound program → (declared : List ℕ) → InDeclaredOrder frame kept program declared → IsReadMeant frame program) }

@@ -9,7 +9,7 @@ use Rattle.fg_base.specs.Bounds.{sides_allowed, size_allowed}
 use Rattle.fg_base.specs.Maxima.{max_exports, max_resource_bytes, max_units}
 use Rattle.fg_flight.proofs.Places.{place_mapped, position_mapped}
 use Rattle.fg_flight.proofs.Same.{same_exports, same_frame, same_passes}
-use Rattle.fg_flight.specs.Flights.{all_declared, held_bytes}
+use Rattle.fg_flight.specs.Flights.{all_declared, persisted_bytes}
 use Rattle.fg_frame.specs.Limits.{all_bytes, exported, layers_allowed, limit_broken}
 use Rattle.fg_base.specs.Rooms.{first_over}
 use Rattle.fg_frame.specs.declared.frame.Frame.{Frame}
@@ -87,12 +87,12 @@ exported_bare frame spot = ap (λ n. if is_some spot.layer then 1 else n) (ap (�
 limits_bare : (frame : Frame) → limit_broken (bared frame) ≡ limit_broken frame
 limits_bare frame = rw (position_mapped (λ r. not (layers_allowed r)) bare frame.resources, over_mapped (λ r. r.layers) bare max_units 0 frame.resources, over_alike (exported (bared frame)) (exported frame) (exported_bare frame) max_exports 0 frame.exports, position_mapped (λ r. not (sides_allowed r.shape)) bare frame.resources, position_mapped (λ r. not (size_allowed r.shape)) bare frame.resources, over_mapped all_bytes bare max_resource_bytes 0 frame.resources) refl
 
-pub windows_alike : (queues : List QueueDecl) (frames : List Frame) (persist : List (List ℕ)) (held other : List (Option (List ℕ))) → length held ≡ length persist → length other ≡ length persist → limit_broken (window_frame queues (all_declared frames persist) (held_bytes held)) ≡ limit_broken (window_frame queues (all_declared frames persist) (held_bytes other))
-windows_alike queues frames persist held other one two =
-    let a : Frame = window_frame queues (all_declared frames persist) (held_bytes held) in
-    let b : Frame = window_frame queues (all_declared frames persist) (held_bytes other) in
-    let rs : map bare a.resources ≡ map bare b.resources = bare_all 0 (kept (held_bytes held)) (kept (held_bytes other)) (all_declared frames persist) in
-    let ps : a.passes ≡ b.passes = same_passes queues frames persist held one (first_name queues) ∙ sym (same_passes queues frames persist other two (first_name queues)) in
-    let es : a.exports ≡ b.exports = same_exports queues frames persist held one ∙ sym (same_exports queues frames persist other two) in
+pub windows_alike : (queues : List QueueDecl) (frames : List Frame) (persist : List (List ℕ)) (persisted other : List (Option (List ℕ))) → length persisted ≡ length persist → length other ≡ length persist → limit_broken (window_frame queues (all_declared frames persist) (persisted_bytes persisted)) ≡ limit_broken (window_frame queues (all_declared frames persist) (persisted_bytes other))
+windows_alike queues frames persist persisted other one two =
+    let a : Frame = window_frame queues (all_declared frames persist) (persisted_bytes persisted) in
+    let b : Frame = window_frame queues (all_declared frames persist) (persisted_bytes other) in
+    let rs : map bare a.resources ≡ map bare b.resources = bare_all 0 (kept (persisted_bytes persisted)) (kept (persisted_bytes other)) (all_declared frames persist) in
+    let ps : a.passes ≡ b.passes = same_passes queues frames persist persisted one (first_name queues) ∙ sym (same_passes queues frames persist other two (first_name queues)) in
+    let es : a.exports ≡ b.exports = same_exports queues frames persist persisted one ∙ sym (same_exports queues frames persist other two) in
     let same : bared a ≡ bared b = same_frame queues queues (map bare a.resources) (map bare b.resources) a.passes b.passes a.exports b.exports refl rs ps es in
     sym (limits_bare a) ∙ ap limit_broken same ∙ limits_bare b

@@ -1,4 +1,4 @@
--- What is held before the first window has the sizes of the persisting names.
+-- What is persisted before the first window has the sizes of the persisting names.
 use Rattle.std.proofs.Common.{◌≡◌, ℕ, zero, suc, ◌<◌, ◌==◌, List, [], ◌∷◌, length, map, get_or, slice_get, true, false, Option, Some, None, is_some, refl, sym, ap, ap₂, subst, ◌∙◌}
 use Rattle.std.specs.Prelude.{unwrap_or}
 use Rattle.std.specs.Option.{option_map, option_map_or, option_or}
@@ -8,10 +8,10 @@ use Rattle.fg_base.proofs.Lists.{entry_of}
 use Rattle.fg_base.specs.Shapes.{bytes_of, is_buffer}
 use Rattle.fg_base.specs.Walks.{first_in}
 use Rattle.fg_flight.proofs.Flies.{each_persists}
-use Rattle.fg_flight.specs.Alone.{IsHeld, first_bytes, import_under}
-use Rattle.fg_flight.specs.Flights.{AreHeld, size_at, size_in}
+use Rattle.fg_flight.specs.Alone.{IsPersisted, first_bytes, import_under}
+use Rattle.fg_flight.specs.Flights.{ArePersisted, size_at, size_in}
 use Rattle.fg_flight.specs.Fly.{Fly}
-use Rattle.fg_flight.specs.Refusals.{is_held, persists}
+use Rattle.fg_flight.specs.Refusals.{is_persisted, persists}
 use Rattle.fg_frame.proofs.Necessary.{declared_by_law}
 use Rattle.fg_frame.specs.FirstFault.{first_fault}
 use Rattle.fg_frame.specs.Uses.{import_fits}
@@ -34,18 +34,18 @@ import_long r fits there = by_import r.import fits there
     by_import None fits there = absurd cc
     by_import (Some bytes) fits there = eqb-true (length bytes) (bytes_of r.shape) (and_parts (is_buffer r.shape) (length bytes == bytes_of r.shape) fits).1
 
-sized_at : (rs : List Resource) (k size : ℕ) → ((j : ℕ) (r : Resource) → slice_get rs j ≡ Some r → import_fits r.shape r.import ≡ true) → option_map_or (is_held size) (slice_get rs k) false ≡ true → length (import_in rs k) ≡ size_of rs k
-sized_at [] k size fit held = absurd cc
-sized_at (r ∷ rs) zero size fit held = import_long r (fit 0 r refl) (and_parts (is_some r.import) (bytes_of r.shape == size) held).0
-sized_at (r ∷ rs) (suc k) size fit held = sized_at rs k size (λ j x is. fit (suc j) x is) held
+sized_at : (rs : List Resource) (k size : ℕ) → ((j : ℕ) (r : Resource) → slice_get rs j ≡ Some r → import_fits r.shape r.import ≡ true) → option_map_or (is_persisted size) (slice_get rs k) false ≡ true → length (import_in rs k) ≡ size_of rs k
+sized_at [] k size fit persisted = absurd cc
+sized_at (r ∷ rs) zero size fit persisted = import_long r (fit 0 r refl) (and_parts (is_some r.import) (bytes_of r.shape == size) persisted).0
+sized_at (r ∷ rs) (suc k) size fit persisted = sized_at rs k size (λ j x is. fit (suc j) x is) persisted
 
 module _ (frames : List Frame) (name : List ℕ) (f : Frame) (good : first_fault f ≡ None) (kept : persists frames f name ≡ true) where
   import_sized : (i : ℕ) → option_map length (import_under name i f) ≡ size_at name i f
   import_sized i = by_holder (holder_in f.resources name) kept
     where
-      by_holder : (holder : Option ℕ) → option_map_or (λ k. option_map_or (is_held (unwrap_or (size_in frames name) 0)) (slice_get f.resources k) false) holder true ≡ true → option_map length (option_map (import_in f.resources) holder) ≡ option_map (size_of f.resources) holder
-      by_holder None held = refl
-      by_holder (Some k) held = ap (λ n. Some n) (sized_at f.resources k (unwrap_or (size_in frames name) 0) (λ j r is. entry_of (λ x. import_fits x.shape x.import ≡ true) f.resources j r (declared_by_law f good).imports is) held)
+      by_holder : (holder : Option ℕ) → option_map_or (λ k. option_map_or (is_persisted (unwrap_or (size_in frames name) 0)) (slice_get f.resources k) false) holder true ≡ true → option_map length (option_map (import_in f.resources) holder) ≡ option_map (size_of f.resources) holder
+      by_holder None persisted = refl
+      by_holder (Some k) persisted = ap (λ n. Some n) (sized_at f.resources k (unwrap_or (size_in frames name) 0) (λ j r is. entry_of (λ x. import_fits x.shape x.import ≡ true) f.resources j r (declared_by_law f good).imports is) persisted)
 
 or_mapped : {Y Z : Type 0} (g : Y → Z) (o rest : Option Y) → option_map g (option_or o rest) ≡ option_or (option_map g o) (option_map g rest)
 or_mapped g None rest = refl
@@ -63,11 +63,11 @@ module _ (frames : List Frame) (persist : List (List ℕ)) (depth : ℕ) (F : Fl
       (first_mapped length (import_under name) (size_at name) 0 frames (λ j k f is. import_sized frames name f (entry_of (λ x. first_fault x ≡ None) frames k f F.good is) (kept 0 name refl k f is) j))
       (sized_from names (λ j n is. kept (suc j) n is))
 
-  pub first_sized : AreHeld frames persist (first_bytes frames persist)
+  pub first_sized : ArePersisted frames persist (first_bytes frames persist)
   first_sized = sized_from persist (λ j name at i f is. each_persists frames persist depth F i f is j name at)
 
-  pub first_is_held : IsHeld frames persist 0 (first_bytes frames persist)
+  pub first_is_held : IsPersisted frames persist 0 (first_bytes frames persist)
   first_is_held = record { sized = first_sized; bytes = refl }
 
-pub held_first : (frames : List Frame) (persist : List (List ℕ)) (depth : ℕ) → Fly frames persist depth → (held : List (Option (List ℕ))) → held ≡ first_bytes frames persist → IsHeld frames persist 0 held
-held_first frames persist depth F held is = subst (IsHeld frames persist 0) (sym is) (first_is_held frames persist depth F)
+pub held_first : (frames : List Frame) (persist : List (List ℕ)) (depth : ℕ) → Fly frames persist depth → (persisted : List (Option (List ℕ))) → persisted ≡ first_bytes frames persist → IsPersisted frames persist 0 persisted
+held_first frames persist depth F persisted is = subst (IsPersisted frames persist 0) (sym is) (first_is_held frames persist depth F)

@@ -5,7 +5,7 @@ use Rattle.std.specs.Option.{option_or}
 use Rattle.std.proofs.lemmas.List.{drop-map, length-drop, take-map, take_min}
 use Rattle.std.proofs.Math.Nat.{mul_comm}
 use Rattle.std.proofs.lemmas.Nat.{div-add-mod', mul-add-lt}
-use Rattle.fg_flight.specs.Flights.{all_declared, held_bytes, queues_of, window_at}
+use Rattle.fg_flight.specs.Flights.{all_declared, persisted_bytes, queues_of, window_at}
 use Rattle.fg_flight.specs.Refusals.{first_too_large, too_large}
 use Rattle.fg_flight.specs.declared.fault.FlightFault.{FlightFault}
 use Rattle.fg_frame.specs.declared.frame.Frame.{Frame}
@@ -33,8 +33,8 @@ sliced frames depth w count is =
 pub declared_in_window : (frames : List Frame) (persist : List (List ℕ)) (depth w : ℕ) → all_declared (frames_in depth frames w) persist ≡ frames_in depth (all_declared frames persist) w
 declared_in_window frames persist depth w = sym (ap (take depth) (drop-map (declared_in persist) (w * depth) frames) ∙ take-map (declared_in persist) depth (drop (w * depth) frames))
 
-pub window_sliced : (frames part : List Frame) (persist : List (List ℕ)) (depth w : ℕ) (held : List (Option (List ℕ))) (f : Frame) → f.queues ≡ queues_of frames → part ≡ frames_in depth frames w → window_frame f.queues (all_declared part persist) (held_bytes held) ≡ window_at frames persist depth held w
-window_sliced frames part persist depth w held f queues is = ap₂ (λ qs ds. window_frame qs ds (held_bytes held)) queues (ap (λ fs. all_declared fs persist) is ∙ declared_in_window frames persist depth w)
+pub window_sliced : (frames part : List Frame) (persist : List (List ℕ)) (depth w : ℕ) (persisted : List (Option (List ℕ))) (f : Frame) → f.queues ≡ queues_of frames → part ≡ frames_in depth frames w → window_frame f.queues (all_declared part persist) (persisted_bytes persisted) ≡ window_at frames persist depth persisted w
+window_sliced frames part persist depth w persisted f queues is = ap₂ (λ qs ds. window_frame qs ds (persisted_bytes persisted)) queues (ap (λ fs. all_declared fs persist) is ∙ declared_in_window frames persist depth w)
 
 module _ (frames : List Frame) (persist : List (List ℕ)) (depth w end : ℕ) (lt : w < end) where
   large_at : first_too_large frames persist depth (end - w) w ≡ option_or (too_large frames persist depth w) (first_too_large frames persist depth (end - suc w) (suc w))

@@ -17,9 +17,9 @@ use Rattle.fg_base.specs.declared.shape.Family.TheVariants.{Graphics, Compute, T
 use Rattle.fg_flight.proofs.Alike.{windows_alike}
 use Rattle.fg_flight.proofs.Counted.{declared_in_window}
 use Rattle.fg_flight.proofs.Limited.{none_broken}
-use Rattle.fg_flight.specs.Flights.{AreHeld, all_declared, held_bytes, queues_of, size_in, sizes_of, window_at, window_count}
+use Rattle.fg_flight.specs.Flights.{ArePersisted, all_declared, persisted_bytes, queues_of, size_in, sizes_of, window_at, window_count}
 use Rattle.fg_flight.specs.Fly.{Fly}
-use Rattle.fg_flight.specs.Refusals.{first_lost, first_too_large, is_held, limit_in, lost_at, lost_in, other_at, other_queues, persists, same_family, same_queue, same_queues, too_large, unheld}
+use Rattle.fg_flight.specs.Refusals.{first_lost, first_too_large, is_persisted, limit_in, lost_at, lost_in, other_at, other_queues, persists, same_family, same_queue, same_queues, too_large, unpersisted}
 use Rattle.fg_flight.specs.declared.fault.FlightFault.TheVariants.{Persist, Queues, Window}
 use Rattle.fg_frame.specs.FirstFault.{first_fault}
 use Rattle.fg_frame.specs.Limits.{limit_broken}
@@ -81,7 +81,7 @@ queues_are (a ∷ qs) (b ∷ bs) e =
 
 -- PERSISTING NAMES
 
-is_import : (rs : List Resource) (k size : ℕ) → option_map_or (is_held size) (slice_get rs k) false ≡ true → IsImport rs k size
+is_import : (rs : List Resource) (k size : ℕ) → option_map_or (is_persisted size) (slice_get rs k) false ≡ true → IsImport rs k size
 is_import [] k size e = absurd cc
 is_import (r ∷ rs) zero size e =
     let both = and_parts (is_some r.import) (bytes_of r.shape == size) e in
@@ -92,36 +92,36 @@ are_imports : (frames : List Frame) (f : Frame) (names : List (List ℕ)) → ((
 are_imports frames f [] persist = tt
 are_imports frames f (name ∷ names) persist = (by_holder (holder_in f.resources name) (persist 0 name refl), are_imports frames f names (λ k n is. persist (suc k) n is))
   where
-    by_holder : (o : Option ℕ) → option_map_or (λ k. option_map_or (is_held (unwrap_or (size_in frames name) 0)) (slice_get f.resources k) false) o true ≡ true → IfSome o (λ k. IsImport f.resources k (unwrap_or (size_in frames name) 0))
+    by_holder : (o : Option ℕ) → option_map_or (λ k. option_map_or (is_persisted (unwrap_or (size_in frames name) 0)) (slice_get f.resources k) false) o true ≡ true → IfSome o (λ k. IsImport f.resources k (unwrap_or (size_in frames name) 0))
     by_holder None e = tt
     by_holder (Some k) e = is_import f.resources k (unwrap_or (size_in frames name) 0) e
 
-sizes_same : (frames : List Frame) (persist : List (List ℕ)) (held : List (Option (List ℕ))) → AreHeld frames persist held → map length (held_bytes held) ≡ sizes_of frames persist
+sizes_same : (frames : List Frame) (persist : List (List ℕ)) (persisted : List (Option (List ℕ))) → ArePersisted frames persist persisted → map length (persisted_bytes persisted) ≡ sizes_of frames persist
 sizes_same frames [] [] same = refl
-sizes_same frames [] (h ∷ held) same = absurd cc
+sizes_same frames [] (h ∷ persisted) same = absurd cc
 sizes_same frames (n ∷ persist) [] same = absurd cc
-sizes_same frames (n ∷ persist) (h ∷ held) same =
+sizes_same frames (n ∷ persist) (h ∷ persisted) same =
     let first : option_map length h ≡ size_in frames n = cc in
-    let rest : map (option_map length) held ≡ map (size_in frames) persist = cc in
-    ap₂ (λ x xs. x ∷ xs) (by_bytes h ∙ ap (λ o. unwrap_or o 0) first) (sizes_same frames persist held rest)
+    let rest : map (option_map length) persisted ≡ map (size_in frames) persist = cc in
+    ap₂ (λ x xs. x ∷ xs) (by_bytes h ∙ ap (λ o. unwrap_or o 0) first) (sizes_same frames persist persisted rest)
   where
     by_bytes : (b : Option (List ℕ)) → length (unwrap_or b []) ≡ unwrap_or (option_map length b) 0
     by_bytes None = refl
     by_bytes (Some bytes) = refl
 
-many_same : (frames : List Frame) (persist : List (List ℕ)) (held : List (Option (List ℕ))) → AreHeld frames persist held → length held ≡ length persist
-many_same frames persist held same = sym (length-map held (option_map length)) ∙ ap length same ∙ length-map persist (size_in frames)
+many_same : (frames : List Frame) (persist : List (List ℕ)) (persisted : List (Option (List ℕ))) → ArePersisted frames persist persisted → length persisted ≡ length persist
+many_same frames persist persisted same = sym (length-map persisted (option_map length)) ∙ ap length same ∙ length-map persist (size_in frames)
 
 -- WINDOWS
 
-limit_none : (frames : List Frame) (persist : List (List ℕ)) (depth n w k : ℕ) → first_too_large frames persist depth n w ≡ None → k < n → limit_in (window_at frames persist depth (unheld persist) (w + k)) ≡ None
+limit_none : (frames : List Frame) (persist : List (List ℕ)) (depth n w k : ℕ) → first_too_large frames persist depth n w ≡ None → k < n → limit_in (window_at frames persist depth (unpersisted persist) (w + k)) ≡ None
 limit_none frames persist depth zero w k none lt = absurd (omega arith)
 limit_none frames persist depth (suc n) w zero none lt =
     let e : w ≡ w + 0 = omega arith in
-    subst (λ v. limit_in (window_at frames persist depth (unheld persist) v) ≡ None) e (map_none (λ limit. Window w limit) (limit_in (window_at frames persist depth (unheld persist) w)) (or_first (too_large frames persist depth w) (first_too_large frames persist depth n (suc w)) none))
+    subst (λ v. limit_in (window_at frames persist depth (unpersisted persist) v) ≡ None) e (map_none (λ limit. Window w limit) (limit_in (window_at frames persist depth (unpersisted persist) w)) (or_first (too_large frames persist depth w) (first_too_large frames persist depth n (suc w)) none))
 limit_none frames persist depth (suc n) w (suc k) none lt =
     let e : suc w + k ≡ w + suc k = omega arith in
-    subst (λ v. limit_in (window_at frames persist depth (unheld persist) v) ≡ None) e (limit_none frames persist depth n (suc w) k (or_second (too_large frames persist depth w) (first_too_large frames persist depth n (suc w)) none) (omega arith))
+    subst (λ v. limit_in (window_at frames persist depth (unpersisted persist) v) ≡ None) e (limit_none frames persist depth n (suc w) k (or_second (too_large frames persist depth w) (first_too_large frames persist depth n (suc w)) none) (omega arith))
 
 all_mapped : {X Y : Type 0} (P : Y → Type 0) (f : X → Y) (xs : List X) → ((k : ℕ) (x : X) → slice_get xs k ≡ Some x → P (f x)) → All P (map f xs)
 all_mapped P f [] each = All-nil P
@@ -147,24 +147,24 @@ module _ (frames : List Frame) (persist : List (List ℕ)) (depth : ℕ) (F : Fl
   each_flies k f is = record {
     none = subst (λ x. first_fault x ≡ None) (get_or_from_slice_get frames k f f is) (F.good k f (slice_get_within frames k f is));
     same = sym (queues_are (queues_of frames) f.queues (has_it (same_queues (queues_of frames) f.queues) (Queues k) (none_from (other_at (queues_of frames)) frames queues_none k f is)));
-    held = held_by_names f.resources (sizes_of frames persist) persist F.different (are_imports frames f persist (each_persists k f is));
+    persisted = held_by_names f.resources (sizes_of frames persist) persist F.different (are_imports frames f persist (each_persists k f is));
   }
 
-  pub all_flying : (held : List (Option (List ℕ))) → AreHeld frames persist held → FlyDeclared (queues_of frames) (sizes_of frames persist) (all_declared frames persist) (held_bytes held)
-  all_flying held H = record {
+  pub all_flying : (persisted : List (Option (List ℕ))) → ArePersisted frames persist persisted → FlyDeclared (queues_of frames) (sizes_of frames persist) (all_declared frames persist) (persisted_bytes persisted)
+  all_flying persisted H = record {
     some = subst (λ n. 0 < n) (sym (length-map frames (declared_in persist))) F.some;
     each = all_mapped (FliesDeclared (queues_of frames) (sizes_of frames persist)) (declared_in persist) frames each_flies;
-    sized = sizes_same frames persist held H;
+    sized = sizes_same frames persist persisted H;
   }
 
-  module _ (w : ℕ) (there : w * depth < length frames) (counted : w < window_count depth frames) (held : List (Option (List ℕ))) (H : AreHeld frames persist held) where
+  module _ (w : ℕ) (there : w * depth < length frames) (counted : w < window_count depth frames) (persisted : List (Option (List ℕ))) (H : ArePersisted frames persist persisted) where
     abbrev ds : List Declared
     ds = frames_in depth (all_declared frames persist) w
 
     pub mine : ds ≡ all_declared (frames_in depth frames w) persist
     mine = sym (declared_in_window frames persist depth w)
 
-    pub flying : FlyDeclared (queues_of frames) (sizes_of frames persist) ds (held_bytes held)
+    pub flying : FlyDeclared (queues_of frames) (sizes_of frames persist) ds (persisted_bytes persisted)
     flying = record {
       some =
           let taken : length ds ≡ min depth (length (drop (w * depth) (all_declared frames persist))) = length-take depth (drop (w * depth) (all_declared frames persist)) in
@@ -173,17 +173,17 @@ module _ (frames : List Frame) (persist : List (List ℕ)) (depth : ℕ) (F : Fl
           let deep = F.deep in
           omega (arith, taken, dropped, many, deep, there);
       each = All-take (FliesDeclared (queues_of frames) (sizes_of frames persist)) depth (drop (w * depth) (all_declared frames persist)) (All-drop (FliesDeclared (queues_of frames) (sizes_of frames persist)) (w * depth) (all_declared frames persist) (all_mapped (FliesDeclared (queues_of frames) (sizes_of frames persist)) (declared_in persist) frames each_flies));
-      sized = sizes_same frames persist held H;
+      sized = sizes_same frames persist persisted H;
     }
 
-    pub within : limit_broken (window_frame (queues_of frames) ds (held_bytes held)) ≡ None
+    pub within : limit_broken (window_frame (queues_of frames) ds (persisted_bytes persisted)) ≡ None
     within =
         let start : 0 + w ≡ w = omega arith in
-        let none_at_w : limit_in (window_at frames persist depth (unheld persist) w) ≡ None = subst (λ v. limit_in (window_at frames persist depth (unheld persist) v) ≡ None) start (limit_none frames persist depth (window_count depth frames) 0 w large_none counted) in
-        let none = none_broken (window_at frames persist depth (unheld persist) w) none_at_w in
-        let alike = windows_alike (queues_of frames) (frames_in depth frames w) persist held (unheld persist) (many_same frames persist held H) (length-map persist _) in
-        subst (λ xs. limit_broken (window_frame (queues_of frames) xs (held_bytes held)) ≡ None) (sym mine)
-        (alike ∙ subst (λ xs. limit_broken (window_frame (queues_of frames) xs (held_bytes (unheld persist))) ≡ None) mine none)
+        let none_at_w : limit_in (window_at frames persist depth (unpersisted persist) w) ≡ None = subst (λ v. limit_in (window_at frames persist depth (unpersisted persist) v) ≡ None) start (limit_none frames persist depth (window_count depth frames) 0 w large_none counted) in
+        let none = none_broken (window_at frames persist depth (unpersisted persist) w) none_at_w in
+        let alike = windows_alike (queues_of frames) (frames_in depth frames w) persist persisted (unpersisted persist) (many_same frames persist persisted H) (length-map persist _) in
+        subst (λ xs. limit_broken (window_frame (queues_of frames) xs (persisted_bytes persisted)) ≡ None) (sym mine)
+        (alike ∙ subst (λ xs. limit_broken (window_frame (queues_of frames) xs (persisted_bytes (unpersisted persist))) ≡ None) mine none)
 
-    pub window_good : first_fault (window_at frames persist depth held w) ≡ None
-    window_good = declared_good (queues_of frames) (sizes_of frames persist) ds (held_bytes held) flying within
+    pub window_good : first_fault (window_at frames persist depth persisted w) ≡ None
+    window_good = declared_good (queues_of frames) (sizes_of frames persist) ds (persisted_bytes persisted) flying within

@@ -3,8 +3,8 @@ use Rattle.std.proofs.Common.{◌≡◌, ℕ, suc, ◌+◌, ◌<◌, ◌≤◌, 
 use Rattle.std.specs.Prelude.{option_to_list}
 use Rattle.std.proofs.Math.Seq.{drop-length}
 use Rattle.fg_flight.proofs.Walks.{at_place, grown, nothing_more}
-use Rattle.fg_flight.specs.Code.Left.{holders_of, last_left, left_after, other_by, others_by}
-use Rattle.fg_flight.specs.Code.Parts.{all_exports, all_passes, all_resources, passes_by, resources_by}
+use Rattle.fg_flight.specs.Internal.Left.{holders_of, last_left, left_after, other_by, others_by}
+use Rattle.fg_flight.specs.Internal.WindowParts.{all_exports, all_passes, all_resources, passes_by, resources_by}
 use Rattle.fg_frame.specs.declared.frame.Frame.{Frame}
 use Rattle.fg_frame.specs.declared.frame.Pass.{Pass}
 use Rattle.fg_frame.specs.declared.frame.Resource.{Resource}
@@ -45,23 +45,23 @@ others_end own left k list total far near so_far = nothing_more list total _ (ap
 -- WHAT IS LEFT
 
 pub left_on : (persist : List (List ℕ)) (frames : List Frame) (i : ℕ) (f : Frame) (holders : List (Option ℕ)) (left left' total : List (Option (List ℕ))) → i < length frames → f ≡ get_or frames i f → holders ≡ holders_of persist f → left' ≡ left_after i holders left → last_left persist i left (drop i frames) ≡ total → last_left persist (i + 1) left' (drop (i + 1) frames) ≡ total
-left_on persist frames i f holders left left' total lt is held gives so_far =
-    rw add-one (ap (λ l. last_left persist (suc i) l (drop (suc i) frames)) (gives ∙ ap (λ hs. left_after i hs left) held) ∙ sym (ap (last_left persist i left) (at_place frames i f lt is)) ∙ so_far)
+left_on persist frames i f holders left left' total lt is persisted gives so_far =
+    rw add-one (ap (λ l. last_left persist (suc i) l (drop (suc i) frames)) (gives ∙ ap (λ hs. left_after i hs left) persisted) ∙ sym (ap (last_left persist i left) (at_place frames i f lt is)) ∙ so_far)
 
 pub left_end : (persist : List (List ℕ)) (frames : List Frame) (i : ℕ) (left total : List (Option (List ℕ))) → length frames ≤ i → i ≤ length frames → last_left persist i left (drop i frames) ≡ total → left ≡ total
 left_end persist frames i left total far near so_far = sym (ap (last_left persist i left) (past frames i far near)) ∙ so_far
 
 -- RESOURCES AND PASSES
 
-pub resources_on : (persist : List (List ℕ)) (held : List (Option (List ℕ))) (frames : List Frame) (i : ℕ) (f : Frame) (holders : List (Option ℕ)) (left left' : List (Option (List ℕ))) (more list list' total : List Resource) → i < length frames → f ≡ get_or frames i f → holders ≡ holders_of persist f → more ≡ resources_by i holders held left f.resources → list' ≡ list ++ more → left' ≡ left_after i holders left → list ++ all_resources persist held i left (drop i frames) ≡ total → list' ++ all_resources persist held (i + 1) left' (drop (i + 1) frames) ≡ total
-resources_on persist held frames i f holders left left' more list list' total lt is holds gives grows after so_far =
-    let rest : all_resources persist held i left (drop i frames) ≡ more ++ all_resources persist held (suc i) left' (drop (suc i) frames) =
-    ap (all_resources persist held i left) (at_place frames i f lt is)
-    ∙ ap₂ (λ xs l. xs ++ all_resources persist held (suc i) l (drop (suc i) frames)) (sym (gives ∙ ap (λ hs. resources_by i hs held left f.resources) holds)) (sym (after ∙ ap (λ hs. left_after i hs left) holds)) in
+pub resources_on : (persist : List (List ℕ)) (persisted : List (Option (List ℕ))) (frames : List Frame) (i : ℕ) (f : Frame) (holders : List (Option ℕ)) (left left' : List (Option (List ℕ))) (more list list' total : List Resource) → i < length frames → f ≡ get_or frames i f → holders ≡ holders_of persist f → more ≡ resources_by i holders persisted left f.resources → list' ≡ list ++ more → left' ≡ left_after i holders left → list ++ all_resources persist persisted i left (drop i frames) ≡ total → list' ++ all_resources persist persisted (i + 1) left' (drop (i + 1) frames) ≡ total
+resources_on persist persisted frames i f holders left left' more list list' total lt is holds gives grows after so_far =
+    let rest : all_resources persist persisted i left (drop i frames) ≡ more ++ all_resources persist persisted (suc i) left' (drop (suc i) frames) =
+    ap (all_resources persist persisted i left) (at_place frames i f lt is)
+    ∙ ap₂ (λ xs l. xs ++ all_resources persist persisted (suc i) l (drop (suc i) frames)) (sym (gives ∙ ap (λ hs. resources_by i hs persisted left f.resources) holds)) (sym (after ∙ ap (λ hs. left_after i hs left) holds)) in
     rw add-one (grown list more list' _ _ total grows rest so_far)
 
-pub resources_end : (persist : List (List ℕ)) (held : List (Option (List ℕ))) (frames : List Frame) (i : ℕ) (left : List (Option (List ℕ))) (list total : List Resource) → length frames ≤ i → i ≤ length frames → list ++ all_resources persist held i left (drop i frames) ≡ total → list ≡ total
-resources_end persist held frames i left list total far near so_far = nothing_more list total _ (ap (all_resources persist held i left) (past frames i far near)) so_far
+pub resources_end : (persist : List (List ℕ)) (persisted : List (Option (List ℕ))) (frames : List Frame) (i : ℕ) (left : List (Option (List ℕ))) (list total : List Resource) → length frames ≤ i → i ≤ length frames → list ++ all_resources persist persisted i left (drop i frames) ≡ total → list ≡ total
+resources_end persist persisted frames i left list total far near so_far = nothing_more list total _ (ap (all_resources persist persisted i left) (past frames i far near)) so_far
 
 pub passes_on : (queue : List ℕ) (persist : List (List ℕ)) (frames : List Frame) (i : ℕ) (f : Frame) (holders : List (Option ℕ)) (left left' : List (Option (List ℕ))) (list list' total : List Pass) → i < length frames → f ≡ get_or frames i f → holders ≡ holders_of persist f → list' ≡ list ++ passes_by queue i holders left f → left' ≡ left_after i holders left → list ++ all_passes queue persist i left (drop i frames) ≡ total → list' ++ all_passes queue persist (i + 1) left' (drop (i + 1) frames) ≡ total
 passes_on queue persist frames i f holders left left' list list' total lt is holds grows after so_far =

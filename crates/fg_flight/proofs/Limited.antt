@@ -13,22 +13,22 @@ use Rattle.fg_frame.specs.Limits.{all_bytes, count_broken, exported, layers_allo
 use Rattle.fg_base.specs.Rooms.{first_over}
 use Rattle.fg_frame.specs.declared.frame.Frame.{Frame}
 use Rattle.fg_frame.specs.declared.frame.Resource.{Resource}
-use Rattle.fg_frame.specs.declared.place.Place.{Place}
-use Rattle.fg_frame.specs.declared.place.Place.TheVariants as at
+use Rattle.fg_frame.specs.declared.location.Location.{Location}
+use Rattle.fg_frame.specs.declared.location.Location.TheVariants as at
 use Rattle.fg_frame.specs.declared.rule.Rule.{Rule}
 
-abbrev IsLimited : Option (Broken Rule Place) → Type 0
+abbrev IsLimited : Option (Broken Rule Location) → Type 0
 IsLimited o = IfSome o (λ b. is_some b.limit ≡ true)
 
-at_place : {X : Type 0} (limit : Limit) (place : X → Place) (o : Option X) → IsLimited (option_map (λ x. over limit (place x)) o)
+at_place : {X : Type 0} (limit : Limit) (place : X → Location) (o : Option X) → IsLimited (option_map (λ x. over limit (place x)) o)
 at_place limit place None = tt
 at_place limit place (Some x) = refl
 
-unless : (limit : Limit) (place : Place) (test : Bool) → IsLimited (if test then None else Some (over limit place))
+unless : (limit : Limit) (place : Location) (test : Bool) → IsLimited (if test then None else Some (over limit place))
 unless limit place true = tt
 unless limit place false = refl
 
-limited_or : (a b : Option (Broken Rule Place)) → IsLimited a → IsLimited b → IsLimited (option_or a b)
+limited_or : (a b : Option (Broken Rule Location)) → IsLimited a → IsLimited b → IsLimited (option_or a b)
 limited_or None b one two = two
 limited_or (Some x) b one two = one
 
@@ -48,7 +48,7 @@ sizes_limited rs =
     (limited_or _ _ (at_place limits.Size (λ i. at.Resource i) (position (λ r. not (size_allowed r.shape)) rs))
     (at_place limits.Total (λ i. at.Resource i) (first_over all_bytes max_resource_bytes 0 rs)))
 
-none_limited : (o : Option (Broken Rule Place)) → IsLimited o → option_and_then (λ b. b.limit) o ≡ None → o ≡ None
+none_limited : (o : Option (Broken Rule Location)) → IsLimited o → option_and_then (λ b. b.limit) o ≡ None → o ≡ None
 none_limited None limited none = refl
 none_limited (Some b) limited none = by_limit b.limit limited none
   where

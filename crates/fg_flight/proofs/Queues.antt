@@ -4,7 +4,7 @@ use Rattle.std.specs.Option.{option_map_or}
 use Rattle.std.proofs.Math.Seq.{drop-length}
 use Rattle.std.proofs.lemmas.Option.{slice_get-get_or}
 use Rattle.fg_flight.proofs.Walks.{at_place}
-use Rattle.fg_flight.specs.Refusals.{is_held, same_queue, same_queues}
+use Rattle.fg_flight.specs.Refusals.{is_persisted, same_queue, same_queues}
 use Rattle.fg_frame.specs.declared.frame.QueueDecl.{QueueDecl}
 use Rattle.fg_frame.specs.declared.frame.Resource.{Resource}
 
@@ -34,5 +34,5 @@ other_length (a ∷ qs) (b ∷ bs) other = by_first (same_queue a b) (other_leng
     by_first true rest = rest
     by_first false rest = refl
 
-pub held_at : (rs : List Resource) (k size : ℕ) (r : Resource) (b : Bool) → k < length rs → r ≡ get_or rs k r → b ≡ is_held size r → b ≡ option_map_or (is_held size) (slice_get rs k) false
-held_at rs k size r b lt is gives = gives ∙ ap (is_held size) is ∙ sym (ap (λ o. option_map_or (is_held size) o false) (slice_get-get_or rs k r lt))
+pub held_at : (rs : List Resource) (k size : ℕ) (r : Resource) (b : Bool) → k < length rs → r ≡ get_or rs k r → b ≡ is_persisted size r → b ≡ option_map_or (is_persisted size) (slice_get rs k) false
+held_at rs k size r b lt is gives = gives ∙ ap (is_persisted size) is ∙ sym (ap (λ o. option_map_or (is_persisted size) o false) (slice_get-get_or rs k r lt))

@@ -1,4 +1,4 @@
--- What is read of a window is what its frames mean alone, and what is held before the next window.
+-- What is read of a window is what its frames mean alone, and what is persisted before the next window.
 use Rattle.std.proofs.Common.{◌≡◌, ℕ, zero, suc, ◌+◌, ◌-◌, ◌*◌, ◌/◌, ◌%◌, ◌<◌, ◌≤◌, ◌==◌, List, [], ◌∷◌, length, map, take, drop, slice_get, is_some, Bool, true, false, Option, Some, None, if◌then◌else◌, refl, sym, ap, ap₂, subst, ◌∙◌, arith}
 use Rattle.std.specs.Prelude.{IfSome, option_and_then, unwrap_or}
 use Rattle.std.specs.List.{AllByRecursion, list_any}
@@ -18,9 +18,9 @@ use Rattle.fg_flight.proofs.Flies.{all_flying}
 use Rattle.fg_flight.proofs.Sources.{flown, lasts, source_from, sources_at, sources_from, window_units}
 use Rattle.fg_flight.proofs.Turning.{flight_in_turn, flight_numbers, same_frames}
 use Rattle.fg_flight.proofs.Units.{any_placed, own_many}
-use Rattle.fg_flight.specs.Alone.{AreAlone, IsHeld, RunInTurn, alone, first_bytes, held_at, held_next, held_one}
-use Rattle.fg_flight.specs.Exported.{export_place, exported_units, exports_in, hold_place, last_unit, last_units, own_units, place_from, place_under, unit_count}
-use Rattle.fg_flight.specs.Flights.{AreHeld, all_declared, families_of, held_bytes, queues_of, size_at, size_in, sizes_of, window_at, window_count}
+use Rattle.fg_flight.specs.Alone.{AreAlone, IsPersisted, RunInTurn, alone, first_bytes, held_at, persisted_next, held_one}
+use Rattle.fg_flight.specs.Exported.{export_place, exported_units, exports_in, persisted_export, last_unit, last_units, own_units, place_from, place_under, unit_count}
+use Rattle.fg_flight.specs.Flights.{ArePersisted, all_declared, families_of, persisted_bytes, queues_of, size_at, size_in, sizes_of, window_at, window_count}
 use Rattle.fg_flight.specs.Fly.{Fly}
 use Rattle.fg_frame.proofs.Necessary.{good}
 use Rattle.fg_frame.proofs.Small.{none_broken}
@@ -34,7 +34,7 @@ use Rattle.fg_named.specs.Joins.{size_of}
 use Rattle.fg_window.proofs.Each.{all_of, each}
 use Rattle.fg_window.proofs.InTurn.{got_dropped, still_sized}
 use Rattle.fg_window.specs.InTurn.{MeansInTurn, frames_in}
-use Rattle.fg_window.specs.Means.{AreHeld as AreLeft, IsExport, IsLeft, exports_before, units_before}
+use Rattle.fg_window.specs.Means.{ArePersisted as AreLeft, IsExport, IsLeft, exports_before, units_before}
 use Rattle.fg_window.specs.Sources.{Source, given, last_sources}
 use Rattle.fg_window.specs.Together.{Flies}
 use Rattle.fg_window.specs.Window.{others, window}
@@ -83,41 +83,41 @@ module _ (frames : List Frame) (depth i : ℕ) (frame : Frame) (at : slice_get f
       let one : suc (i / depth) * depth ≡ (i / depth) * depth + depth = grind arith in
       (le-div_iff_mul-le deep).1 (omega (arith, lt, start, one, deep))
 
-module _ (frames : List Frame) (persist : List (List ℕ)) (depth : ℕ) (F : Fly frames persist depth) (held : List (Option (List ℕ))) (H : AreHeld frames persist held) where
-  as_many : length held ≡ length persist
-  as_many = sym (length-map held (option_map length)) ∙ ap length H ∙ length-map persist (size_in frames)
+module _ (frames : List Frame) (persist : List (List ℕ)) (depth : ℕ) (F : Fly frames persist depth) (persisted : List (Option (List ℕ))) (H : ArePersisted frames persist persisted) where
+  as_many : length persisted ≡ length persist
+  as_many = sym (length-map persisted (option_map length)) ∙ ap length H ∙ length-map persist (size_in frames)
 
-  bytes_many : length (held_bytes held) ≡ length persist
-  bytes_many = length-map held _ ∙ as_many
+  bytes_many : length (persisted_bytes persisted) ≡ length persist
+  bytes_many = length-map persisted _ ∙ as_many
 
   module _ (w : ℕ) (lt : w < window_count depth frames) where
     part : frames_in depth (flown frames persist) w ≡ flown (frames_in depth frames w) persist
-    part = sym (same_frames frames persist depth F held H w lt) ∙ ap (map flown_of) (sym (declared_in_window frames persist depth w))
+    part = sym (same_frames frames persist depth F persisted H w lt) ∙ ap (map flown_of) (sym (declared_in_window frames persist depth w))
 
-    pub numbers : numbered (window_at frames persist depth held w) ≡ window (families_of frames) (flown (frames_in depth frames w) persist) (held_bytes held)
-    numbers = flight_numbers frames persist depth F held H w lt ∙ ap (λ fs. window (families_of frames) fs (held_bytes held)) part
+    pub numbers : numbered (window_at frames persist depth persisted w) ≡ window (families_of frames) (flown (frames_in depth frames w) persist) (persisted_bytes persisted)
+    numbers = flight_numbers frames persist depth F persisted H w lt ∙ ap (λ fs. window (families_of frames) fs (persisted_bytes persisted)) part
 
-    pub units_are : (numbered (window_at frames persist depth held w)).exports ≡ exported_units persist (frames_in depth frames w)
-    units_are = ap (λ f. f.exports) numbers ∙ window_units (families_of frames) (frames_in depth frames w) persist (held_bytes held) bytes_many
+    pub units_are : (numbered (window_at frames persist depth persisted w)).exports ≡ exported_units persist (frames_in depth frames w)
+    units_are = ap (λ f. f.exports) numbers ∙ window_units (families_of frames) (frames_in depth frames w) persist (persisted_bytes persisted) bytes_many
 
 -- each place of an export is one of the window's
-pub export_within : (frames : List Frame) (persist : List (List ℕ)) (depth : ℕ) → Fly frames persist depth → (i k : ℕ) (frame : Frame) → slice_get frames i ≡ Some frame → k < length (numbered frame).exports → (held : List (Option (List ℕ))) → AreHeld frames persist held → export_place frames depth i k < length (numbered (window_at frames persist depth held (i / depth))).exports
-export_within frames persist depth F i k frame at lt held H =
+pub export_within : (frames : List Frame) (persist : List (List ℕ)) (depth : ℕ) → Fly frames persist depth → (i k : ℕ) (frame : Frame) → slice_get frames i ≡ Some frame → k < length (numbered frame).exports → (persisted : List (Option (List ℕ))) → ArePersisted frames persist persisted → export_place frames depth i k < length (numbered (window_at frames persist depth persisted (i / depth))).exports
+export_within frames persist depth F i k frame at lt persisted H =
     let w = i / depth in
     let mine : List Frame = frames_in depth frames w in
-    let all : length (numbered (window_at frames persist depth held w)).exports ≡ length (own_units 0 mine) + length (others (own_units 0 mine) (last_units persist mine)) =
-    ap length (units_are frames persist depth F held H w (counted frames depth i frame at F.deep)) ∙ length-append (own_units 0 mine) (others (own_units 0 mine) (last_units persist mine)) in
+    let all : length (numbered (window_at frames persist depth persisted w)).exports ≡ length (own_units 0 mine) + length (others (own_units 0 mine) (last_units persist mine)) =
+    ap length (units_are frames persist depth F persisted H w (counted frames depth i frame at F.deep)) ∙ length-append (own_units 0 mine) (others (own_units 0 mine) (last_units persist mine)) in
     let own : length (own_units 0 mine) ≡ exports_in mine = own_many 0 mine in
     let less : exports_in (take (i % depth) (drop (w * depth) frames)) + length (numbered frame).exports ≤ exports_in mine = enough (drop (w * depth) frames) (i % depth) depth frame (in_window frames depth i frame at F.deep) (near frames depth i frame at F.deep) in
     omega (arith, lt, all, own, less)
 
 -- so it is for an export of a frame that is there
-pub export_inside : (frames : List Frame) (persist : List (List ℕ)) (depth : ℕ) → Fly frames persist depth → (i k : ℕ) → i < length frames → IfSome (slice_get frames i) (λ f. k < length (numbered f).exports) → (held : List (Option (List ℕ))) → AreHeld frames persist held → export_place frames depth i k < length (numbered (window_at frames persist depth held (i / depth))).exports
-export_inside frames persist depth F i k lt within held H = by_frame (slice_get frames i) refl within
+pub export_inside : (frames : List Frame) (persist : List (List ℕ)) (depth : ℕ) → Fly frames persist depth → (i k : ℕ) → i < length frames → IfSome (slice_get frames i) (λ f. k < length (numbered f).exports) → (persisted : List (Option (List ℕ))) → ArePersisted frames persist persisted → export_place frames depth i k < length (numbered (window_at frames persist depth persisted (i / depth))).exports
+export_inside frames persist depth F i k lt within persisted H = by_frame (slice_get frames i) refl within
   where
-    by_frame : (o : Option Frame) → slice_get frames i ≡ o → IfSome o (λ f. k < length (numbered f).exports) → export_place frames depth i k < length (numbered (window_at frames persist depth held (i / depth))).exports
+    by_frame : (o : Option Frame) → slice_get frames i ≡ o → IfSome o (λ f. k < length (numbered f).exports) → export_place frames depth i k < length (numbered (window_at frames persist depth persisted (i / depth))).exports
     by_frame None none within = let past = nothing_past frames i none in absurd (omega (arith, lt, past))
-    by_frame (Some f) is within = export_within frames persist depth F i k f is within held H
+    by_frame (Some f) is within = export_within frames persist depth F i k f is within persisted H
 
 pub export_small : (frames : List Frame) (persist : List (List ℕ)) (depth : ℕ) → Fly frames persist depth → (i k : ℕ) → i < length frames → IfSome (slice_get frames i) (λ f. k < length (numbered f).exports) → k < 32
 export_small frames persist depth F i k lt within = by_frame (slice_get frames i) refl within
@@ -158,26 +158,26 @@ place_within persist frames name p is = by_unit (last_unit 0 name None frames) i
     by_unit None none = absurd cc
     by_unit (Some unit) got = slice_get_within (exported_units persist frames) p unit (found_at unit p (exported_units persist frames) got)
 
-pub hold_within : (frames : List Frame) (persist : List (List ℕ)) (depth : ℕ) → Fly frames persist depth → (w k p : ℕ) → w < window_count depth frames → hold_place frames persist depth w k ≡ Some p → (held : List (Option (List ℕ))) → AreHeld frames persist held → p < length (numbered (window_at frames persist depth held w)).exports
-hold_within frames persist depth F w k p lt is held H = subst (λ xs. p < length xs) (sym (units_are frames persist depth F held H w lt)) (by_name (slice_get persist k) is)
+pub hold_within : (frames : List Frame) (persist : List (List ℕ)) (depth : ℕ) → Fly frames persist depth → (w k p : ℕ) → w < window_count depth frames → persisted_export frames persist depth w k ≡ Some p → (persisted : List (Option (List ℕ))) → ArePersisted frames persist persisted → p < length (numbered (window_at frames persist depth persisted w)).exports
+hold_within frames persist depth F w k p lt is persisted H = subst (λ xs. p < length xs) (sym (units_are frames persist depth F persisted H w lt)) (by_name (slice_get persist k) is)
   where
     by_name : (name : Option (List ℕ)) → option_and_then (place_under persist (frames_in depth frames w)) name ≡ Some p → p < length (exported_units persist (frames_in depth frames w))
     by_name None none = absurd cc
     by_name (Some name) got = place_within persist (frames_in depth frames w) name p got
 
-pub hold_inside : (frames : List Frame) (persist : List (List ℕ)) (depth : ℕ) → Fly frames persist depth → (w k : ℕ) → w < window_count depth frames → (place : Option ℕ) → place ≡ hold_place frames persist depth w k → (held : List (Option (List ℕ))) → AreHeld frames persist held → IfSome place (λ p. p < length (numbered (window_at frames persist depth held w)).exports)
-hold_inside frames persist depth F w k lt None is held H = tt
-hold_inside frames persist depth F w k lt (Some p) is held H = hold_within frames persist depth F w k p lt (sym is) held H
+pub hold_inside : (frames : List Frame) (persist : List (List ℕ)) (depth : ℕ) → Fly frames persist depth → (w k : ℕ) → w < window_count depth frames → (place : Option ℕ) → place ≡ persisted_export frames persist depth w k → (persisted : List (Option (List ℕ))) → ArePersisted frames persist persisted → IfSome place (λ p. p < length (numbered (window_at frames persist depth persisted w)).exports)
+hold_inside frames persist depth F w k lt None is persisted H = tt
+hold_inside frames persist depth F w k lt (Some p) is persisted H = hold_within frames persist depth F w k p lt (sym is) persisted H
 
 -- WHAT IS HELD HAS ITS SIZES
 
 module _ (frames : List Frame) (persist : List (List ℕ)) (depth : ℕ) (F : Fly frames persist depth) where
   sized_after : (i : ℕ) → map length (held_at frames persist i) ≡ sizes_of frames persist
   sized_after i =
-      let T = declared_together (queues_of frames) (sizes_of frames persist) (all_declared frames persist) (held_bytes (first_bytes frames persist)) (all_flying frames persist depth F (first_bytes frames persist) (first_sized frames persist depth F)) in
+      let T = declared_together (queues_of frames) (sizes_of frames persist) (all_declared frames persist) (persisted_bytes (first_bytes frames persist)) (all_flying frames persist depth F (first_bytes frames persist) (first_sized frames persist depth F)) in
       let sizes = sizes_of frames persist in
       let families = families_of frames in
-      still_sized families sizes (take i (flown frames persist)) (each (Flies families sizes) (take i (flown frames persist)) (All-take (Flies families sizes) i (flown frames persist) T.each)) (held_bytes (first_bytes frames persist)) T.sized
+      still_sized families sizes (take i (flown frames persist)) (each (Flies families sizes) (take i (flown frames persist)) (All-take (Flies families sizes) i (flown frames persist) T.each)) (persisted_bytes (first_bytes frames persist)) T.sized
 
 -- A NAME THAT NO FRAME HAS IS NOT LEFT
 
@@ -201,7 +201,7 @@ not_left frames depth w name none =
 
 -- ONE WINDOW
 
-module _ (frames : List Frame) (persist : List (List ℕ)) (depth : ℕ) (F : Fly frames persist depth) (w : ℕ) (lt : w < window_count depth frames) (held : List (Option (List ℕ))) (H : IsHeld frames persist (w * depth) held) (bytes : ℕ → List ℕ) (read : AreMeant (numbered (window_at frames persist depth held w)) bytes) where
+module _ (frames : List Frame) (persist : List (List ℕ)) (depth : ℕ) (F : Fly frames persist depth) (w : ℕ) (lt : w < window_count depth frames) (persisted : List (Option (List ℕ))) (H : IsPersisted frames persist (w * depth) persisted) (bytes : ℕ → List ℕ) (read : AreMeant (numbered (window_at frames persist depth persisted w)) bytes) where
   abbrev mine : List Frame
   mine = frames_in depth frames w
 
@@ -209,19 +209,19 @@ module _ (frames : List Frame) (persist : List (List ℕ)) (depth : ℕ) (F : Fl
   queues = families_of frames
 
   abbrev W : NumberedFrame
-  W = window queues (flown mine persist) (held_bytes held)
+  W = window queues (flown mine persist) (persisted_bytes persisted)
 
   abbrev target : List (List ℕ)
   target = held_at frames persist (suc w * depth)
 
   read_window : AreMeant W bytes
-  read_window = subst (λ f. AreMeant f bytes) (numbers frames persist depth F held H.sized w lt) read
+  read_window = subst (λ f. AreMeant f bytes) (numbers frames persist depth F persisted H.sized w lt) read
 
-  turn : MeansInTurn queues depth (flown frames persist) (held_bytes (first_bytes frames persist)) w
+  turn : MeansInTurn queues depth (flown frames persist) (persisted_bytes (first_bytes frames persist)) w
   turn = flight_in_turn frames persist depth F (first_bytes frames persist) (first_sized frames persist depth F) w lt
 
   mine_are : frames_in depth (flown frames persist) w ≡ flown mine persist
-  mine_are = part frames persist depth F held H.sized w lt
+  mine_are = part frames persist depth F persisted H.sized w lt
 
   -- AN EXPORT
 
@@ -229,7 +229,7 @@ module _ (frames : List Frame) (persist : List (List ℕ)) (depth : ℕ) (F : Fl
     flown_at : slice_get (flown frames persist) (w * depth + j) ≡ Some (flown_of (declared_in persist frame))
     flown_at = slice_get-map flown_of (all_declared frames persist) (w * depth + j) ∙ ap (option_map flown_of) (slice_get-map (declared_in persist) frames (w * depth + j) ∙ ap (option_map (declared_in persist)) at)
 
-    export_at : (k unit : ℕ) → slice_get (numbered frame).exports k ≡ Some unit → IsExport queues (flown mine persist) (held_bytes held) j k unit (meaning (alone frames persist (w * depth + j) frame) unit)
+    export_at : (k unit : ℕ) → slice_get (numbered frame).exports k ≡ Some unit → IsExport queues (flown mine persist) (persisted_bytes persisted) j k unit (meaning (alone frames persist (w * depth + j) frame) unit)
     export_at k unit is =
         subst (λ h. IsExport queues (flown mine persist) h j k unit (meaning (alone frames persist (w * depth + j) frame) unit)) (sym H.bytes)
         (subst (λ fs. IsExport queues fs (held_at frames persist (w * depth)) j k unit (meaning (alone frames persist (w * depth + j) frame) unit)) mine_are
@@ -246,16 +246,16 @@ module _ (frames : List Frame) (persist : List (List ℕ)) (depth : ℕ) (F : Fl
   -- WHAT IS LEFT
 
   abbrev Left : ℕ → List ℕ → Type 0
-  Left = IsLeft queues (flown mine persist) (held_bytes held)
+  Left = IsLeft queues (flown mine persist) (persisted_bytes persisted)
 
-  are_left : AreLeft Left (sources_from (held_bytes held) (lasts persist mine)) target
+  are_left : AreLeft Left (sources_from (persisted_bytes persisted) (lasts persist mine)) target
   are_left =
-      subst (λ ss. AreLeft Left ss target) (sources_at mine persist (held_bytes held) (bytes_many frames persist depth F held H.sized))
+      subst (λ ss. AreLeft Left ss target) (sources_at mine persist (persisted_bytes persisted) (bytes_many frames persist depth F persisted H.sized))
       (subst (λ h. AreLeft (IsLeft queues (flown mine persist) h) (last_sources 0 (given h) (flown mine persist)) target) (sym H.bytes)
       (subst (λ fs. AreLeft (IsLeft queues fs (held_at frames persist (w * depth))) (last_sources 0 (given (held_at frames persist (w * depth))) fs) target) mine_are turn.left))
 
   exports_are : W.exports ≡ exported_units persist mine
-  exports_are = window_units queues mine persist (held_bytes held) (bytes_many frames persist depth F held H.sized)
+  exports_are = window_units queues mine persist (persisted_bytes persisted) (bytes_many frames persist depth F persisted H.sized)
 
   -- what is read at the place of a unit that is left
   read_at : (unit p : ℕ) (t : List ℕ) → Left unit t → place_from unit 0 (exported_units persist mine) ≡ Some p → bytes p ≡ t
@@ -292,46 +292,46 @@ module _ (frames : List Frame) (persist : List (List ℕ)) (depth : ℕ) (F : Fl
   left_rest old None sources t ts left = left.1
   left_rest old (Some unit) sources t ts left = left.1
 
-  next_from : (names : List (List ℕ)) (olds : List (Option (List ℕ))) (ts : List (List ℕ)) (places : ℕ → Option ℕ) (k : ℕ) → ((j : ℕ) (name : List ℕ) → slice_get names j ≡ Some name → places (k + j) ≡ place_under persist mine name) → AreHeld frames names olds → map length ts ≡ sizes_of frames names → AreLeft Left (sources_from (held_bytes olds) (lasts names mine)) ts → (held_bytes (held_next places bytes k olds) ≡ ts) × AreHeld frames names (held_next places bytes k olds)
-  next_from [] [] [] places k at held long left = (refl, refl)
-  next_from [] [] (t ∷ ts) places k at held long left = absurd cc
-  next_from [] (old ∷ olds) ts places k at held long left = absurd cc
-  next_from (name ∷ names) [] ts places k at held long left = absurd cc
-  next_from (name ∷ names) (old ∷ olds) [] places k at held long left = absurd cc
-  next_from (name ∷ names) (old ∷ olds) (t ∷ ts) places k at held long left =
+  next_from : (names : List (List ℕ)) (olds : List (Option (List ℕ))) (ts : List (List ℕ)) (places : ℕ → Option ℕ) (k : ℕ) → ((j : ℕ) (name : List ℕ) → slice_get names j ≡ Some name → places (k + j) ≡ place_under persist mine name) → ArePersisted frames names olds → map length ts ≡ sizes_of frames names → AreLeft Left (sources_from (persisted_bytes olds) (lasts names mine)) ts → (persisted_bytes (persisted_next places bytes k olds) ≡ ts) × ArePersisted frames names (persisted_next places bytes k olds)
+  next_from [] [] [] places k at persisted long left = (refl, refl)
+  next_from [] [] (t ∷ ts) places k at persisted long left = absurd cc
+  next_from [] (old ∷ olds) ts places k at persisted long left = absurd cc
+  next_from (name ∷ names) [] ts places k at persisted long left = absurd cc
+  next_from (name ∷ names) (old ∷ olds) [] places k at persisted long left = absurd cc
+  next_from (name ∷ names) (old ∷ olds) (t ∷ ts) places k at persisted long left =
       let start : k ≡ k + 0 = omega arith in
       let here : places k ≡ place_under persist mine name = ap places start ∙ at 0 name refl in
       let sized : option_map length old ≡ size_in frames name = cc in
-      let sized_rest : AreHeld frames names olds = cc in
+      let sized_rest : ArePersisted frames names olds = cc in
       let one_long : length t ≡ unwrap_or (size_in frames name) 0 = cc in
       let rest_long : map length ts ≡ sizes_of frames names = cc in
       let unit = last_unit 0 name None mine in
-      let sources = sources_from (held_bytes olds) (lasts names mine) in
+      let sources = sources_from (persisted_bytes olds) (lasts names mine) in
       let first = subst (λ p. IsNext name old t sized one_long (held_one bytes p old)) (sym here) (by_unit name old t sized one_long unit refl (left_first (unwrap_or old []) unit sources t ts left)) in
       let rest = next_from names olds ts places (suc k) (λ j n is. let e : suc k + j ≡ k + suc j = omega arith in ap places e ∙ at (suc j) n is) sized_rest rest_long (left_rest (unwrap_or old []) unit sources t ts left) in
       (ap₂ (λ x xs. x ∷ xs) first.0 rest.0, ap₂ (λ x xs. x ∷ xs) first.1 rest.1)
 
-  pub next_held : IsHeld frames persist (suc w * depth) (held_next (hold_place frames persist depth w) bytes 0 held)
+  pub next_held : IsPersisted frames persist (suc w * depth) (persisted_next (persisted_export frames persist depth w) bytes 0 persisted)
   next_held =
-      let places = hold_place frames persist depth w in
-      let both = next_from persist held target places 0 (λ j name is. let z : 0 + j ≡ j = omega arith in ap places z ∙ ap (option_and_then (place_under persist mine)) is) H.sized (sized_after frames persist depth F (suc w * depth)) are_left in
+      let places = persisted_export frames persist depth w in
+      let both = next_from persist persisted target places 0 (λ j name is. let z : 0 + j ≡ j = omega arith in ap places z ∙ ap (option_and_then (place_under persist mine)) is) H.sized (sized_after frames persist depth F (suc w * depth)) are_left in
       record { sized = both.1; bytes = both.0 }
 
 -- ALL WINDOWS
 
-pub export_alone : (frames : List Frame) (persist : List (List ℕ)) (depth : ℕ) → Fly frames persist depth → (i : ℕ) (frame : Frame) → slice_get frames i ≡ Some frame → (held : List (Option (List ℕ))) → IsHeld frames persist ((i / depth) * depth) held → (bytes : ℕ → List ℕ) → AreMeant (numbered (window_at frames persist depth held (i / depth))) bytes → AreMeant (alone frames persist i frame) (λ k. bytes (export_place frames depth i k))
-export_alone frames persist depth F i frame at held H bytes read = λ k unit is.
+pub export_alone : (frames : List Frame) (persist : List (List ℕ)) (depth : ℕ) → Fly frames persist depth → (i : ℕ) (frame : Frame) → slice_get frames i ≡ Some frame → (persisted : List (Option (List ℕ))) → IsPersisted frames persist ((i / depth) * depth) persisted → (bytes : ℕ → List ℕ) → AreMeant (numbered (window_at frames persist depth persisted (i / depth))) bytes → AreMeant (alone frames persist i frame) (λ k. bytes (export_place frames depth i k))
+export_alone frames persist depth F i frame at persisted H bytes read = λ k unit is.
     let w = i / depth in
     let here : slice_get frames (w * depth + i % depth) ≡ Some frame = ap (slice_get frames) (split frames depth i frame at F.deep) ∙ at in
     subst (λ n. meaning (alone frames persist n frame) unit ≡ Some (bytes (export_place frames depth i k))) (split frames depth i frame at F.deep)
-    (export_read frames persist depth F w (counted frames depth i frame at F.deep) held H bytes read (i % depth) (near frames depth i frame at F.deep) frame here k unit is)
+    (export_read frames persist depth F w (counted frames depth i frame at F.deep) persisted H bytes read (i % depth) (near frames depth i frame at F.deep) frame here k unit is)
 
-module _ (frames : List Frame) (persist : List (List ℕ)) (depth : ℕ) (F : Fly frames persist depth) (held : ℕ → List (Option (List ℕ))) (bytes : ℕ → ℕ → List ℕ) (R : RunInTurn frames persist depth held bytes) where
-  each_held : (w : ℕ) → w ≤ window_count depth frames → IsHeld frames persist (w * depth) (held w)
-  each_held zero le = let z : 0 ≡ 0 * depth = omega arith in subst (λ n. IsHeld frames persist n (held 0)) z (subst (IsHeld frames persist 0) (sym R.first) (first_is_held frames persist depth F))
-  each_held (suc w) le = subst (IsHeld frames persist (suc w * depth)) (sym (R.next w (omega (arith, le)))) (next_held frames persist depth F w (omega (arith, le)) (held w) (each_held w (omega (arith, le))) (bytes w) (R.read w (omega (arith, le))))
+module _ (frames : List Frame) (persist : List (List ℕ)) (depth : ℕ) (F : Fly frames persist depth) (persisted : ℕ → List (Option (List ℕ))) (bytes : ℕ → ℕ → List ℕ) (R : RunInTurn frames persist depth persisted bytes) where
+  each_held : (w : ℕ) → w ≤ window_count depth frames → IsPersisted frames persist (w * depth) (persisted w)
+  each_held zero le = let z : 0 ≡ 0 * depth = omega arith in subst (λ n. IsPersisted frames persist n (persisted 0)) z (subst (IsPersisted frames persist 0) (sym R.first) (first_is_held frames persist depth F))
+  each_held (suc w) le = subst (IsPersisted frames persist (suc w * depth)) (sym (R.next w (omega (arith, le)))) (next_held frames persist depth F w (omega (arith, le)) (persisted w) (each_held w (omega (arith, le))) (bytes w) (R.read w (omega (arith, le))))
 
   pub all_alone : AreAlone frames persist depth bytes
   all_alone = λ i frame at.
       let lt : i / depth < window_count depth frames = counted frames depth i frame at F.deep in
-      export_alone frames persist depth F i frame at (held (i / depth)) (each_held (i / depth) (omega (arith, lt))) (bytes (i / depth)) (R.read (i / depth) lt)
+      export_alone frames persist depth F i frame at (persisted (i / depth)) (each_held (i / depth) (omega (arith, lt))) (bytes (i / depth)) (R.read (i / depth) lt)

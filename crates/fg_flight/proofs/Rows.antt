@@ -7,8 +7,8 @@ use Rattle.fg_base.specs.declared.shape.Family.TheVariants.{Graphics, Compute}
 use Rattle.fg_base.specs.declared.shape.Shape.TheVariants.{Buffer}
 use Rattle.fg_bits.specs.declared.sharing.Sharing.TheVariants.{Exclusive}
 use Rattle.fg_flight.specs.Alone.{first_bytes}
-use Rattle.fg_flight.specs.Exported.{export_place, hold_place}
-use Rattle.fg_flight.specs.Flights.{AreHeld, window_count}
+use Rattle.fg_flight.specs.Exported.{export_place, persisted_export}
+use Rattle.fg_flight.specs.Flights.{ArePersisted, window_count}
 use Rattle.fg_flight.specs.Refusals.{first_refusal}
 use Rattle.fg_flight.specs.declared.fault.FlightFault.TheVariants.{Persist, Queues}
 use Rattle.fg_frame.specs.declared.frame.Frame.{Frame}
@@ -61,11 +61,11 @@ second_name = refl
 other_family : first_refusal (frame ∷ record frame { queues = record { name = codes "g"; family = Compute } ∷ [] } ∷ []) (codes "c" ∷ []) 1 ≡ Some (Queues 1)
 other_family = refl
 
--- bytes of four are held under b, and none under a name that no frame has
-held : AreHeld three (codes "b" ∷ codes "d" ∷ []) (Some (2 ∷ 0 ∷ 0 ∷ 0 ∷ []) ∷ None ∷ [])
-held = refl
+-- bytes of four are persisted under b, and none under a name that no frame has
+persisted : ArePersisted three (codes "b" ∷ codes "d" ∷ []) (Some (2 ∷ 0 ∷ 0 ∷ 0 ∷ []) ∷ None ∷ [])
+persisted = refl
 
--- before the first window an import is held
+-- before the first window an import is persisted
 begins : first_bytes three (codes "b" ∷ codes "d" ∷ []) ≡ Some (1 ∷ 0 ∷ 0 ∷ 0 ∷ []) ∷ None ∷ []
 begins = refl
 
@@ -77,11 +77,11 @@ third : export_place three 2 2 0 ≡ 0
 third = refl
 
 -- after the exports comes the last unit of a name; a name that no frame has has no place
-persisting : hold_place three (codes "b" ∷ []) 2 0 0 ≡ Some 2
+persisting : persisted_export three (codes "b" ∷ []) 2 0 0 ≡ Some 2
 persisting = refl
 
-at_last : hold_place three (codes "b" ∷ []) 2 1 0 ≡ Some 1
+at_last : persisted_export three (codes "b" ∷ []) 2 1 0 ≡ Some 1
 at_last = refl
 
-nowhere : hold_place three (codes "d" ∷ []) 2 0 0 ≡ None
+nowhere : persisted_export three (codes "d" ∷ []) 2 0 0 ≡ None
 nowhere = refl

@@ -4,7 +4,7 @@ use Rattle.std.proofs.lemmas.List.{drop-map, length-map, take-map}
 use Rattle.fg_flight.proofs.Alike.{windows_alike}
 use Rattle.fg_flight.proofs.Counted.{there}
 use Rattle.fg_flight.proofs.Flies.{all_flying, mine, within, flying}
-use Rattle.fg_flight.specs.Flights.{AreHeld, all_declared, families_of, held_bytes, queues_of, sizes_of, window_at, window_count}
+use Rattle.fg_flight.specs.Flights.{ArePersisted, all_declared, families_of, persisted_bytes, queues_of, sizes_of, window_at, window_count}
 use Rattle.fg_flight.specs.Fly.{Fly}
 use Rattle.fg_frame.specs.Limits.{limit_broken}
 use Rattle.fg_frame.specs.Numbered.{numbered}
@@ -15,14 +15,14 @@ use Rattle.fg_named.specs.Declared.{Declared, flown_of}
 use Rattle.fg_named.specs.Together.{FlyDeclared}
 use Rattle.fg_named.specs.WindowFrame.{window_frame}
 use Rattle.fg_window.specs.Flown.{Flown}
-use Rattle.fg_window.specs.InTurn.{MeansInTurn, frames_in, held_before}
+use Rattle.fg_window.specs.InTurn.{MeansInTurn, frames_in, persisted_before}
 use Rattle.fg_window.specs.Window.{window}
 
-all_there : (bytes : List (List ℕ)) → held_bytes (map (λ b. Some b) bytes) ≡ bytes
+all_there : (bytes : List (List ℕ)) → persisted_bytes (map (λ b. Some b) bytes) ≡ bytes
 all_there [] = refl
 all_there (b ∷ bytes) = ap (λ bs. b ∷ bs) (all_there bytes)
 
-module _ (frames : List Frame) (persist : List (List ℕ)) (depth : ℕ) (F : Fly frames persist depth) (held : List (Option (List ℕ))) (H : AreHeld frames persist held) (w : ℕ) (counted : w < window_count depth frames) where
+module _ (frames : List Frame) (persist : List (List ℕ)) (depth : ℕ) (F : Fly frames persist depth) (persisted : List (Option (List ℕ))) (H : ArePersisted frames persist persisted) (w : ℕ) (counted : w < window_count depth frames) where
   abbrev ds : List Declared
   ds = all_declared frames persist
 
@@ -35,31 +35,31 @@ module _ (frames : List Frame) (persist : List (List ℕ)) (depth : ℕ) (F : Fl
   pub same_frames : map flown_of (frames_in depth ds w) ≡ frames_in depth flown w
   same_frames = sym (ap (take depth) (drop-map flown_of (w * depth) ds) ∙ take-map flown_of depth (drop (w * depth) ds))
 
-  pub flight_numbers : numbered (window_at frames persist depth held w) ≡ window (families_of frames) (frames_in depth flown w) (held_bytes held)
+  pub flight_numbers : numbered (window_at frames persist depth persisted w) ≡ window (families_of frames) (frames_in depth flown w) (persisted_bytes persisted)
   flight_numbers =
-      declared_numbered (queues_of frames) (sizes_of frames persist) (frames_in depth ds w) (held_bytes held) (flying frames persist depth F w has_frame counted held H)
-      ∙ ap (λ fs. window (families_of frames) fs (held_bytes held)) same_frames
+      declared_numbered (queues_of frames) (sizes_of frames persist) (frames_in depth ds w) (persisted_bytes persisted) (flying frames persist depth F w has_frame counted persisted H)
+      ∙ ap (λ fs. window (families_of frames) fs (persisted_bytes persisted)) same_frames
 
-  whole : FlyDeclared (queues_of frames) (sizes_of frames persist) ds (held_bytes held)
-  whole = all_flying frames persist depth F held H
+  whole : FlyDeclared (queues_of frames) (sizes_of frames persist) ds (persisted_bytes persisted)
+  whole = all_flying frames persist depth F persisted H
 
   among : w * depth < length ds
   among = subst (λ n. w * depth < n) (sym (length-map frames _)) has_frame
 
   abbrev begun : List (List ℕ)
-  begun = held_before depth flown (held_bytes held) w
+  begun = persisted_before depth flown (persisted_bytes persisted) w
 
   begun_many : length (map (λ b. Some b) begun) ≡ length persist
   begun_many =
-      let sized = (each_declared (queues_of frames) (sizes_of frames persist) ds (held_bytes held) whole depth w F.deep among).sized in
+      let sized = (each_declared (queues_of frames) (sizes_of frames persist) ds (persisted_bytes persisted) whole depth w F.deep among).sized in
       length-map begun _ ∙ sym (length-map begun length) ∙ ap length sized ∙ length-map persist _
 
   begun_within : limit_broken (window_frame (queues_of frames) (frames_in depth ds w) begun) ≡ None
   begun_within =
-      let alike = windows_alike (queues_of frames) (frames_in depth frames w) persist (map (λ b. Some b) begun) held begun_many (sym (length-map held _) ∙ ap length H ∙ length-map persist _) in
-      let old = subst (λ xs. limit_broken (window_frame (queues_of frames) xs (held_bytes held)) ≡ None) (mine frames persist depth F w has_frame counted held H) (within frames persist depth F w has_frame counted held H) in
+      let alike = windows_alike (queues_of frames) (frames_in depth frames w) persist (map (λ b. Some b) begun) persisted begun_many (sym (length-map persisted _) ∙ ap length H ∙ length-map persist _) in
+      let old = subst (λ xs. limit_broken (window_frame (queues_of frames) xs (persisted_bytes persisted)) ≡ None) (mine frames persist depth F w has_frame counted persisted H) (within frames persist depth F w has_frame counted persisted H) in
       subst (λ bytes. limit_broken (window_frame (queues_of frames) (frames_in depth ds w) bytes) ≡ None) (all_there begun)
-      (subst (λ xs. limit_broken (window_frame (queues_of frames) xs (held_bytes (map (λ b. Some b) begun))) ≡ None) (sym (mine frames persist depth F w has_frame counted held H)) (alike ∙ old))
+      (subst (λ xs. limit_broken (window_frame (queues_of frames) xs (persisted_bytes (map (λ b. Some b) begun))) ≡ None) (sym (mine frames persist depth F w has_frame counted persisted H)) (alike ∙ old))
 
-  pub flight_in_turn : MeansInTurn (families_of frames) depth flown (held_bytes held) w
-  flight_in_turn = declared_in_turn (queues_of frames) (sizes_of frames persist) ds (held_bytes held) whole depth w F.deep among begun_within
+  pub flight_in_turn : MeansInTurn (families_of frames) depth flown (persisted_bytes persisted) w
+  flight_in_turn = declared_in_turn (queues_of frames) (sizes_of frames persist) ds (persisted_bytes persisted) whole depth w F.deep among begun_within

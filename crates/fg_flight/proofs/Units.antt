@@ -8,8 +8,8 @@ use Rattle.std.proofs.lemmas.Bool.{ne_eqb}
 use Rattle.std.proofs.lemmas.List.{length-append, length-map, length-replicate}
 use Rattle.fg_flight.proofs.Frames.{past}
 use Rattle.fg_flight.proofs.Walks.{at_place}
-use Rattle.fg_flight.specs.Code.Units.{other_unit, unless_own}
-use Rattle.fg_flight.specs.Exported.{export_place, exported_units, exports_in, has_name, hold_place, last_unit, last_units, own_units, place_from, place_under, unit_count, unit_under}
+use Rattle.fg_flight.specs.Internal.Units.{other_unit, unless_own}
+use Rattle.fg_flight.specs.Exported.{export_place, exported_units, exports_in, has_name, persisted_export, last_unit, last_units, own_units, place_from, place_under, unit_count, unit_under}
 use Rattle.fg_frame.specs.Numbered.{numbered}
 use Rattle.fg_frame.specs.Units.{unit_from, units_from}
 use Rattle.fg_frame.specs.declared.frame.Frame.{Frame}
@@ -275,7 +275,7 @@ place_there frames persist k name at = by_unit (last_unit 0 name None frames) re
     by_unit None last = refl
     by_unit (Some unit) last = last_placed frames persist k name unit at last
 
-pub hold_there : (frames : List Frame) (persist : List (List ℕ)) (depth w k : ℕ) (place : Option ℕ) → place ≡ hold_place frames persist depth w k → IfSome (slice_get persist k) (λ name. is_some place ≡ list_any (has_name name) (frames_in depth frames w))
+pub hold_there : (frames : List Frame) (persist : List (List ℕ)) (depth w k : ℕ) (place : Option ℕ) → place ≡ persisted_export frames persist depth w k → IfSome (slice_get persist k) (λ name. is_some place ≡ list_any (has_name name) (frames_in depth frames w))
 hold_there frames persist depth w k place is = by_name (slice_get persist k) refl is
   where
     by_name : (name : Option (List ℕ)) → slice_get persist k ≡ name → place ≡ option_and_then (place_under persist (frames_in depth frames w)) name → IfSome name (λ n. is_some place ≡ list_any (has_name n) (frames_in depth frames w))

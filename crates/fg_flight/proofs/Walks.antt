@@ -3,7 +3,7 @@ use Rattle.std.proofs.Common.{◌≡◌, ℕ, zero, suc, ◌+◌, ◌<◌, ◌�
 use Rattle.std.specs.Prelude.{option_to_list, unwrap_or}
 use Rattle.std.proofs.Math.ListN.{set}
 use Rattle.std.proofs.Math.Seq.{drop-length}
-use Rattle.fg_flight.specs.Code.Left.{carried, carries_by, carry_by, imports_by, left_after, left_by, set_held, source_by}
+use Rattle.fg_flight.specs.Internal.Left.{carried, carries_by, carry_by, imports_by, left_after, left_by, set_held, source_by}
 use Rattle.fg_flight.specs.declared.joins.Carry.{Carry}
 use Rattle.fg_frame.specs.declared.frame.Pass.{Pass}
 use Rattle.fg_frame.specs.declared.frame.Resource.{Resource}
@@ -79,28 +79,28 @@ renamed_sets i j (Some k ∷ holders) [] rs = refl
 renamed_sets i j (None ∷ holders) (import ∷ imports) rs = renamed_sets i j holders imports rs
 renamed_sets i j (Some k ∷ holders) (import ∷ imports) rs = renamed_sets i j holders imports (set_import rs k import) ∙ ap (set_imports holders imports) (renamed_set i j rs k import)
 
-module _ (holders : List (Option ℕ)) (held left : List (Option (List ℕ))) (k : ℕ) (h : Option ℕ) (x y : Option (List ℕ)) (lt : k < length holders) (as_held : length holders ≡ length held) (as_left : length holders ≡ length left) (h_is : h ≡ get_or holders k h) (x_is : x ≡ get_or held k x) (y_is : y ≡ get_or left k y) where
-  imports_at : imports_by (drop k held) (drop k left) ≡ named_import (source_by (unwrap_or x []) y) ∷ imports_by (drop (suc k) held) (drop (suc k) left)
-  imports_at = ap₂ imports_by (at_place held k x (omega arith) x_is) (at_place left k y (omega arith) y_is)
+module _ (holders : List (Option ℕ)) (persisted left : List (Option (List ℕ))) (k : ℕ) (h : Option ℕ) (x y : Option (List ℕ)) (lt : k < length holders) (as_held : length holders ≡ length persisted) (as_left : length holders ≡ length left) (h_is : h ≡ get_or holders k h) (x_is : x ≡ get_or persisted k x) (y_is : y ≡ get_or left k y) where
+  imports_at : imports_by (drop k persisted) (drop k left) ≡ named_import (source_by (unwrap_or x []) y) ∷ imports_by (drop (suc k) persisted) (drop (suc k) left)
+  imports_at = ap₂ imports_by (at_place persisted k x (omega arith) x_is) (at_place left k y (omega arith) y_is)
 
-  sets_at : (all : List Resource) → set_imports (drop k holders) (imports_by (drop k held) (drop k left)) all ≡ set_imports (h ∷ drop (suc k) holders) (named_import (source_by (unwrap_or x []) y) ∷ imports_by (drop (suc k) held) (drop (suc k) left)) all
+  sets_at : (all : List Resource) → set_imports (drop k holders) (imports_by (drop k persisted) (drop k left)) all ≡ set_imports (h ∷ drop (suc k) holders) (named_import (source_by (unwrap_or x []) y) ∷ imports_by (drop (suc k) persisted) (drop (suc k) left)) all
   sets_at all = ap₂ (λ hs is. set_imports hs is all) (at_place holders k h lt h_is) imports_at
 
 set_first : (h : Option ℕ) (import : Option (List ℕ)) (hs : List (Option ℕ)) (imports : List (Option (List ℕ))) (all : List Resource) → set_imports (h ∷ hs) (import ∷ imports) all ≡ set_imports hs imports (set_held h import all)
 set_first None import hs imports all = refl
 set_first (Some k) import hs imports all = refl
 
-pub holder_on : (holders : List (Option ℕ)) (held left : List (Option (List ℕ))) (k : ℕ) (h : Option ℕ) (x y : Option (List ℕ)) (all all' total : List Resource) → k < length holders → length holders ≡ length held → length holders ≡ length left → h ≡ get_or holders k h → x ≡ get_or held k x → y ≡ get_or left k y → all' ≡ set_held h (named_import (source_by (unwrap_or x []) y)) all → set_imports (drop k holders) (imports_by (drop k held) (drop k left)) all ≡ total → set_imports (drop (k + 1) holders) (imports_by (drop (k + 1) held) (drop (k + 1) left)) all' ≡ total
-holder_on holders held left k h x y all all' total lt as_held as_left h_is x_is y_is sets so_far =
-    let rest = imports_by (drop (suc k) held) (drop (suc k) left) in
+pub holder_on : (holders : List (Option ℕ)) (persisted left : List (Option (List ℕ))) (k : ℕ) (h : Option ℕ) (x y : Option (List ℕ)) (all all' total : List Resource) → k < length holders → length holders ≡ length persisted → length holders ≡ length left → h ≡ get_or holders k h → x ≡ get_or persisted k x → y ≡ get_or left k y → all' ≡ set_held h (named_import (source_by (unwrap_or x []) y)) all → set_imports (drop k holders) (imports_by (drop k persisted) (drop k left)) all ≡ total → set_imports (drop (k + 1) holders) (imports_by (drop (k + 1) persisted) (drop (k + 1) left)) all' ≡ total
+holder_on holders persisted left k h x y all all' total lt as_held as_left h_is x_is y_is sets so_far =
+    let rest = imports_by (drop (suc k) persisted) (drop (suc k) left) in
     let import = named_import (source_by (unwrap_or x []) y) in
-    rw add-one (ap (set_imports (drop (suc k) holders) rest) sets ∙ sym (set_first h import (drop (suc k) holders) rest all) ∙ sym (sets_at holders held left k h x y lt as_held as_left h_is x_is y_is all) ∙ so_far)
+    rw add-one (ap (set_imports (drop (suc k) holders) rest) sets ∙ sym (set_first h import (drop (suc k) holders) rest all) ∙ sym (sets_at holders persisted left k h x y lt as_held as_left h_is x_is y_is all) ∙ so_far)
 
-pub resources_end : (i : ℕ) (holders : List (Option ℕ)) (held left : List (Option (List ℕ))) (rs : List Resource) (k : ℕ) (all : List Resource) → length holders ≤ k → k ≤ length holders → set_imports (drop k holders) (imports_by (drop k held) (drop k left)) all ≡ set_imports holders (imports_by held left) (renamed_resources i 0 rs) → all ≡ renamed_resources i 0 (set_imports holders (imports_by held left) rs)
-resources_end i holders held left rs k all far near so_far =
+pub resources_end : (i : ℕ) (holders : List (Option ℕ)) (persisted left : List (Option (List ℕ))) (rs : List Resource) (k : ℕ) (all : List Resource) → length holders ≤ k → k ≤ length holders → set_imports (drop k holders) (imports_by (drop k persisted) (drop k left)) all ≡ set_imports holders (imports_by persisted left) (renamed_resources i 0 rs) → all ≡ renamed_resources i 0 (set_imports holders (imports_by persisted left) rs)
+resources_end i holders persisted left rs k all far near so_far =
     let e : k ≡ length holders = omega arith in
     let none : drop k holders ≡ [] = ap (λ n. drop n holders) e ∙ drop-length holders in
-    sym (ap (λ hs. set_imports hs (imports_by (drop k held) (drop k left)) all) none) ∙ so_far ∙ sym (renamed_sets i 0 holders (imports_by held left) rs)
+    sym (ap (λ hs. set_imports hs (imports_by (drop k persisted) (drop k left)) all) none) ∙ so_far ∙ sym (renamed_sets i 0 holders (imports_by persisted left) rs)
 
 -- COPIES
 

@@ -59,5 +59,5 @@ abbrev pub place_under : List (List ℕ) → List Frame → List ℕ → Option 
 place_under persist frames name = option_and_then (λ unit. place_from unit 0 (exported_units persist frames)) (last_unit 0 name None frames)
 
 -- the same of persisting name k in window w
-abbrev pub hold_place : List Frame → List (List ℕ) → ℕ → ℕ → ℕ → Option ℕ
-hold_place frames persist depth w k = option_and_then (place_under persist (frames_in depth frames w)) (slice_get persist k)
+abbrev pub persisted_export : List Frame → List (List ℕ) → ℕ → ℕ → ℕ → Option ℕ
+persisted_export frames persist depth w k = option_and_then (place_under persist (frames_in depth frames w)) (slice_get persist k)

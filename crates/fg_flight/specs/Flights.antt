@@ -33,19 +33,19 @@ size_in frames name = first_in (size_at name) 0 frames
 abbrev pub sizes_of : List Frame → List (List ℕ) → List ℕ
 sizes_of frames persist = map (λ name. unwrap_or (size_in frames name) 0) persist
 
--- no bytes are held under a name that no frame has
-abbrev pub held_bytes : List (Option (List ℕ)) → List (List ℕ)
-held_bytes held = map (λ bytes. unwrap_or bytes []) held
+-- no bytes are persisted under a name that no frame has
+abbrev pub persisted_bytes : List (Option (List ℕ)) → List (List ℕ)
+persisted_bytes persisted = map (λ bytes. unwrap_or bytes []) persisted
 
 -- WINDOWS
 
 abbrev pub window_count : ℕ → List Frame → ℕ
 window_count depth frames = (length frames + (depth - 1)) / depth
 
--- window w, where these bytes are held before it
+-- window w, where these bytes are persisted before it
 abbrev pub window_at : List Frame → List (List ℕ) → ℕ → List (Option (List ℕ)) → ℕ → Frame
-window_at frames persist depth held w = window_frame (queues_of frames) (frames_in depth (all_declared frames persist) w) (held_bytes held)
+window_at frames persist depth persisted w = window_frame (queues_of frames) (frames_in depth (all_declared frames persist) w) (persisted_bytes persisted)
 
--- what is held before a window: for each persisting name bytes of its size, and none where no frame has it
-abbrev pub AreHeld : List Frame → List (List ℕ) → List (Option (List ℕ)) → Type 0
-AreHeld frames persist held = map (option_map length) held ≡ map (size_in frames) persist
+-- what is persisted before a window: for each persisting name bytes of its size, and none where no frame has it
+abbrev pub ArePersisted : List Frame → List (List ℕ) → List (Option (List ℕ)) → Type 0
+ArePersisted frames persist persisted = map (option_map length) persisted ≡ map (size_in frames) persist

@@ -2,8 +2,8 @@
 use Rattle.std.specs.Prelude.{◌≡◌, ◌≤◌, ◌<◌, ℕ, List, length, Option, Some, None}
 use Rattle.std.specs.List.{All}
 use Rattle.fg_flight.specs.Refusals.{first_refusal}
-use Rattle.fg_flight.specs.declared.fault.FlightEnd.{FlightEnd}
-use Rattle.fg_flight.specs.declared.fault.FlightEnd.TheVariants.{Refused, NoMemory}
+use Rattle.fg_flight.specs.declared.fault.FlightError.{FlightError}
+use Rattle.fg_flight.specs.declared.fault.FlightError.TheVariants.{Refused, NoMemory}
 use Rattle.fg_flight.specs.declared.fault.FlightFault.{FlightFault}
 use Rattle.fg_frame.specs.FirstFault.{first_fault}
 use Rattle.fg_frame.specs.Repeats.{first_repeat}
@@ -21,6 +21,6 @@ pub record Fly (frames : List Frame) (persist : List (List ℕ)) (depth : ℕ) :
   pub none : first_refusal frames persist depth ≡ None
 
 -- want of memory says nothing of the frames
-abbrev pub EndsAs : Option FlightFault → FlightEnd → Type 0
+abbrev pub EndsAs : Option FlightFault → FlightError → Type 0
 EndsAs right (Refused fault) = right ≡ Some fault
 EndsAs right NoMemory = Unit {0}

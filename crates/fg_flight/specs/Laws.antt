@@ -1,8 +1,8 @@
 -- What the laws of flights say of frames, their persisting names and a depth.
 use Rattle.std.specs.Prelude.{◌≡◌, ◌<◌, ◌*◌, ◌/◌, ℕ, suc, List, Option, Some, slice_get}
-use Rattle.fg_flight.specs.Alone.{AreAlone, IsHeld, RunInTurn, all_flown, alone, held_next}
-use Rattle.fg_flight.specs.Exported.{export_place, hold_place}
-use Rattle.fg_flight.specs.Flights.{AreHeld, families_of, held_bytes, window_at, window_count}
+use Rattle.fg_flight.specs.Alone.{AreAlone, IsPersisted, RunInTurn, all_flown, alone, persisted_next}
+use Rattle.fg_flight.specs.Exported.{export_place, persisted_export}
+use Rattle.fg_flight.specs.Flights.{ArePersisted, families_of, persisted_bytes, window_at, window_count}
 use Rattle.fg_flight.specs.Fly.{Fly}
 use Rattle.fg_frame.specs.Numbered.{numbered}
 use Rattle.fg_frame.specs.declared.frame.Frame.{Frame}
@@ -17,29 +17,29 @@ OfFlights Law = (frames : List Frame) (persist : List (List ℕ)) (depth : ℕ) 
 -- each window has the numbers of the window of its frames' numbers
 abbrev pub NumbersAgree : List Frame → List (List ℕ) → ℕ → Type 0
 NumbersAgree frames persist depth =
-    (held : List (Option (List ℕ))) → AreHeld frames persist held
+    (persisted : List (Option (List ℕ))) → ArePersisted frames persist persisted
     → (w : ℕ) → w < window_count depth frames
-    → numbered (window_at frames persist depth held w) ≡ window (families_of frames) (frames_in depth (all_flown frames persist) w) (held_bytes held)
+    → numbered (window_at frames persist depth persisted w) ≡ window (families_of frames) (frames_in depth (all_flown frames persist) w) (persisted_bytes persisted)
 
--- where a window begins with what is held before its first frame, each of its frames has at the places of its exports what it
+-- where a window begins with what is persisted before its first frame, each of its frames has at the places of its exports what it
 -- means alone
 abbrev pub ExportsAreAlone : List Frame → List (List ℕ) → ℕ → Type 0
 ExportsAreAlone frames persist depth =
     (i : ℕ) (frame : Frame) → slice_get frames i ≡ Some frame
-    → (held : List (Option (List ℕ))) → IsHeld frames persist ((i / depth) * depth) held
-    → (bytes : ℕ → List ℕ) → AreMeant (numbered (window_at frames persist depth held (i / depth))) bytes
+    → (persisted : List (Option (List ℕ))) → IsPersisted frames persist ((i / depth) * depth) persisted
+    → (bytes : ℕ → List ℕ) → AreMeant (numbered (window_at frames persist depth persisted (i / depth))) bytes
     → AreMeant (alone frames persist i frame) (λ k. bytes (export_place frames depth i k))
 
--- and what stands at the places of the persisting names is held before the next window
+-- and what stands at the places of the persisting names is persisted before the next window
 abbrev pub NextIsHeld : List Frame → List (List ℕ) → ℕ → Type 0
 NextIsHeld frames persist depth =
     (w : ℕ) → w < window_count depth frames
-    → (held : List (Option (List ℕ))) → IsHeld frames persist (w * depth) held
-    → (bytes : ℕ → List ℕ) → AreMeant (numbered (window_at frames persist depth held w)) bytes
-    → IsHeld frames persist (suc w * depth) (held_next (hold_place frames persist depth w) bytes 0 held)
+    → (persisted : List (Option (List ℕ))) → IsPersisted frames persist (w * depth) persisted
+    → (bytes : ℕ → List ℕ) → AreMeant (numbered (window_at frames persist depth persisted w)) bytes
+    → IsPersisted frames persist (suc w * depth) (persisted_next (persisted_export frames persist depth w) bytes 0 persisted)
 
 -- so it is for all windows in turn
 abbrev pub AllAreAlone : List Frame → List (List ℕ) → ℕ → Type 0
 AllAreAlone frames persist depth =
-    (held : ℕ → List (Option (List ℕ))) (bytes : ℕ → ℕ → List ℕ) → RunInTurn frames persist depth held bytes
+    (persisted : ℕ → List (Option (List ℕ))) (bytes : ℕ → ℕ → List ℕ) → RunInTurn frames persist depth persisted bytes
     → AreAlone frames persist depth bytes

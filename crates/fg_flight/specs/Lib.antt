@@ -1,5 +1,5 @@
 pub mod Alone
-pub mod Code
+pub mod Internal
 pub mod Exported
 pub mod Flight
 pub mod Flights

@@ -49,12 +49,12 @@ other_queues frames = first_in (other_at (queues_of frames)) 0 frames
 
 -- PERSISTING NAMES
 
-abbrev pub is_held : ℕ → Resource → Bool
-is_held size r = is_some r.import && bytes_of r.shape == size
+abbrev pub is_persisted : ℕ → Resource → Bool
+is_persisted size r = is_some r.import && bytes_of r.shape == size
 
 -- the frame does not have the name, or has it for an import of the size that belongs to it
 abbrev pub persists : List Frame → Frame → List ℕ → Bool
-persists frames frame name = option_map_or (λ k. option_map_or (is_held (unwrap_or (size_in frames name) 0)) (slice_get frame.resources k) false) (holder_in frame.resources name) true
+persists frames frame name = option_map_or (λ k. option_map_or (is_persisted (unwrap_or (size_in frames name) 0)) (slice_get frame.resources k) false) (holder_in frame.resources name) true
 
 abbrev pub lost_at : List Frame → ℕ → Frame → ℕ → List ℕ → Option FlightFault
 lost_at frames i frame k name = if persists frames frame name then None else Some (Persist i name)
@@ -71,12 +71,12 @@ first_lost frames persist = first_in (lost_in frames persist) 0 frames
 abbrev pub limit_in : Frame → Option Limit
 limit_in frame = option_and_then (λ b. b.limit) (limit_broken frame)
 
--- no limit depends on what is held, so none is given
-abbrev pub unheld : List (List ℕ) → List (Option (List ℕ))
-unheld persist = map (λ name. None) persist
+-- no limit depends on what is persisted, so none is given
+abbrev pub unpersisted : List (List ℕ) → List (Option (List ℕ))
+unpersisted persist = map (λ name. None) persist
 
 abbrev pub too_large : List Frame → List (List ℕ) → ℕ → ℕ → Option FlightFault
-too_large frames persist depth w = option_map (λ limit. Window w limit) (limit_in (window_at frames persist depth (unheld persist) w))
+too_large frames persist depth w = option_map (λ limit. Window w limit) (limit_in (window_at frames persist depth (unpersisted persist) w))
 
 -- the first of so many windows from window w on that breaks a limit
 abbrev pub first_too_large : List Frame → List (List ℕ) → ℕ → ℕ → ℕ → Option FlightFault

@@ -1,4 +1,4 @@
-//! What is held before the first window.
+//! What is persisted before the first window.
 
 ghost use Rattle.std.specs.Prelude.{◌≡◌, [], IfOk, unwrap_or};
 ghost use Rattle.fg_base.specs.Walks.{first_in};
@@ -6,7 +6,7 @@ ghost use Rattle.fg_flight.specs.Alone.{first_bytes, import_under};
 
 use crate::holders::holder_in;
 use fg_base::{List, Name, NoMemory};
-use fg_frame::{GoodFrame, Resource};
+use fg_frame::{ValidFrame, Resource};
 use std::alloc::Global;
 
 fn import_of(alloc: Global, resource: &Resource) -> Result<List<u8>, NoMemory>
@@ -19,7 +19,7 @@ fn import_of(alloc: Global, resource: &Resource) -> Result<List<u8>, NoMemory>
 }
 
 #[tactic(auto, using(crate::proofs::Begins::import_at))]
-fn import_under(alloc: Global, good: &GoodFrame, name: Name) -> Result<Option<List<u8>>, NoMemory>
+fn import_under(alloc: Global, good: &ValidFrame, name: Name) -> Result<Option<List<u8>>, NoMemory>
     ensures { IfOk result (λ bytes. bytes ≡ import_under name 0 good.now) }
 {
     let resources = &good.frame().resources;
@@ -32,7 +32,7 @@ fn import_under(alloc: Global, good: &GoodFrame, name: Name) -> Result<Option<Li
 #[tactic(auto, using(fg_base::proofs::Walks::first_on, fg_base::proofs::Walks::found_on))]
 fn first_import(
     alloc: Global,
-    frames: &[GoodFrame],
+    frames: &[ValidFrame],
     name: Name,
 ) -> Result<Option<List<u8>>, NoMemory>
     ensures { IfOk result (λ bytes. bytes ≡ first_in (import_under name) 0 frames.now) }
@@ -48,14 +48,14 @@ fn first_import(
 /// For each persisting name the import of the first frame that has the name.
 pub(crate) fn first_bytes(
     alloc: Global,
-    frames: &[GoodFrame],
+    frames: &[ValidFrame],
     persist: &[Name],
 ) -> Result<List<Option<List<u8>>>, NoMemory>
-    ensures { IfOk result (λ held. held ≡ first_bytes frames.now persist.now) }
+    ensures { IfOk result (λ persisted. persisted ≡ first_bytes frames.now persist.now) }
 {
-    let mut held = List::new(alloc);
+    let mut persisted = List::new(alloc);
     for name in persist {
-        held.push(first_import(alloc, frames, *name)?)?;
+        persisted.push(first_import(alloc, frames, *name)?)?;
     }
-    Ok(held)
+    Ok(persisted)
 }

@@ -3,17 +3,17 @@
 ghost use Rattle.std.specs.Prelude.{◌≡◌, ◌≤◌, ◌<◌, IfOk, length, map};
 ghost use Rattle.std.specs.List.{list_any};
 ghost use Rattle.std.specs.Str.{bytes_eq};
-ghost use Rattle.fg_flight.specs.Code.Left.{other_by, others_by};
-ghost use Rattle.fg_flight.specs.Code.Parts.{all_exports};
+ghost use Rattle.fg_flight.specs.Internal.Left.{other_by, others_by};
+ghost use Rattle.fg_flight.specs.Internal.WindowParts.{all_exports};
 ghost use Rattle.fg_named.specs.Names.{rename_in};
 ghost use Rattle.fg_named.specs.Passes.{renamed_spot};
 
 use crate::spots::renamed_spots;
 use fg_base::{List, Name, NoMemory};
-use fg_frame::{GoodFrame, Spot};
+use fg_frame::{ValidFrame, Spot};
 use std::alloc::Global;
 
-fn exports_of(alloc: Global, i: usize, good: &GoodFrame) -> Result<List<Spot>, NoMemory>
+fn exports_of(alloc: Global, i: usize, good: &ValidFrame) -> Result<List<Spot>, NoMemory>
     requires { i < 10 }
     ensures { IfOk result (λ exports. exports ≡ map (renamed_spot (rename_in i good.now)) good.now.exports) }
 {
@@ -23,7 +23,7 @@ fn exports_of(alloc: Global, i: usize, good: &GoodFrame) -> Result<List<Spot>, N
 
 /// The exports of the frames, in their order.
 #[tactic(auto, using(crate::proofs::Frames::exports_on, crate::proofs::Frames::exports_end))]
-pub(crate) fn all_exports(alloc: Global, frames: &[GoodFrame]) -> Result<List<Spot>, NoMemory>
+pub(crate) fn all_exports(alloc: Global, frames: &[ValidFrame]) -> Result<List<Spot>, NoMemory>
     requires { length frames.now ≤ 8 }
     ensures { IfOk result (λ exports. exports ≡ all_exports 0 frames.now) }
 {

@@ -1,7 +1,7 @@
 //! Why frames do not fly together.
 
 ghost use Rattle.std.specs.Prelude.{◌≡◌};
-ghost use Rattle.fg_flight.specs.declared.fault.FlightEnd.TheVariants as ends;
+ghost use Rattle.fg_flight.specs.declared.fault.FlightError.TheVariants as ends;
 
 use fg_base::{Limit, Name, NoMemory};
 use thiserror::Error;
@@ -19,17 +19,17 @@ pub enum FlightFault {
 
 /// Why there are no windows.
 #[derive(Clone, Copy, Debug, Error)]
-pub enum FlightEnd {
+pub enum FlightError {
     #[error("the frames cannot fly together")]
     Refused(FlightFault),
     #[error("memory ran out")]
     NoMemory,
 }
 
-impl From<NoMemory> for FlightEnd {
+impl From<NoMemory> for FlightError {
     ghost from_gives = { λ _ e. e ≡ ends.NoMemory };
 
-    fn from(_: NoMemory) -> FlightEnd {
-        FlightEnd::NoMemory
+    fn from(_: NoMemory) -> FlightError {
+        FlightError::NoMemory
     }
 }

@@ -3,12 +3,12 @@
 ghost use Rattle.std.specs.Prelude.{◌≡◌, ◌<◌, IfOk, IfSome, length};
 ghost use Rattle.std.specs.List.{position};
 ghost use Rattle.std.specs.Str.{bytes_eq};
-ghost use Rattle.fg_flight.specs.Code.Left.{holders_of, left_after, left_by, nothing_left};
+ghost use Rattle.fg_flight.specs.Internal.Left.{holders_of, left_after, left_by, nothing_left};
 ghost use Rattle.fg_named.specs.Declared.{holder_in};
 
 use crate::names::numbered_name;
 use fg_base::{List, Name, NoMemory};
-use fg_frame::{GoodFrame, Resource};
+use fg_frame::{ValidFrame, Resource};
 use std::alloc::Global;
 
 fn place_of(resources: &[Resource], name: Name) -> Option<usize>
@@ -30,7 +30,7 @@ pub(crate) fn holder_in(resources: &[Resource], name: Name) -> Option<usize>
 pub(crate) fn holders_of(
     alloc: Global,
     persist: &[Name],
-    good: &GoodFrame,
+    good: &ValidFrame,
 ) -> Result<List<Option<usize>>, NoMemory>
     ensures holders { IfOk result (λ holders. holders ≡ holders_of persist.now good.now) }
     ensures each { IfOk result (λ holders. length holders ≡ length persist.now) }
@@ -43,7 +43,7 @@ pub(crate) fn holders_of(
     Ok(holders)
 }
 
-/// Before a window all bytes are as they were held.
+/// Before a window all bytes are as they were persisted.
 pub(crate) fn nothing_left(alloc: Global, persist: &[Name]) -> Result<List<Option<Name>>, NoMemory>
     ensures left { IfOk result (λ left. left ≡ nothing_left persist.now) }
     ensures each { IfOk result (λ left. length left ≡ length persist.now) }

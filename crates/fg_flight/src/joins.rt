@@ -3,7 +3,7 @@
 ghost use Rattle.std.specs.Prelude.{◌≡◌, ◌++◌, ◌<◌, IfOk, OnOk, length, map, true};
 ghost use Rattle.std.specs.List.{All};
 ghost use Rattle.fg_base.specs.Bounds.{size_allowed};
-ghost use Rattle.fg_flight.specs.Code.Left.{carried, carries_by, carry_by};
+ghost use Rattle.fg_flight.specs.Internal.Left.{carried, carries_by, carry_by};
 ghost use Rattle.fg_named.specs.Joins.{named_copy, named_join, named_joins, named_renewal, size_of, whole};
 
 use crate::names::{join_name, numbered_name};

@@ -17,6 +17,6 @@ mod spots;
 mod window;
 mod windows;
 
-pub use fault::{FlightEnd, FlightFault};
+pub use fault::{FlightError, FlightFault};
 pub use laws::flight_laws;
 pub use windows::{Windows, windows_of};

@@ -2,35 +2,35 @@
 
 ghost use Rattle.std.specs.Prelude.{◌≡◌, ◌<◌, ◌≤◌, ◌+◌, ◌*◌, ◌-◌, ◌/◌, IfOk, length, min};
 ghost use Rattle.fg_flight.specs.Flights.{window_at, window_count};
-ghost use Rattle.fg_flight.specs.Refusals.{first_too_large, limit_in, too_large, unheld};
+ghost use Rattle.fg_flight.specs.Refusals.{first_too_large, limit_in, too_large, unpersisted};
 ghost use Rattle.fg_window.specs.InTurn.{frames_in};
 
 use crate::fault::FlightFault;
 use crate::window::window;
 use fg_base::{Limit, List, Name, NoMemory};
-use fg_frame::{Frame, FrameEnd, GoodFrame, well_formed};
+use fg_frame::{Frame, FrameError, ValidFrame, validate_frame};
 use std::alloc::Global;
 
 #[tactic(auto, using(crate::proofs::Told::limit_told, crate::proofs::Told::none_told))]
 fn limit_in(alloc: Global, frame: Frame) -> Result<Option<Limit>, NoMemory>
     ensures { IfOk result (λ limit. limit ≡ limit_in frame) }
 {
-    match well_formed(alloc, frame) {
+    match validate_frame(alloc, frame) {
         Ok(_) => Ok(None),
-        Err(FrameEnd::Refused(fault, _)) => Ok(fault.limit),
-        Err(FrameEnd::NoMemory(_)) => Err(NoMemory),
+        Err(FrameError::Refused(fault, _)) => Ok(fault.limit),
+        Err(FrameError::NoMemory(_)) => Err(NoMemory),
     }
 }
 
-fn unheld(alloc: Global, persist: &[Name]) -> Result<List<Option<List<u8>>>, NoMemory>
-    ensures held { IfOk result (λ held. held ≡ unheld persist.now) }
-    ensures each { IfOk result (λ held. length held ≡ length persist.now) }
+fn unpersisted(alloc: Global, persist: &[Name]) -> Result<List<Option<List<u8>>>, NoMemory>
+    ensures persisted { IfOk result (λ persisted. persisted ≡ unpersisted persist.now) }
+    ensures each { IfOk result (λ persisted. length persisted ≡ length persist.now) }
 {
-    let mut held = List::new(alloc);
+    let mut persisted = List::new(alloc);
     for _name in persist {
-        held.push(None)?;
+        persisted.push(None)?;
     }
-    Ok(held)
+    Ok(persisted)
 }
 
 /// How many windows of this depth so many frames make.
@@ -51,7 +51,7 @@ fn smaller(a: usize, b: usize) -> usize
 
 /// The frames of window `w`.
 #[tactic(auto, using(crate::proofs::Counted::sliced))]
-pub(crate) fn frames_of(frames: &[GoodFrame], depth: u32, w: u32) -> &[GoodFrame]
+pub(crate) fn frames_of(frames: &[ValidFrame], depth: u32, w: u32) -> &[ValidFrame]
     requires few { length frames.now ≤ 64 }
     requires deep { depth ≤ 8 }
     requires there { w * depth < length frames.now }
@@ -63,28 +63,28 @@ pub(crate) fn frames_of(frames: &[GoodFrame], depth: u32, w: u32) -> &[GoodFrame
     &frames[from..from + count]
 }
 
-/// Window `w` of these frames, where these bytes are held before it.
+/// Window `w` of these frames, where these bytes are persisted before it.
 pub(crate) fn window_at(
     alloc: Global,
-    frames: &[GoodFrame],
+    frames: &[ValidFrame],
     persist: &[Name],
     depth: u32,
-    held: &[Option<List<u8>>],
+    persisted: &[Option<List<u8>>],
     w: u32,
 ) -> Result<Frame, NoMemory>
     requires few { length frames.now ≤ 64 }
     requires deep { depth ≤ 8 }
     requires there { w * depth < length frames.now }
-    requires held { length held.now ≡ length persist.now }
-    ensures { IfOk result (λ frame. frame ≡ window_at frames.now persist.now depth held.now w) }
+    requires persisted { length persisted.now ≡ length persist.now }
+    ensures { IfOk result (λ frame. frame ≡ window_at frames.now persist.now depth persisted.now w) }
 {
     let queues = &frames[0].frame().queues;
-    window(alloc, queues, frames_of(frames, depth, w), persist, held)
+    window(alloc, queues, frames_of(frames, depth, w), persist, persisted)
 }
 
 fn too_large(
     alloc: Global,
-    frames: &[GoodFrame],
+    frames: &[ValidFrame],
     persist: &[Name],
     depth: u32,
     w: u32,
@@ -94,8 +94,8 @@ fn too_large(
     requires there { w * depth < length frames.now }
     ensures { IfOk result (λ fault. fault ≡ too_large frames.now persist.now depth w) }
 {
-    let held = unheld(alloc, persist)?;
-    let frame = window_at(alloc, frames, persist, depth, &held, w)?;
+    let persisted = unpersisted(alloc, persist)?;
+    let frame = window_at(alloc, frames, persist, depth, &persisted, w)?;
     match limit_in(alloc, frame)? {
         Some(limit) => Ok(Some(FlightFault::Window { window: w, limit })),
         None => Ok(None),
@@ -106,7 +106,7 @@ fn too_large(
 #[tactic(auto, using(crate::proofs::Counted::large_on, crate::proofs::Counted::large_found, crate::proofs::Counted::large_end, crate::proofs::Counted::there))]
 pub(crate) fn first_too_large(
     alloc: Global,
-    frames: &[GoodFrame],
+    frames: &[ValidFrame],
     persist: &[Name],
     depth: u32,
 ) -> Result<Option<FlightFault>, NoMemory>

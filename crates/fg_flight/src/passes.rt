@@ -4,7 +4,7 @@ ghost use Rattle.std.specs.Prelude.{◌≡◌, ◌++◌, ◌<◌, IfOk, OnOk, le
 ghost use Rattle.std.specs.List.{All};
 ghost use Rattle.fg_base.specs.Bounds.{size_allowed};
 ghost use Rattle.fg_base.specs.Operands.{mapped};
-ghost use Rattle.fg_flight.specs.Code.Parts.{passes_by};
+ghost use Rattle.fg_flight.specs.Internal.WindowParts.{passes_by};
 ghost use Rattle.fg_named.specs.Names.{numbered_name, rename_in};
 ghost use Rattle.fg_named.specs.Passes.{renamed_pass, renamed_passes, renamed_spot, renamed_write};
 
@@ -12,7 +12,7 @@ use crate::joins::{add_join, carries_by};
 use crate::names::numbered_name;
 use crate::spots::{renamed_spot, renamed_spots};
 use fg_base::{List, Name, NoMemory, Op};
-use fg_frame::{Frame, GoodFrame, Pass, Spot, Write, frame_laws};
+use fg_frame::{Frame, ValidFrame, Pass, Spot, Write, frame_laws};
 use std::alloc::Global;
 
 fn renamed_writes(
@@ -122,7 +122,7 @@ pub(crate) fn add_passes(
     i: usize,
     holders: &[Option<usize>],
     left: &[Option<Name>],
-    good: &GoodFrame,
+    good: &ValidFrame,
 ) -> Result<(), NoMemory>
     requires few { i < 10 }
     requires each { length holders.now ≡ length left.now }

@@ -3,8 +3,8 @@
 ghost use Rattle.std.specs.Prelude.{◌≡◌, ◌≤◌, ◌<◌, ◌+◌, ◌*◌, ◌==◌, false, None, length, map, option_to_list};
 ghost use Rattle.std.specs.List.{All, flat_map};
 ghost use Rattle.std.specs.Option.{option_map_or};
-ghost use Rattle.fg_flight.specs.Code.Units.{other_unit};
-ghost use Rattle.fg_flight.specs.Exported.{export_place, exports_in, hold_place, last_unit, last_units, own_units, place_from, place_under, unit_under};
+ghost use Rattle.fg_flight.specs.Internal.Units.{other_unit};
+ghost use Rattle.fg_flight.specs.Exported.{export_place, exports_in, persisted_export, last_unit, last_units, own_units, place_from, place_under, unit_under};
 ghost use Rattle.fg_frame.specs.Numbered.{numbered};
 ghost use Rattle.fg_frame.specs.Units.{units_from};
 ghost use Rattle.fg_named.specs.Declared.{unit_at};
@@ -13,10 +13,10 @@ ghost use Rattle.fg_window.specs.Window.{others};
 use crate::holders::holder_in;
 use crate::limits::frames_of;
 use fg_base::Name;
-use fg_frame::{GoodFrame, Resource};
+use fg_frame::{ValidFrame, Resource};
 
 // How many units a frame exports.
-fn export_count(good: &GoodFrame) -> u32
+fn export_count(good: &ValidFrame) -> u32
     ensures count { result ≡ length (numbered good.now).exports }
     ensures few { result ≤ 32 }
 {
@@ -25,7 +25,7 @@ fn export_count(good: &GoodFrame) -> u32
 
 // How many units frames export.
 #[tactic(auto, using(crate::proofs::Units::count_on, crate::proofs::Units::count_end))]
-fn exports_in(frames: &[GoodFrame]) -> u32
+fn exports_in(frames: &[ValidFrame]) -> u32
     requires { length frames.now ≤ 8 }
     ensures count { result ≡ exports_in frames.now }
     ensures few { result ≤ 256 }
@@ -39,7 +39,7 @@ fn exports_in(frames: &[GoodFrame]) -> u32
 
 /// The place of a frame's export among what its window exports.
 #[tactic(auto, using(crate::proofs::Units::begins_before, crate::proofs::Units::few_before, crate::proofs::Units::placed))]
-pub(crate) fn export_place(frames: &[GoodFrame], depth: u32, frame: u32, k: u32) -> u32
+pub(crate) fn export_place(frames: &[ValidFrame], depth: u32, frame: u32, k: u32) -> u32
     requires few { length frames.now ≤ 64 }
     requires deep { 1 ≤ depth }
     requires shallow { depth ≤ 8 }
@@ -67,7 +67,7 @@ fn unit_at(resources: &[Resource], k: usize) -> u32
 }
 
 // The unit that a frame whose units begin at `first` has under a name.
-fn unit_under(first: u32, name: Name, good: &GoodFrame) -> Option<u32>
+fn unit_under(first: u32, name: Name, good: &ValidFrame) -> Option<u32>
     requires { first ≤ 2048 }
     ensures { result ≡ unit_under first name good.now }
 {
@@ -81,7 +81,7 @@ fn unit_under(first: u32, name: Name, good: &GoodFrame) -> Option<u32>
 
 // The last unit that frames have under a name.
 #[tactic(auto, using(crate::proofs::Units::last_on, crate::proofs::Units::last_end))]
-fn last_unit(frames: &[GoodFrame], name: Name) -> Option<u32>
+fn last_unit(frames: &[ValidFrame], name: Name) -> Option<u32>
     requires { length frames.now ≤ 8 }
     ensures { result ≡ last_unit 0 name None frames.now }
 {
@@ -113,7 +113,7 @@ fn place_in(exports: &[u32], first: u32, unit: u32, place: u32) -> Option<u32>
 
 // The place of a unit among the exports of a frame whose units begin at `first`, where the places begin at `place`.
 #[tactic(auto, using(crate::proofs::Units::inside))]
-fn place_of(good: &GoodFrame, first: u32, unit: u32, place: u32) -> Option<u32>
+fn place_of(good: &ValidFrame, first: u32, unit: u32, place: u32) -> Option<u32>
     requires first { first ≤ 2048 }
     requires place { place ≤ 256 }
     ensures { result ≡ place_from unit place (map (λ x. first + x) (numbered good.now).exports) }
@@ -124,7 +124,7 @@ fn place_of(good: &GoodFrame, first: u32, unit: u32, place: u32) -> Option<u32>
 
 // The place of a unit among the exports of the frames themselves.
 #[tactic(auto, using(crate::proofs::Units::own_on, crate::proofs::Units::own_found, crate::proofs::Units::own_end))]
-fn own_place(frames: &[GoodFrame], unit: u32) -> Option<u32>
+fn own_place(frames: &[ValidFrame], unit: u32) -> Option<u32>
     requires { length frames.now ≤ 8 }
     ensures { result ≡ place_from unit 0 (own_units 0 frames.now) }
 {
@@ -141,7 +141,7 @@ fn own_place(frames: &[GoodFrame], unit: u32) -> Option<u32>
 }
 
 // The last unit under a name, where the frames do not export it themselves.
-fn other_unit(frames: &[GoodFrame], name: Name) -> Option<u32>
+fn other_unit(frames: &[ValidFrame], name: Name) -> Option<u32>
     requires { length frames.now ≤ 8 }
     ensures { result ≡ other_unit frames.now name }
 {
@@ -175,7 +175,7 @@ fn counted(other: Option<u32>) -> u32
 // The place of a unit among the last units under persisting names that the frames do not export themselves, where the places
 // begin at `start`.
 #[tactic(auto, using(crate::proofs::Units::other_on, crate::proofs::Units::other_found, crate::proofs::Units::others_end))]
-fn other_place(frames: &[GoodFrame], persist: &[Name], unit: u32, start: u32) -> Option<u32>
+fn other_place(frames: &[ValidFrame], persist: &[Name], unit: u32, start: u32) -> Option<u32>
     requires few { length frames.now ≤ 8 }
     requires names { length persist.now ≤ 16 }
     requires start { start ≤ 256 }
@@ -194,7 +194,7 @@ fn other_place(frames: &[GoodFrame], persist: &[Name], unit: u32, start: u32) ->
 
 // The place of the last unit that frames have under a name, among what a window of these frames exports.
 #[tactic(auto, using(crate::proofs::Units::own_first, crate::proofs::Units::then_others))]
-fn place_under(frames: &[GoodFrame], persist: &[Name], name: Name) -> Option<u32>
+fn place_under(frames: &[ValidFrame], persist: &[Name], name: Name) -> Option<u32>
     requires few { length frames.now ≤ 8 }
     requires names { length persist.now ≤ 16 }
     ensures { result ≡ place_under persist.now frames.now name }
@@ -207,8 +207,8 @@ fn place_under(frames: &[GoodFrame], persist: &[Name], name: Name) -> Option<u32
 }
 
 /// The place of persisting name `k` among what window `w` exports.
-pub(crate) fn hold_place(
-    frames: &[GoodFrame],
+pub(crate) fn persisted_export(
+    frames: &[ValidFrame],
     persist: &[Name],
     depth: u32,
     w: u32,
@@ -219,7 +219,7 @@ pub(crate) fn hold_place(
     requires there { w * depth < length frames.now }
     requires names { length persist.now ≤ 16 }
     requires name { k < length persist.now }
-    ensures { result ≡ hold_place frames.now persist.now depth w k }
+    ensures { result ≡ persisted_export frames.now persist.now depth w k }
 {
     place_under(frames_of(frames, depth, w), persist, persist[k as usize])
 }

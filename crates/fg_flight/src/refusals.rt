@@ -3,13 +3,13 @@
 ghost use Rattle.std.specs.Prelude.{◌≡◌, ◌<◌, ◌≤◌, length, None, Some};
 ghost use Rattle.fg_base.specs.Walks.{first_in};
 ghost use Rattle.fg_flight.specs.Flights.{size_at, size_in};
-ghost use Rattle.fg_flight.specs.Refusals.{first_lost, is_held, lost_at, lost_in, other_at, other_queues, persists, same_family, same_queue, same_queues};
+ghost use Rattle.fg_flight.specs.Refusals.{first_lost, is_persisted, lost_at, lost_in, other_at, other_queues, persists, same_family, same_queue, same_queues};
 
 use crate::fault::FlightFault;
 use crate::holders::holder_in;
 use crate::joins::size_of;
 use fg_base::{Family, Name};
-use fg_frame::{GoodFrame, QueueDecl, Resource, frame_laws};
+use fg_frame::{ValidFrame, QueueDecl, Resource, frame_laws};
 
 fn same_family(a: Family, b: Family) -> bool
     ensures { result ≡ same_family a b }
@@ -38,7 +38,7 @@ fn same_queues(a: &[QueueDecl], b: &[QueueDecl]) -> bool
     true
 }
 
-fn other_at(queues: &[QueueDecl], i: usize, good: &GoodFrame) -> Option<FlightFault>
+fn other_at(queues: &[QueueDecl], i: usize, good: &ValidFrame) -> Option<FlightFault>
     requires { i < 64 }
     ensures { result ≡ other_at queues.now i good.now }
 {
@@ -50,7 +50,7 @@ fn other_at(queues: &[QueueDecl], i: usize, good: &GoodFrame) -> Option<FlightFa
 
 /// The first frame that has other queues than these.
 #[tactic(auto, using(fg_base::proofs::Walks::first_on, fg_base::proofs::Walks::found_on))]
-pub(crate) fn other_queues(queues: &[QueueDecl], frames: &[GoodFrame]) -> Option<FlightFault>
+pub(crate) fn other_queues(queues: &[QueueDecl], frames: &[ValidFrame]) -> Option<FlightFault>
     requires { length frames.now ≤ 64 }
     ensures { result ≡ first_in (other_at queues.now) 0 frames.now }
 {
@@ -62,7 +62,7 @@ pub(crate) fn other_queues(queues: &[QueueDecl], frames: &[GoodFrame]) -> Option
     None
 }
 
-fn size_at(good: &GoodFrame, name: Name) -> Option<u32>
+fn size_at(good: &ValidFrame, name: Name) -> Option<u32>
     ensures { result ≡ size_at name 0 good.now }
 {
     frame_laws();
@@ -74,7 +74,7 @@ fn size_at(good: &GoodFrame, name: Name) -> Option<u32>
 }
 
 #[tactic(auto, using(fg_base::proofs::Walks::first_on, fg_base::proofs::Walks::found_on))]
-fn size_in(frames: &[GoodFrame], name: Name) -> Option<u32>
+fn size_in(frames: &[ValidFrame], name: Name) -> Option<u32>
     ensures { result ≡ size_in frames.now name }
 {
     for (i, good) in frames.iter().enumerate() {
@@ -85,24 +85,24 @@ fn size_in(frames: &[GoodFrame], name: Name) -> Option<u32>
     None
 }
 
-fn is_held(size: u32, resource: &Resource) -> bool
-    ensures { result ≡ is_held size resource.now }
+fn is_persisted(size: u32, resource: &Resource) -> bool
+    ensures { result ≡ is_persisted size resource.now }
 {
     resource.import.is_some() && resource.shape.bytes() == size as u128
 }
 
 #[tactic(auto, using(crate::proofs::Queues::held_at))]
-fn persists(frames: &[GoodFrame], good: &GoodFrame, name: Name) -> bool
+fn persists(frames: &[ValidFrame], good: &ValidFrame, name: Name) -> bool
     ensures { result ≡ persists frames.now good.now name }
 {
     let frame = good.frame();
     match holder_in(&frame.resources, name) {
-        Some(k) => is_held(size_in(frames, name).unwrap_or(0), &frame.resources[k]),
+        Some(k) => is_persisted(size_in(frames, name).unwrap_or(0), &frame.resources[k]),
         None => true,
     }
 }
 
-fn lost_at(frames: &[GoodFrame], i: usize, good: &GoodFrame, name: Name) -> Option<FlightFault>
+fn lost_at(frames: &[ValidFrame], i: usize, good: &ValidFrame, name: Name) -> Option<FlightFault>
     requires { i < 64 }
     ensures { result ≡ lost_at frames.now i good.now 0 name }
 {
@@ -117,10 +117,10 @@ fn lost_at(frames: &[GoodFrame], i: usize, good: &GoodFrame, name: Name) -> Opti
 
 #[tactic(auto, using(fg_base::proofs::Walks::first_on, fg_base::proofs::Walks::found_on))]
 fn lost_in(
-    frames: &[GoodFrame],
+    frames: &[ValidFrame],
     persist: &[Name],
     i: usize,
-    good: &GoodFrame,
+    good: &ValidFrame,
 ) -> Option<FlightFault>
     requires { i < 64 }
     ensures { result ≡ lost_in frames.now persist.now i good.now }
@@ -135,7 +135,7 @@ fn lost_in(
 
 /// The first frame that has a persisting name for what does not persist.
 #[tactic(auto, using(fg_base::proofs::Walks::first_on, fg_base::proofs::Walks::found_on))]
-pub(crate) fn first_lost(frames: &[GoodFrame], persist: &[Name]) -> Option<FlightFault>
+pub(crate) fn first_lost(frames: &[ValidFrame], persist: &[Name]) -> Option<FlightFault>
     requires { length frames.now ≤ 64 }
     ensures { result ≡ first_lost frames.now persist.now }
 {

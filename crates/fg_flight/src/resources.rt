@@ -1,8 +1,8 @@
 //! The resources of a window.
 
 ghost use Rattle.std.specs.Prelude.{◌≡◌, ◌++◌, ◌<◌, [], IfOk, OnOk, length, unwrap_or};
-ghost use Rattle.fg_flight.specs.Code.Left.{set_held, source_by};
-ghost use Rattle.fg_flight.specs.Code.Parts.{resources_by};
+ghost use Rattle.fg_flight.specs.Internal.Left.{set_held, source_by};
+ghost use Rattle.fg_flight.specs.Internal.WindowParts.{resources_by};
 ghost use Rattle.fg_named.specs.Resources.{renamed_resources, set_import};
 ghost use Rattle.fg_named.specs.Sources.{named_import};
 
@@ -58,17 +58,17 @@ fn set_import(resources: &mut Vec<Resource>, k: usize, import: Option<List<u8>>)
     }
 }
 
-// The bytes that are held are an import; those that are in a resource of the window are copied by a pass.
+// The bytes that are persisted are an import; those that are in a resource of the window are copied by a pass.
 fn import_of(
     alloc: Global,
-    held: &Option<List<u8>>,
+    persisted: &Option<List<u8>>,
     left: Option<Name>,
 ) -> Result<Option<List<u8>>, NoMemory>
-    ensures { IfOk result (λ import. import ≡ named_import (source_by (unwrap_or held.now []) left)) }
+    ensures { IfOk result (λ import. import ≡ named_import (source_by (unwrap_or persisted.now []) left)) }
 {
     match left {
         Some(_) => Ok(None),
-        None => match held {
+        None => match persisted {
             Some(bytes) => Ok(Some(bytes.copy(alloc)?)),
             None => Ok(Some(List::new(alloc))),
         },
@@ -80,13 +80,13 @@ fn set_held(
     alloc: Global,
     resources: &mut Vec<Resource>,
     holder: Option<usize>,
-    held: &Option<List<u8>>,
+    persisted: &Option<List<u8>>,
     left: Option<Name>,
 ) -> Result<(), NoMemory>
-    ensures { OnOk result (resources.new.items ≡ set_held holder (named_import (source_by (unwrap_or held.now []) left)) resources.old.items) }
+    ensures { OnOk result (resources.new.items ≡ set_held holder (named_import (source_by (unwrap_or persisted.now []) left)) resources.old.items) }
 {
     if let Some(k) = holder {
-        set_import(resources, k, import_of(alloc, held, left)?);
+        set_import(resources, k, import_of(alloc, persisted, left)?);
     }
     Ok(())
 }
@@ -97,18 +97,18 @@ pub(crate) fn resources_by(
     alloc: Global,
     i: usize,
     holders: &[Option<usize>],
-    held: &[Option<List<u8>>],
+    persisted: &[Option<List<u8>>],
     left: &[Option<Name>],
     resources: &[Resource],
 ) -> Result<List<Resource>, NoMemory>
     requires few { i < 10 }
-    requires held { length holders.now ≡ length held.now }
+    requires persisted { length holders.now ≡ length persisted.now }
     requires left { length holders.now ≡ length left.now }
-    ensures { IfOk result (λ all. all ≡ resources_by i holders.now held.now left.now resources.now) }
+    ensures { IfOk result (λ all. all ≡ resources_by i holders.now persisted.now left.now resources.now) }
 {
     let mut all = renamed_resources(alloc, i, resources)?.into_vec();
     for (k, holder) in holders.iter().enumerate() {
-        set_held(alloc, &mut all, *holder, &held[k], left[k])?;
+        set_held(alloc, &mut all, *holder, &persisted[k], left[k])?;
     }
     Ok(List::from_vec(all))
 }

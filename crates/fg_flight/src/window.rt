@@ -1,9 +1,9 @@
 //! A window as one frame.
 
 ghost use Rattle.std.specs.Prelude.{◌≡◌, ◌≤◌, ◌<◌, ◌++◌, IfOk, length};
-ghost use Rattle.fg_flight.specs.Code.Left.{last_left, nothing_left, others_by};
-ghost use Rattle.fg_flight.specs.Code.Parts.{all_exports, all_passes, all_resources, resources_by};
-ghost use Rattle.fg_flight.specs.Flights.{all_declared, held_bytes};
+ghost use Rattle.fg_flight.specs.Internal.Left.{last_left, nothing_left, others_by};
+ghost use Rattle.fg_flight.specs.Internal.WindowParts.{all_exports, all_passes, all_resources, resources_by};
+ghost use Rattle.fg_flight.specs.Flights.{all_declared, persisted_bytes};
 ghost use Rattle.fg_named.specs.WindowFrame.{window_frame};
 
 use crate::exports::{all_exports, others};
@@ -11,41 +11,41 @@ use crate::holders::{holders_of, left_after, nothing_left};
 use crate::passes::add_passes;
 use crate::resources::{append, resources_by};
 use fg_base::{List, Name, NoMemory};
-use fg_frame::{Frame, GoodFrame, Pass, QueueDecl, Resource, Spot};
+use fg_frame::{Frame, ValidFrame, Pass, QueueDecl, Resource, Spot};
 use std::alloc::Global;
 
 fn resources_of(
     alloc: Global,
     i: usize,
     holders: &[Option<usize>],
-    held: &[Option<List<u8>>],
+    persisted: &[Option<List<u8>>],
     left: &[Option<Name>],
-    good: &GoodFrame,
+    good: &ValidFrame,
 ) -> Result<List<Resource>, NoMemory>
     requires few { i < 10 }
-    requires held { length holders.now ≡ length held.now }
+    requires persisted { length holders.now ≡ length persisted.now }
     requires left { length holders.now ≡ length left.now }
-    ensures { IfOk result (λ all. all ≡ resources_by i holders.now held.now left.now good.now.resources) }
+    ensures { IfOk result (λ all. all ≡ resources_by i holders.now persisted.now left.now good.now.resources) }
 {
-    resources_by(alloc, i, holders, held, left, &good.frame().resources)
+    resources_by(alloc, i, holders, persisted, left, &good.frame().resources)
 }
 
 #[tactic(auto, using(crate::proofs::Frames::resources_on, crate::proofs::Frames::resources_end))]
 fn all_resources(
     alloc: Global,
-    frames: &[GoodFrame],
+    frames: &[ValidFrame],
     persist: &[Name],
-    held: &[Option<List<u8>>],
+    persisted: &[Option<List<u8>>],
 ) -> Result<List<Resource>, NoMemory>
     requires few { length frames.now ≤ 8 }
-    requires held { length held.now ≡ length persist.now }
-    ensures { IfOk result (λ resources. resources ≡ all_resources persist.now held.now 0 (nothing_left persist.now) frames.now) }
+    requires persisted { length persisted.now ≡ length persist.now }
+    ensures { IfOk result (λ resources. resources ≡ all_resources persist.now persisted.now 0 (nothing_left persist.now) frames.now) }
 {
     let mut resources = List::new(alloc);
     let mut left = nothing_left(alloc, persist)?;
     for (i, good) in frames.iter().enumerate() {
         let holders = holders_of(alloc, persist, good)?;
-        let more = resources_of(alloc, i, &holders, held, &left, good)?;
+        let more = resources_of(alloc, i, &holders, persisted, &left, good)?;
         append(&mut resources, more)?;
         left = left_after(alloc, i, &holders, &left)?;
     }
@@ -56,7 +56,7 @@ fn all_resources(
 fn all_passes(
     alloc: Global,
     queue: Name,
-    frames: &[GoodFrame],
+    frames: &[ValidFrame],
     persist: &[Name],
 ) -> Result<List<Pass>, NoMemory>
     requires { length frames.now ≤ 8 }
@@ -75,7 +75,7 @@ fn all_passes(
 #[tactic(auto, using(crate::proofs::Frames::left_on, crate::proofs::Frames::left_end))]
 fn last_left(
     alloc: Global,
-    frames: &[GoodFrame],
+    frames: &[ValidFrame],
     persist: &[Name],
 ) -> Result<List<Option<Name>>, NoMemory>
     requires { length frames.now ≤ 8 }
@@ -89,7 +89,7 @@ fn last_left(
     Ok(left)
 }
 
-fn exports(alloc: Global, frames: &[GoodFrame], persist: &[Name]) -> Result<List<Spot>, NoMemory>
+fn exports(alloc: Global, frames: &[ValidFrame], persist: &[Name]) -> Result<List<Spot>, NoMemory>
     requires { length frames.now ≤ 8 }
     ensures { IfOk result (λ exports. exports ≡ all_exports 0 frames.now ++ others_by (all_exports 0 frames.now) (last_left persist.now 0 (nothing_left persist.now) frames.now)) }
 {
@@ -100,23 +100,23 @@ fn exports(alloc: Global, frames: &[GoodFrame], persist: &[Name]) -> Result<List
     Ok(exports)
 }
 
-/// The window of these frames over these queues. The first of them begins with the held bytes.
+/// The window of these frames over these queues. The first of them begins with the persisted bytes.
 pub(crate) fn window(
     alloc: Global,
     queues: &List<QueueDecl>,
-    frames: &[GoodFrame],
+    frames: &[ValidFrame],
     persist: &[Name],
-    held: &[Option<List<u8>>],
+    persisted: &[Option<List<u8>>],
 ) -> Result<Frame, NoMemory>
     requires queue { 0 < length queues.now }
     requires few { length frames.now ≤ 8 }
-    requires held { length held.now ≡ length persist.now }
-    ensures { IfOk result (λ frame. frame ≡ window_frame queues.now (all_declared frames.now persist.now) (held_bytes held.now)) }
+    requires persisted { length persisted.now ≡ length persist.now }
+    ensures { IfOk result (λ frame. frame ≡ window_frame queues.now (all_declared frames.now persist.now) (persisted_bytes persisted.now)) }
 {
     let queue = queues[0].name;
     Ok(Frame {
         queues: queues.copy(alloc)?,
-        resources: all_resources(alloc, frames, persist, held)?,
+        resources: all_resources(alloc, frames, persist, persisted)?,
         passes: all_passes(alloc, queue, frames, persist)?,
         exports: exports(alloc, frames, persist)?,
     })

@@ -2,9 +2,9 @@
 
 ghost use Rattle.std.specs.Prelude.{◌≡◌, ◌<◌, ◌≤◌, ◌/◌, ℕ, List, Option, IfErr, IfOk, IfSome, None, is_some, length, slice_get};
 ghost use Rattle.std.specs.List.{All, list_any};
-ghost use Rattle.fg_flight.specs.Alone.{IsHeld};
-ghost use Rattle.fg_flight.specs.Exported.{export_place, has_name, hold_place};
-ghost use Rattle.fg_flight.specs.Flights.{AreHeld, window_at, window_count};
+ghost use Rattle.fg_flight.specs.Alone.{IsPersisted};
+ghost use Rattle.fg_flight.specs.Exported.{export_place, has_name, persisted_export};
+ghost use Rattle.fg_flight.specs.Flights.{ArePersisted, window_at, window_count};
 ghost use Rattle.fg_flight.specs.Fly.{EndsAs, Fly};
 ghost use Rattle.fg_flight.specs.Refusals.{first_refusal};
 ghost use Rattle.fg_frame.specs.FirstFault.{first_fault};
@@ -13,12 +13,12 @@ ghost use Rattle.fg_frame.specs.Repeats.{first_repeat};
 ghost use Rattle.fg_window.specs.InTurn.{frames_in};
 
 use crate::begun::first_bytes;
-use crate::fault::{FlightEnd, FlightFault};
+use crate::fault::{FlightError, FlightFault};
 use crate::limits::{first_too_large, window_at, window_count};
-use crate::reading::{export_place, hold_place};
+use crate::reading::{export_place, persisted_export};
 use crate::refusals::{first_lost, other_queues};
 use fg_base::{List, Name, NoMemory};
-use fg_frame::{GoodFrame, faultless};
+use fg_frame::{ValidFrame, faultless};
 use std::alloc::Global;
 use std::marker::Model;
 
@@ -26,13 +26,13 @@ use std::marker::Model;
 /// names. A window is one frame that is made of its frames.
 #[derive(Drop)]
 pub struct Windows<'a> {
-    frames: &'a [GoodFrame],
+    frames: &'a [ValidFrame],
     persist: &'a [Name],
     depth: u32,
 }
 
 impl<'a> Model for Windows<'a> {
-    ghost use Rattle.fg_flight.specs.Code.Inside.{IsFlying, flight_in};
+    ghost use Rattle.fg_flight.specs.Internal.Inside.{IsFlying, flight_in};
     ghost use Rattle.fg_flight.specs.Flight.{Flight};
 
     ghost Value = { Flight };
@@ -46,7 +46,7 @@ impl<'a> Model for Windows<'a> {
 #[tactic(auto, using(crate::proofs::Flies::first_queues))]
 fn first_refusal(
     alloc: Global,
-    frames: &[GoodFrame],
+    frames: &[ValidFrame],
     persist: &[Name],
     depth: u32,
 ) -> Result<Option<FlightFault>, NoMemory>
@@ -67,7 +67,7 @@ fn first_refusal(
 
 // A frame that was judged has no fault.
 #[tactic(auto, using(crate::proofs::Flies::good_on, crate::proofs::Flies::good_end))]
-fn all_good(frames: &[GoodFrame])
+fn all_good(frames: &[ValidFrame])
     ensures { All (λ frame. first_fault frame ≡ None) frames.now }
 {
     for (i, good) in frames.iter().enumerate() {
@@ -80,10 +80,10 @@ fn all_good(frames: &[GoodFrame])
 /// the name; else the first window that is more than a frame may be. A depth is a number of frames.
 pub fn windows_of<'a>(
     alloc: Global,
-    frames: &'a [GoodFrame],
+    frames: &'a [ValidFrame],
     persist: &'a [Name],
     depth: u32,
-) -> Result<Windows<'a>, FlightEnd>
+) -> Result<Windows<'a>, FlightError>
     requires some { 0 < length frames.now }
     requires few { length frames.now ≤ 64 }
     requires deep { 1 ≤ depth }
@@ -95,7 +95,7 @@ pub fn windows_of<'a>(
     ensures refused { IfErr result (λ end. EndsAs (first_refusal frames.now persist.now depth) end) }
 {
     if let Some(fault) = first_refusal(alloc, frames, persist, depth)? {
-        return Err(FlightEnd::Refused(fault));
+        return Err(FlightError::Refused(fault));
     }
     all_good(frames);
     Ok(Windows {
@@ -114,28 +114,28 @@ impl<'a> Windows<'a> {
         window_count(self.depth, self.frames.len())
     }
 
-    /// What is held before the first window: for each persisting name the import of the first frame that has the name.
+    /// What is persisted before the first window: for each persisting name the import of the first frame that has the name.
     #[tactic(auto, using(crate::proofs::Begins::held_first))]
-    pub fn first_held(&self, alloc: Global) -> Result<List<Option<List<u8>>>, NoMemory>
-        ensures { IfOk result (IsHeld self.now.frames self.now.persist 0) }
+    pub fn first_persisted(&self, alloc: Global) -> Result<List<Option<List<u8>>>, NoMemory>
+        ensures { IfOk result (IsPersisted self.now.frames self.now.persist 0) }
     {
         first_bytes(alloc, self.frames, self.persist)
     }
 
-    /// Window `w`, where these bytes are held before it: for each persisting name as many as it has in the frames, and none
+    /// Window `w`, where these bytes are persisted before it: for each persisting name as many as it has in the frames, and none
     /// where no frame has it. No rule is judged a second time.
     #[tactic(auto, using(crate::proofs::Counted::there))]
     pub fn frame(
         &self,
         alloc: Global,
         w: u32,
-        held: &[Option<List<u8>>],
-    ) -> Result<GoodFrame, NoMemory>
+        persisted: &[Option<List<u8>>],
+    ) -> Result<ValidFrame, NoMemory>
         requires there { w < window_count self.now.depth self.now.frames }
-        requires held { AreHeld self.now.frames self.now.persist held.now }
-        ensures { IfOk result (λ good. good ≡ window_at self.now.frames self.now.persist self.now.depth held.now w) }
+        requires persisted { ArePersisted self.now.frames self.now.persist persisted.now }
+        ensures { IfOk result (λ good. good ≡ window_at self.now.frames self.now.persist self.now.depth persisted.now w) }
     {
-        let frame = window_at(alloc, self.frames, self.persist, self.depth, held, w)?;
+        let frame = window_at(alloc, self.frames, self.persist, self.depth, persisted, w)?;
         faultless(alloc, frame)
     }
 
@@ -146,7 +146,7 @@ impl<'a> Windows<'a> {
         requires there { frame < length self.now.frames }
         requires exports { IfSome (slice_get self.now.frames frame) (λ f. k < length (numbered f).exports) }
         ensures place { result ≡ export_place self.now.frames self.now.depth frame k }
-        ensures within { (held : List (Option (List ℕ))) → AreHeld self.now.frames self.now.persist held → result < length (numbered (window_at self.now.frames self.now.persist self.now.depth held (frame / self.now.depth))).exports }
+        ensures within { (persisted : List (Option (List ℕ))) → ArePersisted self.now.frames self.now.persist persisted → result < length (numbered (window_at self.now.frames self.now.persist self.now.depth persisted (frame / self.now.depth))).exports }
     {
         export_place(self.frames, self.depth, frame, k)
     }
@@ -156,10 +156,10 @@ impl<'a> Windows<'a> {
     pub fn holds(&self, w: u32, k: u32) -> Option<u32>
         requires there { w < window_count self.now.depth self.now.frames }
         requires name { k < length self.now.persist }
-        ensures place { result ≡ hold_place self.now.frames self.now.persist self.now.depth w k }
+        ensures place { result ≡ persisted_export self.now.frames self.now.persist self.now.depth w k }
         ensures there { IfSome (slice_get self.now.persist k) (λ name. is_some result ≡ list_any (has_name name) (frames_in self.now.depth self.now.frames w)) }
-        ensures within { (held : List (Option (List ℕ))) → AreHeld self.now.frames self.now.persist held → IfSome result (λ place. place < length (numbered (window_at self.now.frames self.now.persist self.now.depth held w)).exports) }
+        ensures within { (persisted : List (Option (List ℕ))) → ArePersisted self.now.frames self.now.persist persisted → IfSome result (λ place. place < length (numbered (window_at self.now.frames self.now.persist self.now.depth persisted w)).exports) }
     {
-        hold_place(self.frames, self.persist, self.depth, w, k)
+        persisted_export(self.frames, self.persist, self.depth, w, k)
     }
 }

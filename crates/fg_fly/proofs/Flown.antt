@@ -4,13 +4,13 @@ use Rattle.std.specs.Prelude.{◌/◌, ◌⊎◌, IfOk, IsErrAnd, Result, Ok, Er
 use Rattle.std.specs.List.{flat_map}
 use Rattle.std.proofs.lemmas.Option.{slice_get-get_or}
 use Rattle.fg_base.specs.declared.event.Event.{Event}
-use Rattle.fg_flight.specs.Alone.{IsHeld, alone, held_next}
-use Rattle.fg_flight.specs.Exported.{export_place, hold_place}
+use Rattle.fg_flight.specs.Alone.{IsPersisted, alone, persisted_next}
+use Rattle.fg_flight.specs.Exported.{export_place, persisted_export}
 use Rattle.fg_flight.specs.Flight.{Flight}
-use Rattle.fg_flight.specs.Flights.{AreHeld, window_at, window_count}
+use Rattle.fg_flight.specs.Flights.{ArePersisted, window_at, window_count}
 use Rattle.fg_fly.proofs.Texts.{text_all}
 use Rattle.fg_fly.proofs.Windows.{all_windows}
-use Rattle.fg_fly.specs.Code.Flying.{CanRead, IsFlown, IsKept, Prints, text_before}
+use Rattle.fg_fly.specs.Internal.Flying.{CanRead, IsFlown, IsKept, Prints, text_before}
 use Rattle.fg_fly.specs.Flights.{Flies, WindowRun}
 use Rattle.fg_fly.specs.Texts.{bytes_alone}
 use Rattle.fg_fly.specs.declared.flying.Flying.{Flying}
@@ -25,11 +25,11 @@ use Rattle.fg_subs.specs.declared.program.Program.{Program}
 
 -- what laws of flights say of exports
 abbrev pub ExportsAlone : Flight → Type 0
-ExportsAlone F = (i : ℕ) (frame : Frame) → slice_get F.frames i ≡ Some frame → (held : List (Option (List ℕ))) → IsHeld F.frames F.persist ((i / F.depth) * F.depth) held → (bytes : ℕ → List ℕ) → AreMeant (numbered (window_at F.frames F.persist F.depth held (i / F.depth))) bytes → AreMeant (alone F.frames F.persist i frame) (λ k. bytes (export_place F.frames F.depth i k))
+ExportsAlone F = (i : ℕ) (frame : Frame) → slice_get F.frames i ≡ Some frame → (persisted : List (Option (List ℕ))) → IsPersisted F.frames F.persist ((i / F.depth) * F.depth) persisted → (bytes : ℕ → List ℕ) → AreMeant (numbered (window_at F.frames F.persist F.depth persisted (i / F.depth))) bytes → AreMeant (alone F.frames F.persist i frame) (λ k. bytes (export_place F.frames F.depth i k))
 
--- and of what is held before the next window
+-- and of what is persisted before the next window
 abbrev pub HoldsNext : Flight → Type 0
-HoldsNext F = (w : ℕ) → w < window_count F.depth F.frames → (held : List (Option (List ℕ))) → IsHeld F.frames F.persist (w * F.depth) held → (bytes : ℕ → List ℕ) → AreMeant (numbered (window_at F.frames F.persist F.depth held w)) bytes → IsHeld F.frames F.persist (suc w * F.depth) (held_next (hold_place F.frames F.persist F.depth w) bytes 0 held)
+HoldsNext F = (w : ℕ) → w < window_count F.depth F.frames → (persisted : List (Option (List ℕ))) → IsPersisted F.frames F.persist (w * F.depth) persisted → (bytes : ℕ → List ℕ) → AreMeant (numbered (window_at F.frames F.persist F.depth persisted w)) bytes → IsPersisted F.frames F.persist (suc w * F.depth) (persisted_next (persisted_export F.frames F.persist F.depth w) bytes 0 persisted)
 
 -- what an export means alone is printed
 printed_alone : (frames : List Frame) (persist : List (List ℕ)) (i : ℕ) (frame : Frame) (k : ℕ) (bytes : List ℕ) → meaning (alone frames persist i frame) (get_or (alone frames persist i frame).exports k 0) ≡ Some bytes → bytes_alone frames persist i frame k ≡ bytes
@@ -37,22 +37,22 @@ unfolding bytes_alone
 printed_alone frames persist i frame k bytes means = ap (λ o. unwrap_or o []) means
 
 module _ (tend : Option ℕ) (F : Flight) (w : ℕ) (device : Device) where
-  -- the window begins with what is held, and has run
-  window_run : ExportsAlone F → (held : List (Option (List ℕ))) → IsHeld F.frames F.persist (w * F.depth) held → RunsOn tend false (numbered (window_at F.frames F.persist F.depth held w)) device → WindowRun tend F.frames F.persist F.depth w device
-  window_run laws held before run = record { held = held; is_held = before; run = run; printed = printed }
+  -- the window begins with what is persisted, and has run
+  window_run : ExportsAlone F → (persisted : List (Option (List ℕ))) → IsPersisted F.frames F.persist (w * F.depth) persisted → RunsOn tend false (numbered (window_at F.frames F.persist F.depth persisted w)) device → WindowRun tend F.frames F.persist F.depth w device
+  window_run laws persisted before run = record { persisted = persisted; is_persisted = before; run = run; printed = printed }
     where
       printed : (i k : ℕ) (frame : Frame) → slice_get F.frames i ≡ Some frame → i / F.depth ≡ w → k < length (numbered frame).exports → bytes_alone F.frames F.persist i frame k ≡ read_by device (export_place F.frames F.depth i k)
       printed i k frame at e lt =
           let lone : NumberedFrame = alone F.frames F.persist i frame in
           let unit : ℕ = get_or lone.exports k 0 in
-          let begins : IsHeld F.frames F.persist ((i / F.depth) * F.depth) held = subst (λ v. IsHeld F.frames F.persist (v * F.depth) held) (sym e) before in
-          let read : AreMeant (numbered (window_at F.frames F.persist F.depth held (i / F.depth))) (read_by device) = subst (λ v. AreMeant (numbered (window_at F.frames F.persist F.depth held v)) (read_by device)) (sym e) run.meant in
-          let means : meaning lone unit ≡ Some (read_by device (export_place F.frames F.depth i k)) = laws i frame at held begins (read_by device) read k unit (slice_get-get_or lone.exports k 0 lt) in
+          let begins : IsPersisted F.frames F.persist ((i / F.depth) * F.depth) persisted = subst (λ v. IsPersisted F.frames F.persist (v * F.depth) persisted) (sym e) before in
+          let read : AreMeant (numbered (window_at F.frames F.persist F.depth persisted (i / F.depth))) (read_by device) = subst (λ v. AreMeant (numbered (window_at F.frames F.persist F.depth persisted v)) (read_by device)) (sym e) run.meant in
+          let means : meaning lone unit ≡ Some (read_by device (export_place F.frames F.depth i k)) = laws i frame at persisted begins (read_by device) read k unit (slice_get-get_or lone.exports k 0 lt) in
           printed_alone F.frames F.persist i frame k (read_by device (export_place F.frames F.depth i k)) means
 
   -- so what it exports can be read
-  window_read : (held : List (Option (List ℕ))) → AreHeld F.frames F.persist held → RunsOn tend false (numbered (window_at F.frames F.persist F.depth held w)) device → CanRead F w held device
-  window_read held sized run = record {
+  window_read : (persisted : List (Option (List ℕ))) → ArePersisted F.frames F.persist persisted → RunsOn tend false (numbered (window_at F.frames F.persist F.depth persisted w)) device → CanRead F w persisted device
+  window_read persisted sized run = record {
     complete = run.has_run.complete;
     sized = sized;
     readbacks = ap (λ (p : Program). length p.readbacks) run.has_run.runs ∙ run.compiles.right.readbacks;
@@ -61,8 +61,8 @@ module _ (tend : Option ℕ) (F : Flight) (w : ℕ) (device : Device) where
   -- and each of its frames can be printed
   window_prints : WindowRun tend F.frames F.persist F.depth w device → (i : ℕ) → i / F.depth ≡ w → Prints F i device
   window_prints run i e = record {
-    held = run.held;
-    read = subst (λ v. CanRead F v run.held device) (sym e) (window_read run.held run.is_held.sized run.run);
+    persisted = run.persisted;
+    read = subst (λ v. CanRead F v run.persisted device) (sym e) (window_read run.persisted run.is_persisted.sized run.run);
     printed = λ k frame at lt. run.printed i k frame at e lt;
   }
 
@@ -96,12 +96,12 @@ history_more : (devices : List Device) (device : Device) → flat_map (λ (d : D
 history_more [] device = append-nil device.history
 history_more (d ∷ devices) device = ap (λ (h : List Event). d.history ++ h) (history_more devices device) ∙ sym (append_assoc d.history (flat_map (λ (e : Device). e.history) devices) device.history)
 
-flown_more : (tend : Option ℕ) (F : Flight) (w : ℕ) (device : Device) (old new : Flying) → IsFlown tend F w old → WindowRun tend F.frames F.persist F.depth w device → IsHeld F.frames F.persist (suc w * F.depth) new.held → IsKept F w device old new → IsFlown tend F (w + 1) new
-flown_more tend F w device old new was run held kept = rw add-one (record {
+flown_more : (tend : Option ℕ) (F : Flight) (w : ℕ) (device : Device) (old new : Flying) → IsFlown tend F w old → WindowRun tend F.frames F.persist F.depth w device → IsPersisted F.frames F.persist (suc w * F.depth) new.persisted → IsKept F w device old new → IsFlown tend F (w + 1) new
+flown_more tend F w device old new was run persisted kept = rw add-one (record {
   devices = was.devices ++ device ∷ [];
   windows = one_longer was.devices device ∙ ap suc was.windows;
   runs = runs;
-  held = held;
+  persisted = persisted;
   text = rw add-one at kept.text;
   history = kept.history ∙ ap (λ (h : List Event). h ++ device.history) was.history ∙ sym (history_more was.devices device);
 })
@@ -113,27 +113,27 @@ flown_more tend F w device old new was run held kept = rw add-one (record {
         by (inl found) = was.runs v d found
         by (inr last) = subst (λ (e : Device). WindowRun tend F.frames F.persist F.depth v e) last.1 (subst (λ u. WindowRun tend F.frames F.persist F.depth u device) (sym (last.0 ∙ was.windows)) run)
 
--- a window is compiled from what is held, and has run
-module _ (tend : Option ℕ) (F : Flight) (w : ℕ) (device : Device) (old : Flying) (was : IsFlown tend F w old) (ran : RunsOn tend false (numbered (window_at F.frames F.persist F.depth old.held w)) device) where
-  pub ran_reads : CanRead F w old.held device
-  ran_reads = window_read tend F w device old.held was.held.sized ran
+-- a window is compiled from what is persisted, and has run
+module _ (tend : Option ℕ) (F : Flight) (w : ℕ) (device : Device) (old : Flying) (was : IsFlown tend F w old) (ran : RunsOn tend false (numbered (window_at F.frames F.persist F.depth old.persisted w)) device) where
+  pub ran_reads : CanRead F w old.persisted device
+  ran_reads = window_read tend F w device old.persisted was.persisted.sized ran
 
   pub ran_prints : ExportsAlone F → (i : ℕ) → i / F.depth ≡ w → Prints F i device
-  ran_prints exports = window_prints tend F w device (window_run tend F w device exports old.held was.held ran)
+  ran_prints exports = window_prints tend F w device (window_run tend F w device exports old.persisted was.persisted ran)
 
   pub ran_flown : ExportsAlone F → HoldsNext F → w < window_count F.depth F.frames → (new : Flying) → IsKept F w device old new → IsFlown tend F (w + 1) new
   ran_flown exports holds there new kept =
-      let run : WindowRun tend F.frames F.persist F.depth w device = window_run tend F w device exports old.held was.held ran in
-      let next : IsHeld F.frames F.persist (suc w * F.depth) (held_next (hold_place F.frames F.persist F.depth w) (read_by device) 0 old.held) = holds w there old.held was.held (read_by device) ran.meant in
-      flown_more tend F w device old new was run (subst (λ (h : List (Option (List ℕ))). IsHeld F.frames F.persist (suc w * F.depth) h) (sym kept.held) next) kept
+      let run : WindowRun tend F.frames F.persist F.depth w device = window_run tend F w device exports old.persisted was.persisted ran in
+      let next : IsPersisted F.frames F.persist (suc w * F.depth) (persisted_next (persisted_export F.frames F.persist F.depth w) (read_by device) 0 old.persisted) = holds w there old.persisted was.persisted (read_by device) ran.meant in
+      flown_more tend F w device old new was run (subst (λ (h : List (Option (List ℕ))). IsPersisted F.frames F.persist (suc w * F.depth) h) (sym kept.persisted) next) kept
 
 -- nothing has flown
-pub none_flown : (tend : Option ℕ) (F : Flight) (flying : Flying) → IsHeld F.frames F.persist 0 flying.held → flying.text ≡ [] → flying.history ≡ [] → IsFlown tend F 0 flying
-none_flown tend F flying held text history = record {
+pub none_flown : (tend : Option ℕ) (F : Flight) (flying : Flying) → IsPersisted F.frames F.persist 0 flying.persisted → flying.text ≡ [] → flying.history ≡ [] → IsFlown tend F 0 flying
+none_flown tend F flying persisted text history = record {
   devices = [];
   windows = refl;
   runs = none;
-  held = subst (λ i. IsHeld F.frames F.persist i flying.held) (sym nothing) held;
+  persisted = subst (λ i. IsPersisted F.frames F.persist i flying.persisted) (sym nothing) persisted;
   text = text ∙ sym (ap (text_before F) nothing);
   history = history;
 }

@@ -4,7 +4,7 @@ use Rattle.std.specs.Prelude.{if◌then◌else◌, Result, Ok, Err}
 use Rattle.std.specs.Option.{option_map}
 use Rattle.fg_flight.specs.Refusals.{first_refusal}
 use Rattle.fg_flight.specs.declared.fault.FlightFault.{FlightFault}
-use Rattle.fg_fly.specs.Code.Reading.{FliesLines}
+use Rattle.fg_fly.specs.Internal.Reading.{FliesLines}
 use Rattle.fg_fly.specs.Files.{frames_of, if_frames, unless_refused}
 use Rattle.fg_fly.specs.Flights.{Flies, FliesFile, FliesFrames}
 use Rattle.fg_fly.specs.Lines.{lines_of}

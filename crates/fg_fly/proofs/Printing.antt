@@ -8,7 +8,7 @@ use Rattle.fg_flight.specs.Flights.{window_count}
 use Rattle.fg_flight.specs.Fly.{Fly}
 use Rattle.fg_fly.proofs.Texts.{text_to}
 use Rattle.fg_fly.proofs.Windows.{in_window, next_window}
-use Rattle.fg_fly.specs.Code.Flying.{text_before}
+use Rattle.fg_fly.specs.Internal.Flying.{text_before}
 use Rattle.fg_frame.specs.declared.frame.Frame.{Frame}
 
 -- a window that is counted begins at a frame

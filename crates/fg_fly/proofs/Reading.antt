@@ -3,10 +3,10 @@ use Rattle.std.proofs.Common.{◌≡◌, ◌+◌, ◌<◌, ◌≤◌, ◌++◌, 
 use Rattle.std.specs.Prelude.{Result, Ok, Err}
 use Rattle.std.proofs.Math.Seq.{drop-length}
 use Rattle.fg_fly.proofs.Cutting.{texts}
-use Rattle.fg_fly.specs.Code.Reading.{Gives, after_frames, in_line}
+use Rattle.fg_fly.specs.Internal.Reading.{Gives, after_frames, in_line}
 use Rattle.fg_fly.specs.Files.{before, first_then, frames_of}
-use Rattle.fg_fly.specs.declared.frames.FileEnd.{FileEnd}
-use Rattle.fg_fly.specs.declared.frames.FileEnd.TheVariants as ends
+use Rattle.fg_fly.specs.declared.frames.FlightFileError.{FlightFileError}
+use Rattle.fg_fly.specs.declared.frames.FlightFileError.TheVariants as ends
 use Rattle.fg_fly.specs.declared.refusal.Refusal.{Refusal}
 use Rattle.fg_fly.specs.declared.refusal.Refusal.TheVariants as refusals
 use Rattle.fg_frame.specs.declared.fault.FrameFault.{FrameFault}
@@ -42,7 +42,7 @@ fault_on lines i line d refusal frames total lt is fails so_far =
     sym so_far ∙ ap (after_frames frames) (here lines i line d lt is ∙ fault_first i (frame_file line.now) refusal rest fails)
 
 -- the line has no frame
-pub end_on : (lines : List (Bor (List ℕ))) (i : ℕ) (line d : Bor (List ℕ)) (e : FileEnd) (frames : List Frame) (total : Result (List Frame) Refusal) → i < length lines → line ≡ get_or lines i d → Gives (in_line i (frame_file line.now)) (Err e) → after_frames frames (frames_of i (texts (drop i lines))) ≡ total → Gives total (Err e)
+pub end_on : (lines : List (Bor (List ℕ))) (i : ℕ) (line d : Bor (List ℕ)) (e : FlightFileError) (frames : List Frame) (total : Result (List Frame) Refusal) → i < length lines → line ≡ get_or lines i d → Gives (in_line i (frame_file line.now)) (Err e) → after_frames frames (frames_of i (texts (drop i lines))) ≡ total → Gives total (Err e)
 end_on lines i line d (ends.Refused refusal) frames total lt is fails so_far = fault_on lines i line d refusal frames total lt is fails so_far
 end_on lines i line d ends.NoMemory frames total lt is fails so_far = tt
 

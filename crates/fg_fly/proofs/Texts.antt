@@ -3,7 +3,7 @@ use Rattle.std.proofs.Common.{◌≡◌, ◌+◌, ◌≤◌, ◌++◌, ℕ, zero
 use Rattle.std.specs.Prelude.{◌⊎◌}
 use Rattle.fg_flight.specs.Flight.{Flight}
 use Rattle.fg_fly.proofs.Cutting.{take_all}
-use Rattle.fg_fly.specs.Code.Flying.{text_before}
+use Rattle.fg_fly.specs.Internal.Flying.{text_before}
 use Rattle.fg_fly.specs.Texts.{bytes_alone, frames_text}
 use Rattle.fg_frame.specs.declared.frame.Frame.{Frame}
 use Rattle.fg_report.specs.Flights.{flight_text}

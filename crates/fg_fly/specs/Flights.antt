@@ -1,7 +1,7 @@
 -- What flying comes to.
 use Rattle.std.specs.Prelude.{◌≡◌, ◌<◌, ℕ, ◌*◌, ◌/◌, false, List, length, slice_get, Option, Some, Result, Ok, Err}
 use Rattle.std.specs.List.{flat_map}
-use Rattle.fg_flight.specs.Alone.{IsHeld}
+use Rattle.fg_flight.specs.Alone.{IsPersisted}
 use Rattle.fg_flight.specs.Exported.{export_place}
 use Rattle.fg_flight.specs.Flights.{window_at, window_count}
 use Rattle.fg_fly.specs.Files.{flight_file}
@@ -15,12 +15,12 @@ use Rattle.fg_run.specs.FrameRuns.{RunsOn}
 use Rattle.fg_run.specs.Runs.{read_by}
 use Rattle.fg_steps.specs.Devices.{Device}
 
--- Window w begins with what is held before its first frame; it is compiled, and the program has run on the device. What is printed
+-- Window w begins with what is persisted before its first frame; it is compiled, and the program has run on the device. What is printed
 -- of its frames is what that has left.
 pub record WindowRun (tend : Option ℕ) (frames : List Frame) (persist : List (List ℕ)) (depth w : ℕ) (device : Device) : Type 0 where
-  pub held : List (Option (List ℕ))
-  pub is_held : IsHeld frames persist (w * depth) held
-  pub run : RunsOn tend false (numbered (window_at frames persist depth held w)) device
+  pub persisted : List (Option (List ℕ))
+  pub is_persisted : IsPersisted frames persist (w * depth) persisted
+  pub run : RunsOn tend false (numbered (window_at frames persist depth persisted w)) device
   pub printed : (i k : ℕ) (frame : Frame) → slice_get frames i ≡ Some frame → i / depth ≡ w → k < length (numbered frame).exports → bytes_alone frames persist i frame k ≡ read_by device (export_place frames depth i k)
 
 -- Of frames that fly together each window has run on a device of its own. Each frame is printed as it is where the frames run one

@@ -1,4 +1,4 @@
-pub mod Code
+pub mod Internal
 pub mod Files
 pub mod Flights
 pub mod Lines

@@ -1,7 +1,7 @@
 //! A file with one frame on each line flies.
 
 ghost use Rattle.std.specs.Prelude.{◌≡◌, ◌<◌, ◌≤◌, IfOk, length, map};
-ghost use Rattle.fg_fly.specs.Code.Reading.{FliesLines};
+ghost use Rattle.fg_fly.specs.Internal.Reading.{FliesLines};
 ghost use Rattle.fg_fly.specs.Flights.{FliesFile, FliesFrames};
 ghost use Rattle.fg_fly.specs.Files.{unless_refused};
 ghost use Rattle.fg_fly.specs.Plans.{CanFly};
@@ -9,14 +9,14 @@ ghost use Rattle.fg_fly.specs.declared.outcome.Outcome.TheVariants as outcomes;
 ghost use Rattle.fg_fly.specs.Texts.{refusal_text};
 
 use crate::flying::fly_windows;
-use crate::frames::{FileEnd, frames_of};
+use crate::frames::{FlightFileError, frames_of};
 use crate::lines::lines_of;
 use crate::outcome::Outcome;
 use crate::plan::FlightPlan;
 use crate::refusal::{Refusal, refusal_text};
 use fg_base::{Gate, NoMemory};
-use fg_flight::{FlightEnd, windows_of};
-use fg_frame::GoodFrame;
+use fg_flight::{FlightError, windows_of};
+use fg_frame::ValidFrame;
 use std::alloc::Global;
 use std::sync::Wait;
 use std::thread::Threads;
@@ -34,7 +34,7 @@ fn fly_frames<R: Threads + Wait + Sync, G: Gate + Sync>(
     rt: &R,
     alloc: Global,
     plan: &FlightPlan<'_>,
-    frames: &[GoodFrame],
+    frames: &[ValidFrame],
     gate: &G,
 ) -> Result<Outcome, NoMemory>
     requires plan { CanFly plan.now }
@@ -44,8 +44,8 @@ fn fly_frames<R: Threads + Wait + Sync, G: Gate + Sync>(
 {
     match windows_of(alloc, frames, plan.persist, plan.depth) {
         Ok(windows) => fly_windows(rt, alloc, plan, &windows, frames, gate),
-        Err(FlightEnd::Refused(fault)) => refused(alloc, &Refusal::Flight(fault)),
-        Err(FlightEnd::NoMemory) => Err(NoMemory),
+        Err(FlightError::Refused(fault)) => refused(alloc, &Refusal::Flight(fault)),
+        Err(FlightError::NoMemory) => Err(NoMemory),
     }
 }
 
@@ -64,8 +64,8 @@ fn fly_lines<R: Threads + Wait + Sync, G: Gate + Sync>(
 {
     match frames_of(alloc, lines) {
         Ok(frames) => fly_frames(rt, alloc, plan, &frames, gate),
-        Err(FileEnd::Refused(refusal)) => refused(alloc, &refusal),
-        Err(FileEnd::NoMemory) => Err(NoMemory),
+        Err(FlightFileError::Refused(refusal)) => refused(alloc, &refusal),
+        Err(FlightFileError::NoMemory) => Err(NoMemory),
     }
 }
 

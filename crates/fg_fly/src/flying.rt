@@ -1,20 +1,20 @@
 //! Windows fly one after another.
 
 ghost use Rattle.std.specs.Prelude.{◌≡◌, ◌<◌, ◌+◌, ◌*◌, ◌/◌, ℕ, Option, IfOk, OnOk, false};
-ghost use Rattle.fg_flight.specs.Flights.{AreHeld, window_at, window_count};
-ghost use Rattle.fg_fly.specs.Code.Flying.{AreWindows, CanRead, IsFlown, IsKept, Prints, text_before};
+ghost use Rattle.fg_flight.specs.Flights.{ArePersisted, window_at, window_count};
+ghost use Rattle.fg_fly.specs.Internal.Flying.{AreWindows, CanRead, IsFlown, IsKept, Prints, text_before};
 ghost use Rattle.fg_fly.specs.Flights.{Flies};
 ghost use Rattle.fg_frame.specs.Numbered.{numbered};
 ghost use Rattle.fg_run.specs.FrameRuns.{RunsOn};
 
-use crate::held::hold;
+use crate::persisted::hold;
 use crate::outcome::Outcome;
 use crate::plan::FlightPlan;
 use crate::print::add_window;
 use fg_base::{Event, Gate, List, NoMemory, RunOptions, Text};
 use fg_device::Device;
 use fg_flight::{Windows, flight_laws};
-use fg_frame::GoodFrame;
+use fg_frame::ValidFrame;
 use fg_run::run_good;
 use std::alloc::Global;
 use std::sync::Wait;
@@ -23,8 +23,8 @@ use std::thread::Threads;
 /// What has flown so far.
 #[derive(Drop)]
 pub(crate) struct Flying {
-    /// What is held for each persisting name.
-    held: List<Option<List<u8>>>,
+    /// What is persisted for each persisting name.
+    persisted: List<Option<List<u8>>>,
     text: Text,
     history: List<Event>,
 }
@@ -34,13 +34,13 @@ fn begun(alloc: Global, windows: &Windows<'_>) -> Result<Flying, NoMemory>
     ensures { (tend : Option ℕ) → IfOk result (IsFlown tend windows.now 0) }
 {
     Ok(Flying {
-        held: windows.first_held(alloc)?,
+        persisted: windows.first_persisted(alloc)?,
         text: List::new(alloc),
         history: List::new(alloc),
     })
 }
 
-// The device on which window `w` has run, begun with what is held.
+// The device on which window `w` has run, begun with what is persisted.
 #[tactic(none)]
 fn run_window<R: Threads + Wait + Sync, G: Gate + Sync>(
     rt: &R,
@@ -48,14 +48,14 @@ fn run_window<R: Threads + Wait + Sync, G: Gate + Sync>(
     options: RunOptions,
     windows: &Windows<'_>,
     w: u32,
-    held: &List<Option<List<u8>>>,
+    persisted: &List<Option<List<u8>>>,
     gate: &G,
 ) -> Result<Device, NoMemory>
     requires there { w < window_count windows.now.depth windows.now.frames }
-    requires held { AreHeld windows.now.frames windows.now.persist held.now }
-    ensures { IfOk result (RunsOn options.tend false (numbered (window_at windows.now.frames windows.now.persist windows.now.depth held.now w))) }
+    requires persisted { ArePersisted windows.now.frames windows.now.persist persisted.now }
+    ensures { IfOk result (RunsOn options.tend false (numbered (window_at windows.now.frames windows.now.persist windows.now.depth persisted.now w))) }
 {
-    let good = windows.frame(alloc, w, held)?;
+    let good = windows.frame(alloc, w, persisted)?;
     run_good(rt, alloc, options, false, &good, gate)
 }
 
@@ -64,7 +64,7 @@ fn run_window<R: Threads + Wait + Sync, G: Gate + Sync>(
 fn keep(
     alloc: Global,
     windows: &Windows<'_>,
-    frames: &[GoodFrame],
+    frames: &[ValidFrame],
     depth: u32,
     w: u32,
     device: &Device,
@@ -72,14 +72,14 @@ fn keep(
 ) -> Result<(), NoMemory>
     requires windows { AreWindows frames.now depth windows.now }
     requires there { w < window_count windows.now.depth windows.now.frames }
-    requires read { CanRead windows.now w flying.old.held device.now }
+    requires read { CanRead windows.now w flying.old.persisted device.now }
     requires prints { (i : ℕ) → i / windows.now.depth ≡ w → Prints windows.now i device.now }
     requires text { flying.old.text ≡ text_before windows.now (w * windows.now.depth) }
     ensures { OnOk result (IsKept windows.now w device.now flying.old flying.new) }
 {
     add_window(&mut flying.text, windows, frames, depth, w, device)?;
     flying.history.extend_from_slice(device.history())?;
-    hold(alloc, windows, w, device, &mut flying.held)
+    hold(alloc, windows, w, device, &mut flying.persisted)
 }
 
 // Window `w` is compiled and runs on a device of its own.
@@ -89,7 +89,7 @@ fn fly_window<R: Threads + Wait + Sync, G: Gate + Sync>(
     alloc: Global,
     plan: &FlightPlan<'_>,
     windows: &Windows<'_>,
-    frames: &[GoodFrame],
+    frames: &[ValidFrame],
     w: u32,
     flying: &mut Flying,
     gate: &G,
@@ -101,7 +101,7 @@ fn fly_window<R: Threads + Wait + Sync, G: Gate + Sync>(
 {
     flight_laws();
     let _count = windows.count();
-    let device = run_window(rt, alloc, plan.options, windows, w, &flying.held, gate)?;
+    let device = run_window(rt, alloc, plan.options, windows, w, &flying.persisted, gate)?;
     keep(alloc, windows, frames, plan.depth, w, &device, flying)
 }
 
@@ -111,7 +111,7 @@ pub(crate) fn fly_windows<R: Threads + Wait + Sync, G: Gate + Sync>(
     alloc: Global,
     plan: &FlightPlan<'_>,
     windows: &Windows<'_>,
-    frames: &[GoodFrame],
+    frames: &[ValidFrame],
     gate: &G,
 ) -> Result<Outcome, NoMemory>
     requires windows { AreWindows frames.now plan.now.depth windows.now }
@@ -122,7 +122,7 @@ pub(crate) fn fly_windows<R: Threads + Wait + Sync, G: Gate + Sync>(
         fly_window(rt, alloc, plan, windows, frames, w, &mut flying, gate)?;
     }
     let Flying {
-        held: _,
+        persisted: _,
         text,
         history,
     } = flying;

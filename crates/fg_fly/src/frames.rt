@@ -1,48 +1,48 @@
 //! Frames, one on each line.
 
 ghost use Rattle.std.specs.Prelude.{◌≡◌, ◌≤◌, IfOk, length, map};
-ghost use Rattle.fg_fly.specs.Code.Reading.{Gives, in_line};
+ghost use Rattle.fg_fly.specs.Internal.Reading.{Gives, in_line};
 ghost use Rattle.fg_fly.specs.Files.{frames_of};
 ghost use Rattle.fg_stages.specs.Files.{frame_file};
-ghost use Rattle.fg_fly.specs.declared.frames.FileEnd.TheVariants as ends;
+ghost use Rattle.fg_fly.specs.declared.frames.FlightFileError.TheVariants as ends;
 
 use crate::refusal::Refusal;
 use fg_base::{List, NoMemory};
-use fg_frame::GoodFrame;
-use fg_framefile::FrameReadEnd;
+use fg_frame::ValidFrame;
+use fg_framefile::FrameReadError;
 use fg_stages::valid_frame;
 use std::alloc::Global;
 
 /// Why there are no frames.
 #[derive(Debug, Drop)]
-pub(crate) enum FileEnd {
+pub(crate) enum FlightFileError {
     Refused(Refusal),
     NoMemory,
 }
 
-impl From<NoMemory> for FileEnd {
+impl From<NoMemory> for FlightFileError {
     ghost from_gives = { λ _ e. e ≡ ends.NoMemory };
 
-    fn from(_: NoMemory) -> FileEnd {
-        FileEnd::NoMemory
+    fn from(_: NoMemory) -> FlightFileError {
+        FlightFileError::NoMemory
     }
 }
 
-fn frame_at(alloc: Global, frame: u32, line: &[u8]) -> Result<GoodFrame, FileEnd>
+fn frame_at(alloc: Global, frame: u32, line: &[u8]) -> Result<ValidFrame, FlightFileError>
     ensures { Gives (in_line frame (frame_file line.now)) result }
 {
     match valid_frame(alloc, line) {
         Ok(good) => Ok(good),
-        Err(FrameReadEnd::Refused(fault)) => {
-            Err(FileEnd::Refused(Refusal::Frame { frame, fault }))
+        Err(FrameReadError::Refused(fault)) => {
+            Err(FlightFileError::Refused(Refusal::Frame { frame, fault }))
         }
-        Err(FrameReadEnd::NoMemory) => Err(FileEnd::NoMemory),
+        Err(FrameReadError::NoMemory) => Err(FlightFileError::NoMemory),
     }
 }
 
 #[tactic(auto, using(crate::proofs::Reading::frames_end))]
 /// The frames of these lines, or the first line that has a fault.
-pub(crate) fn frames_of(alloc: Global, lines: &[&[u8]]) -> Result<List<GoodFrame>, FileEnd>
+pub(crate) fn frames_of(alloc: Global, lines: &[&[u8]]) -> Result<List<ValidFrame>, FlightFileError>
     requires { length lines.now ≤ 64 }
     ensures frames { Gives (frames_of 0 (map (λ line. line.now) lines.now)) result }
     ensures many { IfOk result (λ frames. length frames ≡ length lines.now) }

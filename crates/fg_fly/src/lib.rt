@@ -4,7 +4,7 @@
 mod file;
 mod flying;
 mod frames;
-mod held;
+mod persisted;
 mod lines;
 mod outcome;
 mod plan;

@@ -2,7 +2,7 @@
 
 ghost use Rattle.std.specs.Prelude.{◌≡◌, ◌<◌, ◌*◌, ◌+◌, ◌/◌, ◌++◌, ℕ, Some, slice_get, OnOk};
 ghost use Rattle.fg_flight.specs.Flights.{window_count};
-ghost use Rattle.fg_fly.specs.Code.Flying.{AreWindows, Prints, text_before};
+ghost use Rattle.fg_fly.specs.Internal.Flying.{AreWindows, Prints, text_before};
 ghost use Rattle.fg_fly.specs.Texts.{bytes_alone};
 ghost use Rattle.fg_report.specs.Flights.{flight_text};
 ghost use Rattle.fg_report.specs.declared.flight.FlightLine.TheVariants as lines;
@@ -11,7 +11,7 @@ ghost use Rattle.fg_stages.specs.Exports.{exports_text};
 use fg_base::{NoMemory, Text};
 use fg_device::Device;
 use fg_flight::Windows;
-use fg_frame::GoodFrame;
+use fg_frame::ValidFrame;
 use fg_report::{FlightLine, export_text, flight_text};
 use fg_run::bytes_of;
 
@@ -19,7 +19,7 @@ use fg_run::bytes_of;
 fn add_frame(
     text: &mut Text,
     windows: &Windows<'_>,
-    good: &GoodFrame,
+    good: &ValidFrame,
     i: u32,
     device: &Device,
 ) -> Result<(), NoMemory>
@@ -39,7 +39,7 @@ fn add_frame(
 pub(crate) fn add_window(
     text: &mut Text,
     windows: &Windows<'_>,
-    frames: &[GoodFrame],
+    frames: &[ValidFrame],
     depth: u32,
     w: u32,
     device: &Device,

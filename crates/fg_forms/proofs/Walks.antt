@@ -6,8 +6,8 @@ use Rattle.fg_base.proofs.Lists.{any_mapped}
 use Rattle.fg_base.specs.declared.path.Leg.{Leg}
 use Rattle.fg_forms.specs.Parts.{below, unknown_in}
 use Rattle.fg_forms.specs.Reading.{Reading, Refuses, Fails, ◌>>=◌}
-use Rattle.fg_forms.specs.declared.read_end.ReadEnd.{ReadEnd}
-use Rattle.fg_forms.specs.declared.read_end.ReadEnd.TheVariants as ends
+use Rattle.fg_forms.specs.declared.read_error.ReadError.{ReadError}
+use Rattle.fg_forms.specs.declared.read_error.ReadError.TheVariants as ends
 use Rattle.serde_json.specs.View.{members_view}
 use Rattle.serde_json.specs.declared.value.Value.{Value}
 
@@ -26,6 +26,6 @@ module _ (known : List (Bor (List ℕ))) (at : List Leg) (left : List Entry) (e 
   pub stops_at : list_any (λ k. bytes_eq k.now (string_bytes e.0)) known ≡ false → unknown_in (map (λ k. k.now) known) at (members_view left) ≡ Err (below at (string_bytes e.0))
   stops_at h = rw (is, any_mapped (λ k. bytes_eq k (string_bytes e.0)) (λ (k : Bor (List ℕ)). k.now) known, h) refl
 
-pub fails_at : {X : Type 0} (e : ReadEnd) (path : List Leg) (read : Reading X) → Refuses e path → read ≡ Err path → Fails e read
+pub fails_at : {X : Type 0} (e : ReadError) (path : List Leg) (read : Reading X) → Refuses e path → read ≡ Err path → Fails e read
 fails_at ends.NoMemory path read h is = tt
 fails_at (ends.Refused p) path read h is = is ∙ ap Err (sym h)

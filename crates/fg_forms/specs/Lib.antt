@@ -1,5 +1,5 @@
 pub mod Json
 pub mod Leaves
 pub mod Parts
-pub mod Places
+pub mod Locations
 pub mod Reading

@@ -15,7 +15,7 @@ use thiserror::Error;
 
 /// Why bytes gave no JSON value.
 #[derive(Clone, Copy, Debug, PartialEq, Eq, Error)]
-pub enum JsonEnd {
+pub enum JsonError {
     #[error("memory ran out")]
     NoMemory,
     /// The bytes are not UTF-8, are no JSON text, nest deeper than 127 levels, or have a number that no finite float is
@@ -25,18 +25,18 @@ pub enum JsonEnd {
 }
 
 /// The one JSON value that the bytes are.
-pub fn read_json(alloc: Global, bytes: &[u8]) -> Result<Value, JsonEnd>
+pub fn read_json(alloc: Global, bytes: &[u8]) -> Result<Value, JsonError>
     ensures { JsonGives result (json_of bytes.now) }
 {
     let Ok(text) = str::from_utf8(bytes) else {
-        return Err(JsonEnd::NotJson);
+        return Err(JsonError::NotJson);
     };
     match Value::from_str(alloc, text) {
         Ok(value) => Ok(value),
         Err(e) => if e.is_memory() {
-            Err(JsonEnd::NoMemory)
+            Err(JsonError::NoMemory)
         } else {
-            Err(JsonEnd::NotJson)
+            Err(JsonError::NotJson)
         },
     }
 }

@@ -3,11 +3,11 @@
 ghost use Rattle.std.specs.Prelude.{IfOk};
 ghost use Rattle.std.specs.List.{AllByRecursion};
 ghost use Rattle.fg_forms.specs.Parts.{list_at, entries_at, array_of};
-ghost use Rattle.fg_forms.specs.Places.{legs};
+ghost use Rattle.fg_forms.specs.Locations.{legs};
 ghost use Rattle.fg_forms.specs.Reading.{Gives};
 ghost use Rattle.serde_json.specs.View.{items_view};
 
-use crate::{Place, ReadEnd, Reader, Typed, Writer};
+use crate::{Location, ReadError, Reader, Typed, Writer};
 use fg_base::List;
 use serde_json::Value;
 use std::alloc::{AllocError, Global};
@@ -25,7 +25,7 @@ impl<F: Reader> Reader for ListForm<F> {
 
     ghost Fits = { AllByRecursion F.Fits };
 
-    fn read(alloc: Global, at: &Place<'_>, value: &Value) -> Result<List<F::Out>, ReadEnd> {
+    fn read(alloc: Global, at: &Location<'_>, value: &Value) -> Result<List<F::Out>, ReadError> {
         match value {
             Value::Array(values) => entries::<F>(alloc, at, values.as_slice()),
             _ => Err(at.refused(alloc)),
@@ -35,9 +35,9 @@ impl<F: Reader> Reader for ListForm<F> {
 
 fn entries<F: Reader>(
     alloc: Global,
-    at: &Place<'_>,
+    at: &Location<'_>,
     values: &[Value],
-) -> Result<List<F::Out>, ReadEnd>
+) -> Result<List<F::Out>, ReadError>
     ensures gives { Gives result (entries_at F.reads (legs at.now) 0 (items_view values.now)) }
     ensures fits { IfOk result (AllByRecursion F.Fits) }
 {
@@ -45,7 +45,7 @@ fn entries<F: Reader>(
     for (i, value) in values.iter().enumerate() {
         // A path names no greater position.
         let Ok(position) = u32::try_from(i) else {
-            return Err(ReadEnd::NoMemory);
+            return Err(ReadError::NoMemory);
         };
         let entry = F::read(alloc, &(&*at).entry(position), value)?;
         found.push(entry)?;

@@ -4,16 +4,16 @@ ghost use Rattle.std.specs.Prelude.{◌≡◌, map, IfOk, IfSome};
 ghost use Rattle.std.specs.List.{list_any};
 ghost use Rattle.std.specs.Str.{bytes_eq};
 ghost use Rattle.fg_forms.specs.Parts.{object_at, member_at, optional_at, others_at, unknown_in};
-ghost use Rattle.fg_forms.specs.Places.{legs};
+ghost use Rattle.fg_forms.specs.Locations.{legs};
 ghost use Rattle.fg_forms.specs.Reading.{Gives};
 ghost use Rattle.serde_json.specs.View.{view, members_view};
 
-use crate::{Place, ReadEnd, Reader};
+use crate::{Location, ReadError, Reader};
 use serde_json::{Map, Value};
 use std::alloc::Global;
 
 /// Tests that a value is an object.
-pub fn object(alloc: Global, at: &Place<'_>, value: &Value) -> Result<(), ReadEnd>
+pub fn object(alloc: Global, at: &Location<'_>, value: &Value) -> Result<(), ReadError>
     ensures { Gives result (object_at (legs at.now) (view value.now)) }
 {
     match value {
@@ -25,27 +25,27 @@ pub fn object(alloc: Global, at: &Place<'_>, value: &Value) -> Result<(), ReadEn
 /// A member that must be there. An absent one is refused at its own path.
 pub fn required<F: Reader>(
     alloc: Global,
-    at: &Place<'_>,
+    at: &Location<'_>,
     name: &str,
     value: &Value,
-) -> Result<F::Out, ReadEnd>
+) -> Result<F::Out, ReadError>
     ensures gives { Gives result (member_at F.reads name.now (legs at.now) (view value.now)) }
     ensures fits { IfOk result F.Fits }
 {
-    let place = at.member(name);
+    let location = at.member(name);
     match value.get(name) {
-        Some(part) => F::read(alloc, &place, part),
-        None => Err(place.refused(alloc)),
+        Some(part) => F::read(alloc, &location, part),
+        None => Err(location.refused(alloc)),
     }
 }
 
 /// A member that may be there.
 pub fn optional<F: Reader>(
     alloc: Global,
-    at: &Place<'_>,
+    at: &Location<'_>,
     name: &str,
     value: &Value,
-) -> Result<Option<F::Out>, ReadEnd>
+) -> Result<Option<F::Out>, ReadError>
     ensures gives { Gives result (optional_at F.reads name.now (legs at.now) (view value.now)) }
     ensures fits { IfOk result (λ found. IfSome found F.Fits) }
 {
@@ -57,7 +57,7 @@ pub fn optional<F: Reader>(
 
 /// Tests that an object has no members but those that are known. The first unknown one in byte order is refused at its
 /// path. A value that is no object passes: `object` tests that.
-pub fn others(alloc: Global, at: &Place<'_>, known: &[&str], value: &Value) -> Result<(), ReadEnd>
+pub fn others(alloc: Global, at: &Location<'_>, known: &[&str], value: &Value) -> Result<(), ReadError>
     ensures { Gives result (others_at (map (λ name. name.now) known.now) (legs at.now) (view value.now)) }
 {
     match value {
@@ -74,10 +74,10 @@ fn is_known(known: &[&str], name: &str) -> bool
 
 fn unknown(
     alloc: Global,
-    at: &Place<'_>,
+    at: &Location<'_>,
     known: &[&str],
     members: &Map<String, Value>,
-) -> Result<(), ReadEnd>
+) -> Result<(), ReadError>
     ensures { Gives result (unknown_in (map (λ name. name.now) known.now) (legs at.now) (members_view members.now.entries)) }
 {
     for (name, _) in members {

@@ -3,7 +3,7 @@
 ghost use Rattle.std.specs.Prelude.{◌≡◌};
 ghost use Rattle.fg_forms.specs.Leaves.{number_at, number_data, within, FitsRange, FitsWhole};
 
-use crate::{Place, ReadEnd, Reader, Typed, Writer};
+use crate::{Location, ReadError, Reader, Typed, Writer};
 use serde_json::Value;
 use std::alloc::{AllocError, Global};
 
@@ -29,7 +29,7 @@ impl<const LEAST: u32, const MOST: u32> Reader for RangeForm<LEAST, MOST> {
 
     ghost Fits = { FitsRange LEAST MOST };
 
-    fn read(alloc: Global, at: &Place<'_>, value: &Value) -> Result<u32, ReadEnd> {
+    fn read(alloc: Global, at: &Location<'_>, value: &Value) -> Result<u32, ReadError> {
         match value.as_u64() {
             Some(number) => match within(number, LEAST, MOST) {
                 Some(number) => Ok(number),

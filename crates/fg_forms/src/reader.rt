@@ -2,12 +2,12 @@
 
 ghost use Rattle.std.specs.Prelude.{List, IfOk};
 ghost use Rattle.fg_base.specs.declared.path.Leg.{Leg};
-ghost use Rattle.fg_forms.specs.Places.{legs};
+ghost use Rattle.fg_forms.specs.Locations.{legs};
 ghost use Rattle.fg_forms.specs.Reading.{Reading, Gives};
 ghost use Rattle.serde_json.specs.Data.{Data};
 ghost use Rattle.serde_json.specs.View.{view};
 
-use crate::{Place, ReadEnd};
+use crate::{Location, ReadError};
 use serde_json::Value;
 use std::alloc::Global;
 
@@ -21,7 +21,7 @@ pub trait Reader {
     /// What the format says of a value, whichever file it comes from.
     ghost Fits: { Self.Out → Type 0 };
 
-    fn read(alloc: Global, at: &Place<'_>, value: &Value) -> Result<Self::Out, ReadEnd>
+    fn read(alloc: Global, at: &Location<'_>, value: &Value) -> Result<Self::Out, ReadError>
         ensures gives { Gives result (reads (legs at.now) (view value.now)) }
         ensures fits { IfOk result Fits };
 }

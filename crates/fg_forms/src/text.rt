@@ -4,7 +4,7 @@ ghost use Rattle.std.specs.Prelude.{◌≡◌, ℕ, List, Some, IfSome};
 ghost use Rattle.fg_base.specs.Names.{IsName, name_of};
 ghost use Rattle.fg_forms.specs.Leaves.{text_at, text_data, same_bytes, name_again};
 
-use crate::{Place, ReadEnd, Reader, Typed, Writer};
+use crate::{Location, ReadError, Reader, Typed, Writer};
 use fg_base::Name;
 use serde_json::Value;
 use std::alloc::{AllocError, Global};
@@ -48,7 +48,7 @@ impl<W: Word> Reader for TextForm<W> {
 
     ghost Fits = { W.Fits };
 
-    fn read(alloc: Global, at: &Place<'_>, value: &Value) -> Result<W::Of, ReadEnd> {
+    fn read(alloc: Global, at: &Location<'_>, value: &Value) -> Result<W::Of, ReadError> {
         match value.as_str() {
             Some(text) => match W::value(text) {
                 Some(found) => Ok(found),

@@ -38,8 +38,8 @@ any_same p q same [] = refl
 any_same p q same (x ∷ xs) = ap₂ (λ a b. a || b) (same x) (any_same p q same xs)
 
 any_or : {X : Type 0} (p q r : X → Bool) → ((x : X) → p x ≡ (q x || r x)) → (xs : List X) → list_any p xs ≡ (list_any q xs || list_any r xs)
-any_or p q r parts [] = refl
-any_or p q r parts (x ∷ xs) = ap₂ (λ a b. a || b) (parts x) (any_or p q r parts xs) ∙ swap_or (q x) (r x) (list_any q xs) (list_any r xs)
+any_or p q r resolved [] = refl
+any_or p q r resolved (x ∷ xs) = ap₂ (λ a b. a || b) (resolved x) (any_or p q r resolved xs) ∙ swap_or (q x) (r x) (list_any q xs) (list_any r xs)
 
 any_less : {X : Type 0} (p q : X → Bool) → ((x : X) → q x ≡ (p x && q x)) → (xs : List X) → list_any p xs ≡ false → list_any q xs ≡ false
 any_less p q less [] nope = refl
@@ -124,9 +124,9 @@ is_whole (Some l) e = absurd cc
 repeats_clash : (spots : List Spot) (i : ℕ) (xs : List Spot) → list_any (λ s. is_some s.layer) xs ≡ false → first_in (repeats_at (map (λ s. s.name) spots)) i (map (λ s. s.name) xs) ≡ first_in (clashes_at spots) i xs
 repeats_clash spots i [] whole = refl
 repeats_clash spots i (x ∷ xs) whole =
-    let parts = or_parts (is_some x.layer) (list_any (λ s. is_some s.layer) xs) whole in
-    let here : list_any (bytes_eq x.name) (take i (map (λ s. s.name) spots)) ≡ list_any (clash x) (take i spots) = ap (list_any (bytes_eq x.name)) (take-map (λ s. s.name) i spots) ∙ named_clash x (take i spots) (is_whole x.layer parts.0) in
-    ap₂ (λ a b. option_or a b) (ap (λ b. if b then Some i else None) here) (repeats_clash spots (suc i) xs parts.1)
+    let resolved = or_parts (is_some x.layer) (list_any (λ s. is_some s.layer) xs) whole in
+    let here : list_any (bytes_eq x.name) (take i (map (λ s. s.name) spots)) ≡ list_any (clash x) (take i spots) = ap (list_any (bytes_eq x.name)) (take-map (λ s. s.name) i spots) ∙ named_clash x (take i spots) (is_whole x.layer resolved.0) in
+    ap₂ (λ a b. option_or a b) (ap (λ b. if b then Some i else None) here) (repeats_clash spots (suc i) xs resolved.1)
 
 -- entries without layers clash where their names repeat
 pub whole_clash : (spots : List Spot) (names : List (List ℕ)) (r : Option ℕ) → list_any (λ s. is_some s.layer) spots ≡ false → names ≡ map (λ s. s.name) spots → r ≡ first_repeat names → r ≡ first_clash spots

@@ -24,8 +24,8 @@ use Rattle.fg_frame.specs.declared.frame.Spot.{Spot}
 use Rattle.fg_frame.specs.declared.frame.Write.{Write}
 use Rattle.fg_frame.specs.declared.numbered.Span.{Span}
 use Rattle.fg_frame.specs.declared.numbered.Stretch.{Stretch}
-use Rattle.fg_frame.specs.declared.place.Place.{Place}
-use Rattle.fg_frame.specs.declared.place.Place.TheVariants as at
+use Rattle.fg_frame.specs.declared.location.Location.{Location}
+use Rattle.fg_frame.specs.declared.location.Location.TheVariants as at
 
 some_is : (a b : ℕ) → Some a ≡ Some b → a ≡ b
 some_is a b e = ap (λ o. unwrap_or o 0) e
@@ -113,10 +113,10 @@ op_within n count p k op holds none = subst (λ units. All (λ unit. unit < coun
 
 pass_within : (frame : Frame) (n : Numbering) (count p : ℕ) (pass : Pass) → All (Holds count) n.stretches → unknown_in frame n p pass ≡ None → IsWithin (length frame.queues) count (numbered_pass frame n pass)
 pass_within frame n count p pass holds none =
-    let queue : Option Place = if has_queue frame pass.queue then None else Some (at.PassQueue p) in
-    let reads : Option Place = option_map (λ k. at.Read p k) (position (λ spot. not (is_known n spot)) pass.reads) in
-    let writes : Option Place = option_map (λ k. at.Write p k) (position (λ w. not (is_known n w.what)) pass.writes) in
-    let ops : Option Place = first_in (unknown_operand n p) 0 pass.ops in
+    let queue : Option Location = if has_queue frame pass.queue then None else Some (at.PassQueue p) in
+    let reads : Option Location = option_map (λ k. at.Read p k) (position (λ spot. not (is_known n spot)) pass.reads) in
+    let writes : Option Location = option_map (λ k. at.Write p k) (position (λ w. not (is_known n w.what)) pass.writes) in
+    let ops : Option Location = first_in (unknown_operand n p) 0 pass.ops in
     let none-1 = or_second queue (option_or reads (option_or writes ops)) none in
     let none-2 = or_second reads (option_or writes ops) none-1 in
     record {

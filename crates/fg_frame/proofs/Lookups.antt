@@ -13,7 +13,7 @@ use Rattle.fg_frame.specs.Repeats.{first_repeat, repeats_at}
 no_true : true ≡ false → ⊥
 no_true e = cc
 
--- the first place at which a test passes
+-- the first location at which a test passes
 pub place_at : {X : Type 0} (test : X → Bool) (xs : List X) (q : ℕ) (d : X) → q < length xs → test (get_or xs q d) ≡ true → ((j : ℕ) → j < q → test (get_or xs j d) ≡ false) → position test xs ≡ Some q
 place_at test [] q d lt here before = absurd (omega arith)
 place_at test (x ∷ xs) zero d lt here before = position_here test x xs here

@@ -13,7 +13,7 @@ use Rattle.fg_frame.specs.Uses.{makes, is_there, is_marked, is_missing, unwritte
 use Rattle.fg_frame.specs.declared.frame.Write.{Write}
 use Rattle.fg_frame.specs.declared.numbered.Span.{Span}
 use Rattle.fg_frame.specs.declared.numbered.Uses.{Uses}
-use Rattle.fg_frame.specs.declared.place.Place.{Place}
+use Rattle.fg_frame.specs.declared.location.Location.{Location}
 
 -- one mark more
 set_mark : (marks : List Bool) (k u : ℕ) → k < length marks → is_marked (slice_set marks k true) u ≡ (is_marked marks u || (k == u))
@@ -55,5 +55,5 @@ same_place imported marks passes p uses same = ap (λ there. unwritten_in there 
 pub same_missing : (imported marks : List Bool) (passes : List Uses) (entries : List Span) → ((u : ℕ) → is_marked marks u ≡ is_there imported passes u) → position (is_missing (is_marked marks)) entries ≡ position (is_missing (is_there imported passes)) entries
 same_missing imported marks passes entries same = ap (λ there. position (is_missing there) entries) (fun_ext same)
 
-pub missing_on : (imported marks : List Bool) (passes : List Uses) (p : ℕ) (uses : Uses) (r total : Option Place) → p < length passes → uses ≡ get_or passes p uses → ((u : ℕ) → is_marked marks u ≡ is_there imported (take p passes) u) → r ≡ unwritten_in (is_marked marks) p uses → r ≡ None → first_in (unwritten_at imported passes) p (drop p passes) ≡ total → first_in (unwritten_at imported passes) (p + 1) (drop (p + 1) passes) ≡ total
+pub missing_on : (imported marks : List Bool) (passes : List Uses) (p : ℕ) (uses : Uses) (r total : Option Location) → p < length passes → uses ≡ get_or passes p uses → ((u : ℕ) → is_marked marks u ≡ is_there imported (take p passes) u) → r ≡ unwritten_in (is_marked marks) p uses → r ≡ None → first_in (unwritten_at imported passes) p (drop p passes) ≡ total → first_in (unwritten_at imported passes) (p + 1) (drop (p + 1) passes) ≡ total
 missing_on imported marks passes p uses r total lt is same gives none so_far = first_on (unwritten_at imported passes) passes p uses r total lt is (gives ∙ same_place imported marks passes p uses same) none so_far

@@ -29,10 +29,10 @@ use Rattle.fg_base.proofs.Absence.{all_pass, first_none, or_first, or_second, ma
 use Rattle.fg_frame.proofs.Once.{exports_once}
 use Rattle.fg_frame.proofs.Small.{names_good, then_uses, some_queue, few_queues, few_units, limits_none, unknown_none, some_layers, length_units, passes_few, layers_good, sides_good, sizes_allowed, passes_within, families_are}
 use Rattle.fg_frame.specs.FirstFault.{shapes_of, imports_of, rule_broken, misfit_broken, first_broken, first_fault}
-use Rattle.fg_frame.specs.Good.{is_import, renews, has_contents, IsGoodOp, IsGoodPass, IsDeclared, IsGood}
+use Rattle.fg_frame.specs.Valid.{is_import, renews, has_contents, IsValidOp, IsValidPass, IsDeclared, IsValid}
 use Rattle.fg_frame.specs.Members.{member_at}
 use Rattle.fg_frame.specs.Numbered.{numbered, numbered_pass, write_each, writes_of, stored_of, uses_of, all_uses, export_units}
-use Rattle.fg_frame.specs.Paths.{told}
+use Rattle.fg_frame.specs.Paths.{fault_of}
 use Rattle.fg_frame.specs.Units.{Numbering, numbering, units_in, span_of, units_of, units, Unit, units_from, unit_from}
 use Rattle.fg_frame.specs.Uses.{family_of, writes_it, reads_it, undeclared_at, undeclared_operand, starts_whole, is_partial, not_whole_at, makes, is_there, is_marked, is_missing, unwritten_at, unwritten, import_fits, misfit_import, misfit_at, use_at, first_use}
 use Rattle.fg_frame.specs.declared.frame.Frame.{Frame}
@@ -42,9 +42,9 @@ use Rattle.fg_frame.specs.declared.frame.Spot.{Spot}
 use Rattle.fg_frame.specs.declared.frame.Write.{Write}
 use Rattle.fg_frame.specs.declared.numbered.NumberedPass.{NumberedPass}
 use Rattle.fg_frame.specs.declared.numbered.Uses.{Uses}
-use Rattle.fg_frame.specs.declared.place.Operand.TheVariants.{Dst}
-use Rattle.fg_frame.specs.declared.place.Place.{Place}
-use Rattle.fg_frame.specs.declared.place.Place.TheVariants as at
+use Rattle.fg_frame.specs.declared.location.Operand.TheVariants.{Dst}
+use Rattle.fg_frame.specs.declared.location.Location.{Location}
+use Rattle.fg_frame.specs.declared.location.Location.TheVariants as at
 use Rattle.fg_frame.specs.declared.rule.Rule.{Rule}
 use Rattle.fg_frame.specs.declared.rule.Rule.TheVariants as rules
 
@@ -171,31 +171,31 @@ module _ (frame : Frame) (none : first_broken frame ≡ None) where
   abbrev uses : List Uses
   uses = all_uses frame
 
-  abbrev by : Rule → Option (Broken Rule Place)
+  abbrev by : Rule → Option (Broken Rule Location)
   by rule = rule_broken rule frame shapes uses
 
-  abbrev by_written : Option (Broken Rule Place)
+  abbrev by_written : Option (Broken Rule Location)
   by_written = option_map (of_rule rules.Unwritten) (unwritten (imports_of frame) uses (export_units frame))
 
-  abbrev by_imports : Option (Broken Rule Place)
+  abbrev by_imports : Option (Broken Rule Location)
   by_imports = option_map (of_rule rules.Fits) (misfit_import frame.resources)
 
-  abbrev by_fits : Option (Broken Rule Place)
+  abbrev by_fits : Option (Broken Rule Location)
   by_fits = misfit_broken frame shapes uses
 
-  abbrev from_in_place : Option (Broken Rule Place)
+  abbrev from_in_place : Option (Broken Rule Location)
   from_in_place = option_or (by rules.InPlace) (by rules.ReadNew)
 
-  abbrev from_fits : Option (Broken Rule Place)
+  abbrev from_fits : Option (Broken Rule Location)
   from_fits = option_or by_fits from_in_place
 
-  abbrev from_written : Option (Broken Rule Place)
+  abbrev from_written : Option (Broken Rule Location)
   from_written = option_or by_written from_fits
 
-  abbrev from_whole : Option (Broken Rule Place)
+  abbrev from_whole : Option (Broken Rule Location)
   from_whole = option_or (by rules.Whole) from_written
 
-  abbrev from_declared : Option (Broken Rule Place)
+  abbrev from_declared : Option (Broken Rule Location)
   from_declared = option_or (by rules.Declared) from_whole
 
   all_none : option_or (by rules.Runs) from_declared ≡ None
@@ -236,16 +236,16 @@ module _ (frame : Frame) (none : first_broken frame ≡ None) where
     abbrev there : ℕ → Bool
     there = is_there (imports_of frame) (take p uses)
 
-    abbrev reads_found : Option Place
+    abbrev reads_found : Option Location
     reads_found = option_map (λ k. at.Read p k) (position (is_missing there) (map (span_of n) pass.reads))
 
-    abbrev changes_found : Option Place
+    abbrev changes_found : Option Location
     changes_found = option_map (λ j. at.Write p j) (position (λ w. not w.fresh && is_missing there w.units) (map (stored_of n) pass.writes))
 
     entries_none : option_or reads_found changes_found ≡ None
     entries_none = rule_mapped (unwritten_at (imports_of frame) uses) (uses_of frame n) frame.passes (or_first (first_in (unwritten_at (imports_of frame) uses) 0 uses) (option_map (λ i. at.Export i) (position (is_missing (is_there (imports_of frame) uses)) (export_units frame))) unwritten_none) p d lt
 
-    good_op : (k : ℕ) (e : Op ℕ) → k < length here.ops → IsGoodOp (numbered frame) here (get_or here.ops k e)
+    good_op : (k : ℕ) (e : Op ℕ) → k < length here.ops → IsValidOp (numbered frame) here (get_or here.ops k e)
     good_op k e less =
         let op = get_or here.ops k e in
         let undeclared = none_at (undeclared_operand here p) here.ops (at_pass rules.Declared (or_first (by rules.Declared) from_whole declared_none) p d lt) k e less in
@@ -257,7 +257,7 @@ module _ (frame : Frame) (none : first_broken frame ≡ None) where
           not_in_place = position-none in_place here.ops k e less (map_none (λ j. at.Operand p j Dst) (position in_place here.ops) (at_pass rules.InPlace (or_first (by rules.InPlace) (by rules.ReadNew) in_place_none) p d lt));
         }
 
-    good_pass : IsGoodPass (numbered frame) (take p (numbered frame).passes) here
+    good_pass : IsValidPass (numbered frame) (take p (numbered frame).passes) here
     good_pass = record {
       reads_there = λ k e less. sym (there_before frame p (get_or here.reads k e)) ∙ entries_there there n pass.reads (map_none (λ k. at.Read p k) (position (is_missing there) (map (span_of n) pass.reads)) (or_first reads_found changes_found entries_none)) k e less;
       changes_there = λ k e less. λ stale. sym (there_before frame p (get_or here.writes k e).what) ∙ changes_there there n pass.writes (map_none (λ j. at.Write p j) (position (λ w. not w.fresh && is_missing there w.units) (map (stored_of n) pass.writes)) (or_second reads_found changes_found entries_none)) k e less stale;
@@ -267,12 +267,12 @@ module _ (frame : Frame) (none : first_broken frame ≡ None) where
     }
 
   -- of numbered passes from the declared ones
-  good_passes : (p : ℕ) (d : NumberedPass) → p < length (numbered frame).passes → IsGoodPass (numbered frame) (take p (numbered frame).passes) (get_or (numbered frame).passes p d)
+  good_passes : (p : ℕ) (d : NumberedPass) → p < length (numbered frame).passes → IsValidPass (numbered frame) (take p (numbered frame).passes) (get_or (numbered frame).passes p d)
   good_passes p d lt = by_list frame.passes refl (subst (λ m. p < m) (length-map frame.passes (numbered_pass frame n)) lt)
     where
-      by_list : (passes : List Pass) → frame.passes ≡ passes → p < length frame.passes → IsGoodPass (numbered frame) (take p (numbered frame).passes) (get_or (numbered frame).passes p d)
+      by_list : (passes : List Pass) → frame.passes ≡ passes → p < length frame.passes → IsValidPass (numbered frame) (take p (numbered frame).passes) (get_or (numbered frame).passes p d)
       by_list [] e less = absurd (subst (λ ps. p < length ps → ⊥) (sym e) (λ no. omega arith) less)
-      by_list (first ∷ passes) e less = subst (λ x. IsGoodPass (numbered frame) (take p (numbered frame).passes) x) (sym (get_or-map (numbered_pass frame n) frame.passes p first d less)) (good_pass p first less)
+      by_list (first ∷ passes) e less = subst (λ x. IsValidPass (numbered frame) (take p (numbered frame).passes) x) (sym (get_or-map (numbered_pass frame n) frame.passes p first d less)) (good_pass p first less)
 
   imports_good : All (λ r. import_fits r.shape r.import ≡ true) frame.resources
   imports_good = all_pass (λ r. import_fits r.shape r.import) frame.resources (map_none (λ i. at.Import i) (position (λ r. not (import_fits r.shape r.import)) frame.resources) (map_none (of_rule rules.Fits) (misfit_import frame.resources) (or_first by_imports (by rules.Fits) misfit_none)))
@@ -283,7 +283,7 @@ module _ (frame : Frame) (none : first_broken frame ≡ None) where
   good_exports : All (λ unit. has_contents (units frame) (numbered frame).passes unit ≡ true) (numbered frame).exports
   good_exports = λ k e less. sym (there_same frame (get_or (numbered frame).exports k e) frame.passes) ∙ entries_there (is_there (imports_of frame) uses) n frame.exports (map_none (λ i. at.Export i) (position (is_missing (is_there (imports_of frame) uses)) (export_units frame)) (or_second (first_in (unwritten_at (imports_of frame) uses) 0 uses) (option_map (λ i. at.Export i) (position (is_missing (is_there (imports_of frame) uses)) (export_units frame))) unwritten_none)) k e less
 
-  pub good : IsGood (numbered frame)
+  pub good : IsValid (numbered frame)
   good = record {
     some_queue = subst (λ m. 0 < m) (sym (families_are frame)) (some_queue frame (names_good frame none));
     few_queues = subst (λ m. m ≤ 4) (sym (families_are frame)) (few_queues frame (names_good frame none));
@@ -315,4 +315,4 @@ module _ (frame : Frame) (none : first_broken frame ≡ None) where
       }
 
 pub declared_by_law : (frame : Frame) → first_fault frame ≡ None → IsDeclared frame
-declared_by_law frame none = declared frame (map_none told (first_broken frame) none)
+declared_by_law frame none = declared frame (map_none fault_of (first_broken frame) none)

@@ -26,8 +26,8 @@ use Rattle.fg_frame.specs.declared.frame.Frame.{Frame}
 use Rattle.fg_frame.specs.declared.frame.Resource.{Resource}
 use Rattle.fg_frame.specs.declared.frame.Spot.{Spot}
 use Rattle.fg_frame.specs.declared.numbered.Stretch.{Stretch}
-use Rattle.fg_frame.specs.declared.place.Place.{Place}
-use Rattle.fg_frame.specs.declared.place.Place.TheVariants as at
+use Rattle.fg_frame.specs.declared.location.Location.{Location}
+use Rattle.fg_frame.specs.declared.location.Location.TheVariants as at
 
 -- LISTS WHOSE ENTRIES DIFFER
 
@@ -96,10 +96,10 @@ one_after n (r ∷ rs) (suc p) (suc q) s t is at lt = one_after (n + r.layers) r
 
 -- the resource that a spot names, and its layer there
 record IsAt (n : Numbering) (spot : Spot) : Type 0 where
-  place : ℕ
+  location : ℕ
   stretch : Stretch
-  named : position (bytes_eq spot.name) n.names ≡ Some place
-  is : slice_get n.stretches place ≡ Some stretch
+  named : position (bytes_eq spot.name) n.names ≡ Some location
+  is : slice_get n.stretches location ≡ Some stretch
   layer : has_layer spot.layer stretch ≡ true
 
 located : (n : Numbering) (spot : Spot) → is_known n spot ≡ true → IsAt n spot
@@ -107,7 +107,7 @@ located n spot known = by_place (position (bytes_eq spot.name) n.names) refl kno
   where
     by_stretch : (p : ℕ) → position (bytes_eq spot.name) n.names ≡ Some p → (o : Option Stretch) → slice_get n.stretches p ≡ o → option_map_or (has_layer spot.layer) o false ≡ true → IsAt n spot
     by_stretch p e None f k = absurd (clash k)
-    by_stretch p e (Some s) f k = record { place = p; stretch = s; named = e; is = f; layer = k }
+    by_stretch p e (Some s) f k = record { location = p; stretch = s; named = e; is = f; layer = k }
 
     by_place : (o : Option ℕ) → position (bytes_eq spot.name) n.names ≡ o → option_map_or (has_layer spot.layer) (option_and_then (slice_get n.stretches) o) false ≡ true → IsAt n spot
     by_place None e k = absurd (clash k)
@@ -156,16 +156,16 @@ module _ (n : Numbering) where
 
   same_place : (a b : Spot) (A : IsAt n a) (B : IsAt n b) → a.name ≡ b.name → A.stretch ≡ B.stretch
   same_place a b A B names =
-      let place : Some A.place ≡ Some B.place = sym A.named ∙ ap (λ name. position (bytes_eq name) n.names) names ∙ B.named in
-      let found : Some A.stretch ≡ Some B.stretch = sym A.is ∙ ap (option_and_then (slice_get n.stretches)) place ∙ B.is in
+      let location : Some A.location ≡ Some B.location = sym A.named ∙ ap (λ name. position (bytes_eq name) n.names) names ∙ B.named in
+      let found : Some A.stretch ≡ Some B.stretch = sym A.is ∙ ap (option_and_then (slice_get n.stretches)) location ∙ B.is in
       cc
 
-  -- a place has one name
-  same_name : (a b : Spot) (A : IsAt n a) (B : IsAt n b) → A.place ≡ B.place → b.name ≡ a.name
-  same_name a b A B place =
-      let one = (bytes_eq-Decides a.name (get_or n.names A.place [])).0 (position-Some (bytes_eq a.name) n.names A.place [] A.named).1 in
-      let two = (bytes_eq-Decides b.name (get_or n.names B.place [])).0 (position-Some (bytes_eq b.name) n.names B.place [] B.named).1 in
-      two ∙ ap (λ p. get_or n.names p []) (sym place) ∙ sym one
+  -- a location has one name
+  same_name : (a b : Spot) (A : IsAt n a) (B : IsAt n b) → A.location ≡ B.location → b.name ≡ a.name
+  same_name a b A B location =
+      let one = (bytes_eq-Decides a.name (get_or n.names A.location [])).0 (position-Some (bytes_eq a.name) n.names A.location [] A.named).1 in
+      let two = (bytes_eq-Decides b.name (get_or n.names B.location [])).0 (position-Some (bytes_eq b.name) n.names B.location [] B.named).1 in
+      two ∙ ap (λ p. get_or n.names p []) (sym location) ∙ sym one
 
 module _ (frame : Frame) where
   abbrev n : Numbering
@@ -174,38 +174,38 @@ module _ (frame : Frame) where
   spots_apart : (a b : Spot) → IsAt n a → IsAt n b → clashes.clash b a ≡ false → Apart (units_of n a) (units_of n b)
   spots_apart a b A B none = by_name (bytes_eq b.name a.name) refl none
     where
-      other_place : (A.place ≡ B.place → ⊥) → Apart (units_of (numbering frame) a) (units_of (numbering frame) b)
+      other_place : (A.location ≡ B.location → ⊥) → Apart (units_of (numbering frame) a) (units_of (numbering frame) b)
       other_place differ = apart_between (units_of (numbering frame) a) (units_of (numbering frame) b) A.stretch.first (A.stretch.first + A.stretch.layers) B.stretch.first (B.stretch.first + B.stretch.layers) (between (numbering frame) a A) (between (numbering frame) b B)
           (⊎_elim
-          (λ lt. inl (one_after 0 frame.resources A.place B.place A.stretch B.stretch A.is B.is lt))
-          (λ le. inr (one_after 0 frame.resources B.place A.place B.stretch A.stretch B.is A.is (below le)))
-          (cases_lt A.place B.place))
+          (λ lt. inl (one_after 0 frame.resources A.location B.location A.stretch B.stretch A.is B.is lt))
+          (λ le. inr (one_after 0 frame.resources B.location A.location B.stretch A.stretch B.is A.is (below le)))
+          (cases_lt A.location B.location))
         where
-          below : B.place ≤ A.place → B.place < A.place
-          below le = ⊎_elim (λ h. h) (λ h. absurd (differ (omega (arith, le, h)))) (cases_lt B.place A.place)
+          below : B.location ≤ A.location → B.location < A.location
+          below le = ⊎_elim (λ h. h) (λ h. absurd (differ (omega (arith, le, h)))) (cases_lt B.location A.location)
 
       by_name : (t : Bool) → bytes_eq b.name a.name ≡ t → (t && clashes.layers_clash b.layer a.layer) ≡ false → Apart (units_of (numbering frame) a) (units_of (numbering frame) b)
       by_name true e layers =
           let name : b.name ≡ a.name = (bytes_eq-Decides b.name a.name).0 e in
-          let place : A.stretch ≡ B.stretch = same_place (numbering frame) a b A B (sym name) in
+          let location : A.stretch ≡ B.stretch = same_place (numbering frame) a b A B (sym name) in
           subst (λ us. Apart us (units_of (numbering frame) b)) (sym (units_are (numbering frame) a A))
-          (subst (Apart (units_in (span_in a.layer A.stretch))) (sym (units_are (numbering frame) b B ∙ ap (λ s. units_in (span_in b.layer s)) (sym place)))
-          (layers_apart (numbering frame) A.stretch a.layer b.layer A.layer (subst (λ s. has_layer b.layer s ≡ true) (sym place) B.layer) layers))
-      by_name false e layers = other_place (λ place. clash (sym e ∙ (bytes_eq-Decides b.name a.name).1 (same_name (numbering frame) a b A B place)))
+          (subst (Apart (units_in (span_in a.layer A.stretch))) (sym (units_are (numbering frame) b B ∙ ap (λ s. units_in (span_in b.layer s)) (sym location)))
+          (layers_apart (numbering frame) A.stretch a.layer b.layer A.layer (subst (λ s. has_layer b.layer s ≡ true) (sym location) B.layer) layers))
+      by_name false e layers = other_place (λ location. clash (sym e ∙ (bytes_eq-Decides b.name a.name).1 (same_name (numbering frame) a b A B location)))
 
   module _ (named : name_broken frame ≡ None) where
     exports_known : All (λ spot. is_known (numbering frame) spot ≡ true) frame.exports
     exports_known =
-        let passes : Option Place = first_in (unknown_in frame (numbering frame)) 0 frame.passes in
+        let passes : Option Location = first_in (unknown_in frame (numbering frame)) 0 frame.passes in
         let exports = position (λ spot. not (is_known (numbering frame) spot)) frame.exports in
         all_pass (is_known (numbering frame)) frame.exports (map_none (λ i. at.Export i) exports (or_second passes (option_map (λ i. at.Export i) exports) (unknown_none frame named)))
 
     exports_apart : clashes.first_clash frame.exports ≡ None
     exports_apart =
-        let queues : Option Place = option_map (λ i. at.Queue i) (first_repeat (map (λ q. q.name) frame.queues)) in
-        let resources : Option Place = option_map (λ i. at.Resource i) (first_repeat (map (λ r. r.name) frame.resources)) in
-        let passes : Option Place = first_in (repeats_in (map (λ p. p.name) frame.passes)) 0 frame.passes in
-        let exports : Option Place = option_map (λ i. at.Export i) (clashes.first_clash frame.exports) in
+        let queues : Option Location = option_map (λ i. at.Queue i) (first_repeat (map (λ q. q.name) frame.queues)) in
+        let resources : Option Location = option_map (λ i. at.Resource i) (first_repeat (map (λ r. r.name) frame.resources)) in
+        let passes : Option Location = first_in (repeats_in (map (λ p. p.name) frame.passes)) 0 frame.passes in
+        let exports : Option Location = option_map (λ i. at.Export i) (clashes.first_clash frame.exports) in
         map_none (λ i. at.Export i) (clashes.first_clash frame.exports)
         (or_second passes exports (or_second resources (option_or passes exports) (or_second queues (option_or resources (option_or passes exports)) (repeated_none frame named))))
 

@@ -3,7 +3,7 @@ use Rattle.std.proofs.Common.{◌≡◌, ℕ, zero, suc, ◌<◌, ◌||◌, List
 use Rattle.std.specs.List.{list_any}
 use Rattle.std.proofs.lemmas.List.{append-nil}
 use Rattle.std.proofs.lemmas.List.Folds.{list_any-append}
-use Rattle.fg_frame.specs.Good.{IsGoodPass, has_contents, is_import, renews}
+use Rattle.fg_frame.specs.Valid.{IsValidPass, has_contents, is_import, renews}
 use Rattle.fg_frame.specs.Numbered.{NumberedFrame}
 use Rattle.fg_frame.specs.declared.numbered.NumberedPass.{NumberedPass}
 
@@ -11,19 +11,19 @@ use Rattle.fg_frame.specs.declared.numbered.NumberedPass.{NumberedPass}
 
 abbrev pub AllGood : NumberedFrame → List NumberedPass → List NumberedPass → Type 0
 AllGood frame before [] = Unit {0}
-AllGood frame before (pass ∷ passes) = IsGoodPass frame before pass × AllGood frame (before ++ pass ∷ []) passes
+AllGood frame before (pass ∷ passes) = IsValidPass frame before pass × AllGood frame (before ++ pass ∷ []) passes
 
-pub one_by_one : (frame : NumberedFrame) (before passes : List NumberedPass) → ((p : ℕ) (d : NumberedPass) → p < length passes → IsGoodPass frame (before ++ take p passes) (get_or passes p d)) → AllGood frame before passes
+pub one_by_one : (frame : NumberedFrame) (before passes : List NumberedPass) → ((p : ℕ) (d : NumberedPass) → p < length passes → IsValidPass frame (before ++ take p passes) (get_or passes p d)) → AllGood frame before passes
 one_by_one frame before [] good = tt
 one_by_one frame before (pass ∷ passes) good = (
-  subst (λ b. IsGoodPass frame b pass) (append-nil before) (good 0 pass (omega arith)),
-  one_by_one frame (before ++ pass ∷ []) passes (λ p d lt. subst (λ b. IsGoodPass frame b (get_or passes p d)) (sym (append_assoc before (pass ∷ []) (take p passes))) (good (suc p) d (omega arith))),
+  subst (λ b. IsValidPass frame b pass) (append-nil before) (good 0 pass (omega arith)),
+  one_by_one frame (before ++ pass ∷ []) passes (λ p d lt. subst (λ b. IsValidPass frame b (get_or passes p d)) (sym (append_assoc before (pass ∷ []) (take p passes))) (good (suc p) d (omega arith))),
 )
 
-pub at_once : (frame : NumberedFrame) (before passes : List NumberedPass) → AllGood frame before passes → (p : ℕ) (d : NumberedPass) → p < length passes → IsGoodPass frame (before ++ take p passes) (get_or passes p d)
+pub at_once : (frame : NumberedFrame) (before passes : List NumberedPass) → AllGood frame before passes → (p : ℕ) (d : NumberedPass) → p < length passes → IsValidPass frame (before ++ take p passes) (get_or passes p d)
 at_once frame before [] good p d lt = absurd (omega arith)
-at_once frame before (pass ∷ passes) good zero d lt = subst (λ b. IsGoodPass frame b pass) (sym (append-nil before)) good.0
-at_once frame before (pass ∷ passes) good (suc p) d lt = subst (λ b. IsGoodPass frame b (get_or passes p d)) (append_assoc before (pass ∷ []) (take p passes)) (at_once frame (before ++ pass ∷ []) passes good.1 p d (omega arith))
+at_once frame before (pass ∷ passes) good zero d lt = subst (λ b. IsValidPass frame b pass) (sym (append-nil before)) good.0
+at_once frame before (pass ∷ passes) good (suc p) d lt = subst (λ b. IsValidPass frame b (get_or passes p d)) (append_assoc before (pass ∷ []) (take p passes)) (at_once frame (before ++ pass ∷ []) passes good.1 p d (omega arith))
 
 pub good_on : (frame : NumberedFrame) (before ps qs : List NumberedPass) → AllGood frame before ps → AllGood frame (before ++ ps) qs → AllGood frame before (ps ++ qs)
 good_on frame before [] qs P Q = subst (λ b. AllGood frame b qs) (append-nil before) Q

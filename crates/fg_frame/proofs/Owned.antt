@@ -5,11 +5,11 @@ use Rattle.std.proofs.lemmas.Bool.{ltb-true, ltb-false}
 use Rattle.std.proofs.lemmas.List.{length-replicate, get_or_append_left, get_or-append_right, get_or-replicate}
 use Rattle.std.proofs.lemmas.Option.{slice_get_read}
 use Rattle.fg_frame.proofs.Small.{length_units, owners_are}
-use Rattle.fg_frame.specs.Parts.{parts_of}
+use Rattle.fg_frame.specs.Resolved.{resolved_of}
 use Rattle.fg_frame.specs.Units.{Unit, layers_of, units, units_from, unit_from, owners}
 use Rattle.fg_frame.specs.declared.frame.Frame.{Frame}
 use Rattle.fg_frame.specs.declared.frame.Resource.{Resource}
-use Rattle.fg_frame.specs.declared.good.Parts.{Parts}
+use Rattle.fg_frame.specs.declared.valid.Resolved.{Resolved}
 
 -- o is the number, from i on, of the resource of unit u
 record IsOwner (rs : List Resource) (i u o : ℕ) : Type 0 where
@@ -47,24 +47,24 @@ owned (r ∷ rs) i u d lt = by_place (nat_lt u r.layers) refl (λ less. owned rs
           same = λ f s. get_or-append_right (units_from r) (flat_map units_from rs) r.layers u f (length-replicate r.layers (unit_from r)) least ∙ there.same f s ∙ ap (λ k. unit_from (get_or (r ∷ rs) k s)) (sym step);
         })
 
-of_frame : (frame : Frame) (parts : Parts) (u o : ℕ) → parts ≡ parts_of frame → u < length (units frame) → o ≡ get_or parts.owners u o → IsOwner frame.resources 0 u o
-of_frame frame parts u o same lt is =
+of_frame : (frame : Frame) (resolved : Resolved) (u o : ℕ) → resolved ≡ resolved_of frame → u < length (units frame) → o ≡ get_or resolved.owners u o → IsOwner frame.resources 0 u o
+of_frame frame resolved u o same lt is =
     let inside : u < layers_of frame.resources = subst (λ n. u < n) (length_units frame.resources) lt in
     subst (λ q. IsOwner frame.resources 0 u q) (sym (is ∙ ap (λ p. get_or p.owners u o) same)) (owned frame.resources 0 u o inside)
 
-pub owner_within : (frame : Frame) (parts : Parts) (u o : ℕ) → parts ≡ parts_of frame → u < length (units frame) → o ≡ get_or parts.owners u o → o < length frame.resources
-owner_within frame parts u o same lt is = let most : o < 0 + length frame.resources = (of_frame frame parts u o same lt is).most in omega arith
+pub owner_within : (frame : Frame) (resolved : Resolved) (u o : ℕ) → resolved ≡ resolved_of frame → u < length (units frame) → o ≡ get_or resolved.owners u o → o < length frame.resources
+owner_within frame resolved u o same lt is = let most : o < 0 + length frame.resources = (of_frame frame resolved u o same lt is).most in omega arith
 
-pub unit_owned : (frame : Frame) (parts : Parts) (u o : ℕ) (r : Resource) → parts ≡ parts_of frame → u < length (units frame) → o ≡ get_or parts.owners u o → r ≡ get_or frame.resources o r → slice_get (units frame) u ≡ Some (unit_from r)
-unit_owned frame parts u o r same lt is resource =
+pub unit_owned : (frame : Frame) (resolved : Resolved) (u o : ℕ) (r : Resource) → resolved ≡ resolved_of frame → u < length (units frame) → o ≡ get_or resolved.owners u o → r ≡ get_or frame.resources o r → slice_get (units frame) u ≡ Some (unit_from r)
+unit_owned frame resolved u o r same lt is resource =
     let none : o - 0 ≡ o = omega arith in
-    slice_get_read (units frame) (length (units frame)) u (unit_from r) refl lt (ap unit_from resource ∙ ap (λ k. unit_from (get_or frame.resources k r)) (sym none) ∙ sym ((of_frame frame parts u o same lt is).same (unit_from r) r))
+    slice_get_read (units frame) (length (units frame)) u (unit_from r) refl lt (ap unit_from resource ∙ ap (λ k. unit_from (get_or frame.resources k r)) (sym none) ∙ sym ((of_frame frame resolved u o same lt is).same (unit_from r) r))
 
-pub has_owner : (frame now : Frame) (parts : Parts) (u : ℕ) → frame ≡ now → parts ≡ parts_of frame → u < length (units now) → u < length parts.owners
-has_owner frame now parts u view same lt = subst (λ n. u < n) (sym (ap (λ p. length p.owners) same ∙ owners_are frame ∙ ap (λ f. length (units f)) view)) lt
+pub has_owner : (frame now : Frame) (resolved : Resolved) (u : ℕ) → frame ≡ now → resolved ≡ resolved_of frame → u < length (units now) → u < length resolved.owners
+has_owner frame now resolved u view same lt = subst (λ n. u < n) (sym (ap (λ p. length p.owners) same ∙ owners_are frame ∙ ap (λ f. length (units f)) view)) lt
 
-pub import_got : (frame now : Frame) (parts : Parts) (u o : ℕ) (r : Resource) (x : Option (List ℕ)) → frame ≡ now → parts ≡ parts_of frame → u < length (units now) → o ≡ get_or parts.owners u o → r ≡ get_or frame.resources o r → x ≡ r.import → IfSome (slice_get (units now) u) (λ y. x ≡ y.imported)
-import_got frame now parts u o r x view same lt is resource has =
+pub import_got : (frame now : Frame) (resolved : Resolved) (u o : ℕ) (r : Resource) (x : Option (List ℕ)) → frame ≡ now → resolved ≡ resolved_of frame → u < length (units now) → o ≡ get_or resolved.owners u o → r ≡ get_or frame.resources o r → x ≡ r.import → IfSome (slice_get (units now) u) (λ y. x ≡ y.imported)
+import_got frame now resolved u o r x view same lt is resource has =
     let inside : u < length (units frame) = subst (λ f. u < length (units f)) (sym view) lt in
-    let got : slice_get (units now) u ≡ Some (unit_from r) = subst (λ f. slice_get (units f) u ≡ Some (unit_from r)) view (unit_owned frame parts u o r same inside is resource) in
+    let got : slice_get (units now) u ≡ Some (unit_from r) = subst (λ f. slice_get (units f) u ≡ Some (unit_from r)) view (unit_owned frame resolved u o r same inside is resource) in
     subst (λ g. IfSome g (λ y. x ≡ y.imported)) (sym got) has

@@ -16,8 +16,8 @@ use Rattle.fg_frame.specs.Numbered.{numbered}
 use Rattle.fg_frame.specs.declared.frame.Frame.{Frame}
 use Rattle.fg_frame.specs.declared.frame.Spot.{Spot}
 use Rattle.fg_frame.specs.declared.frame.Write.{Write}
-use Rattle.fg_frame.specs.declared.place.Operand.TheVariants.{Src, Dst}
-use Rattle.fg_frame.specs.declared.place.Place.TheVariants as at
+use Rattle.fg_frame.specs.declared.location.Operand.TheVariants.{Src, Dst}
+use Rattle.fg_frame.specs.declared.location.Location.TheVariants as at
 use Rattle.fg_frame.specs.declared.rule.Rule.TheVariants as rules
 
 abbrev all : List ℕ → Spot

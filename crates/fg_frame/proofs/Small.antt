@@ -21,8 +21,8 @@ use Rattle.fg_base.proofs.Absence.{all_pass, or_first, or_second, map_none, has_
 use Rattle.fg_frame.specs.FirstFault.{shapes_of, sharings_of, imports_of, name_broken, use_broken, first_broken, first_fault, AllWithin}
 use Rattle.fg_frame.specs.Limits.{over, layers_allowed, all_bytes, op_count, rects_over, exported, count_broken, size_broken, limit_broken}
 use Rattle.fg_frame.specs.Numbered.{IsWithin, numbered, numbered_pass, uses_of, all_uses, export_units}
-use Rattle.fg_frame.specs.Parts.{parts_of}
-use Rattle.fg_frame.specs.Paths.{told}
+use Rattle.fg_frame.specs.Resolved.{resolved_of}
+use Rattle.fg_frame.specs.Paths.{fault_of}
 use Rattle.fg_base.specs.Rooms.{first_over}
 use Rattle.fg_frame.specs.Repeats.{repeated}
 use Rattle.fg_frame.specs.Units.{Numbering, numbering, span_of, layers_of, units, units_from, unit_from, owners, spots_of, layer_spot, unit_spots}
@@ -32,12 +32,12 @@ use Rattle.fg_frame.specs.declared.frame.Pass.{Pass}
 use Rattle.fg_frame.specs.declared.frame.QueueDecl.{QueueDecl}
 use Rattle.fg_frame.specs.declared.frame.Resource.{Resource}
 use Rattle.fg_frame.specs.declared.frame.Spot.{Spot}
-use Rattle.fg_frame.specs.declared.good.Parts.{Parts}
+use Rattle.fg_frame.specs.declared.valid.Resolved.{Resolved}
 use Rattle.fg_frame.specs.declared.numbered.NumberedPass.{NumberedPass}
 use Rattle.fg_frame.specs.declared.numbered.Span.{Span}
 use Rattle.fg_frame.specs.declared.numbered.Uses.{Uses}
-use Rattle.fg_frame.specs.declared.place.Place.{Place}
-use Rattle.fg_frame.specs.declared.place.Place.TheVariants as at
+use Rattle.fg_frame.specs.declared.location.Location.{Location}
+use Rattle.fg_frame.specs.declared.location.Location.TheVariants as at
 use Rattle.fg_frame.specs.declared.rule.Rule.{Rule}
 use Rattle.fg_frame.specs.declared.rule.Rule.TheVariants as rules
 
@@ -52,31 +52,31 @@ layers_sum (r ∷ rs) = sum_by-cons (λ r. r.layers) r rs ∙ ap (λ n. r.layers
 
 -- the limits one after another
 module _ (frame : Frame) (none : limit_broken frame ≡ None) where
-  abbrev layers : Option (Broken Rule Place)
+  abbrev layers : Option (Broken Rule Location)
   layers = option_map (λ i. over limits.Layers (at.Resource i)) (position (λ r. not (layers_allowed r)) frame.resources)
 
-  abbrev queues : Option (Broken Rule Place)
+  abbrev queues : Option (Broken Rule Location)
   queues = if is_between 1 4 (length frame.queues) then None else Some (over limits.Queues at.Queues)
 
-  abbrev resources : Option (Broken Rule Place)
+  abbrev resources : Option (Broken Rule Location)
   resources = option_map (λ i. over limits.Resources at.Resources) (first_over (λ r. r.layers) 256 0 frame.resources)
 
-  abbrev passes : Option (Broken Rule Place)
+  abbrev passes : Option (Broken Rule Location)
   passes = if nat_le (length frame.passes) 256 then None else Some (over limits.Passes at.Passes)
 
-  abbrev ops : Option (Broken Rule Place)
+  abbrev ops : Option (Broken Rule Location)
   ops = option_map (λ p. over limits.Ops (at.Ops p)) (first_over op_count 256 0 frame.passes)
 
-  abbrev rects : Option (Broken Rule Place)
+  abbrev rects : Option (Broken Rule Location)
   rects = option_map (over limits.Rects) (rects_over 4096 0 frame.passes)
 
-  abbrev exports : Option (Broken Rule Place)
+  abbrev exports : Option (Broken Rule Location)
   exports = option_map (λ i. over limits.Exports at.Exports) (first_over (exported frame) 32 0 frame.exports)
 
-  abbrev others : Option (Broken Rule Place)
+  abbrev others : Option (Broken Rule Location)
   others = option_or ops (option_or rects exports)
 
-  abbrev rest : Option (Broken Rule Place)
+  abbrev rest : Option (Broken Rule Location)
   rest = option_or passes others
 
   counts : count_broken frame ≡ None
@@ -109,13 +109,13 @@ module _ (frame : Frame) (none : limit_broken frame ≡ None) where
   pub rects_none : rects_over 4096 0 frame.passes ≡ None
   rects_none = map_none (over limits.Rects) (rects_over 4096 0 frame.passes) (or_first rects exports (or_second ops (option_or rects exports) (or_second passes others (or_second resources rest after_queues))))
 
-  abbrev sides : Option (Broken Rule Place)
+  abbrev sides : Option (Broken Rule Location)
   sides = option_map (λ i. over limits.Side (at.Resource i)) (position (λ r. not (sides_allowed r.shape)) frame.resources)
 
-  abbrev sizes : Option (Broken Rule Place)
+  abbrev sizes : Option (Broken Rule Location)
   sizes = option_map (λ i. over limits.Size (at.Resource i)) (position (λ r. not (size_allowed r.shape)) frame.resources)
 
-  abbrev total : Option (Broken Rule Place)
+  abbrev total : Option (Broken Rule Location)
   total = option_map (λ i. over limits.Total (at.Resource i)) (first_over all_bytes 268435456 0 frame.resources)
 
   pub layers_good : All (λ r. layers_allowed r ≡ true) frame.resources
@@ -180,8 +180,8 @@ repeated_none frame none = map_none (of_rule rules.Repeated) (repeated frame) (o
 pub few_layers : (frame : Frame) → name_broken frame ≡ None → layers_of frame.resources ≤ 256
 few_layers frame none = few_units frame (limits_none frame none)
 
-pub never_repeated : (frame : Frame) (place : Place) → name_broken frame ≡ None → repeated frame ≡ Some place → ⊥
-never_repeated frame place none is = no_fault place (sym is ∙ repeated_none frame none)
+pub never_repeated : (frame : Frame) (location : Location) → name_broken frame ≡ None → repeated frame ≡ Some location → ⊥
+never_repeated frame location none is = no_fault location (sym is ∙ repeated_none frame none)
 
 pub some_queue : (frame : Frame) → name_broken frame ≡ None → 0 < length frame.queues
 some_queue frame none = queues_some frame (limits_none frame none)
@@ -229,7 +229,7 @@ same_passes frame = passes_same frame frame.passes
 pub then_uses : (frame : Frame) → name_broken frame ≡ None → first_broken frame ≡ use_broken frame (shapes_of frame) (imports_of frame) (all_uses frame) (export_units frame)
 then_uses frame none = ap (λ o. option_or o (use_broken frame (shapes_of frame) (imports_of frame) (all_uses frame) (export_units frame))) none
 
-pub names_first : (frame : Frame) (b : Broken Rule Place) → name_broken frame ≡ Some b → first_broken frame ≡ Some b
+pub names_first : (frame : Frame) (b : Broken Rule Location) → name_broken frame ≡ Some b → first_broken frame ≡ Some b
 names_first frame b found = ap (λ o. option_or o (use_broken frame (shapes_of frame) (imports_of frame) (all_uses frame) (export_units frame))) found
 
 -- GOOD FRAMES
@@ -276,25 +276,25 @@ family_got (x ∷ xs) zero q lt is = ap (λ y. Some y.family) (sym is)
 family_got (x ∷ xs) (suc i) q lt is = family_got xs i q (omega arith) is
 
 pub none_broken : (frame : Frame) → first_fault frame ≡ None → first_broken frame ≡ None
-none_broken frame none = map_none told (first_broken frame) none
+none_broken frame none = map_none fault_of (first_broken frame) none
 
 pub names_known : (frame : Frame) → first_fault frame ≡ None → name_broken frame ≡ None
 names_known frame none = names_good frame (none_broken frame none)
 
 pub faultless : (frame : Frame) → first_broken frame ≡ None → first_fault frame ≡ None
-faultless frame none = ap (option_map told) none
+faultless frame none = ap (option_map fault_of) none
 
-pub count_fits : (frame : Frame) (parts : Parts) → first_broken frame ≡ None → parts ≡ parts_of frame → length parts.shapes < 2 ^ 32
-count_fits frame parts none is = let few = unit_count_few frame none in let same : length parts.shapes ≡ length (shapes_of frame) = ap (λ p. length p.shapes) is in omega arith
+pub count_fits : (frame : Frame) (resolved : Resolved) → first_broken frame ≡ None → resolved ≡ resolved_of frame → length resolved.shapes < 2 ^ 32
+count_fits frame resolved none is = let few = unit_count_few frame none in let same : length resolved.shapes ≡ length (shapes_of frame) = ap (λ p. length p.shapes) is in omega arith
 
 got : {X : Type 0} (xs ys : List X) (count u : ℕ) (x : X) → xs ≡ ys → length ys ≡ count → u < count → x ≡ get_or xs u x → slice_get ys u ≡ Some x
 got xs ys count u x same size lt is = slice_get_read ys count u x (sym size) lt (is ∙ ap (λ zs. get_or zs u x) same)
 
-pub spot_got : (frame : Frame) (parts : Parts) (u : ℕ) (x : Spot) → parts ≡ parts_of frame → u < length (units frame) → x ≡ get_or parts.spots u x → slice_get (unit_spots frame) u ≡ Some x
-spot_got frame parts u x same lt is = got parts.spots (unit_spots frame) (length (units frame)) u x (ap (λ p. p.spots) same) (spots_are frame) lt is
+pub spot_got : (frame : Frame) (resolved : Resolved) (u : ℕ) (x : Spot) → resolved ≡ resolved_of frame → u < length (units frame) → x ≡ get_or resolved.spots u x → slice_get (unit_spots frame) u ≡ Some x
+spot_got frame resolved u x same lt is = got resolved.spots (unit_spots frame) (length (units frame)) u x (ap (λ p. p.spots) same) (spots_are frame) lt is
 
-pub owner_got : (frame : Frame) (parts : Parts) (u x : ℕ) → parts ≡ parts_of frame → u < length (units frame) → x ≡ get_or parts.owners u x → slice_get (owners 0 frame.resources) u ≡ Some x
-owner_got frame parts u x same lt is = got parts.owners (owners 0 frame.resources) (length (units frame)) u x (ap (λ p. p.owners) same) (owners_are frame) lt is
+pub owner_got : (frame : Frame) (resolved : Resolved) (u x : ℕ) → resolved ≡ resolved_of frame → u < length (units frame) → x ≡ get_or resolved.owners u x → slice_get (owners 0 frame.resources) u ≡ Some x
+owner_got frame resolved u x same lt is = got resolved.owners (owners 0 frame.resources) (length (units frame)) u x (ap (λ p. p.owners) same) (owners_are frame) lt is
 
 -- THE JOIN OF ALL RULES
 
@@ -310,7 +310,7 @@ uses_by frame n uses same is = is ∙ ap (λ m. map (uses_of frame m) frame.pass
 pub spans_by : (frame : Frame) (n : Numbering) (spans : List Span) → n ≡ numbering frame → spans ≡ map (span_of n) frame.exports → spans ≡ export_units frame
 spans_by frame n spans same is = is ∙ ap (λ m. map (span_of m) frame.exports) same
 
-pub uses_are : (frame : Frame) (shapes : List Shape) (imported : List Bool) (uses : List Uses) (exports : List Span) (r : Option (Broken Rule Place)) → name_broken frame ≡ None → shapes ≡ shapes_of frame → imported ≡ imports_of frame → uses ≡ all_uses frame → exports ≡ export_units frame → r ≡ use_broken frame shapes imported uses exports → r ≡ first_broken frame
+pub uses_are : (frame : Frame) (shapes : List Shape) (imported : List Bool) (uses : List Uses) (exports : List Span) (r : Option (Broken Rule Location)) → name_broken frame ≡ None → shapes ≡ shapes_of frame → imported ≡ imports_of frame → uses ≡ all_uses frame → exports ≡ export_units frame → r ≡ use_broken frame shapes imported uses exports → r ≡ first_broken frame
 uses_are frame shapes imported uses exports r none same-shapes same-imported same-uses same-exports is =
     is
     ∙ ap (λ x. use_broken frame x imported uses exports) same-shapes
@@ -319,8 +319,8 @@ uses_are frame shapes imported uses exports r none same-shapes same-imported sam
     ∙ ap (λ x. use_broken frame (shapes_of frame) (imports_of frame) (all_uses frame) x) same-exports
     ∙ sym (then_uses frame none)
 
-pub parts_are : (frame : Frame) (shapes : List Shape) (sharings : List Sharing) (owned : List ℕ) (spots : List Spot) (passes : List NumberedPass) (exports : List ℕ) → shapes ≡ shapes_of frame → sharings ≡ sharings_of frame → owned ≡ owners 0 frame.resources → spots ≡ unit_spots frame → passes ≡ (numbered frame).passes → exports ≡ (numbered frame).exports → ◌≡◌ {A = Parts} (record { shapes = shapes; sharings = sharings; owners = owned; spots = spots; passes = passes; exports = exports }) (parts_of frame)
-parts_are frame shapes sharings owned spots passes exports a b c d e f =
+pub resolved_are : (frame : Frame) (shapes : List Shape) (sharings : List Sharing) (owned : List ℕ) (spots : List Spot) (passes : List NumberedPass) (exports : List ℕ) → shapes ≡ shapes_of frame → sharings ≡ sharings_of frame → owned ≡ owners 0 frame.resources → spots ≡ unit_spots frame → passes ≡ (numbered frame).passes → exports ≡ (numbered frame).exports → ◌≡◌ {A = Resolved} (record { shapes = shapes; sharings = sharings; owners = owned; spots = spots; passes = passes; exports = exports }) (resolved_of frame)
+resolved_are frame shapes sharings owned spots passes exports a b c d e f =
     ap (λ x. record { shapes = x; sharings = sharings; owners = owned; spots = spots; passes = passes; exports = exports }) a
     ∙ ap (λ x. record { shapes = shapes_of frame; sharings = x; owners = owned; spots = spots; passes = passes; exports = exports }) b
     ∙ ap (λ x. record { shapes = shapes_of frame; sharings = sharings_of frame; owners = x; spots = spots; passes = passes; exports = exports }) c

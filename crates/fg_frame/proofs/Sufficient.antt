@@ -21,10 +21,10 @@ use Rattle.fg_frame.proofs.Exports.{position_past}
 use Rattle.fg_frame.proofs.Necessary.{there_before, there_same}
 use Rattle.fg_frame.proofs.Small.{limits_none, some_layers}
 use Rattle.fg_frame.specs.FirstFault.{first_broken, first_fault, imports_of, name_broken, shapes_of, use_broken}
-use Rattle.fg_frame.specs.Good.{IsGood, IsGoodPass, has_contents}
+use Rattle.fg_frame.specs.Valid.{IsValid, IsValidPass, has_contents}
 use Rattle.fg_frame.specs.Members.{member_at}
 use Rattle.fg_frame.specs.Numbered.{all_uses, export_units, numbered, numbered_pass, stored_of, uses_of, write_each, writes_of}
-use Rattle.fg_frame.specs.Paths.{told}
+use Rattle.fg_frame.specs.Paths.{fault_of}
 use Rattle.fg_frame.specs.Units.{Numbering, numbering, unit_from, units, units_from, units_in, span_of, units_of}
 use Rattle.fg_frame.specs.Uses.{family_of, first_use, import_fits, is_missing, is_partial, is_there, misfit_at, misfit_import, not_whole_at, reads_it, starts_whole, undeclared_at, undeclared_operand, unwritten, unwritten_at, use_at, writes_it}
 use Rattle.fg_frame.specs.declared.frame.Frame.{Frame}
@@ -35,8 +35,8 @@ use Rattle.fg_frame.specs.declared.frame.Spot.{Spot}
 use Rattle.fg_frame.specs.declared.frame.Write.{Write}
 use Rattle.fg_frame.specs.declared.numbered.NumberedPass.{NumberedPass}
 use Rattle.fg_frame.specs.declared.numbered.Uses.{Uses}
-use Rattle.fg_frame.specs.declared.place.Operand.TheVariants.{Dst}
-use Rattle.fg_frame.specs.declared.place.Place.TheVariants as at
+use Rattle.fg_frame.specs.declared.location.Operand.TheVariants.{Dst}
+use Rattle.fg_frame.specs.declared.location.Location.TheVariants as at
 use Rattle.fg_frame.specs.declared.rule.Rule.{Rule}
 use Rattle.fg_frame.specs.declared.rule.Rule.TheVariants as rules
 
@@ -135,7 +135,7 @@ module _ (pass : NumberedPass) (p k : ℕ) (op : Op ℕ) (sources : All (λ unit
 
 -- ALL RULES
 
-module _ (frame : Frame) (named : name_broken frame ≡ None) (G : IsGood (numbered frame)) where
+module _ (frame : Frame) (named : name_broken frame ≡ None) (G : IsValid (numbered frame)) where
   abbrev n : Numbering
   n = numbering frame
 
@@ -146,8 +146,8 @@ module _ (frame : Frame) (named : name_broken frame ≡ None) (G : IsGood (numbe
   uses = all_uses frame
 
   -- the good numbered pass of a declared one
-  pass_good : (p : ℕ) (d : Pass) → p < length frame.passes → IsGoodPass (numbered frame) (take p (numbered frame).passes) (numbered_pass frame n (get_or frame.passes p d))
-  pass_good p d lt = subst (IsGoodPass (numbered frame) (take p (numbered frame).passes)) (get_or-map (numbered_pass frame n) frame.passes p d (numbered_pass frame n d) lt) (G.passes_good p (numbered_pass frame n d) (subst (λ m. p < m) (sym (length-map frame.passes (numbered_pass frame n))) lt))
+  pass_good : (p : ℕ) (d : Pass) → p < length frame.passes → IsValidPass (numbered frame) (take p (numbered frame).passes) (numbered_pass frame n (get_or frame.passes p d))
+  pass_good p d lt = subst (IsValidPass (numbered frame) (take p (numbered frame).passes)) (get_or-map (numbered_pass frame n) frame.passes p d (numbered_pass frame n d) lt) (G.passes_good p (numbered_pass frame n d) (subst (λ m. p < m) (sym (length-map frame.passes (numbered_pass frame n))) lt))
 
   queue_there : (p : ℕ) (d : Pass) → p < length frame.passes → (numbered_pass frame n (get_or frame.passes p d)).queue < length frame.queues
   queue_there p d lt = subst (λ m. (numbered_pass frame n (get_or frame.passes p d)).queue < m) (length-map frame.queues (λ q. q.family)) (subst (λ x. x.queue < length (numbered frame).queues) (get_or-map (numbered_pass frame n) frame.passes p d (numbered_pass frame n d) lt) (G.within p (numbered_pass frame n d) (subst (λ m. p < m) (sym (length-map frame.passes (numbered_pass frame n))) lt)).queue)
@@ -163,7 +163,7 @@ module _ (frame : Frame) (named : name_broken frame ≡ None) (G : IsGood (numbe
     abbrev here : NumberedPass
     here = numbered_pass frame n pass
 
-    good : IsGoodPass (numbered frame) (take p (numbered frame).passes) here
+    good : IsValidPass (numbered frame) (take p (numbered frame).passes) here
     good = pass_good p d lt
 
     abbrev there : ℕ → Bool
@@ -223,4 +223,4 @@ module _ (frame : Frame) (named : name_broken frame ≡ None) (G : IsGood (numbe
   none_broken = ap₂ option_or named uses_none
 
   pub no_fault : first_fault frame ≡ None
-  no_fault = ap (option_map told) none_broken
+  no_fault = ap (option_map fault_of) none_broken

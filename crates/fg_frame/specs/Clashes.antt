@@ -14,7 +14,7 @@ layers_clash (Some layer) (Some other) = layer == other
 abbrev pub clash : Spot → Spot → Bool
 clash a b = bytes_eq a.name b.name && layers_clash a.layer b.layer
 
--- place i, where its entry clashes with one before it
+-- location i, where its entry clashes with one before it
 abbrev pub clashes_at : List Spot → ℕ → Spot → Option ℕ
 clashes_at spots i spot = if list_any (clash spot) (take i spots) then Some i else None
 

@@ -21,12 +21,12 @@ number_of rules.ReadNew = 13
 
 -- F1, at the root of the file
 abbrev pub not_json : FrameFault
-not_json = record { number = 1; limit = None; place = [] }
+not_json = record { number = 1; limit = None; location = [] }
 
 -- F2, at the member that does not have its form
 abbrev pub misshapen : List Leg → FrameFault
-misshapen place = record { number = 2; limit = None; place = place }
+misshapen location = record { number = 2; limit = None; location = location }
 
 -- F4, at the list, resource or draw that goes over the limit
 abbrev pub over_limit : Limit → List Leg → FrameFault
-over_limit limit place = record { number = number_of rules.Limits; limit = Some limit; place = place }
+over_limit limit location = record { number = number_of rules.Limits; limit = Some limit; location = location }

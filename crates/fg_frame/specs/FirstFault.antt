@@ -8,18 +8,18 @@ use Rattle.fg_base.specs.declared.shape.Shape.{Shape}
 use Rattle.fg_bits.specs.declared.sharing.Sharing.{Sharing}
 use Rattle.fg_frame.specs.Limits.{limit_broken}
 use Rattle.fg_frame.specs.Numbered.{IsWithin, all_uses, export_units}
-use Rattle.fg_frame.specs.Paths.{told}
+use Rattle.fg_frame.specs.Paths.{fault_of}
 use Rattle.fg_frame.specs.Repeats.{repeated}
 use Rattle.fg_frame.specs.Units.{units}
 use Rattle.fg_frame.specs.Unknowns.{unknown}
 use Rattle.fg_frame.specs.Uses.{first_use, unwritten, misfit_import}
 use Rattle.fg_frame.specs.declared.fault.FrameFault.{FrameFault}
 use Rattle.fg_frame.specs.declared.frame.Frame.{Frame}
-use Rattle.fg_frame.specs.declared.good.FrameEnd.{FrameEnd}
-use Rattle.fg_frame.specs.declared.good.FrameEnd.TheVariants.{Refused, NoMemory}
+use Rattle.fg_frame.specs.declared.valid.FrameError.{FrameError}
+use Rattle.fg_frame.specs.declared.valid.FrameError.TheVariants.{Refused, NoMemory}
 use Rattle.fg_frame.specs.declared.numbered.Span.{Span}
 use Rattle.fg_frame.specs.declared.numbered.Uses.{Uses}
-use Rattle.fg_frame.specs.declared.place.Place.{Place}
+use Rattle.fg_frame.specs.declared.location.Location.{Location}
 use Rattle.fg_frame.specs.declared.rule.Rule.{Rule}
 use Rattle.fg_frame.specs.declared.rule.Rule.TheVariants as rules
 
@@ -34,24 +34,24 @@ abbrev pub imports_of : Frame → List Bool
 imports_of frame = map (λ unit. is_some unit.imported) (units frame)
 
 -- the rules on limits and names
-abbrev pub name_broken : Frame → Option (Broken Rule Place)
+abbrev pub name_broken : Frame → Option (Broken Rule Location)
 name_broken frame =
     option_or (limit_broken frame)
     (option_or (option_map (of_rule rules.Repeated) (repeated frame))
     (option_map (of_rule rules.Unknown) (unknown frame)))
 
 -- a rule on what one pass does
-abbrev pub rule_broken : Rule → Frame → List Shape → List Uses → Option (Broken Rule Place)
+abbrev pub rule_broken : Rule → Frame → List Shape → List Uses → Option (Broken Rule Location)
 rule_broken rule frame shapes passes = option_map (of_rule rule) (first_use rule frame shapes passes)
 
 -- imports come before operations
-abbrev pub misfit_broken : Frame → List Shape → List Uses → Option (Broken Rule Place)
+abbrev pub misfit_broken : Frame → List Shape → List Uses → Option (Broken Rule Location)
 misfit_broken frame shapes passes =
     option_or (option_map (of_rule rules.Fits) (misfit_import frame.resources))
     (rule_broken rules.Fits frame shapes passes)
 
 -- the rules on uses, over a frame's units, passes and exports
-abbrev pub use_broken : Frame → List Shape → List Bool → List Uses → List Span → Option (Broken Rule Place)
+abbrev pub use_broken : Frame → List Shape → List Bool → List Uses → List Span → Option (Broken Rule Location)
 use_broken frame shapes imported passes exports =
     option_or (rule_broken rules.Runs frame shapes passes)
     (option_or (rule_broken rules.Declared frame shapes passes)
@@ -61,14 +61,14 @@ use_broken frame shapes imported passes exports =
     (option_or (rule_broken rules.InPlace frame shapes passes)
     (rule_broken rules.ReadNew frame shapes passes))))))
 
-abbrev pub first_broken : Frame → Option (Broken Rule Place)
+abbrev pub first_broken : Frame → Option (Broken Rule Location)
 first_broken frame = option_or (name_broken frame) (use_broken frame (shapes_of frame) (imports_of frame) (all_uses frame) (export_units frame))
 
 abbrev pub first_fault : Frame → Option FrameFault
-first_fault frame = option_map told (first_broken frame)
+first_fault frame = option_map fault_of (first_broken frame)
 
 -- why a frame was not taken, and the frame itself
-abbrev pub Ends : Frame → FrameEnd → Type 0
+abbrev pub Ends : Frame → FrameError → Type 0
 Ends frame (Refused fault back) = (first_fault frame ≡ Some fault) × (back ≡ frame)
 Ends frame (NoMemory back) = back ≡ frame
 

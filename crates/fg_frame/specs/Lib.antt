@@ -1,11 +1,11 @@
 pub mod Clashes
 pub mod Faults
 pub mod FirstFault
-pub mod Good
+pub mod Valid
 pub mod Limits
 pub mod Members
 pub mod Numbered
-pub mod Parts
+pub mod Resolved
 pub mod Paths
 pub mod Repeats
 pub mod Units

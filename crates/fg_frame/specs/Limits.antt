@@ -16,13 +16,13 @@ use Rattle.fg_frame.specs.declared.frame.Frame.{Frame}
 use Rattle.fg_frame.specs.declared.frame.Pass.{Pass}
 use Rattle.fg_frame.specs.declared.frame.Resource.{Resource}
 use Rattle.fg_frame.specs.declared.frame.Spot.{Spot}
-use Rattle.fg_frame.specs.declared.place.Place.{Place}
-use Rattle.fg_frame.specs.declared.place.Place.TheVariants as at
+use Rattle.fg_frame.specs.declared.location.Location.{Location}
+use Rattle.fg_frame.specs.declared.location.Location.TheVariants as at
 use Rattle.fg_frame.specs.declared.rule.Rule.{Rule}
 use Rattle.fg_frame.specs.declared.rule.Rule.TheVariants as rules
 
-abbrev pub over : Limit → Place → Broken Rule Place
-over limit place = over_limit rules.Limits limit place
+abbrev pub over : Limit → Location → Broken Rule Location
+over limit location = over_limit rules.Limits limit location
 
 -- a buffer has one layer, an image 1 to 8 of them
 abbrev pub layers_allowed : Resource → Bool
@@ -35,7 +35,7 @@ abbrev pub op_count : Pass → ℕ
 op_count pass = length pass.ops
 
 -- the first draw with which the rectangles are more than the room
-abbrev pub rects_over : ℕ → ℕ → List Pass → Option Place
+abbrev pub rects_over : ℕ → ℕ → List Pass → Option Location
 rects_over room p [] = None
 rects_over room p (pass ∷ passes) = option_or (option_map (λ k. at.Rects p k) (first_over rect_count room 0 pass.ops)) (rects_over (room_after rect_count room pass.ops) (suc p) passes)
 
@@ -44,7 +44,7 @@ abbrev pub exported : Frame → Spot → ℕ
 exported frame spot = if is_some spot.layer then 1 else option_map_or (λ r. r.layers) (find (λ r. bytes_eq r.name spot.name) frame.resources) 1
 
 -- the limits on what stands in the lists
-abbrev pub count_broken : Frame → Option (Broken Rule Place)
+abbrev pub count_broken : Frame → Option (Broken Rule Location)
 count_broken frame =
     option_or (option_map (λ i. over limits.Layers (at.Resource i)) (position (λ r. not (layers_allowed r)) frame.resources))
     (option_or (if is_between 1 max_queues (length frame.queues) then None else Some (over limits.Queues at.Queues))
@@ -55,11 +55,11 @@ count_broken frame =
     (option_map (λ i. over limits.Exports at.Exports) (first_over (exported frame) max_exports 0 frame.exports)))))))
 
 -- the limits on each resource, and on all bytes together
-abbrev pub size_broken : List Resource → Option (Broken Rule Place)
+abbrev pub size_broken : List Resource → Option (Broken Rule Location)
 size_broken resources =
     option_or (option_map (λ i. over limits.Side (at.Resource i)) (position (λ r. not (sides_allowed r.shape)) resources))
     (option_or (option_map (λ i. over limits.Size (at.Resource i)) (position (λ r. not (size_allowed r.shape)) resources))
     (option_map (λ i. over limits.Total (at.Resource i)) (first_over all_bytes max_resource_bytes 0 resources)))
 
-abbrev pub limit_broken : Frame → Option (Broken Rule Place)
+abbrev pub limit_broken : Frame → Option (Broken Rule Location)
 limit_broken frame = option_or (count_broken frame) (size_broken frame.resources)

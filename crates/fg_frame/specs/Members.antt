@@ -2,8 +2,8 @@
 use Rattle.std.specs.Prelude.{ℕ, List, [], ◌∷◌, slice_index_or}
 use Rattle.fg_base.specs.declared.op.Op.{Op}
 use Rattle.fg_base.specs.declared.op.Op.TheVariants.{FillBuffer, ClearImage, CopyBuffer, CopyImage, BufferToImage, ImageToBuffer, Ramp, Map, Combine, Select, Convert, Box3, Halve, Histogram, Draw}
-use Rattle.fg_frame.specs.declared.place.Operand.{Operand}
-use Rattle.fg_frame.specs.declared.place.Operand.TheVariants.{Src, Mask, A, B, Dst}
+use Rattle.fg_frame.specs.declared.location.Operand.{Operand}
+use Rattle.fg_frame.specs.declared.location.Operand.TheVariants.{Src, Mask, A, B, Dst}
 
 -- the members of the sources
 abbrev pub source_members : {R : Type 0} → Op R → List Operand

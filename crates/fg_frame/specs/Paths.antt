@@ -1,4 +1,4 @@
--- The path of a place.
+-- The path of a location.
 use Rattle.std.specs.Prelude.{ℕ, List, [], ◌∷◌, ◌++◌, codes}
 use Rattle.fg_base.specs.Paths.{entry}
 use Rattle.fg_base.specs.declared.broken.Broken.{Broken}
@@ -6,10 +6,10 @@ use Rattle.fg_base.specs.declared.path.Leg.{Leg}
 use Rattle.fg_base.specs.declared.path.Leg.TheVariants.{Member}
 use Rattle.fg_frame.specs.Faults.{number_of}
 use Rattle.fg_frame.specs.declared.fault.FrameFault.{FrameFault}
-use Rattle.fg_frame.specs.declared.place.Operand.{Operand}
-use Rattle.fg_frame.specs.declared.place.Operand.TheVariants.{Src, Mask, A, B, Dst}
-use Rattle.fg_frame.specs.declared.place.Place.{Place}
-use Rattle.fg_frame.specs.declared.place.Place.TheVariants as at
+use Rattle.fg_frame.specs.declared.location.Operand.{Operand}
+use Rattle.fg_frame.specs.declared.location.Operand.TheVariants.{Src, Mask, A, B, Dst}
+use Rattle.fg_frame.specs.declared.location.Location.{Location}
+use Rattle.fg_frame.specs.declared.location.Location.TheVariants as at
 use Rattle.fg_frame.specs.declared.rule.Rule.{Rule}
 
 abbrev pub operand_name : Operand → List ℕ
@@ -23,7 +23,7 @@ operand_name Dst = codes "dst"
 abbrev pub in_op : ℕ → ℕ → List ℕ → List Leg
 in_op p k name = entry (codes "passes") p ++ entry (codes "ops") k ++ Member name ∷ []
 
-abbrev pub path_of : Place → List Leg
+abbrev pub path_of : Location → List Leg
 path_of at.Queues = Member (codes "queues") ∷ []
 path_of at.Resources = Member (codes "resources") ∷ []
 path_of at.Passes = Member (codes "passes") ∷ []
@@ -41,6 +41,6 @@ path_of (at.Rects p k) = in_op p k (codes "rects")
 path_of (at.Operand p k member) = in_op p k (operand_name member)
 path_of (at.Export i) = entry (codes "exports") i
 
--- as it is told: with the path of its place
-abbrev pub told : Broken Rule Place → FrameFault
-told b = record { number = number_of b.rule; limit = b.limit; place = path_of b.place }
+-- as it is printed: with the path of its location
+abbrev pub fault_of : Broken Rule Location → FrameFault
+fault_of b = record { number = number_of b.rule; limit = b.limit; location = path_of b.location }

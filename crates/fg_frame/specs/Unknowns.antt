@@ -12,8 +12,8 @@ use Rattle.fg_frame.specs.declared.frame.Frame.{Frame}
 use Rattle.fg_frame.specs.declared.frame.Pass.{Pass}
 use Rattle.fg_frame.specs.declared.frame.Spot.{Spot}
 use Rattle.fg_frame.specs.declared.numbered.Stretch.{Stretch}
-use Rattle.fg_frame.specs.declared.place.Place.{Place}
-use Rattle.fg_frame.specs.declared.place.Place.TheVariants as at
+use Rattle.fg_frame.specs.declared.location.Location.{Location}
+use Rattle.fg_frame.specs.declared.location.Location.TheVariants as at
 
 abbrev pub queue_at : Frame → List ℕ → Option ℕ
 queue_at frame name = position (λ q. bytes_eq q.name name) frame.queues
@@ -37,23 +37,23 @@ is_known n spot = option_map_or (has_layer spot.layer) (stretch_of n spot.name) 
 abbrev pub is_known_unit : Numbering → Spot → Bool
 is_known_unit n spot = option_map_or (picks_one spot.layer) (stretch_of n spot.name) false
 
-abbrev pub unknown_at : Numbering → ℕ → ℕ → Op Spot → ℕ → Spot → Option Place
+abbrev pub unknown_at : Numbering → ℕ → ℕ → Op Spot → ℕ → Spot → Option Location
 unknown_at n p k op j spot = if is_known_unit n spot then None else Some (at.Operand p k (member_at op j))
 
-abbrev pub unknown_operand : Numbering → ℕ → ℕ → Op Spot → Option Place
+abbrev pub unknown_operand : Numbering → ℕ → ℕ → Op Spot → Option Location
 unknown_operand n p k op = first_in (unknown_at n p k op) 0 (operands_of op)
 
-abbrev pub unknown_in : Frame → Numbering → ℕ → Pass → Option Place
+abbrev pub unknown_in : Frame → Numbering → ℕ → Pass → Option Location
 unknown_in frame n p pass =
     option_or (if has_queue frame pass.queue then None else Some (at.PassQueue p))
     (option_or (option_map (λ k. at.Read p k) (position (λ spot. not (is_known n spot)) pass.reads))
     (option_or (option_map (λ k. at.Write p k) (position (λ w. not (is_known n w.what)) pass.writes))
     (first_in (unknown_operand n p) 0 pass.ops)))
 
-abbrev pub unknown_by : Numbering → Frame → Option Place
+abbrev pub unknown_by : Numbering → Frame → Option Location
 unknown_by n frame =
     option_or (first_in (unknown_in frame n) 0 frame.passes)
     (option_map (λ i. at.Export i) (position (λ spot. not (is_known n spot)) frame.exports))
 
-abbrev pub unknown : Frame → Option Place
+abbrev pub unknown : Frame → Option Location
 unknown frame = unknown_by (numbering frame) frame

@@ -13,7 +13,7 @@ pub struct FrameFault {
     pub number: u8,
     /// The quantity that is over its limit, at F4 alone.
     pub limit: Option<Limit>,
-    pub place: Path,
+    pub location: Path,
 }
 
 impl FrameFault {
@@ -24,29 +24,29 @@ impl FrameFault {
         FrameFault {
             number: 1,
             limit: None,
-            place: List::new(alloc),
+            location: List::new(alloc),
         }
     }
 
-    /// F2: the value at this place does not have the form of its member.
-    pub fn misshapen(place: Path) -> Self
-        ensures { result ≡ misshapen place }
+    /// F2: the value at this location does not have the form of its member.
+    pub fn misshapen(location: Path) -> Self
+        ensures { result ≡ misshapen location }
     {
         FrameFault {
             number: 2,
             limit: None,
-            place,
+            location,
         }
     }
 
     /// F4: a quantity is over its limit.
-    pub fn over_limit(limit: Limit, place: Path) -> Self
-        ensures { result ≡ over_limit limit place }
+    pub fn over_limit(limit: Limit, location: Path) -> Self
+        ensures { result ≡ over_limit limit location }
     {
         FrameFault {
             number: Rule::Limits.number(),
             limit: Some(limit),
-            place,
+            location,
         }
     }
 }

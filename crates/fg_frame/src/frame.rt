@@ -6,7 +6,7 @@ use fg_base::{Family, List, Name, NoMemory, Op, Shape};
 use fg_bits::Sharing;
 use std::alloc::Global;
 
-/// A buffer, a whole image, or one layer of an image: a place where a resource is named. Without a layer it stands for
+/// A buffer, a whole image, or one layer of an image: a location where a resource is named. Without a layer it stands for
 /// all layers of its resource.
 #[derive(Clone, Copy, Debug, PartialEq, Eq, Hash)]
 pub struct Spot {

@@ -2,7 +2,7 @@
 
 ghost use Rattle.std.specs.Prelude.{◌≡◌, None};
 ghost use Rattle.fg_frame.specs.FirstFault.{first_fault, name_broken};
-ghost use Rattle.fg_frame.specs.Good.{IsDeclared, IsGood};
+ghost use Rattle.fg_frame.specs.Valid.{IsDeclared, IsValid};
 ghost use Rattle.fg_frame.specs.Numbered.{numbered};
 ghost use Rattle.fg_frame.specs.declared.frame.Frame.{Frame};
 
@@ -11,5 +11,5 @@ ghost use Rattle.fg_frame.specs.declared.frame.Frame.{Frame};
 #[tactic(auto, using(crate::proofs::Necessary::declared_by_law, crate::proofs::Sufficient::no_fault))]
 pub fn frame_laws()
     ensures declared { (frame : Frame) → first_fault frame ≡ None → IsDeclared frame }
-    ensures faultless { (frame : Frame) → name_broken frame ≡ None → IsGood (numbered frame) → first_fault frame ≡ None }
+    ensures faultless { (frame : Frame) → name_broken frame ≡ None → IsValid (numbered frame) → first_fault frame ≡ None }
 {}

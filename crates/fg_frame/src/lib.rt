@@ -3,14 +3,14 @@
 
 mod fault;
 mod frame;
-mod good;
+mod valid;
 mod laws;
 mod limits;
 mod members;
 mod numbered;
 mod numbers;
 mod path;
-mod place;
+mod location;
 mod repeats;
 mod rule;
 mod table;
@@ -23,6 +23,6 @@ pub use fault::FrameFault;
 pub use fg_base::{Limit, Path};
 pub use fg_bits::Sharing;
 pub use frame::{Frame, Pass, QueueDecl, Resource, Spot, Write};
-pub use good::{FrameEnd, GoodFrame, faultless, well_formed};
+pub use valid::{FrameError, ValidFrame, faultless, validate_frame};
 pub use laws::frame_laws;
 pub use numbered::NumberedPass;

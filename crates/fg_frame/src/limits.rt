@@ -9,7 +9,7 @@ ghost use Rattle.fg_base.specs.Maxima.{max_units, max_ops, max_rects, max_export
 ghost use Rattle.fg_base.specs.Operands.{rect_count};
 ghost use Rattle.fg_base.specs.Rooms.{first_over, room_after};
 
-use crate::place::Place;
+use crate::location::Location;
 use crate::rule::Rule;
 use crate::{Frame, Pass, Resource, Spot};
 use fg_base::{
@@ -17,10 +17,10 @@ use fg_base::{
     MAX_RESOURCE_BYTES, MAX_UNITS, Op, first_over,
 };
 
-fn over(limit: Limit, place: Place) -> Broken<Rule, Place>
-    ensures { result ≡ over limit place }
+fn over(limit: Limit, location: Location) -> Broken<Rule, Location>
+    ensures { result ≡ over limit location }
 {
-    Broken::over_limit(Rule::Limits, limit, place)
+    Broken::over_limit(Rule::Limits, limit, location)
 }
 
 fn layers_allowed(resource: &Resource) -> bool
@@ -89,14 +89,14 @@ fn rects_in(most: usize, ops: &[Op<Spot>]) -> Result<usize, usize>
     Ok(room)
 }
 
-fn rects_over(passes: &[Pass]) -> Option<Place>
+fn rects_over(passes: &[Pass]) -> Option<Location>
     ensures { result ≡ rects_over max_rects 0 passes.now }
 {
     let mut room = MAX_RECTS;
     for (p, pass) in passes.iter().enumerate() {
         match rects_in(room, &pass.ops) {
             Ok(left) => room = left,
-            Err(k) => return Some(Place::Rects(p, k)),
+            Err(k) => return Some(Location::Rects(p, k)),
         }
     }
     None
@@ -151,51 +151,51 @@ fn bytes_over(resources: &[Resource]) -> Option<usize>
 }
 
 // The limits on what stands in the lists.
-fn count_broken(frame: &Frame) -> Option<Broken<Rule, Place>>
+fn count_broken(frame: &Frame) -> Option<Broken<Rule, Location>>
     ensures { result ≡ count_broken frame.now }
 {
     if let Some(i) = wrong_layers(&frame.resources) {
-        return Some(over(Limit::Layers, Place::Resource(i)));
+        return Some(over(Limit::Layers, Location::Resource(i)));
     }
     if frame.queues.len() < 1 || frame.queues.len() > MAX_QUEUES {
-        return Some(over(Limit::Queues, Place::Queues));
+        return Some(over(Limit::Queues, Location::Queues));
     }
     if units_over(&frame.resources).is_some() {
-        return Some(over(Limit::Resources, Place::Resources));
+        return Some(over(Limit::Resources, Location::Resources));
     }
     if frame.passes.len() > MAX_PASSES {
-        return Some(over(Limit::Passes, Place::Passes));
+        return Some(over(Limit::Passes, Location::Passes));
     }
     if let Some(p) = ops_over(&frame.passes) {
-        return Some(over(Limit::Ops, Place::Ops(p)));
+        return Some(over(Limit::Ops, Location::Ops(p)));
     }
-    if let Some(place) = rects_over(&frame.passes) {
-        return Some(over(Limit::Rects, place));
+    if let Some(location) = rects_over(&frame.passes) {
+        return Some(over(Limit::Rects, location));
     }
     if exports_over(frame).is_some() {
-        return Some(over(Limit::Exports, Place::Exports));
+        return Some(over(Limit::Exports, Location::Exports));
     }
     None
 }
 
 // The limits on each resource and on their bytes.
-fn size_broken(resources: &[Resource]) -> Option<Broken<Rule, Place>>
+fn size_broken(resources: &[Resource]) -> Option<Broken<Rule, Location>>
     ensures { result ≡ size_broken resources.now }
 {
     if let Some(i) = wrong_sides(resources) {
-        return Some(over(Limit::Side, Place::Resource(i)));
+        return Some(over(Limit::Side, Location::Resource(i)));
     }
     if let Some(i) = wrong_size(resources) {
-        return Some(over(Limit::Size, Place::Resource(i)));
+        return Some(over(Limit::Size, Location::Resource(i)));
     }
     if let Some(i) = bytes_over(resources) {
-        return Some(over(Limit::Total, Place::Resource(i)));
+        return Some(over(Limit::Total, Location::Resource(i)));
     }
     None
 }
 
 /// The first limit that is broken.
-pub(crate) fn limit_broken(frame: &Frame) -> Option<Broken<Rule, Place>>
+pub(crate) fn limit_broken(frame: &Frame) -> Option<Broken<Rule, Location>>
     ensures { result ≡ limit_broken frame.now }
 {
     if let Some(broken) = count_broken(frame) {

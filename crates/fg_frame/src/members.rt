@@ -2,9 +2,9 @@
 
 ghost use Rattle.std.specs.Prelude.{◌≡◌, [], ◌∷◌, slice_index_or};
 ghost use Rattle.fg_frame.specs.Members.{member_at};
-ghost use Rattle.fg_frame.specs.declared.place.Operand.TheVariants.{Src, A, B, Dst};
+ghost use Rattle.fg_frame.specs.declared.location.Operand.TheVariants.{Src, A, B, Dst};
 
-use crate::place::Operand;
+use crate::location::Operand;
 use fg_base::Op;
 
 fn source_or_dst(j: usize) -> Operand

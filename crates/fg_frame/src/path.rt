@@ -1,12 +1,12 @@
-//! The path of a place.
+//! The path of a location.
 
 ghost use Rattle.std.specs.Prelude.{◌≡◌, IfOk, [], ◌∷◌, ◌++◌, codes};
 ghost use Rattle.fg_base.specs.Paths.{entry};
 ghost use Rattle.fg_base.specs.declared.path.Leg.TheVariants.{Member};
-ghost use Rattle.fg_frame.specs.Paths.{operand_name, in_op, path_of, told};
+ghost use Rattle.fg_frame.specs.Paths.{operand_name, in_op, path_of, fault_of};
 
 use crate::FrameFault;
-use crate::place::{Operand, Place};
+use crate::location::{Operand, Location};
 use crate::rule::Rule;
 use fg_base::{Broken, List, NoMemory, Path};
 use std::alloc::Global;
@@ -60,36 +60,36 @@ fn in_op(alloc: Global, p: usize, k: usize, name: &[u8]) -> Result<Path, NoMemor
     entry_in(alloc, p, b"ops", k)?.member(alloc, name)
 }
 
-fn path_of(alloc: Global, place: Place) -> Result<Path, NoMemory>
-    ensures { IfOk result (λ path. path ≡ path_of place) }
+fn path_of(alloc: Global, location: Location) -> Result<Path, NoMemory>
+    ensures { IfOk result (λ path. path ≡ path_of location) }
 {
-    match place {
-        Place::Queues => member(alloc, b"queues"),
-        Place::Resources => member(alloc, b"resources"),
-        Place::Passes => member(alloc, b"passes"),
-        Place::Exports => member(alloc, b"exports"),
-        Place::Queue(i) => entry(alloc, b"queues", i),
-        Place::Resource(i) => entry(alloc, b"resources", i),
-        Place::Import(i) => member_in(alloc, b"resources", i, b"import"),
-        Place::Pass(p) => entry(alloc, b"passes", p),
-        Place::PassQueue(p) => member_in(alloc, b"passes", p, b"queue"),
-        Place::Read(p, k) => entry_in(alloc, p, b"reads", k),
-        Place::Write(p, j) => entry_in(alloc, p, b"writes", j),
-        Place::Ops(p) => member_in(alloc, b"passes", p, b"ops"),
-        Place::Op(p, k) => in_op(alloc, p, k, b"op"),
-        Place::Rects(p, k) => in_op(alloc, p, k, b"rects"),
-        Place::Operand(p, k, operand) => in_op(alloc, p, k, operand_name(operand)),
-        Place::Export(i) => entry(alloc, b"exports", i),
+    match location {
+        Location::Queues => member(alloc, b"queues"),
+        Location::Resources => member(alloc, b"resources"),
+        Location::Passes => member(alloc, b"passes"),
+        Location::Exports => member(alloc, b"exports"),
+        Location::Queue(i) => entry(alloc, b"queues", i),
+        Location::Resource(i) => entry(alloc, b"resources", i),
+        Location::Import(i) => member_in(alloc, b"resources", i, b"import"),
+        Location::Pass(p) => entry(alloc, b"passes", p),
+        Location::PassQueue(p) => member_in(alloc, b"passes", p, b"queue"),
+        Location::Read(p, k) => entry_in(alloc, p, b"reads", k),
+        Location::Write(p, j) => entry_in(alloc, p, b"writes", j),
+        Location::Ops(p) => member_in(alloc, b"passes", p, b"ops"),
+        Location::Op(p, k) => in_op(alloc, p, k, b"op"),
+        Location::Rects(p, k) => in_op(alloc, p, k, b"rects"),
+        Location::Operand(p, k, operand) => in_op(alloc, p, k, operand_name(operand)),
+        Location::Export(i) => entry(alloc, b"exports", i),
     }
 }
 
-/// The fault as it is told.
-pub(crate) fn told(alloc: Global, broken: Broken<Rule, Place>) -> Result<FrameFault, NoMemory>
-    ensures { IfOk result (λ fault. fault ≡ told broken) }
+/// The fault as it is printed.
+pub(crate) fn fault_of(alloc: Global, broken: Broken<Rule, Location>) -> Result<FrameFault, NoMemory>
+    ensures { IfOk result (λ fault. fault ≡ fault_of broken) }
 {
     Ok(FrameFault {
         number: broken.rule.number(),
         limit: broken.limit,
-        place: path_of(alloc, broken.place)?,
+        location: path_of(alloc, broken.location)?,
     })
 }

@@ -8,9 +8,9 @@ ghost use Rattle.fg_base.specs.Walks.{first_in};
 ghost use Rattle.fg_frame.specs.Clashes.{clash, first_clash};
 ghost use Rattle.fg_frame.specs.Repeats.{repeats_at, first_repeat, repeats_in, repeated};
 ghost use Rattle.fg_frame.specs.Units.{numbering, layers_of};
-ghost use Rattle.fg_frame.specs.declared.place.Place.TheVariants.{Export};
+ghost use Rattle.fg_frame.specs.declared.location.Location.TheVariants.{Export};
 
-use crate::place::Place;
+use crate::location::Location;
 use crate::table::{Table, distinct};
 use crate::{Frame, Pass, Spot, Write};
 use fg_base::{List, Name, NoMemory};
@@ -18,7 +18,7 @@ use indexmap::IndexSet;
 use std::alloc::Global;
 
 fn first_repeat(alloc: Global, names: &[Name]) -> Result<Option<usize>, NoMemory>
-    ensures { IfOk result (λ place. place ≡ first_repeat names.now) }
+    ensures { IfOk result (λ location. location ≡ first_repeat names.now) }
 {
     match distinct(alloc, names)? {
         Ok(_) => Ok(None),
@@ -39,7 +39,7 @@ fn repeats_at(names: &[Name], at: usize, name: &Name) -> Option<usize>
 
 // Whether one of these entries names this layer, or all.
 #[tactic(auto, using(crate::proofs::Clashing::layer_taken))]
-fn is_taken(seen: &IndexSet<Spot>, name: Name, layer: u32) -> bool
+fn has_clash(seen: &IndexSet<Spot>, name: Name, layer: u32) -> bool
     ensures { result ≡ list_any (clash (record { name = name; layer = Some layer })) seen.now.keys }
 {
     let whole = Spot { name, layer: None };
@@ -61,13 +61,13 @@ fn clashes(named: bool, seen: &IndexSet<Spot>, spot: Spot) -> bool
     }
     match spot.layer {
         None => true,
-        Some(layer) => is_taken(seen, spot.name, layer),
+        Some(layer) => has_clash(seen, spot.name, layer),
     }
 }
 
 // The first entry that names a unit of one before it, where some name a layer.
 fn clash_of_layers(alloc: Global, spots: &[Spot]) -> Result<Option<usize>, NoMemory>
-    ensures { IfOk result (λ place. place ≡ first_clash spots.now) }
+    ensures { IfOk result (λ location. location ≡ first_clash spots.now) }
 {
     let mut names = IndexSet::new(alloc);
     let mut seen = IndexSet::new(alloc);
@@ -100,7 +100,7 @@ fn spot_names(alloc: Global, spots: &[Spot]) -> Result<List<Name>, NoMemory>
 // Whole resources clash where their names repeat, which takes one table in place of two.
 #[tactic(auto, using(crate::proofs::Clashing::whole_clash))]
 fn first_clash(alloc: Global, spots: &[Spot]) -> Result<Option<usize>, NoMemory>
-    ensures { IfOk result (λ place. place ≡ first_clash spots.now) }
+    ensures { IfOk result (λ location. location ≡ first_clash spots.now) }
 {
     if has_layers(spots) {
         return clash_of_layers(alloc, spots);
@@ -144,19 +144,19 @@ fn repeats_in(
     names: &[Name],
     p: usize,
     pass: &Pass,
-) -> Result<Option<Place>, NoMemory>
+) -> Result<Option<Location>, NoMemory>
     requires { p ≤ length names.now }
-    ensures { IfOk result (λ place. place ≡ repeats_in names.now p pass.now) }
+    ensures { IfOk result (λ location. location ≡ repeats_in names.now p pass.now) }
 {
     if let Some(i) = repeats_at(names, p, &pass.name) {
-        return Ok(Some(Place::Pass(i)));
+        return Ok(Some(Location::Pass(i)));
     }
     if let Some(k) = first_clash(alloc, &pass.reads)? {
-        return Ok(Some(Place::Read(p, k)));
+        return Ok(Some(Location::Read(p, k)));
     }
     let spots = written(alloc, &pass.writes)?;
     match first_clash(alloc, &spots)? {
-        Some(k) => Ok(Some(Place::Write(p, k))),
+        Some(k) => Ok(Some(Location::Write(p, k))),
         None => Ok(None),
     }
 }
@@ -166,61 +166,61 @@ fn repeats_in_passes(
     alloc: Global,
     names: &[Name],
     passes: &[Pass],
-) -> Result<Option<Place>, NoMemory>
+) -> Result<Option<Location>, NoMemory>
     requires { length names.now ≡ length passes.now }
-    ensures { IfOk result (λ place. place ≡ first_in (repeats_in names.now) 0 passes.now) }
+    ensures { IfOk result (λ location. location ≡ first_in (repeats_in names.now) 0 passes.now) }
 {
     for (p, pass) in passes.iter().enumerate() {
-        if let Some(place) = repeats_in(alloc, names, p, pass)? {
-            return Ok(Some(place));
+        if let Some(location) = repeats_in(alloc, names, p, pass)? {
+            return Ok(Some(location));
         }
     }
     Ok(None)
 }
 
 fn repeated_queue(alloc: Global, frame: &Frame) -> Result<Option<usize>, NoMemory>
-    ensures { IfOk result (λ place. place ≡ first_repeat (map (λ q. q.name) frame.now.queues)) }
+    ensures { IfOk result (λ location. location ≡ first_repeat (map (λ q. q.name) frame.now.queues)) }
 {
     let names = queue_names(alloc, frame)?;
     first_repeat(alloc, &names)
 }
 
-fn repeated_in_passes(alloc: Global, frame: &Frame) -> Result<Option<Place>, NoMemory>
-    ensures { IfOk result (λ place. place ≡ first_in (repeats_in (map (λ p. p.name) frame.now.passes)) 0 frame.now.passes) }
+fn repeated_in_passes(alloc: Global, frame: &Frame) -> Result<Option<Location>, NoMemory>
+    ensures { IfOk result (λ location. location ≡ first_in (repeats_in (map (λ p. p.name) frame.now.passes)) 0 frame.now.passes) }
 {
     let names = pass_names(alloc, frame)?;
     repeats_in_passes(alloc, &names, &frame.passes)
 }
 
 // An entry that repeats one, in the passes and then in the exports.
-fn repeated_entry(alloc: Global, frame: &Frame) -> Result<Option<Place>, NoMemory>
-    ensures { IfOk result (λ place. place ≡ option_or (first_in (repeats_in (map (λ p. p.name) frame.now.passes)) 0 frame.now.passes) (option_map (λ i. Export i) (first_clash frame.now.exports))) }
+fn repeated_entry(alloc: Global, frame: &Frame) -> Result<Option<Location>, NoMemory>
+    ensures { IfOk result (λ location. location ≡ option_or (first_in (repeats_in (map (λ p. p.name) frame.now.passes)) 0 frame.now.passes) (option_map (λ i. Export i) (first_clash frame.now.exports))) }
 {
-    if let Some(place) = repeated_in_passes(alloc, frame)? {
-        return Ok(Some(place));
+    if let Some(location) = repeated_in_passes(alloc, frame)? {
+        return Ok(Some(location));
     }
     match first_clash(alloc, &frame.exports)? {
-        Some(i) => Ok(Some(Place::Export(i))),
+        Some(i) => Ok(Some(Location::Export(i))),
         None => Ok(None),
     }
 }
 
 /// The table of a frame's names, or the first name that stands twice, or entry that names a unit twice.
-pub(crate) fn table_of(alloc: Global, frame: &Frame) -> Result<Result<Table, Place>, NoMemory>
+pub(crate) fn table_of(alloc: Global, frame: &Frame) -> Result<Result<Table, Location>, NoMemory>
     requires { layers_of frame.now.resources ≤ 256 }
     ensures none { IfOk result (λ found. IfOk found (λ table. repeated frame.now ≡ None)) }
     ensures table { IfOk result (λ found. IfOk found (λ table. table ≡ numbering frame.now)) }
-    ensures repeat { IfOk result (λ found. IfErr found (λ place. repeated frame.now ≡ Some place)) }
+    ensures repeat { IfOk result (λ found. IfErr found (λ location. repeated frame.now ≡ Some location)) }
 {
     if let Some(i) = repeated_queue(alloc, frame)? {
-        return Ok(Err(Place::Queue(i)));
+        return Ok(Err(Location::Queue(i)));
     }
     let table = match Table::new(alloc, frame)? {
         Ok(table) => table,
-        Err(i) => return Ok(Err(Place::Resource(i))),
+        Err(i) => return Ok(Err(Location::Resource(i))),
     };
     match repeated_entry(alloc, frame)? {
-        Some(place) => Ok(Err(place)),
+        Some(location) => Ok(Err(location)),
         None => Ok(Ok(table)),
     }
 }

@@ -7,7 +7,7 @@ ghost use Rattle.fg_frame.specs.Members.{member_at};
 ghost use Rattle.fg_frame.specs.Unknowns.{queue_at, has_queue, is_known, unknown_at, unknown_operand, unknown_in, unknown_by};
 
 use crate::members::member_at;
-use crate::place::Place;
+use crate::location::Location;
 use crate::table::Table;
 use crate::{Frame, Pass, Spot, Write};
 use fg_base::{Name, Op, first_in};
@@ -32,22 +32,22 @@ fn unknown_at(
     op: &Op<Spot>,
     j: usize,
     spot: Spot,
-) -> Option<Place>
+) -> Option<Location>
     ensures { result ≡ unknown_at table.now p k op.now j spot }
 {
     if table.is_known_unit(spot) {
         None
     } else {
-        Some(Place::Operand(p, k, member_at(op, j)))
+        Some(Location::Operand(p, k, member_at(op, j)))
     }
 }
 
-fn unknown_operand(table: &Table, p: usize, k: usize, op: &Op<Spot>) -> Option<Place>
+fn unknown_operand(table: &Table, p: usize, k: usize, op: &Op<Spot>) -> Option<Location>
     ensures { result ≡ unknown_operand table.now p k op.now }
 {
     for j in 0..op.touch_count() {
-        if let Some(place) = unknown_at(table, p, k, op, j as usize, op.operand(j)) {
-            return Some(place);
+        if let Some(location) = unknown_at(table, p, k, op, j as usize, op.operand(j)) {
+            return Some(location);
         }
     }
     None
@@ -65,42 +65,42 @@ fn unknown_write(table: &Table, writes: &[Write<Spot>]) -> Option<usize>
     writes.iter().position(|write| !table.is_known(write.what))
 }
 
-fn unknown_op(table: &Table, p: usize, ops: &[Op<Spot>]) -> Option<Place>
+fn unknown_op(table: &Table, p: usize, ops: &[Op<Spot>]) -> Option<Location>
     ensures { result ≡ first_in (unknown_operand table.now p) 0 ops.now }
 {
     first_in(ops, |k, op| unknown_operand(table, p, k, op))
 }
 
-fn unknown_in(frame: &Frame, table: &Table, p: usize, pass: &Pass) -> Option<Place>
+fn unknown_in(frame: &Frame, table: &Table, p: usize, pass: &Pass) -> Option<Location>
     ensures { result ≡ unknown_in frame.now table.now p pass.now }
 {
     if !has_queue(frame, pass.queue) {
-        return Some(Place::PassQueue(p));
+        return Some(Location::PassQueue(p));
     }
     if let Some(k) = unknown_spot(table, &pass.reads) {
-        return Some(Place::Read(p, k));
+        return Some(Location::Read(p, k));
     }
     if let Some(k) = unknown_write(table, &pass.writes) {
-        return Some(Place::Write(p, k));
+        return Some(Location::Write(p, k));
     }
     unknown_op(table, p, &pass.ops)
 }
 
-fn unknown_in_passes(frame: &Frame, table: &Table) -> Option<Place>
+fn unknown_in_passes(frame: &Frame, table: &Table) -> Option<Location>
     ensures { result ≡ first_in (unknown_in frame.now table.now) 0 frame.now.passes }
 {
     first_in(&frame.passes, |p, pass| unknown_in(frame, table, p, pass))
 }
 
 /// The first name or layer that is not there.
-pub(crate) fn unknown(frame: &Frame, table: &Table) -> Option<Place>
+pub(crate) fn unknown(frame: &Frame, table: &Table) -> Option<Location>
     ensures { result ≡ unknown_by table.now frame.now }
 {
-    if let Some(place) = unknown_in_passes(frame, table) {
-        return Some(place);
+    if let Some(location) = unknown_in_passes(frame, table) {
+        return Some(location);
     }
     match unknown_spot(table, &frame.exports) {
-        Some(i) => Some(Place::Export(i)),
+        Some(i) => Some(Location::Export(i)),
         None => None,
     }
 }

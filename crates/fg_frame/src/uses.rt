@@ -12,7 +12,7 @@ ghost use Rattle.fg_frame.specs.Uses.{family_of, stranger_in, writes_it, reads_i
 
 use crate::members::member_at;
 use crate::numbered::{NumberedPass, Span, Stored, Uses};
-use crate::place::{Operand, Place};
+use crate::location::{Operand, Location};
 use crate::rule::Rule;
 use crate::{Frame, Resource};
 use fg_base::{Family, Op, Shape, first_in, op_fits, op_in_place, op_runs};
@@ -32,11 +32,11 @@ fn stranger(ops: &[Op<u32>], family: Family) -> Option<usize>
     ops.iter().position(|op| !op_runs(op, family))
 }
 
-fn stranger_in(frame: &Frame, p: usize, pass: &NumberedPass) -> Option<Place>
+fn stranger_in(frame: &Frame, p: usize, pass: &NumberedPass) -> Option<Location>
     ensures { result ≡ stranger_in frame.now p pass.now }
 {
     match stranger(&pass.ops, family_of(frame, pass.queue)) {
-        Some(k) => Some(Place::Op(p, k)),
+        Some(k) => Some(Location::Op(p, k)),
         None => None,
     }
 }
@@ -60,7 +60,7 @@ fn undeclared_at(
     op: &Op<u32>,
     j: u32,
     unit: u32,
-) -> Option<Place>
+) -> Option<Location>
     requires { j < length (operands_of op.now) }
     ensures { result ≡ undeclared_at pass.now p k op.now j unit }
 {
@@ -68,22 +68,22 @@ fn undeclared_at(
     if writes_it(pass, unit) || (source && reads_it(pass, unit)) {
         None
     } else {
-        Some(Place::Operand(p, k, member_at(op, j as usize)))
+        Some(Location::Operand(p, k, member_at(op, j as usize)))
     }
 }
 
-fn undeclared_operand(pass: &NumberedPass, p: usize, k: usize, op: &Op<u32>) -> Option<Place>
+fn undeclared_operand(pass: &NumberedPass, p: usize, k: usize, op: &Op<u32>) -> Option<Location>
     ensures { result ≡ undeclared_operand pass.now p k op.now }
 {
     for j in 0..op.touch_count() {
-        if let Some(place) = undeclared_at(pass, p, k, op, j, op.operand(j)) {
-            return Some(place);
+        if let Some(location) = undeclared_at(pass, p, k, op, j, op.operand(j)) {
+            return Some(location);
         }
     }
     None
 }
 
-fn undeclared_op(pass: &NumberedPass, p: usize, ops: &[Op<u32>]) -> Option<Place>
+fn undeclared_op(pass: &NumberedPass, p: usize, ops: &[Op<u32>]) -> Option<Location>
     ensures { result ≡ first_in (undeclared_operand pass.now p) 0 ops.now }
 {
     first_in(ops, |k, op| undeclared_operand(pass, p, k, op))
@@ -122,18 +122,18 @@ fn not_whole_at(
     p: usize,
     j: usize,
     write: &Stored,
-) -> Option<Place>
+) -> Option<Location>
     requires { All (λ op. All (λ r. r < length shapes.now) (operands_of op)) ops.now }
     ensures { result ≡ not_whole_at shapes.now ops.now p j write.now }
 {
     if write.fresh && is_partial(ops, shapes, write.units) {
-        Some(Place::Write(p, j))
+        Some(Location::Write(p, j))
     } else {
         None
     }
 }
 
-fn not_whole(ops: &[Op<u32>], shapes: &[Shape], p: usize, writes: &[Stored]) -> Option<Place>
+fn not_whole(ops: &[Op<u32>], shapes: &[Shape], p: usize, writes: &[Stored]) -> Option<Location>
     requires { All (λ op. All (λ r. r < length shapes.now) (operands_of op)) ops.now }
     ensures { result ≡ first_in (not_whole_at shapes.now ops.now p) 0 writes.now }
 {
@@ -158,27 +158,27 @@ fn misfit(resources: &[Resource]) -> Option<usize>
 }
 
 /// The first import that does not fit its resource.
-pub(crate) fn misfit_import(resources: &[Resource]) -> Option<Place>
+pub(crate) fn misfit_import(resources: &[Resource]) -> Option<Location>
     ensures { result ≡ misfit_import resources.now }
 {
     match misfit(resources) {
-        Some(i) => Some(Place::Import(i)),
+        Some(i) => Some(Location::Import(i)),
         None => None,
     }
 }
 
-fn misfit_at(shapes: &[Shape], p: usize, k: usize, op: &Op<u32>) -> Option<Place>
+fn misfit_at(shapes: &[Shape], p: usize, k: usize, op: &Op<u32>) -> Option<Location>
     requires { All (λ r. r < length shapes.now) (operands_of op.now) }
     ensures { result ≡ misfit_at shapes.now p k op.now }
 {
     if op_fits(op, shapes) {
         None
     } else {
-        Some(Place::Op(p, k))
+        Some(Location::Op(p, k))
     }
 }
 
-fn misfit_op(shapes: &[Shape], p: usize, ops: &[Op<u32>]) -> Option<Place>
+fn misfit_op(shapes: &[Shape], p: usize, ops: &[Op<u32>]) -> Option<Location>
     requires { All (λ op. All (λ r. r < length shapes.now) (operands_of op)) ops.now }
     ensures { result ≡ first_in (misfit_at shapes.now p) 0 ops.now }
 {
@@ -191,11 +191,11 @@ fn in_place(ops: &[Op<u32>]) -> Option<usize>
     ops.iter().position(|op| op_in_place(op))
 }
 
-fn in_place_in(p: usize, pass: &NumberedPass) -> Option<Place>
+fn in_place_in(p: usize, pass: &NumberedPass) -> Option<Location>
     ensures { result ≡ in_place_in p pass.now }
 {
     match in_place(&pass.ops) {
-        Some(k) => Some(Place::Operand(p, k, Operand::Dst)),
+        Some(k) => Some(Location::Operand(p, k, Operand::Dst)),
         None => None,
     }
 }
@@ -214,16 +214,16 @@ fn read_new(uses: &Uses) -> Option<usize>
         .position(|write| write.fresh && reads_any(&uses.pass, write.units))
 }
 
-fn read_new_in(p: usize, uses: &Uses) -> Option<Place>
+fn read_new_in(p: usize, uses: &Uses) -> Option<Location>
     ensures { result ≡ read_new_in p uses.now }
 {
     match read_new(uses) {
-        Some(j) => Some(Place::Write(p, j)),
+        Some(j) => Some(Location::Write(p, j)),
         None => None,
     }
 }
 
-fn use_at(rule: Rule, frame: &Frame, shapes: &[Shape], p: usize, uses: &Uses) -> Option<Place>
+fn use_at(rule: Rule, frame: &Frame, shapes: &[Shape], p: usize, uses: &Uses) -> Option<Location>
     requires { IsWithin (length frame.now.queues) (length shapes.now) uses.now.pass }
     ensures { result ≡ use_at rule frame.now shapes.now p uses.now }
 {
@@ -238,13 +238,13 @@ fn use_at(rule: Rule, frame: &Frame, shapes: &[Shape], p: usize, uses: &Uses) ->
     }
 }
 
-/// The first place in the passes where a rule on what one pass does is broken.
+/// The first location in the passes where a rule on what one pass does is broken.
 pub(crate) fn first_use(
     rule: Rule,
     frame: &Frame,
     shapes: &[Shape],
     passes: &[Uses],
-) -> Option<Place>
+) -> Option<Location>
     requires { All (λ uses. IsWithin (length frame.now.queues) (length shapes.now) uses.pass) passes.now }
     ensures { result ≡ first_use rule frame.now shapes.now passes.now }
 {

@@ -8,7 +8,7 @@ ghost use Rattle.fg_frame.specs.Uses.{is_there, is_marked, is_missing, unwritten
 
 use crate::Write;
 use crate::numbered::{Span, Stored, Uses};
-use crate::place::Place;
+use crate::location::Location;
 use fg_base::List;
 
 fn is_marked(marks: &[bool], unit: u32) -> bool
@@ -40,14 +40,14 @@ fn missing_change(marks: &[bool], writes: &[Stored]) -> Option<usize>
         .position(|write| !write.fresh && is_missing(marks, write.units))
 }
 
-fn unwritten_in(marks: &[bool], p: usize, uses: &Uses) -> Option<Place>
+fn unwritten_in(marks: &[bool], p: usize, uses: &Uses) -> Option<Location>
     ensures { result ≡ unwritten_in (is_marked marks.now) p uses.now }
 {
     if let Some(k) = missing_entry(marks, &uses.reads) {
-        return Some(Place::Read(p, k));
+        return Some(Location::Read(p, k));
     }
     match missing_change(marks, &uses.writes) {
-        Some(j) => Some(Place::Write(p, j)),
+        Some(j) => Some(Location::Write(p, j)),
         None => None,
     }
 }
@@ -80,18 +80,18 @@ fn mark(marks: List<bool>, writes: &[Write<u32>]) -> List<bool>
     all
 }
 
-// The units that are there after these passes, or the first place where one is missing.
+// The units that are there after these passes, or the first location where one is missing.
 #[tactic(auto, using(crate::proofs::Marks::there_on, crate::proofs::Marks::there_none, crate::proofs::Marks::missing_on, crate::proofs::Marks::same_place))]
-fn after_passes(imported: List<bool>, queues: usize, passes: &[Uses]) -> Result<List<bool>, Place>
+fn after_passes(imported: List<bool>, queues: usize, passes: &[Uses]) -> Result<List<bool>, Location>
     requires { All (λ uses. IsWithin queues (length imported) uses.pass) passes.now }
-    ensures missing { IfErr result (λ place. first_in (unwritten_at imported passes.now) 0 passes.now ≡ Some place) }
+    ensures missing { IfErr result (λ location. first_in (unwritten_at imported passes.now) 0 passes.now ≡ Some location) }
     ensures none { IfOk result (λ marks. first_in (unwritten_at imported passes.now) 0 passes.now ≡ None) }
     ensures marks { IfOk result (λ marks. (u : ℕ) → is_marked marks u ≡ is_there imported passes.now u) }
 {
     let mut marks = imported;
     for (p, uses) in passes.iter().enumerate() {
-        if let Some(place) = unwritten_in(&marks, p, uses) {
-            return Err(place);
+        if let Some(location) = unwritten_in(&marks, p, uses) {
+            return Err(location);
         }
         marks = mark(marks, &uses.pass.writes);
     }
@@ -105,14 +105,14 @@ pub(crate) fn unwritten(
     queues: usize,
     passes: &[Uses],
     exports: &[Span],
-) -> Option<Place>
+) -> Option<Location>
     requires { All (λ uses. IsWithin queues (length imported) uses.pass) passes.now }
     ensures { result ≡ unwritten imported passes.now exports.now }
 {
     match after_passes(imported, queues, passes) {
-        Err(place) => Some(place),
+        Err(location) => Some(location),
         Ok(marks) => match missing_entry(&marks, exports) {
-            Some(i) => Some(Place::Export(i)),
+            Some(i) => Some(Location::Export(i)),
             None => None,
         },
     }

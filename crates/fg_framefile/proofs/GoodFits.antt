@@ -17,7 +17,7 @@ use Rattle.fg_base.specs.declared.shape.Shape.TheVariants.{Buffer, Image}
 use Rattle.fg_forms.proofs.Ranges.{in_range}
 use Rattle.fg_forms.specs.Leaves.{greatest}
 use Rattle.fg_base.proofs.Absence.{all_pass, or_first, or_second, map_none, first_none, has_it}
-use Rattle.fg_frame.specs.Good.{IsDeclared}
+use Rattle.fg_frame.specs.Valid.{IsDeclared}
 use Rattle.fg_frame.specs.Limits.{layers_allowed}
 use Rattle.fg_frame.specs.Members.{member_at}
 use Rattle.fg_frame.specs.Units.{Numbering, numbering, stretches, stretch_of}
@@ -29,8 +29,8 @@ use Rattle.fg_frame.specs.declared.frame.Resource.{Resource}
 use Rattle.fg_frame.specs.declared.frame.Spot.{Spot}
 use Rattle.fg_frame.specs.declared.frame.Write.{Write}
 use Rattle.fg_frame.specs.declared.numbered.Stretch.{Stretch}
-use Rattle.fg_frame.specs.declared.place.Place.{Place}
-use Rattle.fg_frame.specs.declared.place.Place.TheVariants as at
+use Rattle.fg_frame.specs.declared.location.Location.{Location}
+use Rattle.fg_frame.specs.declared.location.Location.TheVariants as at
 use Rattle.fg_framefile.specs.Frames.{FitsFrame}
 use Rattle.fg_framefile.specs.Passes.{FitsPass}
 use Rattle.fg_framefile.specs.Resources.{FitsImport, FitsResource}
@@ -155,10 +155,10 @@ module _ (n : Numbering) (few : (name : List ℕ) → IfSome (stretch_of n name)
 
   pass_fits : (frame : Frame) (p : ℕ) (pass : Pass) → unknown_in frame n p pass ≡ None → IsTypedPass pass → FitsPass pass
   pass_fits frame p pass none typed =
-      let queue : Option Place = if has_queue frame pass.queue then None else Some (at.PassQueue p) in
-      let reads : Option Place = option_map (λ k. at.Read p k) (position (λ spot. not (is_known n spot)) pass.reads) in
-      let writes : Option Place = option_map (λ k. at.Write p k) (position (λ w. not (is_known n w.what)) pass.writes) in
-      let ops : Option Place = first_in (unknown_operand n p) 0 pass.ops in
+      let queue : Option Location = if has_queue frame pass.queue then None else Some (at.PassQueue p) in
+      let reads : Option Location = option_map (λ k. at.Read p k) (position (λ spot. not (is_known n spot)) pass.reads) in
+      let writes : Option Location = option_map (λ k. at.Write p k) (position (λ w. not (is_known n w.what)) pass.writes) in
+      let ops : Option Location = first_in (unknown_operand n p) 0 pass.ops in
       let none-1 = or_second queue (option_or reads (option_or writes ops)) none in
       let none-2 = or_second reads (option_or writes ops) none-1 in
       record {
@@ -183,8 +183,8 @@ good_fits frame declared typed =
     let n = numbering frame in
     let resources : AllByRecursion FitsResource frame.resources = resources_fit frame.resources declared.layers declared.sides declared.sizes declared.imports typed.resources in
     let few : (name : List ℕ) → IfSome (stretch_of n name) Few = λ name. found n.stretches (position (bytes_eq name) n.names) (few_stretches 0 frame.resources resources) in
-    let passes : Option Place = first_in (unknown_in frame n) 0 frame.passes in
-    let exports : Option Place = option_map (λ i. at.Export i) (position (λ spot. not (is_known n spot)) frame.exports) in
+    let passes : Option Location = first_in (unknown_in frame n) 0 frame.passes in
+    let exports : Option Location = option_map (λ i. at.Export i) (position (λ spot. not (is_known n spot)) frame.exports) in
     record {
       queues = typed.queues;
       resources = resources;

@@ -7,14 +7,14 @@ use Rattle.fg_frame.specs.Faults.{not_json, misshapen}
 use Rattle.fg_frame.specs.declared.fault.FrameFault.{FrameFault}
 use Rattle.fg_frame.specs.declared.frame.Frame.{Frame}
 use Rattle.fg_framefile.specs.Frames.{format_at, frame_at, frame_data}
-use Rattle.fg_framefile.specs.declared.file.FrameReadEnd.{FrameReadEnd}
-use Rattle.fg_framefile.specs.declared.file.FrameReadEnd.TheVariants as ends
+use Rattle.fg_framefile.specs.declared.file.FrameReadError.{FrameReadError}
+use Rattle.fg_framefile.specs.declared.file.FrameReadError.TheVariants as ends
 use Rattle.serde_json.specs.Data.{Data}
 use Rattle.serde_json.specs.Written.{compact_text}
 
 -- F3, at the member
 abbrev pub unknown_format : FrameFault
-unknown_format = record { number = 3; limit = None; place = leg.Member (codes "format") ∷ [] }
+unknown_format = record { number = 3; limit = None; location = leg.Member (codes "format") ∷ [] }
 
 -- a first fault of form is F2 at its path
 abbrev pub shaped : Reading Frame → Result Frame FrameFault
@@ -41,12 +41,12 @@ abbrev pub frame_of : List ℕ → Result Frame FrameFault
 frame_of bytes = file_of (json_of bytes)
 
 -- a function ended with this fault, unless memory ran out
-abbrev pub Refuses : FrameReadEnd → FrameFault → Type 0
+abbrev pub Refuses : FrameReadError → FrameFault → Type 0
 Refuses ends.NoMemory fault = Unit {0}
 Refuses (ends.Refused found) fault = found ≡ fault
 
 -- what a function returned is this frame or fault, unless memory ran out
-abbrev pub FrameGives : Result Frame FrameReadEnd → Result Frame FrameFault → Type 0
+abbrev pub FrameGives : Result Frame FrameReadError → Result Frame FrameFault → Type 0
 FrameGives (Ok frame) found = found ≡ Ok frame
 FrameGives (Err ends.NoMemory) found = Unit {0}
 FrameGives (Err (ends.Refused fault)) found = found ≡ Err fault

@@ -8,7 +8,7 @@ ghost use Rattle.serde_json.specs.View.{view};
 
 use crate::frame::FrameForm;
 use fg_base::{Leg, List, NoMemory, Path};
-use fg_forms::{JsonEnd, NumberForm, Place, ReadEnd, Reader, object, read_json, required};
+use fg_forms::{JsonError, NumberForm, Location, ReadError, Reader, object, read_json, required};
 use fg_frame::{Frame, FrameFault};
 use serde_json::Value;
 use std::alloc::Global;
@@ -16,7 +16,7 @@ use thiserror::Error;
 
 /// Why bytes gave no frame.
 #[derive(Debug, Drop, Error)]
-pub enum FrameReadEnd {
+pub enum FrameReadError {
     #[error("the bytes are no frame")]
     Refused(FrameFault),
     #[error("memory ran out")]
@@ -24,18 +24,18 @@ pub enum FrameReadEnd {
 }
 
 /// The frame that the bytes are, or the first fault of their form. They may be of any length.
-pub fn read_frame(alloc: Global, bytes: &[u8]) -> Result<Frame, FrameReadEnd>
+pub fn read_frame(alloc: Global, bytes: &[u8]) -> Result<Frame, FrameReadError>
     ensures gives { FrameGives result (frame_of bytes.now) }
     ensures fits { IfOk result FitsFrame }
 {
     match read_json(alloc, bytes) {
         Ok(value) => frame_in(alloc, &value),
-        Err(JsonEnd::NoMemory) => Err(FrameReadEnd::NoMemory),
-        Err(JsonEnd::NotJson) => Err(FrameReadEnd::Refused(FrameFault::not_json(alloc))),
+        Err(JsonError::NoMemory) => Err(FrameReadError::NoMemory),
+        Err(JsonError::NotJson) => Err(FrameReadError::Refused(FrameFault::not_json(alloc))),
     }
 }
 
-fn frame_in(alloc: Global, value: &Value) -> Result<Frame, FrameReadEnd>
+fn frame_in(alloc: Global, value: &Value) -> Result<Frame, FrameReadError>
     ensures gives { FrameGives result (frame_in (view value.now)) }
     ensures fits { IfOk result FitsFrame }
 {
@@ -43,32 +43,32 @@ fn frame_in(alloc: Global, value: &Value) -> Result<Frame, FrameReadEnd>
         Ok(1) => frame_of_format::<1>(alloc, value),
         Ok(2) => frame_of_format::<2>(alloc, value),
         Ok(_) => Err(unknown_format(alloc)),
-        Err(ReadEnd::NoMemory) => Err(FrameReadEnd::NoMemory),
-        Err(ReadEnd::Refused(path)) => Err(FrameReadEnd::Refused(FrameFault::misshapen(path))),
+        Err(ReadError::NoMemory) => Err(FrameReadError::NoMemory),
+        Err(ReadError::Refused(path)) => Err(FrameReadError::Refused(FrameFault::misshapen(path))),
     }
 }
 
 #[tactic(auto, unfolding(crate::specs::Frames::format_at))]
-fn format(alloc: Global, value: &Value) -> Result<u32, ReadEnd>
+fn format(alloc: Global, value: &Value) -> Result<u32, ReadError>
     ensures { Gives result (format_at [] (view value.now)) }
 {
-    object(alloc, &Place::Top, value)?;
-    required::<NumberForm>(alloc, &Place::Top, "format", value)
+    object(alloc, &Location::Top, value)?;
+    required::<NumberForm>(alloc, &Location::Top, "format", value)
 }
 
-fn frame_of_format<const FORMAT: u32>(alloc: Global, value: &Value) -> Result<Frame, FrameReadEnd>
+fn frame_of_format<const FORMAT: u32>(alloc: Global, value: &Value) -> Result<Frame, FrameReadError>
     ensures gives { FrameGives result (shaped (frame_at FORMAT [] (view value.now))) }
     ensures fits { IfOk result FitsFrame }
 {
-    match <FrameForm<FORMAT>>::read(alloc, &Place::Top, value) {
+    match <FrameForm<FORMAT>>::read(alloc, &Location::Top, value) {
         Ok(frame) => Ok(frame),
-        Err(ReadEnd::NoMemory) => Err(FrameReadEnd::NoMemory),
-        Err(ReadEnd::Refused(path)) => Err(FrameReadEnd::Refused(FrameFault::misshapen(path))),
+        Err(ReadError::NoMemory) => Err(FrameReadError::NoMemory),
+        Err(ReadError::Refused(path)) => Err(FrameReadError::Refused(FrameFault::misshapen(path))),
     }
 }
 
 fn format_path(alloc: Global) -> Result<Path, NoMemory>
-    ensures { IfOk result (λ path. path ≡ unknown_format.place) }
+    ensures { IfOk result (λ path. path ≡ unknown_format.location) }
 {
     let mut path = List::new(alloc);
     path.push(Leg::Member(List::from_slice(alloc, b"format")?))?;
@@ -76,15 +76,15 @@ fn format_path(alloc: Global) -> Result<Path, NoMemory>
 }
 
 // F3: the format is another whole number.
-fn unknown_format(alloc: Global) -> FrameReadEnd
+fn unknown_format(alloc: Global) -> FrameReadError
     ensures { Refuses result unknown_format }
 {
     match format_path(alloc) {
-        Ok(place) => FrameReadEnd::Refused(FrameFault {
+        Ok(location) => FrameReadError::Refused(FrameFault {
             number: 3,
             limit: None,
-            place,
+            location,
         }),
-        Err(NoMemory) => FrameReadEnd::NoMemory,
+        Err(NoMemory) => FrameReadError::NoMemory,
     }
 }

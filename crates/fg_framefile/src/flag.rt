@@ -3,7 +3,7 @@
 ghost use Rattle.std.specs.Prelude.{⊤};
 ghost use Rattle.fg_framefile.specs.Flags.{flag_at};
 
-use fg_forms::{Place, ReadEnd, Reader};
+use fg_forms::{Location, ReadError, Reader};
 use serde_json::Value;
 use std::alloc::Global;
 
@@ -17,7 +17,7 @@ impl Reader for FlagForm {
 
     ghost Fits = { λ _. ⊤ };
 
-    fn read(alloc: Global, at: &Place<'_>, value: &Value) -> Result<bool, ReadEnd> {
+    fn read(alloc: Global, at: &Location<'_>, value: &Value) -> Result<bool, ReadError> {
         match value.as_bool() {
             Some(flag) => Ok(flag),
             None => Err(at.refused(alloc)),

@@ -7,7 +7,7 @@ use crate::queue::QueueForm;
 use crate::resource::ResourceForm;
 use crate::spot::SpotForm;
 use fg_forms::{
-    ListForm, Place, ReadEnd, Reader, Writer, others, required, with_form, with_member,
+    ListForm, Location, ReadError, Reader, Writer, others, required, with_form, with_member,
 };
 use fg_frame::Frame;
 use serde_json::{Map, Value};
@@ -24,7 +24,7 @@ impl<const FORMAT: u32> Reader for FrameForm<FORMAT> {
     ghost Fits = { FitsFrame };
 
     #[tactic(auto, unfolding(crate::specs::Frames::frame_at))]
-    fn read(alloc: Global, at: &Place<'_>, value: &Value) -> Result<Frame, ReadEnd> {
+    fn read(alloc: Global, at: &Location<'_>, value: &Value) -> Result<Frame, ReadError> {
         let queues = required::<ListForm<QueueForm>>(alloc, at, "queues", value)?;
         let resources = required::<ListForm<ResourceForm<FORMAT>>>(alloc, at, "resources", value)?;
         let passes = required::<ListForm<PassForm<FORMAT>>>(alloc, at, "passes", value)?;

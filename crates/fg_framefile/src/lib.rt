@@ -13,5 +13,5 @@ mod text;
 mod typed;
 mod write;
 
-pub use file::{FrameReadEnd, read_frame};
+pub use file::{FrameReadError, read_frame};
 pub use text::write_frame;

@@ -7,7 +7,7 @@ use crate::spot::SpotForm;
 use crate::write::WriteForm;
 use fg_base::List;
 use fg_forms::{
-    ListForm, NameForm, Place, ReadEnd, Reader, Writer, object, optional, others, required,
+    ListForm, NameForm, Location, ReadError, Reader, Writer, object, optional, others, required,
     with_form, with_member,
 };
 use fg_frame::Pass;
@@ -26,7 +26,7 @@ impl<const FORMAT: u32> Reader for PassForm<FORMAT> {
     ghost Fits = { FitsPass };
 
     #[tactic(auto, unfolding(crate::specs::Passes::pass_at))]
-    fn read(alloc: Global, at: &Place<'_>, value: &Value) -> Result<Pass, ReadEnd> {
+    fn read(alloc: Global, at: &Location<'_>, value: &Value) -> Result<Pass, ReadError> {
         object(alloc, at, value)?;
         let name = required::<NameForm>(alloc, at, "name", value)?;
         let queue = required::<NameForm>(alloc, at, "queue", value)?;

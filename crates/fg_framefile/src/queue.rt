@@ -3,7 +3,7 @@
 ghost use Rattle.fg_framefile.specs.Queues.{queue_at, queue_data, FitsQueue};
 
 use fg_forms::{
-    NameForm, Place, ReadEnd, Reader, TextForm, Writer, object, others, required, with_form,
+    NameForm, Location, ReadError, Reader, TextForm, Writer, object, others, required, with_form,
 };
 use fg_frame::QueueDecl;
 use fg_shapeforms::FamilyWord;
@@ -21,7 +21,7 @@ impl Reader for QueueForm {
     ghost Fits = { FitsQueue };
 
     #[tactic(auto, unfolding(crate::specs::Queues::queue_at))]
-    fn read(alloc: Global, at: &Place<'_>, value: &Value) -> Result<QueueDecl, ReadEnd> {
+    fn read(alloc: Global, at: &Location<'_>, value: &Value) -> Result<QueueDecl, ReadError> {
         object(alloc, at, value)?;
         let name = required::<NameForm>(alloc, at, "name", value)?;
         let family = required::<TextForm<FamilyWord>>(alloc, at, "family", value)?;

@@ -1,14 +1,14 @@
 //! Resources in a file.
 
 ghost use Rattle.std.specs.Prelude.{◌≡◌, map, IfOk};
-ghost use Rattle.fg_forms.specs.Places.{legs};
+ghost use Rattle.fg_forms.specs.Locations.{legs};
 ghost use Rattle.fg_forms.specs.Reading.{Gives};
 ghost use Rattle.fg_framefile.specs.Resources.{import_at, members_of, resource_at, resource_data, FitsImport, FitsResource};
 ghost use Rattle.serde_json.specs.View.{view};
 
 use crate::resource_members::resource_members;
 use fg_base::{List, Shape};
-use fg_forms::{NameForm, Place, ReadEnd, Reader, Writer, object, optional, others, required};
+use fg_forms::{NameForm, Location, ReadError, Reader, Writer, object, optional, others, required};
 use fg_frame::Resource;
 use fg_shapeforms::{HexForm, read_body, read_sharing};
 use serde_json::Value;
@@ -20,10 +20,10 @@ pub struct ResourceForm<const FORMAT: u32>;
 // The bytes of a buffer that the host filled. An image has none, and `import` is unknown there.
 fn import(
     alloc: Global,
-    at: &Place<'_>,
+    at: &Location<'_>,
     shape: Shape,
     value: &Value,
-) -> Result<Option<List<u8>>, ReadEnd>
+) -> Result<Option<List<u8>>, ReadError>
     ensures gives { Gives result (import_at shape (legs at.now) (view value.now)) }
     ensures fits { IfOk result (FitsImport shape) }
 {
@@ -59,7 +59,7 @@ impl<const FORMAT: u32> Reader for ResourceForm<FORMAT> {
     ghost Fits = { FitsResource };
 
     #[tactic(auto, unfolding(crate::specs::Resources::resource_at))]
-    fn read(alloc: Global, at: &Place<'_>, value: &Value) -> Result<Resource, ReadEnd> {
+    fn read(alloc: Global, at: &Location<'_>, value: &Value) -> Result<Resource, ReadError> {
         object(alloc, at, value)?;
         let name = required::<NameForm>(alloc, at, "name", value)?;
         let body = read_body::<FORMAT>(alloc, at, value)?;

@@ -4,7 +4,7 @@ ghost use Rattle.std.specs.Prelude.{◌≡◌, Some, IfOk, IfSome, string_bytes}
 ghost use Rattle.fg_framefile.specs.Spots.{spot_at, spot_data, with_layer, spot_of, layered_spot, layer_of, FitsSpot};
 
 use fg_base::Name;
-use fg_forms::{NameForm, Place, ReadEnd, Reader, Writer};
+use fg_forms::{NameForm, Location, ReadError, Reader, Writer};
 use fg_frame::Spot;
 use serde_json::Value;
 use std::alloc::{AllocError, Global};
@@ -56,7 +56,7 @@ impl<const FORMAT: u32> Reader for SpotForm<FORMAT> {
 
     ghost Fits = { FitsSpot };
 
-    fn read(alloc: Global, at: &Place<'_>, value: &Value) -> Result<Spot, ReadEnd> {
+    fn read(alloc: Global, at: &Location<'_>, value: &Value) -> Result<Spot, ReadError> {
         match value.as_str() {
             Some(text) => match spot::<FORMAT>(text.as_bytes()) {
                 Some(found) => Ok(found),

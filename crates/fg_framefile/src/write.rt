@@ -1,13 +1,13 @@
 //! What passes write, in a file.
 
 ghost use Rattle.std.specs.Prelude.{◌≡◌, IfOk};
-ghost use Rattle.fg_forms.specs.Places.{legs};
+ghost use Rattle.fg_forms.specs.Locations.{legs};
 ghost use Rattle.fg_forms.specs.Reading.{Gives};
 ghost use Rattle.fg_framefile.specs.Writes.{new_at, change_at, write_at, write_data, is_new, FitsWrite};
 ghost use Rattle.serde_json.specs.View.{view};
 
 use crate::spot::SpotForm;
-use fg_forms::{Place, ReadEnd, Reader, Writer, object, others, required, with_form};
+use fg_forms::{Location, ReadError, Reader, Writer, object, others, required, with_form};
 use fg_frame::{Spot, Write};
 use serde_json::{Map, Value};
 use std::alloc::{AllocError, Global};
@@ -25,9 +25,9 @@ fn is_new(value: &Value) -> bool
 #[tactic(auto, unfolding(crate::specs::Writes::new_at))]
 fn new<const FORMAT: u32>(
     alloc: Global,
-    at: &Place<'_>,
+    at: &Location<'_>,
     value: &Value,
-) -> Result<Write<Spot>, ReadEnd>
+) -> Result<Write<Spot>, ReadError>
     ensures gives { Gives result (new_at FORMAT (legs at.now) (view value.now)) }
     ensures fits { IfOk result FitsWrite }
 {
@@ -39,9 +39,9 @@ fn new<const FORMAT: u32>(
 #[tactic(auto, unfolding(crate::specs::Writes::change_at))]
 fn change<const FORMAT: u32>(
     alloc: Global,
-    at: &Place<'_>,
+    at: &Location<'_>,
     value: &Value,
-) -> Result<Write<Spot>, ReadEnd>
+) -> Result<Write<Spot>, ReadError>
     ensures gives { Gives result (change_at FORMAT (legs at.now) (view value.now)) }
     ensures fits { IfOk result FitsWrite }
 {
@@ -58,7 +58,7 @@ impl<const FORMAT: u32> Reader for WriteForm<FORMAT> {
     ghost Fits = { FitsWrite };
 
     #[tactic(auto, unfolding(crate::specs::Writes::write_at))]
-    fn read(alloc: Global, at: &Place<'_>, value: &Value) -> Result<Write<Spot>, ReadEnd> {
+    fn read(alloc: Global, at: &Location<'_>, value: &Value) -> Result<Write<Spot>, ReadError> {
         object(alloc, at, value)?;
         if is_new(value) {
             new::<FORMAT>(alloc, at, value)

@@ -2,9 +2,9 @@
 use Rattle.std.proofs.Common.{◌≡◌, ℕ, ◌≤◌, replicate, ap, ap₂, ◌∙◌, subst, sym}
 use Rattle.std.specs.List.{range_with_len}
 use Rattle.std.proofs.lemmas.List.FromFn.{length-range_with_len}
-use Rattle.fg_frame.specs.Good.{IsGood}
+use Rattle.fg_frame.specs.Valid.{IsValid}
 use Rattle.fg_frame.specs.Numbered.{numbered}
-use Rattle.fg_gen.specs.Code.Numbers.{image, generated_numbers}
+use Rattle.fg_gen.specs.Internal.Numbers.{image, generated_numbers}
 use Rattle.fg_gen.specs.Generated.{exported, generated}
 use Rattle.fg_gen.proofs.Exported.{exported_small}
 use Rattle.fg_gen.proofs.GoodNumbers.{good_numbers}
@@ -17,5 +17,5 @@ module _ (number n : ℕ) (few : n ≤ 256) where
       ap₂ (λ us ps. record { units = us; queues = (generated_numbers number n).queues; passes = ps; exports = (numbered (generated number n)).exports }) units (passes_are n few number (range_with_len 0 n) (range_below n))
       ∙ ap (λ es. record { units = replicate n image; queues = (generated_numbers number n).queues; passes = (generated_numbers number n).passes; exports = es }) (all_units n few (exported n) (exported_small n))
 
-  pub is_good : IsGood (numbered (generated number n))
-  is_good = subst IsGood (sym numbers_are) (good_numbers number n few)
+  pub is_good : IsValid (numbered (generated number n))
+  is_good = subst IsValid (sym numbers_are) (good_numbers number n few)

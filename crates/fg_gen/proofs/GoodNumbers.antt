@@ -11,11 +11,11 @@ use Rattle.fg_base.proofs.Booleans.{or_true}
 use Rattle.fg_base.specs.Bounds.{sides_allowed, size_allowed}
 use Rattle.fg_base.specs.Operands.{rect_count}
 use Rattle.fg_base.specs.Shapes.{bytes_of}
-use Rattle.fg_frame.specs.Good.{IsGood, IsGoodPass, has_contents, is_import, renews}
+use Rattle.fg_frame.specs.Valid.{IsValid, IsValidPass, has_contents, is_import, renews}
 use Rattle.fg_frame.specs.Numbered.{IsWithin}
 use Rattle.fg_frame.specs.Uses.{import_fits}
 use Rattle.fg_frame.specs.declared.numbered.NumberedPass.{NumberedPass}
-use Rattle.fg_gen.specs.Code.Numbers.{image, numbered_at, generated_numbers}
+use Rattle.fg_gen.specs.Internal.Numbers.{image, numbered_at, generated_numbers}
 use Rattle.fg_gen.specs.Generated.{exported}
 use Rattle.fg_gen.specs.Operations.{drawn, kind_of, first_source, second_source, op_by}
 use Rattle.fg_gen.proofs.ByKind.{few_kinds, is_earlier, no_rects, reads_later}
@@ -48,7 +48,7 @@ module _ (number n : ℕ) (few : n ≤ 256) where
           let size = length-map-range_with_len pass_at 0 before in
           list_any_at (renews u) (map pass_at (range_with_len 0 before)) u (pass_at u) (omega (arith, size, lt)) (ap (renews u) is ∙ own)
 
-  good_at : (i : ℕ) → i < n → (before : List NumberedPass) → ((u : ℕ) → u < i → has_contents (replicate n image) before u ≡ true) → IsGoodPass (generated_numbers number n) before (pass_at i)
+  good_at : (i : ℕ) → i < n → (before : List NumberedPass) → ((u : ℕ) → u < i → has_contents (replicate n image) before u ≡ true) → IsValidPass (generated_numbers number n) before (pass_at i)
   good_at i lt before made =
       let w = drawn number i in
       pass_good (generated_numbers number n) n refl refl (kind_of w i) (few_kinds w i) w (first_source w i) (second_source w i) i lt (λ reads. is_earlier _ i (reads_later w i reads)) (λ reads. is_earlier _ i (reads_later w i reads)) (a_small n few w i lt) (b_small n few w i lt) before made
@@ -58,11 +58,11 @@ module _ (number n : ℕ) (few : n ≤ 256) where
       let w = drawn number i in
       pass_within (generated_numbers number n) n refl refl (kind_of w i) (few_kinds w i) w (first_source w i) (second_source w i) i lt (λ reads. is_earlier _ i (reads_later w i reads)) (λ reads. is_earlier _ i (reads_later w i reads)) (a_small n few w i lt) (b_small n few w i lt)
 
-  passes_good : (p : ℕ) (d : NumberedPass) → p < length passes → IsGoodPass (generated_numbers number n) (take p passes) (get_or passes p d)
+  passes_good : (p : ℕ) (d : NumberedPass) → p < length passes → IsValidPass (generated_numbers number n) (take p passes) (get_or passes p d)
   passes_good p d lt =
       let size = length-map-range_with_len pass_at 0 n in
       let less : p < n = omega (arith, size, lt) in
-      subst (IsGoodPass (generated_numbers number n) (take p passes)) (sym (get_or-map-range_with_len pass_at 0 n p p d less (omega arith)))
+      subst (IsValidPass (generated_numbers number n) (take p passes)) (sym (get_or-map-range_with_len pass_at 0 n p p d less (omega arith)))
       (good_at p less (take p passes) (there p (omega (arith, less))))
 
   passes_within : All (IsWithin 3 (length (replicate n image))) passes
@@ -87,7 +87,7 @@ module _ (number n : ℕ) (few : n ≤ 256) where
   bytes_counted : sum_by (λ u. bytes_of u.shape) (replicate n image) ≤ 268435456
   bytes_counted = let sum : sum_by (λ u. bytes_of u.shape) (replicate n image) ≡ n * 16384 = sum_by-replicate (λ u. bytes_of u.shape) n image in omega (arith, sum, few)
 
-  pub good_numbers : IsGood (generated_numbers number n)
+  pub good_numbers : IsValid (generated_numbers number n)
   good_numbers = record {
     some_queue = omega arith;
     few_queues = omega arith;

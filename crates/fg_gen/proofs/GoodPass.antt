@@ -19,11 +19,11 @@ use Rattle.fg_base.specs.declared.shape.Family.TheVariants.{Graphics, Compute, T
 use Rattle.fg_base.specs.declared.shape.Shape.{Shape}
 use Rattle.fg_base.specs.declared.shape.Shape.TheVariants.{Buffer, Image}
 use Rattle.fg_base.specs.declared.shape.Texel.TheVariants.{R32}
-use Rattle.fg_frame.specs.Good.{IsGoodOp, IsGoodPass, has_contents, shapes_in}
+use Rattle.fg_frame.specs.Valid.{IsValidOp, IsValidPass, has_contents, shapes_in}
 use Rattle.fg_frame.specs.Numbered.{NumberedFrame, IsWithin}
 use Rattle.fg_frame.specs.Uses.{reads_it, writes_it, stores_whole, starts_whole}
 use Rattle.fg_frame.specs.declared.numbered.NumberedPass.{NumberedPass}
-use Rattle.fg_gen.specs.Code.Numbers.{image, queue_number_by, numbered_by}
+use Rattle.fg_gen.specs.Internal.Numbers.{image, queue_number_by, numbered_by}
 use Rattle.fg_gen.specs.Operations.{op_by, reads_by}
 use Rattle.fg_gen.proofs.ByKind.{by_kind, op_mapped, operands_all, reads_all}
 
@@ -158,7 +158,7 @@ module _ (frame : NumberedFrame) (n : ℕ) (units : frame.units ≡ replicate n 
     written : writes_it pass i ≡ true
     written = or_left (i == i) false (eq-eqb i i refl)
 
-    op_good : IsGoodOp frame pass op
+    op_good : IsValidOp frame pass op
     op_good = record {
       on_queue = λ family is. on_queue kind five w a b i family (subst (λ qs. slice_get qs (queue_number_by kind w) ≡ Some family) queues is);
       declared_sources = λ k d lt. ap (λ t. writes_it pass (get_or (sources_of op) k d) || t) (sources_read kind five w a b i k d lt) ∙ or_true (writes_it pass (get_or (sources_of op) k d));
@@ -167,13 +167,13 @@ module _ (frame : NumberedFrame) (n : ℕ) (units : frame.units ≡ replicate n 
       not_in_place = not_in_place;
     }
 
-    pub pass_good : (before : List NumberedPass) → ((u : ℕ) → u < i → has_contents frame.units before u ≡ true) → IsGoodPass frame before pass
+    pub pass_good : (before : List NumberedPass) → ((u : ℕ) → u < i → has_contents frame.units before u ≡ true) → IsValidPass frame before pass
     pass_good before there = record {
       reads_there = λ k d lt. there (get_or (reads_by kind a b) k d) (below_reads k d lt);
       changes_there = one (λ x. x.fresh ≡ false → has_contents frame.units before x.what ≡ true) (record { what = i; fresh = true }) (λ e. absurd (clash (sym e)));
       new_whole = one (λ x. x.fresh ≡ true → starts_whole (shapes_in frame) (op ∷ []) x.what ≡ true) (record { what = i; fresh = true }) (λ e. whole);
       new_unread = one (λ x. x.fresh ≡ true → reads_it pass x.what ≡ false) (record { what = i; fresh = true }) (λ e. unread);
-      ops_good = one (IsGoodOp frame pass) op op_good;
+      ops_good = one (IsValidOp frame pass) op op_good;
     }
 
     pub pass_within : IsWithin 3 n pass

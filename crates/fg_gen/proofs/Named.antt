@@ -28,7 +28,7 @@ use Rattle.fg_frame.specs.declared.frame.Pass.{Pass}
 use Rattle.fg_frame.specs.declared.frame.Resource.{Resource}
 use Rattle.fg_frame.specs.declared.frame.Spot.{Spot}
 use Rattle.fg_frame.specs.declared.frame.Write.{Write}
-use Rattle.fg_frame.specs.declared.place.Place.TheVariants as at
+use Rattle.fg_frame.specs.declared.location.Location.TheVariants as at
 use Rattle.fg_frame.specs.declared.rule.Rule.TheVariants as rules
 use Rattle.fg_gen.specs.Generated.{pass_name, spot, resource, resource_name, queues, queue_by, pass_by, exported, generated}
 use Rattle.fg_gen.specs.Operations.{drawn, kind_of, first_source, second_source, op_by, reads_by}

@@ -13,7 +13,7 @@ use Rattle.fg_frame.specs.Units.{Numbering, stretches, stretch_of, layer_unit, u
 use Rattle.fg_frame.specs.Unknowns.{is_known, is_known_unit, has_layer, picks_one}
 use Rattle.fg_frame.specs.declared.frame.Resource.{Resource}
 use Rattle.fg_frame.specs.declared.numbered.Stretch.{Stretch}
-use Rattle.fg_gen.specs.Code.Numbers.{image, queue_number_by, numbered_at}
+use Rattle.fg_gen.specs.Internal.Numbers.{image, queue_number_by, numbered_at}
 use Rattle.fg_gen.specs.Generated.{resource_name, spot, resource, queues, queue_by, pass_by, generated}
 use Rattle.fg_gen.specs.Operations.{drawn, kind_of, first_source, second_source, op_by, reads_by}
 use Rattle.fg_gen.proofs.Apart.{names_once}

@@ -6,7 +6,7 @@ use Rattle.fg_base.specs.declared.op.Op.TheVariants.{CopyImage, Ramp, Map, Combi
 use Rattle.fg_base.specs.declared.shape.Shape.TheVariants.{Image}
 use Rattle.fg_base.specs.declared.shape.Texel.TheVariants.{R32}
 use Rattle.fg_bits.specs.declared.sharing.Sharing.TheVariants.{Exclusive}
-use Rattle.fg_gen.specs.Code.Numbers.{numbered_at}
+use Rattle.fg_gen.specs.Internal.Numbers.{numbered_at}
 use Rattle.fg_gen.specs.Generated.{exported, generated, queues}
 use Rattle.fg_gen.specs.Operations.{drawn}
 

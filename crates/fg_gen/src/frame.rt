@@ -7,7 +7,7 @@ use crate::exports::exports;
 use crate::passes::passes;
 use crate::resources::{queues, resources};
 use fg_base::NoMemory;
-use fg_frame::{Frame, GoodFrame, faultless, frame_laws};
+use fg_frame::{Frame, ValidFrame, faultless, frame_laws};
 use std::alloc::Global;
 
 fn frame(alloc: Global, number: u32, count: u32) -> Result<Frame, NoMemory>
@@ -22,7 +22,7 @@ fn frame(alloc: Global, number: u32, count: u32) -> Result<Frame, NoMemory>
 }
 
 /// The frame of so many passes that a number gives. Each pass makes an image of 64 by 64 out of earlier ones.
-pub fn generate(alloc: Global, number: u32, passes: u32) -> Result<GoodFrame, NoMemory>
+pub fn generate(alloc: Global, number: u32, passes: u32) -> Result<ValidFrame, NoMemory>
     requires some { 1 ≤ passes }
     requires few { passes ≤ 256 }
     ensures { IfOk result (λ good. good ≡ generated number passes) }

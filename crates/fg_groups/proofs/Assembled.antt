@@ -7,7 +7,7 @@ use Rattle.fg_base.specs.Operands.{operands_of}
 use Rattle.fg_base.specs.declared.shape.Family.{Family}
 use Rattle.fg_base.specs.declared.shape.Shape.{Shape}
 use Rattle.fg_bits.specs.declared.sharing.Sharing.{Sharing}
-use Rattle.fg_frame.specs.Good.{IsGood}
+use Rattle.fg_frame.specs.Valid.{IsValid}
 use Rattle.fg_frame.specs.Numbered.{NumberedFrame}
 use Rattle.fg_groups.proofs.Found.{found, numbered}
 use Rattle.fg_groups.proofs.Growing.{shapes-length}
@@ -16,8 +16,8 @@ use Rattle.fg_groups.proofs.Joined.{joined}
 use Rattle.fg_groups.proofs.Sizes.{groups-few, sizes-small}
 use Rattle.fg_groups.proofs.Sources.{units_within, sourced, members_within}
 use Rattle.fg_groups.proofs.Tables.{by_unit, groups_by_unit}
-use Rattle.fg_groups.specs.Code.Buckets.{bucket}
-use Rattle.fg_groups.specs.Code.Known.{AreKnown}
+use Rattle.fg_groups.specs.Internal.Buckets.{bucket}
+use Rattle.fg_groups.specs.Internal.Known.{AreKnown}
 use Rattle.fg_groups.specs.Commands.{all_shapes}
 use Rattle.fg_groups.specs.Groups.{joins, runs, all_uses, sharings_in, imports_in, frame_joins, grouped}
 use Rattle.fg_groups.specs.Laws.{IsGrouped, IsKnown, IsSmall}
@@ -100,7 +100,7 @@ is_known n commands known = record {
     shared : length (sharings_in n) ≡ length (imports_in n)
     shared = length-map n.units (λ u. u.sharing) ∙ sym (length-map n.units (λ u. is_some u.imported))
 
-pub is_small : (n : NumberedFrame) (commands : List Command) → IsGood n → length commands ≤ 288 → IsSmall (grouped n commands)
+pub is_small : (n : NumberedFrame) (commands : List Command) → IsValid n → length commands ≤ 288 → IsSmall (grouped n commands)
 is_small n commands good few = record {
   few_commands = few;
   few_units = let u = good.few_units in let e = length-map n.units (λ u. is_some u.imported) in omega (arith, u, e);

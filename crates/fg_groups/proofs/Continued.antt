@@ -3,7 +3,7 @@ use Rattle.std.proofs.Common.{◌≡◌, ℕ, ◌+◌, ◌-◌, ◌<◌, Bool, t
 use Rattle.std.specs.Prelude.{OnOk, Result, Ok, Err, Some, slice_get}
 use Rattle.std.proofs.lemmas.Option.{none-some, same_Some}
 use Rattle.std.proofs.lemmas.List.{take_more}
-use Rattle.fg_groups.specs.Code.Grown.{last_use, joins_last, after_run, added}
+use Rattle.fg_groups.specs.Internal.Grown.{last_use, joins_last, after_run, added}
 use Rattle.fg_groups.specs.Groups.{before_runs, runs}
 use Rattle.fg_groups.specs.declared.unit_use.Use.{Use}
 

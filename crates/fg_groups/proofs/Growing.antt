@@ -12,11 +12,11 @@ use Rattle.fg_base.specs.Shapes.{shape_at}
 use Rattle.fg_base.specs.declared.op.Op.{Op}
 use Rattle.fg_base.specs.declared.shape.Shape.{Shape}
 use Rattle.fg_base.specs.declared.shape.Shape.TheVariants.{Buffer, Image}
-use Rattle.fg_frame.specs.Good.{IsGood, shapes_in}
+use Rattle.fg_frame.specs.Valid.{IsValid, shapes_in}
 use Rattle.fg_frame.specs.Numbered.{NumberedFrame, IsWithin}
 use Rattle.fg_frame.specs.declared.numbered.NumberedPass.{NumberedPass}
-use Rattle.fg_groups.specs.Code.Grown.{kept_pass}
-use Rattle.fg_groups.specs.Code.Known.{AreKnown}
+use Rattle.fg_groups.specs.Internal.Grown.{kept_pass}
+use Rattle.fg_groups.specs.Internal.Known.{AreKnown}
 use Rattle.fg_groups.specs.Commands.{on_queue, pass_commands, kept_commands, copy_out, export_queue, export_command, export_commands, commands, all_shapes, readback_shape}
 use Rattle.fg_groups.specs.declared.command.Command.{Command}
 use Rattle.fg_versions.proofs.Grow.{rows-length, row_is, pass_got}
@@ -100,7 +100,7 @@ exports-length : (n : NumberedFrame) (k : ℕ) (units : List ℕ) → length (ex
 exports-length n k [] = refl
 exports-length n k (unit ∷ units) = ap suc (exports-length n (suc k) units)
 
-commands-few : (n : NumberedFrame) (kept : List Bool) → IsGood n → length (commands n kept) ≤ 288
+commands-few : (n : NumberedFrame) (kept : List Bool) → IsValid n → length (commands n kept) ≤ 288
 commands-few n kept G =
     let ops = G.few_ops in
     let exports = G.few_exports in
@@ -141,7 +141,7 @@ exports-below n k (unit ∷ units) within =
 pub shapes-length : (n : NumberedFrame) → length (all_shapes n) ≡ length n.units + length n.exports
 shapes-length n = length-append (shapes_in n) (map (readback_shape n) n.exports) ∙ ap₂ (λ a b. a + b) (length-map n.units (λ unit. unit.shape)) (length-map n.exports (readback_shape n))
 
-commands-below : (n : NumberedFrame) (kept : List Bool) → IsGood n → All (λ command. All (λ r. r < length (all_shapes n)) (operands_of command.op)) (commands n kept)
+commands-below : (n : NumberedFrame) (kept : List Bool) → IsValid n → All (λ command. All (λ r. r < length (all_shapes n)) (operands_of command.op)) (commands n kept)
 commands-below n kept G =
     let e = shapes-length n in
     All-append (Below (length (all_shapes n))) (kept_commands n.passes kept) (export_commands n 0 n.exports)
@@ -165,18 +165,18 @@ kept-queues queues units (pass ∷ passes) (keep ∷ kept) within =
     own true = All-map (OnQueue queues) (on_queue pass.queue) pass.ops (λ i d lt. (All-head (IsWithin queues units) pass passes within).queue)
     own false = All-nil (OnQueue queues)
 
-export-known : (n : NumberedFrame) (unit : ℕ) → IsGood n → export_queue n unit < length n.queues
+export-known : (n : NumberedFrame) (unit : ℕ) → IsValid n → export_queue n unit < length n.queues
 export-known n unit G = go (latest_maker (all_versions n unit)) refl
   where
     go : (o : Option ℕ) → latest_maker (all_versions n unit) ≡ o → option_map_or (λ p. (pass_at n p).queue) o 0 < length n.queues
     go None e = G.some_queue
     go (Some p) e = (G.within p no_pass (maker-below n (length n.passes) unit p (omega arith) e)).queue
 
-exports-queues : (n : NumberedFrame) (k : ℕ) (units : List ℕ) → IsGood n → All (OnQueue (length n.queues)) (export_commands n k units)
+exports-queues : (n : NumberedFrame) (k : ℕ) (units : List ℕ) → IsValid n → All (OnQueue (length n.queues)) (export_commands n k units)
 exports-queues n k [] G = All-nil (OnQueue (length n.queues))
 exports-queues n k (unit ∷ units) G = All-cons (OnQueue (length n.queues)) (export_command n k unit) (export_commands n (suc k) units) (export-known n unit G) (exports-queues n (suc k) units G)
 
-pub commands-known : (n : NumberedFrame) (kept : List Bool) → IsGood n → AreKnown n (commands n kept)
+pub commands-known : (n : NumberedFrame) (kept : List Bool) → IsValid n → AreKnown n (commands n kept)
 commands-known n kept G = record {
   few = commands-few n kept G;
   queues = All-append (OnQueue (length n.queues)) (kept_commands n.passes kept) (export_commands n 0 n.exports) (kept-queues (length n.queues) (length n.units) n.passes kept G.within) (exports-queues n 0 n.exports G);

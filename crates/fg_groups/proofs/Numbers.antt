@@ -2,7 +2,7 @@
 use Rattle.std.proofs.Common.{◌≡◌, ℕ, ◌<◌, List, [], length, map, sym, ap, ◌∙◌, subst, arith}
 use Rattle.std.specs.List.{range_with_len}
 use Rattle.std.proofs.lemmas.List.FromFn.{length-map-range_with_len, get_or-map-range_with_len}
-use Rattle.fg_groups.specs.Code.Buckets.{bucket}
+use Rattle.fg_groups.specs.Internal.Buckets.{bucket}
 use Rattle.fg_groups.specs.Needs.{numbers_in}
 use Rattle.fg_groups.specs.declared.grouping.Grouping.{Grouping}
 

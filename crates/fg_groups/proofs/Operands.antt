@@ -11,7 +11,7 @@ use Rattle.fg_base.specs.declared.op.Op.{Op}
 use Rattle.fg_base.specs.declared.shape.Shape.{Shape}
 use Rattle.fg_base.specs.declared.shape.Shape.TheVariants.{Buffer, Image}
 use Rattle.fg_base.specs.declared.touch.Touch.{Touch}
-use Rattle.fg_groups.specs.Code.Grown.{no_touch, touch_at, operand_use}
+use Rattle.fg_groups.specs.Internal.Grown.{no_touch, touch_at, operand_use}
 use Rattle.fg_groups.specs.Commands.{copy_out}
 use Rattle.fg_groups.specs.Uses.{uses_from}
 use Rattle.fg_groups.specs.declared.command.Command.{Command}

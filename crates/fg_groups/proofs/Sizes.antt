@@ -18,7 +18,7 @@ use Rattle.fg_base.specs.declared.shape.Shape.{Shape}
 use Rattle.fg_base.specs.declared.shape.Shape.TheVariants.{Buffer}
 use Rattle.fg_base.specs.declared.touch.Touch.{Touch}
 use Rattle.fg_bits.specs.declared.sharing.Sharing.TheVariants.{Exclusive}
-use Rattle.fg_frame.specs.Good.{IsGood, shapes_in}
+use Rattle.fg_frame.specs.Valid.{IsValid, shapes_in}
 use Rattle.fg_frame.specs.Numbered.{NumberedFrame}
 use Rattle.fg_frame.specs.Units.{Unit}
 use Rattle.fg_groups.specs.Commands.{all_shapes, readback_shape}
@@ -131,7 +131,7 @@ bytes_at frame unit d lt = ap bytes_of (get_or_append_left (shapes_in frame) (ma
 no_unit : Unit
 no_unit = record { shape = Buffer 0; sharing = Exclusive; imported = None }
 
-pub unit-small : (frame : NumberedFrame) (unit : ℕ) → IsGood frame → unit < length frame.units → bytes_of (shape_at (all_shapes frame) unit) ≤ 16777216
+pub unit-small : (frame : NumberedFrame) (unit : ℕ) → IsValid frame → unit < length frame.units → bytes_of (shape_at (all_shapes frame) unit) ≤ 16777216
 unit-small frame unit G lt =
     subst (λ n. n ≤ 16777216) (sym (bytes_at frame unit no_unit lt))
     (leb-true (bytes_of (get_or frame.units unit no_unit).shape) 16777216 (and_parts (nat_le 1 (bytes_of (get_or frame.units unit no_unit).shape)) (nat_le (bytes_of (get_or frame.units unit no_unit).shape) 16777216) (G.sized unit no_unit lt)).1)
@@ -161,7 +161,7 @@ sum_at g f (x ∷ xs) a same =
     next : (a i : ℕ) → a + suc i ≡ a + 1 + i
     next a i = omega arith
 
-module _ (frame : NumberedFrame) (commands : List Command) (G : IsGood frame) where
+module _ (frame : NumberedFrame) (commands : List Command) (G : IsValid frame) where
   abbrev bytes : ℕ → ℕ
   bytes unit = bytes_of (shape_at (all_shapes frame) unit)
 

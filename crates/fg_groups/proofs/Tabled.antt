@@ -6,7 +6,7 @@ use Rattle.std.proofs.lemmas.List.{length-map}
 use Rattle.std.proofs.lemmas.List.Elements.{All-map, All-weaker}
 use Rattle.fg_base.specs.Shapes.{shape_at, bytes_of}
 use Rattle.fg_base.specs.declared.shape.Shape.{Shape}
-use Rattle.fg_frame.specs.Good.{IsGood}
+use Rattle.fg_frame.specs.Valid.{IsValid}
 use Rattle.fg_frame.specs.Numbered.{NumberedFrame}
 use Rattle.fg_groups.proofs.Assembled.{is_grouped, is_known, is_small}
 use Rattle.fg_groups.proofs.Found.{found}
@@ -14,9 +14,9 @@ use Rattle.fg_groups.proofs.Growing.{shapes-length}
 use Rattle.fg_groups.proofs.Sizes.{groups-few, uses-few, unit-small, placed_units}
 use Rattle.fg_groups.proofs.Sources.{commands_within, of_groups}
 use Rattle.fg_groups.proofs.Tables.{by_unit, by_command, placed_is, looked_up_is, by_group_is}
-use Rattle.fg_groups.specs.Code.Buckets.{none_in, has_place, looked_up, put_numbers}
-use Rattle.fg_groups.specs.Code.Known.{AreKnown}
-use Rattle.fg_groups.specs.Code.Tabled.{IsTabled}
+use Rattle.fg_groups.specs.Internal.Buckets.{none_in, has_place, looked_up, put_numbers}
+use Rattle.fg_groups.specs.Internal.Known.{AreKnown}
+use Rattle.fg_groups.specs.Internal.Tabled.{IsTabled}
 use Rattle.fg_groups.specs.Commands.{all_shapes}
 use Rattle.fg_groups.specs.Groups.{all_uses, grouped}
 use Rattle.fg_groups.specs.Laws.{IsFound, IsGrouped, IsKnown, IsSmall}
@@ -43,7 +43,7 @@ module _ (n : NumberedFrame) (G : Grouping) (is : G ≡ grouped n G.commands) (k
       ∙ placed_is n G.commands
 
   -- each unit has a shape
-  pub places-within : (list : List ℕ) (shapes : ℕ) → IsGood n → list ≡ placed (grouped n G.commands) → shapes ≡ length G.shapes → All (λ unit. unit < shapes) list
+  pub places-within : (list : List ℕ) (shapes : ℕ) → IsValid n → list ≡ placed (grouped n G.commands) → shapes ≡ length G.shapes → All (λ unit. unit < shapes) list
   places-within list shapes good e s =
       let k = shapes-length n in
       let same : length G.shapes ≡ length (all_shapes n) = ap (λ (X : Grouping). length X.shapes) is in
@@ -65,7 +65,7 @@ module _ (n : NumberedFrame) (G : Grouping) (is : G ≡ grouped n G.commands) (k
   shapes-are = ap (λ (X : Grouping). X.shapes) is
 
   -- no unit has more bytes than a number of 32 bits can tell
-  pub places-small : (list : List ℕ) (shapes : List Shape) → IsGood n → list ≡ placed (grouped n G.commands) → shapes ≡ G.shapes → All (λ unit. bytes_of (shape_at shapes unit) < 2 ^ 32) list
+  pub places-small : (list : List ℕ) (shapes : List Shape) → IsValid n → list ≡ placed (grouped n G.commands) → shapes ≡ G.shapes → All (λ unit. bytes_of (shape_at shapes unit) < 2 ^ 32) list
   places-small list shapes good e s =
       subst (λ x. All (λ unit. bytes_of (shape_at x unit) < 2 ^ 32) list) (sym (s ∙ shapes-are))
       (subst (All (λ unit. bytes_of (shape_at (all_shapes n) unit) < 2 ^ 32)) (sym e)
@@ -102,7 +102,7 @@ module _ (n : NumberedFrame) (G : Grouping) (is : G ≡ grouped n G.commands) (k
       omega (arith, a, b, c, uses-small)
 
   -- all tables
-  pub tabled : (count : ℕ) (uses : List UseAt) (B : List (List ℕ)) (places bytes : List ℕ) → IsGood n → count ≡ length G.groups → uses ≡ uses_at G → B ≡ put_numbers 0 uses (none_in count) → places ≡ placed (grouped n G.commands) → bytes ≡ map (λ unit. bytes_of (shape_at G.shapes unit)) places → IsTabled G uses B places bytes
+  pub tabled : (count : ℕ) (uses : List UseAt) (B : List (List ℕ)) (places bytes : List ℕ) → IsValid n → count ≡ length G.groups → uses ≡ uses_at G → B ≡ put_numbers 0 uses (none_in count) → places ≡ placed (grouped n G.commands) → bytes ≡ map (λ unit. bytes_of (shape_at G.shapes unit)) places → IsTabled G uses B places bytes
   tabled count uses B places bytes good e u b p s =
       let sized : bytes ≡ sizes (grouped n G.commands) = s ∙ ap₂ (λ x y. map (λ unit. bytes_of (shape_at x unit)) y) shapes-are p in
       record {

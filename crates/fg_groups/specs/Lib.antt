@@ -1,4 +1,4 @@
-pub mod Code
+pub mod Internal
 pub mod Commands
 pub mod Groups
 pub mod Laws

@@ -2,7 +2,7 @@
 
 ghost use Rattle.std.specs.Prelude.{◌≡◌, ◌<◌, ◌^◌, map, length, IfOk, OnOk};
 ghost use Rattle.std.specs.List.{All};
-ghost use Rattle.fg_groups.specs.Code.Buckets.{put_all, none_in, in_group, numbered_uses, group_among, looked_up, put_numbers};
+ghost use Rattle.fg_groups.specs.Internal.Buckets.{put_all, none_in, in_group, numbered_uses, group_among, looked_up, put_numbers};
 
 use crate::buckets::Buckets;
 use crate::{Use, UseAt};

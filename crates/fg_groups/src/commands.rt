@@ -3,14 +3,14 @@
 ghost use Rattle.std.specs.Prelude.{◌≡◌, ◌<◌, ◌≤◌, ◌++◌, length, map, IfOk, OnOk};
 ghost use Rattle.std.specs.List.{All};
 ghost use Rattle.fg_frame.specs.Numbered.{numbered};
-ghost use Rattle.fg_groups.specs.Code.Grown.{kept_pass};
-ghost use Rattle.fg_groups.specs.Code.Known.{AreKnown};
+ghost use Rattle.fg_groups.specs.Internal.Grown.{kept_pass};
+ghost use Rattle.fg_groups.specs.Internal.Known.{AreKnown};
 ghost use Rattle.fg_groups.specs.Commands.{on_queue, kept_commands, copy_out, export_queue, export_command, export_commands, commands};
 ghost use Rattle.fg_versions.specs.Versions.{numbers_of};
 
 use crate::Command;
 use fg_base::{List, NoMemory, Op, Shape, shape_at};
-use fg_frame::GoodFrame;
+use fg_frame::ValidFrame;
 use fg_versions::{Kept, Versions};
 use std::alloc::Global;
 
@@ -38,7 +38,7 @@ fn push_pass(
 fn push_kept(
     alloc: Global,
     list: &mut List<Command>,
-    frame: &GoodFrame,
+    frame: &ValidFrame,
     kept: &Kept,
     pass: u32,
 ) -> Result<(), NoMemory>
@@ -54,7 +54,7 @@ fn push_kept(
 
 // Those of the passes that are kept.
 #[tactic(auto, using(crate::proofs::Growing::pass_more))]
-fn kept_commands(alloc: Global, frame: &GoodFrame, kept: &Kept) -> Result<List<Command>, NoMemory>
+fn kept_commands(alloc: Global, frame: &ValidFrame, kept: &Kept) -> Result<List<Command>, NoMemory>
     requires { length kept.now ≡ length (numbered frame.now).passes }
     ensures { IfOk result (λ list. list ≡ kept_commands (numbered frame.now).passes kept.now) }
 {
@@ -85,7 +85,7 @@ fn copy_out(shape: Shape, src: u32, dst: u32) -> Op<u32>
     }
 }
 
-fn export_queue(frame: &GoodFrame, versions: &Versions, unit: u32) -> u32
+fn export_queue(frame: &ValidFrame, versions: &Versions, unit: u32) -> u32
     requires versions { versions.now ≡ numbers_of (numbered frame.now) }
     requires unit { unit < length (numbered frame.now).units }
     ensures { result ≡ export_queue (numbered frame.now) unit }
@@ -96,7 +96,7 @@ fn export_queue(frame: &GoodFrame, versions: &Versions, unit: u32) -> u32
     }
 }
 
-fn export_command(frame: &GoodFrame, versions: &Versions, k: u32, unit: u32) -> Command
+fn export_command(frame: &ValidFrame, versions: &Versions, k: u32, unit: u32) -> Command
     requires versions { versions.now ≡ numbers_of (numbered frame.now) }
     requires few { k < 32 }
     requires unit { unit < length (numbered frame.now).units }
@@ -113,7 +113,7 @@ fn export_command(frame: &GoodFrame, versions: &Versions, k: u32, unit: u32) -> 
 // A copy of each of these exports.
 fn push_exports(
     list: &mut List<Command>,
-    frame: &GoodFrame,
+    frame: &ValidFrame,
     versions: &Versions,
     exports: &[u32],
 ) -> Result<(), NoMemory>
@@ -131,7 +131,7 @@ fn push_exports(
 /// The operations of the passes that are kept, and a copy of each export.
 pub(crate) fn commands_of(
     alloc: Global,
-    frame: &GoodFrame,
+    frame: &ValidFrame,
     versions: &Versions,
     kept: &Kept,
 ) -> Result<List<Command>, NoMemory>

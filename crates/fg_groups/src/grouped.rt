@@ -2,8 +2,8 @@
 
 ghost use Rattle.std.specs.Prelude.{◌≡◌, length, IfOk};
 ghost use Rattle.fg_frame.specs.Numbered.{numbered};
-ghost use Rattle.fg_groups.specs.Code.Buckets.{put_all, none_in};
-ghost use Rattle.fg_groups.specs.Code.Known.{AreKnown};
+ghost use Rattle.fg_groups.specs.Internal.Buckets.{put_all, none_in};
+ghost use Rattle.fg_groups.specs.Internal.Known.{AreKnown};
 ghost use Rattle.fg_groups.specs.Commands.{all_shapes};
 ghost use Rattle.fg_groups.specs.Groups.{all_uses, grouped, grouping};
 ghost use Rattle.fg_versions.specs.Versions.{numbers_of};
@@ -17,13 +17,13 @@ use crate::setting::{all_shapes, families, imports, sharings};
 use crate::uses::uses_of;
 use crate::{Command, Grouping, Groups, Use};
 use fg_base::{List, NoMemory, Shape};
-use fg_frame::GoodFrame;
+use fg_frame::ValidFrame;
 use fg_versions::{Kept, Versions};
 use std::alloc::Global;
 
 fn grouping_of(
     alloc: Global,
-    frame: &GoodFrame,
+    frame: &ValidFrame,
     shapes: List<Shape>,
     commands: List<Command>,
     by_unit: &Buckets<Use>,
@@ -47,7 +47,7 @@ fn grouping_of(
 
 fn tabled(
     alloc: Global,
-    frame: &GoodFrame,
+    frame: &ValidFrame,
     grouping: Grouping,
     uses: &[Use],
     by_unit: &Buckets<Use>,
@@ -71,7 +71,7 @@ fn tabled(
 // The groups of the uses of these commands.
 fn of_commands(
     alloc: Global,
-    frame: &GoodFrame,
+    frame: &ValidFrame,
     commands: List<Command>,
 ) -> Result<Groups, NoMemory>
     requires { AreKnown (numbered frame.now) commands }
@@ -89,7 +89,7 @@ fn of_commands(
 /// uses.
 pub fn groups_of(
     alloc: Global,
-    frame: &GoodFrame,
+    frame: &ValidFrame,
     versions: &Versions,
     kept: &Kept,
 ) -> Result<Groups, NoMemory>

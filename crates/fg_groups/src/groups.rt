@@ -2,7 +2,7 @@
 
 ghost use Rattle.std.specs.Prelude.{◌≡◌, ◌<◌, ◌≤◌, length, Some, slice_get};
 ghost use Rattle.std.specs.List.{All, sum_by};
-ghost use Rattle.fg_groups.specs.Code.Tabled.{IsTabled};
+ghost use Rattle.fg_groups.specs.Internal.Tabled.{IsTabled};
 ghost use Rattle.fg_groups.specs.Laws.{IsGrouped, IsKnown, IsSmall};
 ghost use Rattle.fg_groups.specs.Needs.{group_at, uses_at, numbers_in};
 ghost use Rattle.fg_groups.specs.Placed.{is_import, placed, sizes};
@@ -24,7 +24,7 @@ pub struct Groups {
 }
 
 impl Model for Groups {
-    ghost use Rattle.fg_groups.specs.Code.Tabled.{IsTabled};
+    ghost use Rattle.fg_groups.specs.Internal.Tabled.{IsTabled};
     ghost use Rattle.fg_groups.specs.declared.grouping.Grouping.{Grouping};
 
     ghost Value = { Grouping };

@@ -1,7 +1,7 @@
 //! Laws of groups.
 
 ghost use Rattle.std.specs.Prelude.{List, Bool};
-ghost use Rattle.fg_frame.specs.Good.{IsGood};
+ghost use Rattle.fg_frame.specs.Valid.{IsValid};
 ghost use Rattle.fg_frame.specs.Numbered.{NumberedFrame};
 ghost use Rattle.fg_groups.specs.Groups.{grouping};
 ghost use Rattle.fg_groups.specs.Laws.{IsGrouped, IsKnown, IsSmall};
@@ -9,6 +9,6 @@ ghost use Rattle.fg_groups.specs.Laws.{IsGrouped, IsKnown, IsSmall};
 /// What holds of the groups of every frame, for the proofs of other crates. It does nothing.
 pub fn group_laws()
     ensures grouped { (frame : NumberedFrame) (kept : List Bool) → IsGrouped (grouping frame kept) }
-    ensures known { (frame : NumberedFrame) (kept : List Bool) → IsGood frame → IsKnown (grouping frame kept) }
-    ensures small { (frame : NumberedFrame) (kept : List Bool) → IsGood frame → IsSmall (grouping frame kept) }
+    ensures known { (frame : NumberedFrame) (kept : List Bool) → IsValid frame → IsKnown (grouping frame kept) }
+    ensures small { (frame : NumberedFrame) (kept : List Bool) → IsValid frame → IsSmall (grouping frame kept) }
 {}

@@ -3,7 +3,7 @@
 ghost use Rattle.std.specs.Prelude.{◌≡◌, ◌<◌, ◌^◌, ◌++◌, [], ◌∷◌, map, length, IfOk, OnOk, if◌then◌else◌};
 ghost use Rattle.std.specs.List.{All, filter, range_with_len};
 ghost use Rattle.fg_base.specs.Shapes.{shape_at, bytes_of};
-ghost use Rattle.fg_groups.specs.Code.Buckets.{has_place};
+ghost use Rattle.fg_groups.specs.Internal.Buckets.{has_place};
 
 use crate::Use;
 use crate::buckets::Buckets;

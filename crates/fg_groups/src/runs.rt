@@ -1,7 +1,7 @@
 //! Groups as runs of uses that join.
 
 ghost use Rattle.std.specs.Prelude.{◌≡◌, ◌++◌, [], ◌∷◌, IfOk, OnOk};
-ghost use Rattle.fg_groups.specs.Code.Grown.{added, after_run, joins_last};
+ghost use Rattle.fg_groups.specs.Internal.Grown.{added, after_run, joins_last};
 ghost use Rattle.fg_groups.specs.Groups.{joins, runs};
 
 use crate::Use;

@@ -9,7 +9,7 @@ ghost use Rattle.fg_groups.specs.Groups.{sharings_in, imports_in};
 
 use fg_base::{Family, List, NoMemory, Shape, shape_at};
 use fg_bits::Sharing;
-use fg_frame::GoodFrame;
+use fg_frame::ValidFrame;
 use std::alloc::Global;
 
 // The buffer that the host reads a unit of this shape from.
@@ -23,7 +23,7 @@ fn readback_of(shape: Shape) -> Shape
 }
 
 /// The shapes of the units, and then of the buffers of the exports.
-pub(crate) fn all_shapes(alloc: Global, frame: &GoodFrame) -> Result<List<Shape>, NoMemory>
+pub(crate) fn all_shapes(alloc: Global, frame: &ValidFrame) -> Result<List<Shape>, NoMemory>
     ensures { IfOk result (λ shapes. shapes ≡ all_shapes (numbered frame.now)) }
 {
     let shapes = frame.shapes();
@@ -36,7 +36,7 @@ pub(crate) fn all_shapes(alloc: Global, frame: &GoodFrame) -> Result<List<Shape>
 }
 
 /// How each unit is shared.
-pub(crate) fn sharings(alloc: Global, frame: &GoodFrame) -> Result<List<Sharing>, NoMemory>
+pub(crate) fn sharings(alloc: Global, frame: &ValidFrame) -> Result<List<Sharing>, NoMemory>
     ensures { IfOk result (λ sharings. sharings ≡ sharings_in (numbered frame.now)) }
 {
     let mut sharings = List::new(alloc);
@@ -47,7 +47,7 @@ pub(crate) fn sharings(alloc: Global, frame: &GoodFrame) -> Result<List<Sharing>
 }
 
 /// Which units are imports.
-pub(crate) fn imports(alloc: Global, frame: &GoodFrame) -> Result<List<bool>, NoMemory>
+pub(crate) fn imports(alloc: Global, frame: &ValidFrame) -> Result<List<bool>, NoMemory>
     ensures { IfOk result (λ imports. imports ≡ imports_in (numbered frame.now)) }
 {
     let mut imports = List::new(alloc);
@@ -58,7 +58,7 @@ pub(crate) fn imports(alloc: Global, frame: &GoodFrame) -> Result<List<bool>, No
 }
 
 /// The families of the queues.
-pub(crate) fn families(alloc: Global, frame: &GoodFrame) -> Result<List<Family>, NoMemory>
+pub(crate) fn families(alloc: Global, frame: &ValidFrame) -> Result<List<Family>, NoMemory>
     ensures { IfOk result (λ families. families ≡ (numbered frame.now).queues) }
 {
     let mut families = List::new(alloc);

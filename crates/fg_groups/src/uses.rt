@@ -4,7 +4,7 @@ ghost use Rattle.std.specs.Prelude.{◌≡◌, ◌<◌, ◌≤◌, ◌^◌, ◌=
 ghost use Rattle.std.specs.List.{All, list_any};
 ghost use Rattle.fg_base.specs.Operands.{operands_of};
 ghost use Rattle.fg_bits.specs.Roles.{load_access};
-ghost use Rattle.fg_groups.specs.Code.Grown.{operand_use};
+ghost use Rattle.fg_groups.specs.Internal.Grown.{operand_use};
 ghost use Rattle.fg_groups.specs.Uses.{role_writes, role_accesses, use_of, is_first_named, command_uses, uses_of};
 
 use crate::{Command, Use};

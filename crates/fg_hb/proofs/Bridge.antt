@@ -7,7 +7,7 @@ use Rattle.fg_base.proofs.Absence.{some_same}
 use Rattle.fg_bits.specs.Sets.{meets}
 use Rattle.fg_hb.specs.Edges.{is_wait, is_host, is_signal, is_sync, is_at, holds_back, next_signal, meeting, node_at, goes_to, signalled, edge}
 use Rattle.fg_hb.specs.Orders.{Among, Distinct, before_in, Earlier, is_queued, InTurn, Front, Order, IsLeast, IsStuck}
-use Rattle.fg_hb.specs.Code.Queues.{Lined, queues_of}
+use Rattle.fg_hb.specs.Internal.Queues.{Lined, queues_of}
 use Rattle.fg_hb.specs.declared.kind.Kind.{Kind}
 use Rattle.fg_hb.specs.declared.kind.Kind.TheVariants.{Command, Barrier, Wait, Signal, Host}
 use Rattle.fg_hb.specs.declared.node.Node.{Node}

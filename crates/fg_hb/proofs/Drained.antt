@@ -5,7 +5,7 @@ use Rattle.std.specs.List.{range_with_len}
 use Rattle.fg_base.proofs.Lists.{range_more}
 use Rattle.fg_hb.specs.Edges.{node_at, meeting}
 use Rattle.fg_hb.specs.Orders.{IsLeast, IsStuck}
-use Rattle.fg_hb.specs.Code.Queues.{Queues, Ready, queues_of, is_open, goes_on}
+use Rattle.fg_hb.specs.Internal.Queues.{Queues, Ready, queues_of, is_open, goes_on}
 use Rattle.fg_hb.specs.declared.node.Node.{Node}
 use Rattle.fg_hb.proofs.Bridge.{least, stuck}
 use Rattle.fg_hb.proofs.Going.{Going, whole, at_index, stuck-at}

@@ -10,7 +10,7 @@ use Rattle.std.specs.Int.Bits.{and_zero_r}
 use Rattle.fg_base.proofs.Absence.{some_same}
 use Rattle.fg_bits.specs.Sets as sets
 use Rattle.fg_hb.specs.Before.{place, joined}
-use Rattle.fg_hb.specs.Code.Filling.{Tabled, AllEdges, Filling, Added, Covered, takes_over, Passes, QueueDone, NodeDone}
+use Rattle.fg_hb.specs.Internal.Filling.{Tabled, AllEdges, Filling, Added, Covered, takes_over, Passes, QueueDone, NodeDone}
 use Rattle.fg_hb.specs.Edges.{is_wait, is_host, is_signal, is_sync, is_at, signals, holds_back, next_signal, meeting, node_at, goes_to, signalled, edge}
 use Rattle.fg_hb.specs.Nodes.{no_node}
 use Rattle.fg_hb.specs.declared.kind.Kind.{Kind}

@@ -5,7 +5,7 @@ use Rattle.fg_base.proofs.Absence.{none_some}
 use Rattle.fg_base.proofs.Booleans.{clash}
 use Rattle.fg_hb.specs.Edges.{is_at}
 use Rattle.fg_hb.proofs.Steps.{Needs, add, nothing, Available, Greedy, placed_by, LeastWalk, NoWalk, greedy-whole, greedy-stuck}
-use Rattle.fg_hb.specs.Code.Queues.{Queues, Numbered, taken, is_open, goes_on, left_of}
+use Rattle.fg_hb.specs.Internal.Queues.{Queues, Numbered, taken, is_open, goes_on, left_of}
 use Rattle.fg_hb.proofs.Queues.{needs_of}
 
 -- each queue's next node, and the nodes that have been taken

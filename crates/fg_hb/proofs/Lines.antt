@@ -10,7 +10,7 @@ use Rattle.fg_base.proofs.Absence.{some_same}
 use Rattle.fg_hb.specs.Edges.{is_wait, is_host, is_signal, is_sync, has_value, signals, reaches, meeting, node_at}
 use Rattle.fg_hb.specs.Nodes.{no_node}
 use Rattle.fg_hb.specs.Orders.{is_queued}
-use Rattle.fg_hb.specs.Code.Queues.{Numbered, Lined, queues_of}
+use Rattle.fg_hb.specs.Internal.Queues.{Numbered, Lined, queues_of}
 use Rattle.fg_hb.specs.declared.kind.Kind.{Kind}
 use Rattle.fg_hb.specs.declared.kind.Kind.TheVariants.{Command, Barrier, Wait, Signal, Host}
 use Rattle.fg_hb.specs.declared.node.Node.{Node}

@@ -5,7 +5,7 @@ use Rattle.std.proofs.lemmas.List.{length-map}
 use Rattle.std.proofs.lemmas.Option.{slice_get-map, slice_get-get_or, get_or_from_slice_get}
 use Rattle.fg_hb.specs.Edges.{is_host, node_at}
 use Rattle.fg_hb.specs.Nodes.{item_node, entry_node, program_nodes, no_node}
-use Rattle.fg_hb.specs.Code.Queues.{Ready}
+use Rattle.fg_hb.specs.Internal.Queues.{Ready}
 use Rattle.fg_hb.specs.declared.node.Node.{Node}
 use Rattle.fg_base.proofs.Booleans.{clash}
 use Rattle.fg_hb.proofs.Lines.{Lines, lined}

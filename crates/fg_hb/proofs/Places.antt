@@ -2,7 +2,7 @@
 use Rattle.std.proofs.Common.{◌≡◌, ◌⊎◌, ◌↔◌, inl, inr, ℕ, zero, suc, ◌+◌, ◌<◌, ◌≤◌, true, ◌==◌, List, [], ◌∷◌, length, get_or, slice_set, get_or-set_same, get_or-set_other, refl, sym, ap, ◌∙◌, subst, ⊎_elim, eq-eqb, ne_eqb, cond, arith}
 use Rattle.std.proofs.lemmas.Bool.{cases_eq, cases_lt}
 use Rattle.fg_hb.specs.Before.{place, joined}
-use Rattle.fg_hb.specs.Code.Filling.{Tabled, Filling, NodeDone}
+use Rattle.fg_hb.specs.Internal.Filling.{Tabled, Filling, NodeDone}
 use Rattle.fg_hb.specs.Edges.{edge}
 use Rattle.fg_hb.specs.Orders.{Among, Distinct, before_in, Earlier, Order}
 use Rattle.fg_hb.specs.declared.node.Node.{Node}

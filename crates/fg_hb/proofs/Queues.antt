@@ -1,7 +1,7 @@
 -- What the nodes of queues need.
 use Rattle.std.proofs.Common.{ℕ, ◌&&◌, ◌||◌, ◌==◌, nat_lt, is_none}
 use Rattle.fg_hb.specs.Edges.{is_at}
-use Rattle.fg_hb.specs.Code.Queues.{Queues}
+use Rattle.fg_hb.specs.Internal.Queues.{Queues}
 use Rattle.fg_hb.proofs.Steps.{Needs}
 
 -- what has to be placed before a node: the earlier ones of its queue, and the signal that meets it

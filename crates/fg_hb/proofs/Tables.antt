@@ -3,7 +3,7 @@ use Rattle.std.proofs.Common.{◌≡◌, ℕ, ◌+◌, ◌<◌, ◌≤◌, ◌++
 use Rattle.std.proofs.lemmas.List.FromFn.{map-range_with_len_more, length-map-range_with_len, get_or-map-range_with_len}
 use Rattle.std.proofs.lemmas.List.{length-map}
 use Rattle.fg_hb.specs.Edges.{node_at}
-use Rattle.fg_hb.specs.Code.Tables.{link_of, links_until}
+use Rattle.fg_hb.specs.Internal.Tables.{link_of, links_until}
 use Rattle.fg_hb.specs.declared.node.Node.{Node}
 
 pub one_link : (nodes : List Node) (n : ℕ) (links more : List (Option ℕ)) (link : Option ℕ) → links ≡ links_until nodes n → link ≡ link_of nodes n (node_at nodes n).kind → more ≡ links ++ link ∷ [] → more ≡ links_until nodes (n + 1)

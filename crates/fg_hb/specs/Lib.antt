@@ -1,6 +1,6 @@
 pub mod Answers
 pub mod Before
-pub mod Code
+pub mod Internal
 pub mod Edges
 pub mod Laws
 pub mod Nodes

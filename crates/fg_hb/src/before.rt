@@ -3,7 +3,7 @@
 ghost use Rattle.std.specs.Prelude.{◌≡◌, ◌<◌, ◌≤◌, ◌↔◌, ℕ, length, true, get_or, None, Some, IfOk};
 ghost use Rattle.fg_base.specs.Maxima.{max_nodes};
 ghost use Rattle.fg_hb.specs.Before.{joined, happens, place};
-ghost use Rattle.fg_hb.specs.Code.Filling.{Filling, Added, Tabled, Passes, QueueDone, NodeDone};
+ghost use Rattle.fg_hb.specs.Internal.Filling.{Filling, Added, Tabled, Passes, QueueDone, NodeDone};
 ghost use Rattle.fg_hb.specs.Edges.{edge, node_at, holds_back, signalled, meeting, is_signal, is_host, next_signal};
 ghost use Rattle.fg_hb.specs.Laws.{IsWithin};
 ghost use Rattle.fg_hb.specs.Nodes.{program_nodes};
@@ -14,7 +14,7 @@ ghost use Rattle.fg_reach.specs.Paths.{Path};
 use crate::Edges;
 use fg_base::NoMemory;
 use fg_reach::Rows;
-use fg_subs::Shaped;
+use fg_subs::ValidProgram;
 use std::alloc::Global;
 use std::marker::Model;
 
@@ -28,7 +28,7 @@ pub struct Before {
 
 impl Model for Before {
     ghost use Rattle.fg_hb.specs.Before.{Reached};
-    ghost use Rattle.fg_hb.specs.Code.Tables.{reached_by, IsPlaced};
+    ghost use Rattle.fg_hb.specs.Internal.Tables.{reached_by, IsPlaced};
 
     ghost Value = { Reached };
 
@@ -187,7 +187,7 @@ fn rows_of(alloc: Global, edges: &Edges, order: &[u32], places: &[u32]) -> Resul
 /// What happens before what in a program. The edges are those of the program, and the order is one of its nodes.
 pub fn before_of(
     alloc: Global,
-    program: &Shaped,
+    program: &ValidProgram,
     edges: &Edges,
     order: &[u32],
 ) -> Result<Before, NoMemory>

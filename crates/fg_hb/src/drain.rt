@@ -5,13 +5,13 @@ ghost use Rattle.std.specs.List.{range_with_len};
 ghost use Rattle.fg_base.specs.Maxima.{max_nodes, max_queues};
 ghost use Rattle.fg_hb.specs.Answers.{Answers};
 ghost use Rattle.fg_hb.specs.Nodes.{program_nodes};
-ghost use Rattle.fg_hb.specs.Code.Queues.{Ready, queues_of, node_open, goes_on};
+ghost use Rattle.fg_hb.specs.Internal.Queues.{Ready, queues_of, node_open, goes_on};
 ghost use Rattle.fg_hb.specs.Edges.{node_at, meeting};
 ghost use Rattle.fg_subs.specs.Entries.{first_node};
 
 use crate::Edges;
 use fg_base::{List, NoMemory};
-use fg_subs::Shaped;
+use fg_subs::ValidProgram;
 use std::alloc::Global;
 
 /// The order in which nodes are taken: again and again the next node of the lowest queue whose next node is no wait for a
@@ -126,7 +126,7 @@ fn drained(alloc: Global, edges: &Edges, starts: &[usize], queues: usize) -> Res
 }
 
 // The number at which each queue begins, and that of the first host read.
-fn starts_of(alloc: Global, program: &Shaped, queues: usize) -> Result<Vec<usize>, NoMemory>
+fn starts_of(alloc: Global, program: &ValidProgram, queues: usize) -> Result<Vec<usize>, NoMemory>
     requires few { queues ≤ max_queues }
     requires queues { queues ≡ length program.now.queues }
     ensures length { IfOk result (λ starts. length starts.items ≡ queues + 1) }
@@ -140,7 +140,7 @@ fn starts_of(alloc: Global, program: &Shaped, queues: usize) -> Result<Vec<usize
 }
 
 /// The least order of a program's nodes, or where it is stuck. The edges are those of the program.
-pub fn drain_of(alloc: Global, program: &Shaped, edges: &Edges) -> Result<Drain, NoMemory>
+pub fn drain_of(alloc: Global, program: &ValidProgram, edges: &Edges) -> Result<Drain, NoMemory>
     requires edges { edges.now ≡ program_nodes program.now }
     ensures { IfOk result (λ drain. Answers (program_nodes program.now) drain) }
 {

@@ -3,14 +3,14 @@
 ghost use Rattle.std.specs.Prelude.{◌≡◌, ◌<◌, ◌≤◌, length, true, IfOk};
 ghost use Rattle.fg_base.specs.Maxima.{max_nodes};
 ghost use Rattle.fg_hb.specs.Edges.{edge, node_at, is_at, is_signal, next_signal, meeting, signalled};
-ghost use Rattle.fg_hb.specs.Code.Tables.{link_of};
+ghost use Rattle.fg_hb.specs.Internal.Tables.{link_of};
 ghost use Rattle.fg_hb.specs.Nodes.{program_nodes};
 
 use crate::node::program_nodes;
 use crate::signals::links_of;
 use crate::{Kind, Node};
 use fg_base::{List, NoMemory};
-use fg_subs::Shaped;
+use fg_subs::ValidProgram;
 use std::alloc::Global;
 use std::marker::Model;
 
@@ -25,7 +25,7 @@ pub struct Edges {
 
 impl Model for Edges {
     ghost use Rattle.std.specs.Prelude.{List};
-    ghost use Rattle.fg_hb.specs.Code.Tables.{HasLinks};
+    ghost use Rattle.fg_hb.specs.Internal.Tables.{HasLinks};
     ghost use Rattle.fg_hb.specs.declared.node.Node.{Node};
 
     ghost Value = { List Node };
@@ -36,7 +36,7 @@ impl Model for Edges {
 }
 
 /// The direct edges of a program.
-pub fn direct(alloc: Global, program: &Shaped) -> Result<Edges, NoMemory>
+pub fn direct(alloc: Global, program: &ValidProgram) -> Result<Edges, NoMemory>
     ensures { IfOk result (λ edges. edges ≡ program_nodes program.now) }
 {
     let nodes = program_nodes(alloc, program)?;

@@ -2,7 +2,7 @@
 
 ghost use Rattle.std.specs.Prelude.{◌≡◌, ◌≤◌, IfOk, length};
 ghost use Rattle.fg_base.specs.Maxima.{max_nodes};
-ghost use Rattle.fg_hb.specs.Code.Filling.{takes_over};
+ghost use Rattle.fg_hb.specs.Internal.Filling.{takes_over};
 ghost use Rattle.fg_hb.specs.Edges.{signals, reaches, holds_back};
 ghost use Rattle.fg_bits.specs.Roles.{op_stage};
 ghost use Rattle.fg_hb.specs.Nodes.{node, wait_node, barrier_node, item_node, signal_node, host_node, entry_node, program_nodes};
@@ -13,7 +13,7 @@ use crate::Kind;
 use bitflags::Flags;
 use fg_base::{List, NoMemory, Op};
 use fg_bits::{Masks, Stages, op_stage};
-use fg_subs::{Entry, Item, Shaped, Signal, WaitFor};
+use fg_subs::{Entry, Item, ValidProgram, Signal, WaitFor};
 use std::alloc::Global;
 
 /// A node as edges see it. Its stages are expanded.
@@ -145,7 +145,7 @@ fn entry_node(queues: u32, entry: Entry) -> Node
 
 /// All nodes, in the order of their numbers.
 #[tactic(auto, using(fg_base::proofs::Lists::one_image, crate::proofs::Tables::as_many))]
-pub(crate) fn program_nodes(alloc: Global, shaped: &Shaped) -> Result<List<Node>, NoMemory>
+pub(crate) fn program_nodes(alloc: Global, shaped: &ValidProgram) -> Result<List<Node>, NoMemory>
     ensures nodes { IfOk result (λ nodes. nodes ≡ program_nodes shaped.now) }
     ensures few { IfOk result (λ nodes. length nodes ≤ max_nodes) }
 {

@@ -4,7 +4,7 @@ ghost use Rattle.std.specs.Prelude.{◌≡◌, ◌<◌, ◌≤◌, ◌+◌, leng
 ghost use Rattle.std.specs.List.{position};
 ghost use Rattle.fg_base.specs.Maxima.{max_nodes};
 ghost use Rattle.fg_hb.specs.Edges.{node_at, next_signal, signals, reaches};
-ghost use Rattle.fg_hb.specs.Code.Tables.{link_of, links_until};
+ghost use Rattle.fg_hb.specs.Internal.Tables.{link_of, links_until};
 
 use crate::{Kind, Node};
 use fg_base::{List, NoMemory};

@@ -13,7 +13,7 @@ use Rattle.fg_base.specs.declared.shape.Texel.{Texel}
 use Rattle.fg_base.specs.declared.shape.Texel.TheVariants.{R8, R32}
 use Rattle.fg_pixels.proofs.Numbers.{AreBytes, byte_is, word_is}
 use Rattle.fg_lanes.proofs.Lanes.{lane_fits}
-use Rattle.fg_lanes.specs.Code.Blocks.{block_texels, AreTexels}
+use Rattle.fg_lanes.specs.Internal.Blocks.{block_texels, AreTexels}
 
 -- fewer bytes, and zeros after them
 pub padded_at : (xs zeros : List ℕ) (n k : ℕ) → zeros ≡ replicate n 0 → get_or (xs ++ drop (length xs) zeros) k 0 ≡ get_or xs k 0

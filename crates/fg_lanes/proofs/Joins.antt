@@ -12,7 +12,7 @@ use Rattle.fg_base.specs.declared.shape.Texel.TheVariants.{R8, R32}
 use Rattle.fg_pixels.proofs.Numbers.{AreBytes}
 use Rattle.fg_pixels.proofs.Pieces.{band_from}
 use Rattle.fg_pixels.proofs.Rows.{place_within}
-use Rattle.fg_lanes.specs.Code.Blocks.{AreTexels}
+use Rattle.fg_lanes.specs.Internal.Blocks.{AreTexels}
 use Rattle.fg_lanes.proofs.Blocks.{same_texel}
 
 -- a band below another

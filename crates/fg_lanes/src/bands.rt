@@ -3,7 +3,7 @@
 ghost use Rattle.std.specs.Prelude.{◌≡◌, ◌+◌, ◌*◌, ◌^◌, ◌<◌, ◌≤◌, length};
 ghost use Rattle.std.specs.Thread.{IsSync};
 ghost use Rattle.fg_base.specs.Shapes.{texel_bytes};
-ghost use Rattle.fg_lanes.specs.Code.Painters.{AcceptsBands, ArePainted};
+ghost use Rattle.fg_lanes.specs.Internal.Painters.{AcceptsBands, ArePainted};
 
 use crate::rows::size_of;
 use crate::strips::paint_strips;

@@ -5,7 +5,7 @@ ghost use Rattle.fg_base.specs.Kernels.{fun_of};
 ghost use Rattle.fg_base.specs.Texels.{texel_at};
 ghost use Rattle.fg_base.specs.declared.shape.Texel.{Texel};
 ghost use Rattle.fg_base.specs.declared.shape.Texel.TheVariants.{R32};
-ghost use Rattle.fg_lanes.specs.Code.Blocks.{block_texels, AreTexels, IsPlace};
+ghost use Rattle.fg_lanes.specs.Internal.Blocks.{block_texels, AreTexels, IsPlace};
 
 use crate::byte_lanes::{choose_bytes, fun_bytes, rising_bytes};
 use crate::word_lanes::{choose_words, fun_words, rising_words};

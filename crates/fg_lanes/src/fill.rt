@@ -5,7 +5,7 @@ ghost use Rattle.fg_base.specs.Applied.{replaced};
 ghost use Rattle.fg_base.specs.Texels.{canvas_of, painted};
 ghost use Rattle.fg_base.specs.declared.shape.Shape.TheVariants.{Buffer};
 ghost use Rattle.fg_base.specs.declared.shape.Texel.TheVariants.{R32};
-ghost use Rattle.fg_lanes.specs.Code.Blocks.{AreTexels};
+ghost use Rattle.fg_lanes.specs.Internal.Blocks.{AreTexels};
 
 use crate::block::splat_block;
 use crate::laying::lay;

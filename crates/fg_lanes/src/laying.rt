@@ -3,7 +3,7 @@
 ghost use Rattle.std.specs.Prelude.{◌≡◌, ℕ, Bool, ◌*◌, ◌/◌, length};
 ghost use Rattle.fg_base.specs.Shapes.{texel_bytes};
 ghost use Rattle.fg_base.specs.declared.shape.Texel.{Texel};
-ghost use Rattle.fg_lanes.specs.Code.Blocks.{AreTexels, GivesBlocks, IsPlace};
+ghost use Rattle.fg_lanes.specs.Internal.Blocks.{AreTexels, GivesBlocks, IsPlace};
 
 use crate::block::BLOCK;
 use std::simd::prelude::*;

@@ -4,7 +4,7 @@ ghost use Rattle.std.specs.Prelude.{◌≡◌, ℕ, ◌+◌, ◌*◌, ◌/◌, �
 ghost use Rattle.fg_base.specs.Kernels.{fun_of};
 ghost use Rattle.fg_base.specs.Shapes.{texel_bytes};
 ghost use Rattle.fg_base.specs.Texels.{modulus, texel_at, picture, band};
-ghost use Rattle.fg_lanes.specs.Code.Blocks.{block_texels, AreTexels, IsPlace};
+ghost use Rattle.fg_lanes.specs.Internal.Blocks.{block_texels, AreTexels, IsPlace};
 ghost use Rattle.fg_pixels.specs.Bands.{HasRows};
 
 use crate::block::{fun_block, load, splat_block};

@@ -3,7 +3,7 @@
 ghost use Rattle.std.specs.Prelude.{◌≡◌, ℕ, ◌+◌, ◌*◌, ◌/◌, ◌%◌, ◌^◌, ◌<◌, ◌≤◌, length};
 ghost use Rattle.fg_base.specs.Shapes.{texel_bytes};
 ghost use Rattle.fg_base.specs.Texels.{band};
-ghost use Rattle.fg_lanes.specs.Code.Blocks.{block_texels, AreTexels};
+ghost use Rattle.fg_lanes.specs.Internal.Blocks.{block_texels, AreTexels};
 ghost use Rattle.fg_pixels.specs.Bands.{HasRows};
 
 use crate::block::rising_block;

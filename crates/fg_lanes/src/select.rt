@@ -3,7 +3,7 @@
 ghost use Rattle.std.specs.Prelude.{◌≡◌, ◌==◌, ℕ, ◌+◌, ◌*◌, ◌/◌, ◌≤◌, length, if◌then◌else◌};
 ghost use Rattle.fg_base.specs.Shapes.{texel_bytes};
 ghost use Rattle.fg_base.specs.Texels.{texel_at, picture, band};
-ghost use Rattle.fg_lanes.specs.Code.Blocks.{block_texels, AreTexels, IsPlace};
+ghost use Rattle.fg_lanes.specs.Internal.Blocks.{block_texels, AreTexels, IsPlace};
 ghost use Rattle.fg_pixels.specs.Bands.{HasRows};
 
 use crate::block::{choose_block, load};

@@ -2,7 +2,7 @@
 
 ghost use Rattle.std.specs.Prelude.{◌≡◌, ◌+◌, ◌*◌, ◌^◌, ◌<◌, ◌≤◌, ◌++◌, length, replicate, vec_capacity};
 ghost use Rattle.fg_base.specs.Shapes.{texel_bytes};
-ghost use Rattle.fg_lanes.specs.Code.Painters.{AcceptsBands, ArePainted, FollowPainted};
+ghost use Rattle.fg_lanes.specs.Internal.Painters.{AcceptsBands, ArePainted, FollowPainted};
 
 use crate::rows::size_of;
 use bytes::BytesMut;

@@ -1,7 +1,7 @@
 //! The bytes of a destination before an operation.
 
 ghost use Rattle.std.specs.Prelude.{◌≡◌, ◌≤◌, length, replicate, vec_capacity};
-ghost use Rattle.fg_lanes.specs.Code.Targets.{bytes_in, HasRoomFor};
+ghost use Rattle.fg_lanes.specs.Internal.Targets.{bytes_in, HasRoomFor};
 
 use bytes::BytesMut;
 use std::marker::Model;
@@ -24,7 +24,7 @@ pub struct Target {
 
 impl Model for Target {
     ghost use Rattle.std.specs.Prelude.{ℕ, List};
-    ghost use Rattle.fg_lanes.specs.Code.Inside.{its_bytes, IsTarget};
+    ghost use Rattle.fg_lanes.specs.Internal.Inside.{its_bytes, IsTarget};
 
     ghost Value = { List ℕ };
 

@@ -10,7 +10,7 @@ use Rattle.fg_groups.specs.Needs.{has_command}
 use Rattle.fg_groups.specs.declared.command.Command.{Command}
 use Rattle.fg_groups.specs.declared.unit_use.Use.{Use}
 use Rattle.fg_place.proofs.Sorted.{flip}
-use Rattle.fg_lifetimes.specs.Code.Leading.{queue_in, comes_later}
+use Rattle.fg_lifetimes.specs.Internal.Leading.{queue_in, comes_later}
 
 -- NUMBER AFTER NUMBER
 

@@ -9,7 +9,7 @@ use Rattle.fg_groups.specs.Needs.{group_at, is_of, is_member, leads, touches}
 use Rattle.fg_groups.specs.Placed.{unit_at}
 use Rattle.fg_groups.specs.declared.grouping.Grouping.{Grouping}
 use Rattle.fg_groups.specs.declared.unit_use.Use.{Use}
-use Rattle.fg_lifetimes.specs.Code.Lifetimes.{IsLifetime, AreLifetimes, all_reach, lifetime_at, is_before}
+use Rattle.fg_lifetimes.specs.Internal.Lifetimes.{IsLifetime, AreLifetimes, all_reach, lifetime_at, is_before}
 use Rattle.fg_lifetimes.specs.Ordered.{IsBefore}
 use Rattle.fg_lifetimes.specs.declared.lifetime.Lifetime.{Lifetime}
 use Rattle.fg_lifetimes.proofs.Joined.{UseBy, use_by, has_by, of_range, to_last, from_first}

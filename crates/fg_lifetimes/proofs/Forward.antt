@@ -9,7 +9,7 @@ use Rattle.fg_groups.specs.Laws.{Before, OfOne, IsSourced, IsGrouped}
 use Rattle.fg_groups.specs.Needs.{group_at, has_unit, one_unit, goes_on}
 use Rattle.fg_groups.specs.declared.grouping.Grouping.{Grouping}
 use Rattle.fg_groups.specs.declared.unit_use.Use.{Use}
-use Rattle.fg_lifetimes.specs.Code.Leading.{AreForward}
+use Rattle.fg_lifetimes.specs.Internal.Leading.{AreForward}
 
 -- groups of one unit are of the same one
 pub same_unit : (uses next : List Use) (one : OfOne uses) (two : OfOne next) → one_unit uses next ≡ true → one.0 ≡ two.0

@@ -9,8 +9,8 @@ use Rattle.fg_groups.specs.Needs.{group_at, has_unit, has_command, goes_on, is_m
 use Rattle.fg_groups.specs.Uses.{no_use}
 use Rattle.fg_groups.specs.declared.grouping.Grouping.{Grouping}
 use Rattle.fg_groups.specs.declared.unit_use.Use.{Use}
-use Rattle.fg_lifetimes.specs.Code.Leading.{needs_by}
-use Rattle.fg_lifetimes.specs.Code.Lifetimes.{IsLifetime}
+use Rattle.fg_lifetimes.specs.Internal.Leading.{needs_by}
+use Rattle.fg_lifetimes.specs.Internal.Lifetimes.{IsLifetime}
 use Rattle.fg_lifetimes.specs.declared.lifetime.Lifetime.{Lifetime}
 use Rattle.fg_lifetimes.proofs.Sides.{has_use, some_member}
 use Rattle.fg_reach.specs.Paths.{Path, one, then_on}

@@ -10,7 +10,7 @@ use Rattle.fg_groups.specs.Needs.{group_at, has_unit, is_of, is_touched}
 use Rattle.fg_groups.specs.Placed.{placed, unit_at, is_import}
 use Rattle.fg_groups.specs.declared.grouping.Grouping.{Grouping}
 use Rattle.fg_groups.specs.declared.unit_use.Use.{Use}
-use Rattle.fg_lifetimes.specs.Code.Lifetimes.{IsStart, IsLifetime, AreLifetimes, IsWithin}
+use Rattle.fg_lifetimes.specs.Internal.Lifetimes.{IsStart, IsLifetime, AreLifetimes, IsWithin}
 use Rattle.fg_lifetimes.specs.declared.lifetime.Lifetime.{Lifetime}
 
 not_below : (u v : Use) → Before u v → u.unit ≤ v.unit

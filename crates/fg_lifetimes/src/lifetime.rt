@@ -4,7 +4,7 @@ ghost use Rattle.std.specs.Prelude.{◌≡◌, ◌<◌, length, true, IfOk};
 ghost use Rattle.std.specs.List.{All};
 ghost use Rattle.fg_groups.specs.Needs.{group_at, is_touched};
 ghost use Rattle.fg_groups.specs.Placed.{placed};
-ghost use Rattle.fg_lifetimes.specs.Code.Lifetimes.{IsStart, IsLifetime, AreLifetimes};
+ghost use Rattle.fg_lifetimes.specs.Internal.Lifetimes.{IsStart, IsLifetime, AreLifetimes};
 
 use fg_base::{List, NoMemory};
 use fg_groups::Groups;

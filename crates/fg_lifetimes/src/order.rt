@@ -3,7 +3,7 @@
 ghost use Rattle.std.specs.Prelude.{◌≡◌, ◌<◌, ◌==◌, ◌&&◌, ◌||◌, ℕ, length, IfOk};
 ghost use Rattle.std.specs.List.{All, list_all};
 ghost use Rattle.fg_groups.specs.Placed.{placed};
-ghost use Rattle.fg_lifetimes.specs.Code.Lifetimes.{IsWithin, all_reach, is_before};
+ghost use Rattle.fg_lifetimes.specs.Internal.Lifetimes.{IsWithin, all_reach, is_before};
 ghost use Rattle.fg_lifetimes.specs.Ordered.{IsOrdered};
 ghost use Rattle.fg_place.specs.Pairs.{has};
 ghost use Rattle.fg_reach.specs.Pairs.{has as reaches};

@@ -4,7 +4,7 @@ ghost use Rattle.std.specs.Prelude.{◌≡◌, ◌<◌, ◌↔◌, ◌+◌, ◌=
 ghost use Rattle.std.specs.List.{All};
 ghost use Rattle.fg_groups.specs.Laws.{IsGrouped};
 ghost use Rattle.fg_groups.specs.Needs.{group_at, has_unit, has_command, one_unit, needs, leads};
-ghost use Rattle.fg_lifetimes.specs.Code.Leading.{queue_in, leads_to, comes_later, needs_by, AreForward};
+ghost use Rattle.fg_lifetimes.specs.Internal.Leading.{queue_in, leads_to, comes_later, needs_by, AreForward};
 ghost use Rattle.fg_reach.specs.Pairs.{has};
 ghost use Rattle.fg_reach.specs.Paths.{Path};
 

@@ -11,7 +11,7 @@ use Rattle.fg_base.specs.Shapes.{shape_at}
 use Rattle.fg_base.specs.Wholes.{is_whole}
 use Rattle.fg_base.specs.declared.op.Op.{Op}
 use Rattle.fg_base.specs.declared.shape.Shape.{Shape}
-use Rattle.fg_frame.specs.Good.{IsGood, IsGoodPass, is_import, renews, shapes_in}
+use Rattle.fg_frame.specs.Valid.{IsValid, IsValidPass, is_import, renews, shapes_in}
 use Rattle.fg_frame.specs.Numbered.{NumberedFrame}
 use Rattle.fg_frame.specs.Uses.{stores_whole, starts_whole}
 use Rattle.fg_frame.specs.declared.numbered.NumberedPass.{NumberedPass}
@@ -41,7 +41,7 @@ whole_stores shapes unit (op ∷ ops) e = by_test (touches unit op) e (whole_sto
     by_test true e more = ap (λ b. b || list_any (stores unit) ops) (and_left (destination_of op == unit) (is_whole (mapped (shape_at shapes) op)) e)
     by_test false e more = or_right (stores unit op) (list_any (stores unit) ops) (more e)
 
-renewed : (frame : NumberedFrame) (before : List NumberedPass) (pass : NumberedPass) (unit : ℕ) → IsGoodPass frame before pass → renews unit pass ≡ true → stores_to unit pass ≡ true
+renewed : (frame : NumberedFrame) (before : List NumberedPass) (pass : NumberedPass) (unit : ℕ) → IsValidPass frame before pass → renews unit pass ≡ true → stores_to unit pass ≡ true
 renewed frame before pass unit good e =
     let write = Any-from_list_any (λ w. w.fresh && w.what == unit) pass.writes e in
     let fresh : write.1.fresh ≡ true = and_left write.1.fresh (write.1.what == unit) write.4 in
@@ -49,13 +49,13 @@ renewed frame before pass unit good e =
     let whole = subst (λ w. w.fresh ≡ true → starts_whole (shapes_in frame) pass.ops w.what ≡ true) write.3 (good.new_whole write.0 write.1 write.2) in
     whole_stores (shapes_in frame) unit pass.ops (subst (λ u. starts_whole (shapes_in frame) pass.ops u ≡ true) same (whole fresh))
 
-pub all_renewed : (frame : NumberedFrame) → IsGood frame → (unit : ℕ) → list_any (renews unit) frame.passes ≡ true → list_any (stores_to unit) frame.passes ≡ true
+pub all_renewed : (frame : NumberedFrame) → IsValid frame → (unit : ℕ) → list_any (renews unit) frame.passes ≡ true → list_any (stores_to unit) frame.passes ≡ true
 all_renewed frame good unit e =
     let pass = Any-from_list_any (renews unit) frame.passes e in
-    let here = subst (λ p. IsGoodPass frame (take pass.0 frame.passes) p) pass.3 (good.passes_good pass.0 pass.1 pass.2) in
+    let here = subst (λ p. IsValidPass frame (take pass.0 frame.passes) p) pass.3 (good.passes_good pass.0 pass.1 pass.2) in
     list_any-from_Any (stores_to unit) frame.passes (pass.0, pass.1, pass.2, pass.3, renewed frame (take pass.0 frame.passes) pass.1 unit here pass.4)
 
-pub exported : (frame : NumberedFrame) → IsGood frame → All (λ unit. is_some (meaning frame unit) ≡ true) frame.exports
+pub exported : (frame : NumberedFrame) → IsValid frame → All (λ unit. is_some (meaning frame unit) ≡ true) frame.exports
 exported frame good k d lt =
     let unit : ℕ = get_or frame.exports k d in
     is_there (has_picture frame unit) (bytes_at (all_bytes frame) unit) ∙ or_more (is_import frame.units unit) (list_any (renews unit) frame.passes) (list_any (stores_to unit) frame.passes) (all_renewed frame good unit) (good.exports_there k d lt)

@@ -9,12 +9,12 @@ use Rattle.fg_base.proofs.Booleans.{or_assoc, or_false}
 use Rattle.fg_base.specs.Applied.{bytes_at}
 use Rattle.fg_base.specs.Operands.{destination_of}
 use Rattle.fg_base.specs.declared.op.Op.{Op}
-use Rattle.fg_frame.specs.Good.{is_import}
+use Rattle.fg_frame.specs.Valid.{is_import}
 use Rattle.fg_frame.specs.Numbered.{NumberedFrame}
 use Rattle.fg_frame.specs.Units.{Unit}
 use Rattle.fg_frame.specs.declared.numbered.NumberedPass.{NumberedPass}
 use Rattle.fg_meaning.specs.Meaning.{all_bytes, stores_to, meaning}
-use Rattle.fg_meaning.specs.Code.Stored.{marked_by, marked, AreMarked, chosen}
+use Rattle.fg_meaning.specs.Internal.Stored.{marked_by, marked, AreMarked, chosen}
 
 or_true : (a : Bool) → true ≡ (a || true)
 or_true true = refl

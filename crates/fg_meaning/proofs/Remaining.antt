@@ -12,7 +12,7 @@ use Rattle.fg_base.specs.declared.op.Op.{Op}
 use Rattle.fg_base.specs.declared.shape.Shape.{Shape}
 use Rattle.fg_frame.specs.declared.numbered.NumberedPass.{NumberedPass}
 use Rattle.fg_meaning.proofs.Lists.{item_first}
-use Rattle.fg_meaning.specs.Code.Held.{ops_at, all_ops, ops_from}
+use Rattle.fg_meaning.specs.Internal.Held.{ops_at, all_ops, ops_from}
 use Rattle.fg_meaning.specs.Meaning.{after_ops, after_passes}
 
 module _ (passes : List NumberedPass) (p : ℕ) where

@@ -7,13 +7,13 @@ use Rattle.fg_base.specs.Applied.{applied, bytes_at, after_op}
 use Rattle.fg_base.specs.Operands.{sources_of, destination_of, mapped}
 use Rattle.fg_base.specs.Shapes.{bytes_of, shape_at}
 use Rattle.fg_base.specs.declared.op.Op.{Op}
-use Rattle.fg_frame.specs.Good.{shapes_in}
+use Rattle.fg_frame.specs.Valid.{shapes_in}
 use Rattle.fg_frame.specs.Numbered.{NumberedFrame}
 use Rattle.fg_meaning.proofs.Runs.{destination_within, same_sources, still_sized}
 use Rattle.fg_meaning.proofs.Settling.{carried}
-use Rattle.fg_meaning.specs.Code.Held.{IsAt, Stands, is_wanted}
+use Rattle.fg_meaning.specs.Internal.Held.{IsAt, Stands, is_wanted}
 use Rattle.fg_meaning.specs.Meaning.{after_ops}
-use Rattle.fg_meaning.specs.Code.Sizes.{AreSized, IsRunnable}
+use Rattle.fg_meaning.specs.Internal.Sizes.{AreSized, IsRunnable}
 use Rattle.fg_pixels.specs.Anew.{IgnoresOld}
 
 pub destination_there : (n : NumberedFrame) (op : Op ℕ) → IsRunnable (shapes_in n) op → destination_of op < length n.units

@@ -14,7 +14,7 @@ use Rattle.fg_base.specs.Operands.{sources_of, destination_of, operands_of, mapp
 use Rattle.fg_base.specs.Shapes.{bytes_of, shape_at}
 use Rattle.fg_base.specs.declared.op.Op.{Op}
 use Rattle.fg_base.specs.declared.shape.Shape.{Shape}
-use Rattle.fg_meaning.specs.Code.Sizes.{AreSized}
+use Rattle.fg_meaning.specs.Internal.Sizes.{AreSized}
 use Rattle.fg_pixels.specs.Sources.{source_bytes}
 
 no_some : false ≡ true → ⊥

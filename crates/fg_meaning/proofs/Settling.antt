@@ -13,7 +13,7 @@ use Rattle.fg_base.specs.Bounds.{size_allowed}
 use Rattle.fg_base.specs.Operands.{sources_of, destination_of, operands_of, touches}
 use Rattle.fg_base.specs.Shapes.{bytes_of, shape_at}
 use Rattle.fg_base.specs.declared.op.Op.{Op}
-use Rattle.fg_frame.specs.Good.{IsGood, shapes_in}
+use Rattle.fg_frame.specs.Valid.{IsValid, shapes_in}
 use Rattle.fg_frame.specs.Numbered.{NumberedFrame}
 use Rattle.fg_frame.specs.Units.{Unit}
 use Rattle.fg_meaning.proofs.Exported.{and_left, exported}
@@ -21,9 +21,9 @@ use Rattle.fg_meaning.proofs.Lists.{item_first}
 use Rattle.fg_meaning.proofs.Remaining.{as_ops}
 use Rattle.fg_meaning.proofs.Runs.{at_destination, at_sources, still_sized}
 use Rattle.fg_meaning.proofs.Steps.{are_sized}
-use Rattle.fg_meaning.specs.Code.Held.{IsAt, Stands, all_ops, all_released, all_settled, first_at, is_wanted, released, settled}
+use Rattle.fg_meaning.specs.Internal.Held.{IsAt, Stands, all_ops, all_released, all_settled, first_at, is_wanted, released, settled}
 use Rattle.fg_meaning.specs.Meaning.{first_bytes, all_bytes, has_picture, meaning}
-use Rattle.fg_meaning.specs.Code.Sizes.{AreSized}
+use Rattle.fg_meaning.specs.Internal.Sizes.{AreSized}
 
 equal : (u v : ℕ) → u ≡ v → (u == v) ≡ true
 equal u v same = ⊎_elim (λ h. h.0) (λ h. absurd (h.1 same)) (eqb_tells u v)
@@ -154,7 +154,7 @@ least [] sized unit lt = absurd (omega arith)
 least (u ∷ all) sized zero lt = leb-true 1 (bytes_of u.shape) (and_left _ _ (All-head (λ v. size_allowed v.shape ≡ true) u all sized))
 least (u ∷ all) sized (suc unit) lt = least all (All-tail (λ v. size_allowed v.shape ≡ true) u all sized) unit (omega arith)
 
-some_bytes : (n : NumberedFrame) (bytes : List (List ℕ)) → IsGood n → AreSized (shapes_in n) bytes → (unit : ℕ) → unit < length n.units → 1 ≤ length (bytes_at bytes unit)
+some_bytes : (n : NumberedFrame) (bytes : List (List ℕ)) → IsValid n → AreSized (shapes_in n) bytes → (unit : ℕ) → unit < length n.units → 1 ≤ length (bytes_at bytes unit)
 some_bytes n bytes good S unit lt = subst (λ m. 1 ≤ m) (sym (S.sized unit (subst (λ m. unit < m) (sym (length-map n.units (λ u. u.shape))) lt))) (least n.units good.sized unit lt)
 
 -- ONE OPERATION
@@ -166,7 +166,7 @@ later_named : (a b c : Bool) → (b || c) ≡ true → ((a || b) || c) ≡ true
 later_named true b c e = refl
 later_named false b c e = e
 
-module _ (n : NumberedFrame) (good : IsGood n) (op : Op ℕ) (rest : List (Op ℕ)) (held : List (List ℕ)) (at : IsAt n (op ∷ rest) held) (within : All (λ unit. unit < length n.units) (operands_of op)) (ready : List (List ℕ)) (settles : ready ≡ all_settled n.units held (operands_of op)) where
+module _ (n : NumberedFrame) (good : IsValid n) (op : Op ℕ) (rest : List (Op ℕ)) (held : List (List ℕ)) (at : IsAt n (op ∷ rest) held) (within : All (λ unit. unit < length n.units) (operands_of op)) (ready : List (List ℕ)) (settles : ready ≡ all_settled n.units held (operands_of op)) where
   operand_stands : All (Stands n.units held at.bytes) (operands_of op)
   operand_stands = λ k d lt.
       let unit : ℕ = get_or (operands_of op) k d in
@@ -239,7 +239,7 @@ module _ (n : NumberedFrame) (good : IsGood n) (op : Op ℕ) (rest : List (Op �
 
 -- FROM NOTHING TO THE EXPORTS
 
-pub begun : (n : NumberedFrame) → IsGood n → (held : List (List ℕ)) → held ≡ replicate (length n.units) [] → IsAt n (all_ops n.passes) held
+pub begun : (n : NumberedFrame) → IsValid n → (held : List (List ℕ)) → held ≡ replicate (length n.units) [] → IsAt n (all_ops n.passes) held
 begun n good held none = record {
   bytes = map first_bytes n.units;
   sized = are_sized n good;
@@ -252,7 +252,7 @@ is_there : (b : Bool) (x : List ℕ) → is_some (if b then Some x else None) �
 is_there true x e = refl
 is_there false x e = absurd cc
 
-pub exports_meant : (n : NumberedFrame) → IsGood n → (held new : List (List ℕ)) → IsAt n [] held → new ≡ all_settled n.units held n.exports → All (λ unit. meaning n unit ≡ Some (bytes_at new unit)) n.exports
+pub exports_meant : (n : NumberedFrame) → IsValid n → (held new : List (List ℕ)) → IsAt n [] held → new ≡ all_settled n.units held n.exports → All (λ unit. meaning n unit ≡ Some (bytes_at new unit)) n.exports
 exports_meant n good held new at settles = λ k d lt.
     let unit : ℕ = get_or n.exports k d in
     is_there (has_picture n unit) (bytes_at (all_bytes n) unit) (exported n good k d lt)

@@ -12,7 +12,7 @@ use Rattle.fg_base.specs.Operands.{destination_of, operands_of, mapped}
 use Rattle.fg_base.specs.Shapes.{bytes_of, is_buffer, shape_at}
 use Rattle.fg_base.specs.declared.op.Op.{Op}
 use Rattle.fg_base.specs.declared.shape.Shape.{Shape}
-use Rattle.fg_frame.specs.Good.{IsGood, IsGoodPass, shapes_in}
+use Rattle.fg_frame.specs.Valid.{IsValid, IsValidPass, shapes_in}
 use Rattle.fg_frame.specs.Numbered.{NumberedFrame, IsWithin}
 use Rattle.fg_frame.specs.Units.{Unit}
 use Rattle.fg_frame.specs.Uses.{import_fits}
@@ -20,8 +20,8 @@ use Rattle.fg_frame.specs.declared.numbered.NumberedPass.{NumberedPass}
 use Rattle.fg_meaning.proofs.Marks.{marked_by-length, are_marked}
 use Rattle.fg_meaning.proofs.Runs.{destination_within}
 use Rattle.fg_meaning.specs.Meaning.{first_bytes, after_ops, after_passes, all_bytes}
-use Rattle.fg_meaning.specs.Code.Sizes.{AreSized, IsRunnable}
-use Rattle.fg_meaning.specs.Code.Stored.{marked_by, marked, AreMarked}
+use Rattle.fg_meaning.specs.Internal.Sizes.{AreSized, IsRunnable}
+use Rattle.fg_meaning.specs.Internal.Stored.{marked_by, marked, AreMarked}
 
 -- the pass that is looked up, with the rest of the passes
 record AtPass (passes : List NumberedPass) (p : ℕ) (ops : List (Op ℕ)) : Type 0 where
@@ -56,11 +56,11 @@ marks_on passes p marks more total ops lt says so_far grown =
 
 -- GOOD FRAMES
 
-pub runnable_ops : (n : NumberedFrame) → IsGood n → (p : ℕ) (ops : List (Op ℕ)) → p < length n.passes → IfSome (slice_get n.passes p) (λ x. ops ≡ x.ops) → All (λ op. All (λ unit. unit < length n.units) (operands_of op)) ops → All (IsRunnable (shapes_in n)) ops
+pub runnable_ops : (n : NumberedFrame) → IsValid n → (p : ℕ) (ops : List (Op ℕ)) → p < length n.passes → IfSome (slice_get n.passes p) (λ x. ops ≡ x.ops) → All (λ op. All (λ unit. unit < length n.units) (operands_of op)) ops → All (IsRunnable (shapes_in n)) ops
 runnable_ops n G p ops lt says within =
     let A = at_pass n.passes p ops lt says in
     λ k d less.
-    let good = (subst (λ x. IsGoodPass n (take p n.passes) x) A.here (G.passes_good p A.pass lt)).ops_good k d (subst (λ o. k < length o) A.same less) in
+    let good = (subst (λ x. IsValidPass n (take p n.passes) x) A.here (G.passes_good p A.pass lt)).ops_good k d (subst (λ o. k < length o) A.same less) in
     let same : get_or ops k d ≡ get_or A.pass.ops k d = ap (λ o. get_or o k d) A.same in
     record {
       operands = subst (λ m. All (λ unit. unit < m) (operands_of (get_or ops k d))) (sym (length-map n.units (λ u. u.shape))) (within k d less);
@@ -81,7 +81,7 @@ first_sized [] fit unit lt = absurd (omega arith)
 first_sized (u ∷ all) fit zero lt = import_sized u u.imported refl (All-head (λ v. import_fits v.shape v.imported ≡ true) u all fit)
 first_sized (u ∷ all) fit (suc unit) lt = first_sized all (All-tail (λ v. import_fits v.shape v.imported ≡ true) u all fit) unit (omega arith)
 
-pub are_sized : (n : NumberedFrame) → IsGood n → AreSized (shapes_in n) (map first_bytes n.units)
+pub are_sized : (n : NumberedFrame) → IsValid n → AreSized (shapes_in n) (map first_bytes n.units)
 are_sized n G = record {
   count = length-map n.units first_bytes ∙ sym (length-map n.units (λ u. u.shape));
   sized = λ unit lt. first_sized n.units G.imports_fit unit (subst (λ m. unit < m) (length-map n.units (λ u. u.shape)) lt);
@@ -97,7 +97,7 @@ item_within ops k count op within lt is = destination_within op count (subst (λ
 pub marks_grown : (ops : List (Op ℕ)) (marks more : List Bool) (count : ℕ) → length marks ≡ count → more ≡ marked_by ops marks → length more ≡ count
 marks_grown ops marks more count size is = ap length is ∙ marked_by-length ops marks ∙ size
 
-pub all_marked : (n : NumberedFrame) → IsGood n → (p : ℕ) (marks : List Bool) → length n.passes ≤ p → marked (drop p n.passes) marks ≡ marked n.passes (map (λ u. is_some u.imported) n.units) → AreMarked n marks
+pub all_marked : (n : NumberedFrame) → IsValid n → (p : ℕ) (marks : List Bool) → length n.passes ≤ p → marked (drop p n.passes) marks ≡ marked n.passes (map (λ u. is_some u.imported) n.units) → AreMarked n marks
 all_marked n G p marks le is = are_marked n marks (destinations n G.within) (sym (ap (λ ps. marked ps marks) (drop_all p n.passes le)) ∙ is)
 
 pub all_run : (n : NumberedFrame) (p : ℕ) (bytes : List (List ℕ)) → length n.passes ≤ p → after_passes (shapes_in n) bytes (drop p n.passes) ≡ all_bytes n → bytes ≡ all_bytes n

@@ -7,16 +7,16 @@ ghost use Rattle.fg_base.specs.Fits.{fits};
 ghost use Rattle.fg_base.specs.InPlace.{in_place};
 ghost use Rattle.fg_base.specs.Operands.{sources_of, destination_of, operands_of, mapped};
 ghost use Rattle.fg_base.specs.Shapes.{bytes_of, shape_at};
-ghost use Rattle.fg_frame.specs.Good.{shapes_in};
+ghost use Rattle.fg_frame.specs.Valid.{shapes_in};
 ghost use Rattle.fg_frame.specs.Numbered.{numbered};
 ghost use Rattle.fg_meaning.specs.Meaning.{first_bytes, after_ops};
-ghost use Rattle.fg_meaning.specs.Code.Sizes.{AreSized, IsRunnable};
+ghost use Rattle.fg_meaning.specs.Internal.Sizes.{AreSized, IsRunnable};
 
 use crate::spare::{Spare, zeros};
 use crate::stored::destination;
 use fg_base::{List, NoMemory, Op, Shape};
 use fg_draw::draw;
-use fg_frame::GoodFrame;
+use fg_frame::ValidFrame;
 use fg_pixels::apply;
 use std::alloc::Global;
 use std::marker::Model;
@@ -37,7 +37,7 @@ impl Model for Bytes {
     ghost view = { λ b. b.units.items };
 }
 
-pub(crate) fn shape_of(frame: &GoodFrame, unit: u32) -> Shape
+pub(crate) fn shape_of(frame: &ValidFrame, unit: u32) -> Shape
     requires { unit < length (numbered frame.now).units }
     ensures unit { IfSome (slice_get (numbered frame.now).units unit) (λ u. result ≡ u.shape) }
     ensures at { result ≡ shape_at (shapes_in (numbered frame.now)) unit }
@@ -46,7 +46,7 @@ pub(crate) fn shape_of(frame: &GoodFrame, unit: u32) -> Shape
 }
 
 /// What a unit holds before the first pass.
-pub(crate) fn first_bytes(alloc: Global, frame: &GoodFrame, unit: u32) -> Result<List<u8>, NoMemory>
+pub(crate) fn first_bytes(alloc: Global, frame: &ValidFrame, unit: u32) -> Result<List<u8>, NoMemory>
     requires { unit < length (numbered frame.now).units }
     ensures { IfOk result (λ bytes. IfSome (slice_get (numbered frame.now).units unit) (λ u. bytes ≡ first_bytes u)) }
 {
@@ -58,7 +58,7 @@ pub(crate) fn first_bytes(alloc: Global, frame: &GoodFrame, unit: u32) -> Result
 
 impl Bytes {
     /// Those before the first pass.
-    pub fn new(alloc: Global, frame: &GoodFrame) -> Result<Bytes, NoMemory>
+    pub fn new(alloc: Global, frame: &ValidFrame) -> Result<Bytes, NoMemory>
         ensures { IfOk result (λ bytes. bytes ≡ map first_bytes (numbered frame.now).units) }
     {
         let mut units = Vec::new(alloc);

@@ -4,12 +4,12 @@ ghost use Rattle.std.specs.Prelude.{◌≡◌, ◌<◌, [], true, Some, is_some,
 ghost use Rattle.std.specs.List.{All};
 ghost use Rattle.fg_base.specs.Applied.{bytes_at};
 ghost use Rattle.fg_frame.specs.Numbered.{numbered};
-ghost use Rattle.fg_meaning.specs.Code.Held.{IsAt, all_settled};
+ghost use Rattle.fg_meaning.specs.Internal.Held.{IsAt, all_settled};
 ghost use Rattle.fg_meaning.specs.Meaning.{meaning};
 
 use crate::bytes::Bytes;
 use fg_base::NoMemory;
-use fg_frame::GoodFrame;
+use fg_frame::ValidFrame;
 use std::alloc::Global;
 use std::marker::Model;
 
@@ -37,7 +37,7 @@ impl Exports {
 }
 
 // All passes in declared order.
-fn after_passes(alloc: Global, frame: &GoodFrame) -> Result<Bytes, NoMemory>
+fn after_passes(alloc: Global, frame: &ValidFrame) -> Result<Bytes, NoMemory>
     ensures { IfOk result (λ held. IsAt (numbered frame.now) [] held) }
 {
     let mut held = Bytes::none(alloc, frame.unit_count())?;
@@ -50,7 +50,7 @@ fn after_passes(alloc: Global, frame: &GoodFrame) -> Result<Bytes, NoMemory>
 fn settle_all(
     held: &mut Bytes,
     alloc: Global,
-    frame: &GoodFrame,
+    frame: &ValidFrame,
     units: &[u32],
 ) -> Result<(), NoMemory>
     requires units { All (λ unit. unit < length (numbered frame.now).units) units.now }
@@ -65,7 +65,7 @@ fn settle_all(
 
 /// The exports after all operations of all passes in declared order. A unit has bytes only from the operation that
 /// first names it to the last that does, so this takes less memory than all pictures.
-pub fn exports_of(alloc: Global, frame: &GoodFrame) -> Result<Exports, NoMemory>
+pub fn exports_of(alloc: Global, frame: &ValidFrame) -> Result<Exports, NoMemory>
     ensures count { IfOk result (λ exports. length exports ≡ length (numbered frame.now).units) }
     ensures bytes { IfOk result (λ exports. All (λ unit. meaning (numbered frame.now) unit ≡ Some (bytes_at exports unit)) (numbered frame.now).exports) }
     // What is exported has contents.

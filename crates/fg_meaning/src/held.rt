@@ -4,23 +4,23 @@ ghost use Rattle.std.specs.Prelude.{◌≡◌, ◌<◌, ◌≤◌, ◌+◌, ◌�
 ghost use Rattle.std.specs.List.{All};
 ghost use Rattle.fg_base.specs.Operands.{operands_of};
 ghost use Rattle.fg_base.specs.declared.op.Op.{Op};
-ghost use Rattle.fg_frame.specs.Good.{shapes_in};
+ghost use Rattle.fg_frame.specs.Valid.{shapes_in};
 ghost use Rattle.fg_frame.specs.Numbered.{numbered};
-ghost use Rattle.fg_meaning.specs.Code.Held.{IsAt, all_ops, all_released, all_settled, is_wanted, ops_at, ops_from, released, settled};
-ghost use Rattle.fg_meaning.specs.Code.Sizes.{IsRunnable};
+ghost use Rattle.fg_meaning.specs.Internal.Held.{IsAt, all_ops, all_released, all_settled, is_wanted, ops_at, ops_from, released, settled};
+ghost use Rattle.fg_meaning.specs.Internal.Sizes.{IsRunnable};
 
 use crate::bytes::{Bytes, first_bytes, shape_of};
 use crate::ops::ops_of;
 use crate::stored::{destination, is_whole};
 use crate::wanted::is_wanted;
 use fg_base::{NoMemory, Op};
-use fg_frame::GoodFrame;
+use fg_frame::ValidFrame;
 use fg_pixels::whole_leaves_nothing_old;
 use std::alloc::Global;
 
 impl Bytes {
     /// Gives a unit that holds nothing its first bytes.
-    pub fn settle(&mut self, alloc: Global, frame: &GoodFrame, unit: u32) -> Result<(), NoMemory>
+    pub fn settle(&mut self, alloc: Global, frame: &ValidFrame, unit: u32) -> Result<(), NoMemory>
         requires unit { unit < length (numbered frame.now).units }
         requires count { length self.old ≡ length (numbered frame.now).units }
         ensures { OnOk result (self.new ≡ settled (numbered frame.now).units self.old unit) }
@@ -37,7 +37,7 @@ impl Bytes {
     fn settle_operands(
         &mut self,
         alloc: Global,
-        frame: &GoodFrame,
+        frame: &ValidFrame,
         op: &Op<u32>,
     ) -> Result<(), NoMemory>
         requires operands { All (λ unit. unit < length (numbered frame.now).units) (operands_of op.now) }
@@ -51,7 +51,7 @@ impl Bytes {
     }
 
     // Where an operation leaves no old byte, a destination that holds none gets any bytes in place of its first ones.
-    fn make_room(&mut self, alloc: Global, frame: &GoodFrame, op: &Op<u32>) -> Result<(), NoMemory>
+    fn make_room(&mut self, alloc: Global, frame: &ValidFrame, op: &Op<u32>) -> Result<(), NoMemory>
         requires runnable { IsRunnable (shapes_in (numbered frame.now)) op.now }
         requires count { length self.old ≡ length (numbered frame.now).units }
         ensures { OnOk result ((rest : List (Op ℕ)) → IsAt (numbered frame.now) (op.now ∷ rest) self.old → IsAt (numbered frame.now) (op.now ∷ rest) self.new) }
@@ -67,7 +67,7 @@ impl Bytes {
     }
 
     // Takes the bytes of a unit that is not wanted from `next` on.
-    fn release(&mut self, alloc: Global, frame: &GoodFrame, pass: u32, next: usize, unit: u32)
+    fn release(&mut self, alloc: Global, frame: &ValidFrame, pass: u32, next: usize, unit: u32)
         requires pass { pass < length (numbered frame.now).passes }
         requires next { next ≤ length (ops_at (numbered frame.now).passes pass) }
         requires unit { unit < length self.old }
@@ -82,7 +82,7 @@ impl Bytes {
     fn release_operands(
         &mut self,
         alloc: Global,
-        frame: &GoodFrame,
+        frame: &ValidFrame,
         pass: u32,
         next: usize,
         op: &Op<u32>,
@@ -101,7 +101,7 @@ impl Bytes {
     fn step(
         &mut self,
         alloc: Global,
-        frame: &GoodFrame,
+        frame: &ValidFrame,
         pass: u32,
         k: usize,
     ) -> Result<(), NoMemory>
@@ -120,7 +120,7 @@ impl Bytes {
     }
 
     /// Runs the operations of a pass in order.
-    pub fn run_pass(&mut self, alloc: Global, frame: &GoodFrame, pass: u32) -> Result<(), NoMemory>
+    pub fn run_pass(&mut self, alloc: Global, frame: &ValidFrame, pass: u32) -> Result<(), NoMemory>
         requires pass { pass < length (numbered frame.now).passes }
         requires at { IsAt (numbered frame.now) (all_ops (drop pass (numbered frame.now).passes)) self.old }
         ensures { OnOk result (IsAt (numbered frame.now) (all_ops (drop (pass + 1) (numbered frame.now).passes)) self.new) }

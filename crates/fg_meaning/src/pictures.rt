@@ -2,7 +2,7 @@
 
 ghost use Rattle.std.specs.Prelude.{◌≡◌, ◌<◌, None, length, map, true, is_some, option_copied, IfOk, slice_index_or};
 ghost use Rattle.std.specs.List.{All, range_with_len};
-ghost use Rattle.fg_frame.specs.Good.{IsGood};
+ghost use Rattle.fg_frame.specs.Valid.{IsValid};
 ghost use Rattle.fg_frame.specs.Numbered.{numbered};
 ghost use Rattle.fg_meaning.specs.Meaning.{all_bytes, meaning};
 
@@ -10,7 +10,7 @@ use crate::bytes::Bytes;
 use crate::ops::ops_of;
 use crate::stored::stored;
 use fg_base::{List, NoMemory};
-use fg_frame::GoodFrame;
+use fg_frame::ValidFrame;
 use std::alloc::Global;
 use std::marker::Model;
 
@@ -23,7 +23,7 @@ pub struct Pictures {
 
 impl Model for Pictures {
     ghost use Rattle.std.specs.Prelude.{◌≡◌, ℕ, List, Option, length};
-    ghost use Rattle.fg_meaning.specs.Code.Stored.{chosen};
+    ghost use Rattle.fg_meaning.specs.Internal.Stored.{chosen};
 
     ghost Value = { List (Option (List ℕ)) };
 
@@ -45,10 +45,10 @@ impl Pictures {
     }
 }
 
-fn all_bytes(alloc: Global, frame: &GoodFrame) -> Result<Bytes, NoMemory>
+fn all_bytes(alloc: Global, frame: &ValidFrame) -> Result<Bytes, NoMemory>
     ensures bytes { IfOk result (λ bytes. bytes ≡ all_bytes (numbered frame.now)) }
     ensures count { IfOk result (λ bytes. length bytes ≡ length (numbered frame.now).units) }
-    ensures good { IsGood (numbered frame.now) }
+    ensures good { IsValid (numbered frame.now) }
 {
     let passes = frame.pass_count();
     let mut bytes = Bytes::new(alloc, frame)?;
@@ -59,7 +59,7 @@ fn all_bytes(alloc: Global, frame: &GoodFrame) -> Result<Bytes, NoMemory>
 }
 
 /// What is left in each unit when the passes run in turn, as declared, and no two units share memory.
-pub fn meaning(alloc: Global, frame: &GoodFrame) -> Result<Pictures, NoMemory>
+pub fn meaning(alloc: Global, frame: &ValidFrame) -> Result<Pictures, NoMemory>
     ensures pictures { IfOk result (λ pictures. pictures ≡ map (meaning (numbered frame.now)) (range_with_len 0 (length (numbered frame.now).units))) }
     // What is exported has contents.
     ensures exported { All (λ unit. is_some (meaning (numbered frame.now) unit) ≡ true) (numbered frame.now).exports }

@@ -6,10 +6,10 @@ ghost use Rattle.fg_base.specs.Operands.{destination_of, operands_of, mapped};
 ghost use Rattle.fg_base.specs.Shapes.{shape_at};
 ghost use Rattle.fg_base.specs.Wholes.{is_whole};
 ghost use Rattle.fg_frame.specs.Numbered.{numbered};
-ghost use Rattle.fg_meaning.specs.Code.Stored.{marked_by, AreMarked};
+ghost use Rattle.fg_meaning.specs.Internal.Stored.{marked_by, AreMarked};
 
 use fg_base::{List, NoMemory, Op, Shape};
-use fg_frame::GoodFrame;
+use fg_frame::ValidFrame;
 use std::alloc::Global;
 
 /// The unit that an operation stores to.
@@ -27,7 +27,7 @@ pub(crate) fn is_whole(op: &Op<u32>, shapes: &[Shape]) -> bool
     op.touch(op.touch_count() - 1, shapes).whole
 }
 
-fn imports(alloc: Global, frame: &GoodFrame) -> Result<List<bool>, NoMemory>
+fn imports(alloc: Global, frame: &ValidFrame) -> Result<List<bool>, NoMemory>
     ensures { IfOk result (λ marks. marks ≡ map (λ u. is_some u.imported) (numbered frame.now).units) }
 {
     let mut marks = List::new(alloc);
@@ -47,7 +47,7 @@ fn mark(marks: &mut List<bool>, ops: &[Op<u32>])
 }
 
 /// For each unit whether it is an import or an operation stores to it.
-pub(crate) fn stored(alloc: Global, frame: &GoodFrame) -> Result<List<bool>, NoMemory>
+pub(crate) fn stored(alloc: Global, frame: &ValidFrame) -> Result<List<bool>, NoMemory>
     ensures { IfOk result (λ marks. AreMarked (numbered frame.now) marks) }
 {
     let mut marks = imports(alloc, frame)?;

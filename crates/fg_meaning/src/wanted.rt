@@ -4,11 +4,11 @@ ghost use Rattle.std.specs.Prelude.{◌≡◌, ◌<◌, ◌≤◌, ◌+◌, ◌=
 ghost use Rattle.std.specs.List.{list_any};
 ghost use Rattle.fg_base.specs.Operands.{touches};
 ghost use Rattle.fg_frame.specs.Numbered.{numbered};
-ghost use Rattle.fg_meaning.specs.Code.Held.{all_ops, is_wanted, ops_at, ops_from};
+ghost use Rattle.fg_meaning.specs.Internal.Held.{all_ops, is_wanted, ops_at, ops_from};
 
 use crate::ops::ops_of;
 use fg_base::Op;
-use fg_frame::GoodFrame;
+use fg_frame::ValidFrame;
 
 // Whether one of these operations names a unit.
 fn is_touched(ops: &[Op<u32>], unit: u32) -> bool
@@ -18,7 +18,7 @@ fn is_touched(ops: &[Op<u32>], unit: u32) -> bool
 }
 
 // Whether an operation of the passes from `first` on names a unit.
-fn is_touched_from(frame: &GoodFrame, first: u32, unit: u32) -> bool
+fn is_touched_from(frame: &ValidFrame, first: u32, unit: u32) -> bool
     requires { first ≤ length (numbered frame.now).passes }
     ensures { result ≡ list_any (touches unit) (all_ops (drop first (numbered frame.now).passes)) }
 {
@@ -30,14 +30,14 @@ fn is_touched_from(frame: &GoodFrame, first: u32, unit: u32) -> bool
     false
 }
 
-fn is_exported(frame: &GoodFrame, unit: u32) -> bool
+fn is_exported(frame: &ValidFrame, unit: u32) -> bool
     ensures { result ≡ list_any (λ export. export == unit) (numbered frame.now).exports }
 {
     frame.exports().contains(&unit)
 }
 
 /// Whether an operation of `pass` from `next` on, or one of a later pass, names a unit, or it is exported.
-pub(crate) fn is_wanted(frame: &GoodFrame, pass: u32, next: usize, unit: u32) -> bool
+pub(crate) fn is_wanted(frame: &ValidFrame, pass: u32, next: usize, unit: u32) -> bool
     requires pass { pass < length (numbered frame.now).passes }
     requires next { next ≤ length (ops_at (numbered frame.now).passes pass) }
     ensures { result ≡ is_wanted (numbered frame.now).exports (ops_from (numbered frame.now).passes pass next) unit }

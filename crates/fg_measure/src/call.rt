@@ -1,7 +1,7 @@
 //! What is done to a range.
 
 ghost use Rattle.std.specs.Prelude.{◌≡◌, ◌<◌, ◌≤◌, ◌+◌, length, OnOk};
-ghost use Rattle.fg_measure.specs.Code.Tables.{image, HoldsImage};
+ghost use Rattle.fg_measure.specs.Internal.Tables.{image, HoldsImage};
 
 use crate::ranges::Range;
 use crate::stopped::Stopped;

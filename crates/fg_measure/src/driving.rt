@@ -9,7 +9,7 @@ use fg_checker::{Checked, check};
 use fg_device::Device;
 use fg_drive::drive;
 use fg_subfile::read_program;
-use fg_subs::shape;
+use fg_subs::validate_program;
 use std::alloc::Global;
 use std::thread::Threads;
 
@@ -17,7 +17,7 @@ fn checked(alloc: Global, bytes: &[u8]) -> Result<Checked, Stopped> {
     let Ok(program) = read_program(alloc, bytes) else {
         return Err(Stopped);
     };
-    let Ok(shaped) = shape(alloc, program) else {
+    let Ok(shaped) = validate_program(alloc, program) else {
         return Err(Stopped);
     };
     match check(alloc, shaped) {

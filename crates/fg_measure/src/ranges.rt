@@ -1,7 +1,7 @@
 //! Where calls go.
 
 ghost use Rattle.std.specs.Prelude.{◌≤◌, ◌+◌};
-ghost use Rattle.fg_measure.specs.Code.Tables.{image};
+ghost use Rattle.fg_measure.specs.Internal.Tables.{image};
 
 use rand_core::utils::NextWord;
 use rand_pcg::Pcg32;

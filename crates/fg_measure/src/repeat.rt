@@ -1,7 +1,7 @@
 //! A call is done again and again.
 
 ghost use Rattle.std.specs.Prelude.{◌≡◌, length, OnOk};
-ghost use Rattle.fg_measure.specs.Code.Tables.{image, HoldsImage};
+ghost use Rattle.fg_measure.specs.Internal.Tables.{image, HoldsImage};
 
 use crate::call::{Call, act, put, write_back};
 use crate::ranges::{PLACES, Ranges};

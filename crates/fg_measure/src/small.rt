@@ -1,7 +1,7 @@
 //! Small pieces, stored to from buffers that are all made before.
 
 ghost use Rattle.std.specs.Prelude.{◌≤◌, ◌+◌, OnOk};
-ghost use Rattle.fg_measure.specs.Code.Tables.{row, HoldsRow};
+ghost use Rattle.fg_measure.specs.Internal.Tables.{row, HoldsRow};
 
 use crate::stopped::Stopped;
 use crate::table::{STORES, row, zeros};

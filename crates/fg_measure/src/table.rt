@@ -3,7 +3,7 @@
 ghost use Rattle.std.specs.Prelude.{◌≡◌, ◌≤◌, ◌∷◌, [], length, IfOk};
 ghost use Rattle.std.specs.List.{All};
 ghost use Rattle.fg_base.specs.Maxima.{max_nodes};
-ghost use Rattle.fg_measure.specs.Code.Tables.{image, row, HoldsImage, HoldsRow};
+ghost use Rattle.fg_measure.specs.Internal.Tables.{image, row, HoldsImage, HoldsRow};
 
 use crate::ranges::{IMAGE, place};
 use bytes::BytesMut;

@@ -17,7 +17,7 @@ use Rattle.fg_frame.specs.declared.frame.Frame.{Frame}
 use Rattle.fg_frame.specs.declared.frame.Pass.{Pass}
 use Rattle.fg_frame.specs.declared.frame.Spot.{Spot}
 use Rattle.fg_frame.specs.declared.frame.Write.{Write}
-use Rattle.fg_frame.specs.declared.place.Place.TheVariants as at
+use Rattle.fg_frame.specs.declared.location.Location.TheVariants as at
 use Rattle.fg_frame.proofs.Sufficient.{none_in}
 use Rattle.fg_named.proofs.KnownPass.{IsKnownPass}
 use Rattle.fg_named.proofs.Distinct.{same_resource}

@@ -10,7 +10,7 @@ use Rattle.fg_frame.proofs.Small.{few_resources, limits_none, passes_few, repeat
 use Rattle.fg_frame.proofs.Sufficient.{no_fault}
 use Rattle.fg_frame.specs.Clashes.{clash, first_clash}
 use Rattle.fg_frame.specs.FirstFault.{first_fault, name_broken}
-use Rattle.fg_frame.specs.Good.{IsGood}
+use Rattle.fg_frame.specs.Valid.{IsValid}
 use Rattle.fg_frame.specs.Limits.{limit_broken}
 use Rattle.fg_frame.specs.Numbered.{numbered}
 use Rattle.fg_frame.specs.Repeats.{first_repeat, repeated, repeats_in}
@@ -18,7 +18,7 @@ use Rattle.fg_frame.specs.Units.{numbering}
 use Rattle.fg_frame.specs.Unknowns.{is_known, unknown_in}
 use Rattle.fg_frame.specs.declared.frame.Frame.{Frame}
 use Rattle.fg_frame.specs.declared.frame.QueueDecl.{QueueDecl}
-use Rattle.fg_frame.specs.declared.place.Place.TheVariants as at
+use Rattle.fg_frame.specs.declared.location.Location.TheVariants as at
 use Rattle.fg_frame.specs.declared.rule.Rule.TheVariants as rules
 use Rattle.fg_named.proofs.Clashless.{all_clashless}
 use Rattle.fg_named.proofs.Counts.{small_by_limits}
@@ -75,7 +75,7 @@ all_named queues (d ∷ ds) usable =
         few_passes = passes_few f (limits_none f U.named);
         clashless = all_clashless (map (λ p. p.name) f.passes) 0 f.passes (passes_repeat f U.named);
         known = passes_known f U.named;
-        held = U.held;
+        persisted = U.persisted;
         different = U.different;
       },
       all_named queues ds usable.1,
@@ -90,16 +90,16 @@ all_exporting queues (d ∷ ds) usable =
       all_exporting queues ds usable.1,
     )
 
-no_names : (held : List (List ℕ)) → left_names (kept held) ≡ []
+no_names : (persisted : List (List ℕ)) → left_names (kept persisted) ≡ []
 no_names [] = refl
-no_names (bytes ∷ held) = no_names held
+no_names (bytes ∷ persisted) = no_names persisted
 
-start_fresh : (held : List (List ℕ)) → AreFresh 0 (left_names (kept held))
-start_fresh held = subst (AreFresh 0) (sym (no_names held)) (record { old = tt; apart = tt })
+start_fresh : (persisted : List (List ℕ)) → AreFresh 0 (left_names (kept persisted))
+start_fresh persisted = subst (AreFresh 0) (sym (no_names persisted)) (record { old = tt; apart = tt })
 
 last_fresh : (i : ℕ) (sources : List NamedSource) (ds : List Declared) → AllByRecursion IsNamed ds → AreFresh i (left_names sources) → (j : ℕ) × AreFresh j (left_names (last_named i sources ds))
 last_fresh i sources [] named fresh = (i, fresh)
-last_fresh i sources (d ∷ ds) named fresh = last_fresh (suc i) (named_after i d.holders sources) ds named.1 (still_fresh i d.frame.resources named.0.few_resources d.holders sources named.0.held named.0.different fresh)
+last_fresh i sources (d ∷ ds) named fresh = last_fresh (suc i) (named_after i d.holders sources) ds named.1 (still_fresh i d.frame.resources named.0.few_resources d.holders sources named.0.persisted named.0.different fresh)
 
 -- QUEUES
 
@@ -113,9 +113,9 @@ queues_differ queues (d ∷ ds) some usable = subst (λ qs. first_repeat (map (�
 
 -- THE WINDOW
 
-module _ (queues : List QueueDecl) (sizes : List ℕ) (ds : List Declared) (held : List (List ℕ)) (F : FlyDeclared queues sizes ds held) where
+module _ (queues : List QueueDecl) (sizes : List ℕ) (ds : List Declared) (persisted : List (List ℕ)) (F : FlyDeclared queues sizes ds persisted) where
   abbrev Wf : Frame
-  Wf = window_frame queues ds held
+  Wf = window_frame queues ds persisted
 
   declared : AllByRecursion (FliesDeclared queues sizes) ds
   declared = each (FliesDeclared queues sizes) ds F.each
@@ -126,10 +126,10 @@ module _ (queues : List QueueDecl) (sizes : List ℕ) (ds : List Declared) (held
   some : 0 < length queues
   some = queue_there queues ds F.some usable
 
-  pub declared_numbered : numbered Wf ≡ window (map (λ q. q.family) queues) (map flown_of ds) held
-  declared_numbered = window_numbered queues ds held usable some
+  pub declared_numbered : numbered Wf ≡ window (map (λ q. q.family) queues) (map flown_of ds) persisted
+  declared_numbered = window_numbered queues ds persisted usable some
 
-  pub declared_together : FlyTogether (map (λ q. q.family) queues) sizes (map flown_of ds) held
+  pub declared_together : FlyTogether (map (λ q. q.family) queues) sizes (map flown_of ds) persisted
   declared_together = record {
     some = subst (λ n. 0 < n) (sym (length-map ds flown_of)) F.some;
     each = all_of (Flies (map (λ q. q.family) queues) sizes) (map flown_of ds) (all_fly queues sizes ds declared);
@@ -139,21 +139,21 @@ module _ (queues : List QueueDecl) (sizes : List ℕ) (ds : List Declared) (held
   nothing_repeated : repeated Wf ≡ None
   nothing_repeated =
       let named = all_named queues ds usable in
-      let last = last_named 0 (kept held) ds in
-      let exports = exports_apart (declared_exports 0 ds) (left_names last) (own_apart 0 ds (all_exporting queues ds usable)) (last_fresh 0 (kept held) ds named (start_fresh held)).1.apart in
+      let last = last_named 0 (kept persisted) ds in
+      let exports = exports_apart (declared_exports 0 ds) (left_names last) (own_apart 0 ds (all_exporting queues ds usable)) (last_fresh 0 (kept persisted) ds named (start_fresh persisted)).1.apart in
       ap₂ option_or (ap (option_map (λ i. at.Queue i)) (queues_differ queues ds F.some usable))
-      (ap₂ option_or (ap (option_map (λ i. at.Resource i)) (once queues ds held usable some))
-      (ap₂ option_or (passes_repeat_nothing (first_name queues) 0 (kept held) ds named (start_fresh held)) (ap (option_map (λ i. at.Export i)) (no_first clash Wf.exports exports))))
+      (ap₂ option_or (ap (option_map (λ i. at.Resource i)) (once queues ds persisted usable some))
+      (ap₂ option_or (passes_repeat_nothing (first_name queues) 0 (kept persisted) ds named (start_fresh persisted)) (ap (option_map (λ i. at.Export i)) (no_first clash Wf.exports exports))))
 
   module _ (small : limit_broken Wf ≡ None) where
     still_named : name_broken Wf ≡ None
-    still_named = ap₂ option_or small (ap₂ option_or (ap (option_map (of_rule rules.Repeated)) nothing_repeated) (ap (option_map (of_rule rules.Unknown)) (nothing_unknown queues ds held usable some)))
+    still_named = ap₂ option_or small (ap₂ option_or (ap (option_map (of_rule rules.Repeated)) nothing_repeated) (ap (option_map (of_rule rules.Unknown)) (nothing_unknown queues ds persisted usable some)))
 
-    pub is_small : IsSmall (window (map (λ q. q.family) queues) (map flown_of ds) held)
+    pub is_small : IsSmall (window (map (λ q. q.family) queues) (map flown_of ds) persisted)
     is_small = subst IsSmall declared_numbered (small_by_limits Wf small)
 
     pub declared_good : first_fault Wf ≡ None
-    declared_good = no_fault Wf still_named (subst IsGood (sym declared_numbered) (together_good (map (λ q. q.family) queues) sizes (map flown_of ds) held declared_together is_small))
+    declared_good = no_fault Wf still_named (subst IsValid (sym declared_numbered) (together_good (map (λ q. q.family) queues) sizes (map flown_of ds) persisted declared_together is_small))
 
-    pub declared_means : MeansTheSame (map (λ q. q.family) queues) (map flown_of ds) held
-    declared_means = together_means (map (λ q. q.family) queues) sizes (map flown_of ds) held declared_together is_small
+    pub declared_means : MeansTheSame (map (λ q. q.family) queues) (map flown_of ds) persisted
+    declared_means = together_means (map (λ q. q.family) queues) sizes (map flown_of ds) persisted declared_together is_small

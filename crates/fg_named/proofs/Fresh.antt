@@ -27,9 +27,9 @@ own : (i k : ℕ) → IsOf i (numbered_name i k)
 own i k = (46 ∷ decimal k, refl)
 
 small_held : (rs : List Resource) (k : ℕ) → OneLayer rs k → k < length rs
-small_held [] k held = absurd held
-small_held (r ∷ rs) zero held = omega arith
-small_held (r ∷ rs) (suc k) held = let lt : k < length rs = small_held rs k held in omega arith
+small_held [] k persisted = absurd persisted
+small_held (r ∷ rs) zero persisted = omega arith
+small_held (r ∷ rs) (suc k) persisted = let lt : k < length rs = small_held rs k persisted in omega arith
 
 -- an old name is none of frame i
 old_apart : (i k : ℕ) (name : List ℕ) → IsBefore i name → bytes_eq (numbered_name i k) name ≡ false
@@ -61,22 +61,22 @@ module _ (i : ℕ) (rs : List Resource) (few : length rs ≤ 256) where
   name_apart name old (Some k ∷ holders) (Named other ∷ sources) all = (old_apart i k name old, name_apart name old holders sources all.1)
 
   other_own : (k l : ℕ) → OneLayer rs k → OneLayer rs l → k ≢ l → bytes_eq (numbered_name i l) (numbered_name i k) ≡ false
-  other_own k l held there other = apart (numbered_name i l) (numbered_name i k) (λ e. let lt-k : k < length rs = small_held rs k held in let lt-l : l < length rs = small_held rs l there in other (sym (same_resource i l i k (omega arith) (omega arith) e)))
+  other_own k l persisted there other = apart (numbered_name i l) (numbered_name i k) (λ e. let lt-k : k < length rs = small_held rs k persisted in let lt-l : l < length rs = small_held rs l there in other (sym (same_resource i l i k (omega arith) (omega arith) e)))
 
   -- so is none a name of frame i whose resource has no other name
   own_apart : (k : ℕ) → OneLayer rs k → (holders : List (Option ℕ)) (sources : List NamedSource) → HaveOneLayer rs holders → Absent k holders → AllByRecursion (IsBefore i) (left_names sources) → AllByRecursion (λ b. bytes_eq b (numbered_name i k) ≡ false) (left_names (named_after i holders sources))
-  own_apart k held [] sources there absent old = all_old sources old
+  own_apart k persisted [] sources there absent old = all_old sources old
     where
       all_old : (ss : List NamedSource) → AllByRecursion (IsBefore i) (left_names ss) → AllByRecursion (λ b. bytes_eq b (numbered_name i k) ≡ false) (left_names ss)
       all_old [] o = tt
       all_old (Kept bytes ∷ ss) o = all_old ss o
       all_old (Named name ∷ ss) o = (turned (numbered_name i k) name (old_apart i k name o.0), all_old ss o.1)
-  own_apart k held (None ∷ holders) [] there absent old = tt
-  own_apart k held (Some l ∷ holders) [] there absent old = tt
-  own_apart k held (None ∷ holders) (Kept bytes ∷ sources) there absent old = own_apart k held holders sources there absent old
-  own_apart k held (None ∷ holders) (Named name ∷ sources) there absent old = (turned (numbered_name i k) name (old_apart i k name old.0), own_apart k held holders sources there absent old.1)
-  own_apart k held (Some l ∷ holders) (Kept bytes ∷ sources) there absent old = (other_own k l held there.0 absent.0, own_apart k held holders sources there.1 absent.1 old)
-  own_apart k held (Some l ∷ holders) (Named name ∷ sources) there absent old = (other_own k l held there.0 absent.0, own_apart k held holders sources there.1 absent.1 old.1)
+  own_apart k persisted (None ∷ holders) [] there absent old = tt
+  own_apart k persisted (Some l ∷ holders) [] there absent old = tt
+  own_apart k persisted (None ∷ holders) (Kept bytes ∷ sources) there absent old = own_apart k persisted holders sources there absent old
+  own_apart k persisted (None ∷ holders) (Named name ∷ sources) there absent old = (turned (numbered_name i k) name (old_apart i k name old.0), own_apart k persisted holders sources there absent old.1)
+  own_apart k persisted (Some l ∷ holders) (Kept bytes ∷ sources) there absent old = (other_own k l persisted there.0 absent.0, own_apart k persisted holders sources there.1 absent.1 old)
+  own_apart k persisted (Some l ∷ holders) (Named name ∷ sources) there absent old = (other_own k l persisted there.0 absent.0, own_apart k persisted holders sources there.1 absent.1 old.1)
 
   still_apart : (holders : List (Option ℕ)) (sources : List NamedSource) → HaveOneLayer rs holders → AreDifferent holders → AllByRecursion (IsBefore i) (left_names sources) → NoPair bytes_eq (left_names sources) → NoPair bytes_eq (left_names (named_after i holders sources))
   still_apart [] sources there different old none = none
@@ -111,12 +111,12 @@ module _ (i : ℕ) (rs : List Resource) (few : length rs ≤ 256) where
   from_apart (Some k ∷ holders) (Named name ∷ sources) none = (from_all (λ b. bytes_eq b name ≡ false) holders sources none.0, from_apart holders sources none.1)
 
   to_other : (k : ℕ) → OneLayer rs k → (holders : List (Option ℕ)) (sources : List NamedSource) → HaveOneLayer rs holders → Absent k holders → AllByRecursion (λ b. bytes_eq b (numbered_name i k) ≡ false) (map (λ c. c.to) (named_carries i rs holders sources))
-  to_other k held [] sources there absent = tt
-  to_other k held (None ∷ holders) [] there absent = tt
-  to_other k held (Some l ∷ holders) [] there absent = tt
-  to_other k held (None ∷ holders) (source ∷ sources) there absent = to_other k held holders sources there absent
-  to_other k held (Some l ∷ holders) (Kept bytes ∷ sources) there absent = to_other k held holders sources there.1 absent.1
-  to_other k held (Some l ∷ holders) (Named name ∷ sources) there absent = (other_own k l held there.0 absent.0, to_other k held holders sources there.1 absent.1)
+  to_other k persisted [] sources there absent = tt
+  to_other k persisted (None ∷ holders) [] there absent = tt
+  to_other k persisted (Some l ∷ holders) [] there absent = tt
+  to_other k persisted (None ∷ holders) (source ∷ sources) there absent = to_other k persisted holders sources there absent
+  to_other k persisted (Some l ∷ holders) (Kept bytes ∷ sources) there absent = to_other k persisted holders sources there.1 absent.1
+  to_other k persisted (Some l ∷ holders) (Named name ∷ sources) there absent = (other_own k l persisted there.0 absent.0, to_other k persisted holders sources there.1 absent.1)
 
   to_apart : (holders : List (Option ℕ)) (sources : List NamedSource) → HaveOneLayer rs holders → AreDifferent holders → NoPair bytes_eq (map (λ c. c.to) (named_carries i rs holders sources))
   to_apart [] sources there different = tt

@@ -16,7 +16,7 @@ use Rattle.fg_frame.specs.Uses.{import_fits}
 use Rattle.fg_frame.specs.declared.frame.QueueDecl.{QueueDecl}
 use Rattle.fg_frame.specs.declared.frame.Resource.{Resource}
 use Rattle.fg_named.specs.Declared.{Declared, flown_of, places_in, unit_at}
-use Rattle.fg_named.specs.Together.{AreHeldIn, FliesDeclared, IsImport}
+use Rattle.fg_named.specs.Together.{ArePersistedIn, FliesDeclared, IsImport}
 use Rattle.fg_window.proofs.Each.{each}
 use Rattle.fg_window.specs.Together.{Absent, ArePlaced, Flies}
 
@@ -41,7 +41,7 @@ AreDifferent (Some k ∷ holders) = Absent k holders × AreDifferent holders
 pub record IsUsable (queues : List QueueDecl) (d : Declared) : Type 0 where
   pub named : name_broken d.frame ≡ None
   pub same : d.frame.queues ≡ queues
-  pub held : HaveOneLayer d.frame.resources d.holders
+  pub persisted : HaveOneLayer d.frame.resources d.holders
   pub different : AreDifferent d.holders
 
 -- AN IMPORT IS A BUFFER
@@ -75,9 +75,9 @@ shapes_split : (r : Resource) (rs : List Resource) → shapes_from (r ∷ rs) �
 shapes_split r rs = map-append (λ u. u.shape) (units_from r) (flat_map units_from rs)
 
 one_held : (rs : List Resource) → AllByRecursion IsApt rs → (k size : ℕ) → IsImport rs k size → OneLayer rs k
-one_held [] apt k size held = absurd held
-one_held (r ∷ rs) apt zero size held = one_layer r apt.0.0 (import_buffer r apt.0.1 held.0)
-one_held (r ∷ rs) apt (suc k) size held = one_held rs apt.1 k size held
+one_held [] apt k size persisted = absurd persisted
+one_held (r ∷ rs) apt zero size persisted = one_layer r apt.0.0 (import_buffer r apt.0.1 persisted.0)
+one_held (r ∷ rs) apt (suc k) size persisted = one_held rs apt.1 k size persisted
 
 inside : (rs : List Resource) (k : ℕ) → OneLayer rs k → unit_at rs k < length (shapes_from rs)
 inside [] k one = absurd one
@@ -87,17 +87,17 @@ inside (r ∷ rs) (suc k) one =
     subst (λ n. r.layers + unit_at rs k < n) (sym (ap length (shapes_split r rs) ∙ count)) (let lt = inside rs k one in omega (arith, own_count r, lt))
 
 shape_held : (rs : List Resource) → AllByRecursion IsApt rs → (k size : ℕ) → IsImport rs k size → shape_at (shapes_from rs) (unit_at rs k) ≡ Buffer size
-shape_held [] apt k size held = absurd held
-shape_held (r ∷ rs) apt zero size held =
-    let buffer = import_buffer r apt.0.1 held.0 in
+shape_held [] apt k size persisted = absurd persisted
+shape_held (r ∷ rs) apt zero size persisted =
+    let buffer = import_buffer r apt.0.1 persisted.0 in
     ap (λ m. shape_at (map (λ u. u.shape) (replicate m (unit_from r) ++ flat_map units_from rs)) 0) (one_layer r apt.0.0 buffer)
-    ∙ buffer_size r.shape buffer ∙ ap (λ n. Buffer n) held.1
-shape_held (r ∷ rs) apt (suc k) size held =
+    ∙ buffer_size r.shape buffer ∙ ap (λ n. Buffer n) persisted.1
+shape_held (r ∷ rs) apt (suc k) size persisted =
     let own = map (λ u. u.shape) (units_from r) in
     ap (λ s. shape_at s (r.layers + unit_at rs k)) (shapes_split r rs)
     ∙ ap (λ m. shape_at (own ++ shapes_from rs) (m + unit_at rs k)) (sym (own_count r))
     ∙ get_or-append-add own (shapes_from rs) (unit_at rs k) (Buffer 0)
-    ∙ shape_held rs apt.1 k size held
+    ∙ shape_held rs apt.1 k size persisted
 
 units_apart : (rs : List Resource) (k l : ℕ) → OneLayer rs k → OneLayer rs l → k ≢ l → unit_at rs k ≢ unit_at rs l
 units_apart [] k l one two other = absurd one
@@ -107,34 +107,34 @@ units_apart (r ∷ rs) (suc k) zero one two other = λ e. omega (arith, two, e)
 units_apart (r ∷ rs) (suc k) (suc l) one two other = λ e. units_apart rs k l one two (λ same. other (ap suc same)) (omega (arith, e))
 
 absent_unit : (rs : List Resource) (k : ℕ) (holders : List (Option ℕ)) → OneLayer rs k → HaveOneLayer rs holders → Absent k holders → Absent (unit_at rs k) (places_in rs holders)
-absent_unit rs k [] one held absent = tt
-absent_unit rs k (None ∷ holders) one held absent = absent_unit rs k holders one held absent
-absent_unit rs k (Some l ∷ holders) one held absent = (units_apart rs k l one held.0 absent.0, absent_unit rs k holders one held.1 absent.1)
+absent_unit rs k [] one persisted absent = tt
+absent_unit rs k (None ∷ holders) one persisted absent = absent_unit rs k holders one persisted absent
+absent_unit rs k (Some l ∷ holders) one persisted absent = (units_apart rs k l one persisted.0 absent.0, absent_unit rs k holders one persisted.1 absent.1)
 
 -- ALL PERSISTING NAMES
 
-all_one : (rs : List Resource) → AllByRecursion IsApt rs → (sizes : List ℕ) (holders : List (Option ℕ)) → AreHeldIn rs sizes holders → HaveOneLayer rs holders
-all_one rs apt [] [] held = tt
-all_one rs apt [] (holder ∷ holders) held = absurd held
-all_one rs apt (size ∷ sizes) [] held = absurd held
-all_one rs apt (size ∷ sizes) (None ∷ holders) held = all_one rs apt sizes holders held
-all_one rs apt (size ∷ sizes) (Some k ∷ holders) held = (one_held rs apt k size held.0, all_one rs apt sizes holders held.2)
+all_one : (rs : List Resource) → AllByRecursion IsApt rs → (sizes : List ℕ) (holders : List (Option ℕ)) → ArePersistedIn rs sizes holders → HaveOneLayer rs holders
+all_one rs apt [] [] persisted = tt
+all_one rs apt [] (holder ∷ holders) persisted = absurd persisted
+all_one rs apt (size ∷ sizes) [] persisted = absurd persisted
+all_one rs apt (size ∷ sizes) (None ∷ holders) persisted = all_one rs apt sizes holders persisted
+all_one rs apt (size ∷ sizes) (Some k ∷ holders) persisted = (one_held rs apt k size persisted.0, all_one rs apt sizes holders persisted.2)
 
-all_different : (rs : List Resource) (sizes : List ℕ) (holders : List (Option ℕ)) → AreHeldIn rs sizes holders → AreDifferent holders
-all_different rs [] [] held = tt
-all_different rs [] (holder ∷ holders) held = absurd held
-all_different rs (size ∷ sizes) [] held = absurd held
-all_different rs (size ∷ sizes) (None ∷ holders) held = all_different rs sizes holders held
-all_different rs (size ∷ sizes) (Some k ∷ holders) held = (held.1, all_different rs sizes holders held.2)
+all_different : (rs : List Resource) (sizes : List ℕ) (holders : List (Option ℕ)) → ArePersistedIn rs sizes holders → AreDifferent holders
+all_different rs [] [] persisted = tt
+all_different rs [] (holder ∷ holders) persisted = absurd persisted
+all_different rs (size ∷ sizes) [] persisted = absurd persisted
+all_different rs (size ∷ sizes) (None ∷ holders) persisted = all_different rs sizes holders persisted
+all_different rs (size ∷ sizes) (Some k ∷ holders) persisted = (persisted.1, all_different rs sizes holders persisted.2)
 
-all_placed : (rs : List Resource) → AllByRecursion IsApt rs → (sizes : List ℕ) (holders : List (Option ℕ)) → AreHeldIn rs sizes holders → ArePlaced sizes (places_in rs holders) (shapes_from rs)
-all_placed rs apt [] [] held = tt
-all_placed rs apt [] (holder ∷ holders) held = absurd held
-all_placed rs apt (size ∷ sizes) [] held = absurd held
-all_placed rs apt (size ∷ sizes) (None ∷ holders) held = all_placed rs apt sizes holders held
-all_placed rs apt (size ∷ sizes) (Some k ∷ holders) held =
-    let one = one_held rs apt k size held.0 in
-    (inside rs k one, shape_held rs apt k size held.0, absent_unit rs k holders one (all_one rs apt sizes holders held.2) held.1, all_placed rs apt sizes holders held.2)
+all_placed : (rs : List Resource) → AllByRecursion IsApt rs → (sizes : List ℕ) (holders : List (Option ℕ)) → ArePersistedIn rs sizes holders → ArePlaced sizes (places_in rs holders) (shapes_from rs)
+all_placed rs apt [] [] persisted = tt
+all_placed rs apt [] (holder ∷ holders) persisted = absurd persisted
+all_placed rs apt (size ∷ sizes) [] persisted = absurd persisted
+all_placed rs apt (size ∷ sizes) (None ∷ holders) persisted = all_placed rs apt sizes holders persisted
+all_placed rs apt (size ∷ sizes) (Some k ∷ holders) persisted =
+    let one = one_held rs apt k size persisted.0 in
+    (inside rs k one, shape_held rs apt k size persisted.0, absent_unit rs k holders one (all_one rs apt sizes holders persisted.2) persisted.1, all_placed rs apt sizes holders persisted.2)
 
 -- A FRAME WITHOUT A FAULT
 
@@ -148,15 +148,15 @@ module _ (queues : List QueueDecl) (sizes : List ℕ) (d : Declared) (F : FliesD
   usable = record {
     named = names_known d.frame F.none;
     same = F.same;
-    held = all_one d.frame.resources apt sizes d.holders F.held;
-    different = all_different d.frame.resources sizes d.holders F.held;
+    persisted = all_one d.frame.resources apt sizes d.holders F.persisted;
+    different = all_different d.frame.resources sizes d.holders F.persisted;
   }
 
   pub flies : Flies (map (λ q. q.family) queues) sizes (flown_of d)
   flies = record {
     good = good d.frame (none_broken d.frame F.none);
     same = ap (map (λ q. q.family)) F.same;
-    placed = all_placed d.frame.resources apt sizes d.holders F.held;
+    placed = all_placed d.frame.resources apt sizes d.holders F.persisted;
   }
 
 pub all_usable : (queues : List QueueDecl) (sizes : List ℕ) (ds : List Declared) → AllByRecursion (FliesDeclared queues sizes) ds → AllByRecursion (IsUsable queues) ds

@@ -14,7 +14,7 @@ use Rattle.fg_frame.specs.Unknowns.{has_queue, is_known, is_known_unit, unknown_
 use Rattle.fg_frame.specs.declared.frame.Frame.{Frame}
 use Rattle.fg_frame.specs.declared.frame.Pass.{Pass}
 use Rattle.fg_frame.specs.declared.frame.Spot.{Spot}
-use Rattle.fg_frame.specs.declared.place.Place.TheVariants as at
+use Rattle.fg_frame.specs.declared.location.Location.TheVariants as at
 
 pub record IsKnownPass (frame : Frame) (n : Numbering) (pass : Pass) : Type 0 where
   pub queue : has_queue frame pass.queue ≡ true

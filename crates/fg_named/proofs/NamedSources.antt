@@ -43,60 +43,60 @@ record One (m : ℕ) (rs : List Resource) (k : ℕ) : Type 0 where
   single : stretch.layers ≡ 1
 
 one : (m : ℕ) (rs : List Resource) (k : ℕ) → OneLayer rs k → One m rs k
-one m [] k held = absurd held
-one m (r ∷ rs) zero held = record { stretch = record { first = m; layers = r.layers; is_image = is_image r.shape }; got = refl; first = omega arith; single = held }
-one m (r ∷ rs) (suc k) held = let O = one (m + r.layers) rs k held in record { stretch = O.stretch; got = O.got; first = O.first ∙ omega arith; single = O.single }
+one m [] k persisted = absurd persisted
+one m (r ∷ rs) zero persisted = record { stretch = record { first = m; layers = r.layers; is_image = is_image r.shape }; got = refl; first = omega arith; single = persisted }
+one m (r ∷ rs) (suc k) persisted = let O = one (m + r.layers) rs k persisted in record { stretch = O.stretch; got = O.got; first = O.first ∙ omega arith; single = O.single }
 
 shape_there : (rs : List Resource) (k : ℕ) → OneLayer rs k → size_of rs k ≡ bytes_of (shape_at (map (λ u. u.shape) (flat_map units_from rs)) (unit_at rs k))
-shape_there [] k held = absurd held
-shape_there (r ∷ rs) zero held = sym (ap (λ m. bytes_of (shape_at (map (λ u. u.shape) (replicate m (unit_from r) ++ flat_map units_from rs)) 0)) held)
-shape_there (r ∷ rs) (suc k) held =
+shape_there [] k persisted = absurd persisted
+shape_there (r ∷ rs) zero persisted = sym (ap (λ m. bytes_of (shape_at (map (λ u. u.shape) (replicate m (unit_from r) ++ flat_map units_from rs)) 0)) persisted)
+shape_there (r ∷ rs) (suc k) persisted =
     let own = map (λ u. u.shape) (units_from r) in
     let count : length own ≡ r.layers = length-map (units_from r) (λ u. u.shape) ∙ length-replicate r.layers (unit_from r) in
-    shape_there rs k held
+    shape_there rs k persisted
     ∙ sym (ap bytes_of (ap (λ s. shape_at s (r.layers + unit_at rs k)) (map-append (λ u. u.shape) (units_from r) (flat_map units_from rs)) ∙ ap (λ m. shape_at (own ++ map (λ u. u.shape) (flat_map units_from rs)) (m + unit_at rs k)) (sym count) ∙ get_or-append-add own (map (λ u. u.shape) (flat_map units_from rs)) (unit_at rs k) (Buffer 0)))
 
 module _ (W : Numbering) (i n : ℕ) (rs : List Resource) (S : StandsIn W i n rs) where
   own_single : (k : ℕ) → OneLayer rs k → IsSingle W (numbered_name i k)
-  own_single k held = let O = one 0 rs k held in record { stretch = moved_stretch n O.stretch; stands = own_stands W i n rs S k O.stretch O.got; single = O.single }
+  own_single k persisted = let O = one 0 rs k persisted in record { stretch = moved_stretch n O.stretch; stands = own_stands W i n rs S k O.stretch O.got; single = O.single }
 
   own_unit : (k : ℕ) → OneLayer rs k → unit_of W (whole (numbered_name i k)) ≡ n + unit_at rs k
-  own_unit k held =
-      let O = one 0 rs k held in
+  own_unit k persisted =
+      let O = one 0 rs k persisted in
       let first : (n + O.stretch.first) + 0 ≡ n + unit_at rs k = omega (arith, O.first) in
       ap (λ o. option_map_or (λ s. layer_unit s 0) o 0) (own_stands W i n rs S k O.stretch O.got) ∙ ap (λ m. if nat_lt 0 m then (n + O.stretch.first) + 0 else 0) O.single ∙ first
 
   pub after_named : (holders : List (Option ℕ)) (sources : List NamedSource) → HaveOneLayer rs holders → AreNamed W sources → AreNamed W (named_after i holders sources)
-  after_named [] sources held named = named
-  after_named (None ∷ holders) [] held named = tt
-  after_named (Some k ∷ holders) [] held named = tt
-  after_named (None ∷ holders) (Kept bytes ∷ sources) held named = after_named holders sources held named
-  after_named (None ∷ holders) (Named name ∷ sources) held named = (named.0, after_named holders sources held named.1)
-  after_named (Some k ∷ holders) (Kept bytes ∷ sources) held named = (own_single k held.0, after_named holders sources held.1 named)
-  after_named (Some k ∷ holders) (Named name ∷ sources) held named = (own_single k held.0, after_named holders sources held.1 named.1)
+  after_named [] sources persisted named = named
+  after_named (None ∷ holders) [] persisted named = tt
+  after_named (Some k ∷ holders) [] persisted named = tt
+  after_named (None ∷ holders) (Kept bytes ∷ sources) persisted named = after_named holders sources persisted named
+  after_named (None ∷ holders) (Named name ∷ sources) persisted named = (named.0, after_named holders sources persisted named.1)
+  after_named (Some k ∷ holders) (Kept bytes ∷ sources) persisted named = (own_single k persisted.0, after_named holders sources persisted.1 named)
+  after_named (Some k ∷ holders) (Named name ∷ sources) persisted named = (own_single k persisted.0, after_named holders sources persisted.1 named.1)
 
   pub after_sources : (holders : List (Option ℕ)) (sources : List NamedSource) → HaveOneLayer rs holders → map (source_of W) (named_after i holders sources) ≡ sources_after n (places_in rs holders) (map (source_of W) sources)
-  after_sources [] sources held = refl
-  after_sources (None ∷ holders) [] held = refl
-  after_sources (Some k ∷ holders) [] held = refl
-  after_sources (None ∷ holders) (source ∷ sources) held = ap (λ ss. source_of W source ∷ ss) (after_sources holders sources held)
-  after_sources (Some k ∷ holders) (source ∷ sources) held = ap₂ (λ u ss. Left u ∷ ss) (own_unit k held.0) (after_sources holders sources held.1)
+  after_sources [] sources persisted = refl
+  after_sources (None ∷ holders) [] persisted = refl
+  after_sources (Some k ∷ holders) [] persisted = refl
+  after_sources (None ∷ holders) (source ∷ sources) persisted = ap (λ ss. source_of W source ∷ ss) (after_sources holders sources persisted)
+  after_sources (Some k ∷ holders) (source ∷ sources) persisted = ap₂ (λ u ss. Left u ∷ ss) (own_unit k persisted.0) (after_sources holders sources persisted.1)
 
   pub carries_single : (holders : List (Option ℕ)) (sources : List NamedSource) → HaveOneLayer rs holders → AreNamed W sources → AreSingle W (named_carries i rs holders sources)
-  carries_single [] sources held named = tt
-  carries_single (None ∷ holders) [] held named = tt
-  carries_single (Some k ∷ holders) [] held named = tt
-  carries_single (None ∷ holders) (Kept bytes ∷ sources) held named = carries_single holders sources held named
-  carries_single (None ∷ holders) (Named name ∷ sources) held named = carries_single holders sources held named.1
-  carries_single (Some k ∷ holders) (Kept bytes ∷ sources) held named = carries_single holders sources held.1 named
-  carries_single (Some k ∷ holders) (Named name ∷ sources) held named = ((named.0, own_single k held.0), carries_single holders sources held.1 named.1)
+  carries_single [] sources persisted named = tt
+  carries_single (None ∷ holders) [] persisted named = tt
+  carries_single (Some k ∷ holders) [] persisted named = tt
+  carries_single (None ∷ holders) (Kept bytes ∷ sources) persisted named = carries_single holders sources persisted named
+  carries_single (None ∷ holders) (Named name ∷ sources) persisted named = carries_single holders sources persisted named.1
+  carries_single (Some k ∷ holders) (Kept bytes ∷ sources) persisted named = carries_single holders sources persisted.1 named
+  carries_single (Some k ∷ holders) (Named name ∷ sources) persisted named = ((named.0, own_single k persisted.0), carries_single holders sources persisted.1 named.1)
 
   pub same_carries : (holders : List (Option ℕ)) (sources : List NamedSource) → HaveOneLayer rs holders → map (carry_of W) (named_carries i rs holders sources) ≡ carries n (map (λ u. u.shape) (flat_map units_from rs)) (places_in rs holders) (map (source_of W) sources)
-  same_carries [] sources held = refl
-  same_carries (None ∷ holders) [] held = refl
-  same_carries (Some k ∷ holders) [] held = refl
-  same_carries (None ∷ holders) (source ∷ sources) held = same_carries holders sources held
-  same_carries (Some k ∷ holders) (Kept bytes ∷ sources) held = same_carries holders sources held.1
-  same_carries (Some k ∷ holders) (Named name ∷ sources) held =
-      ap₂ (λ u m. record { from = unit_of W (whole name); to = u; size = m } ∷ map (carry_of W) (named_carries i rs holders sources)) (own_unit k held.0) (shape_there rs k held.0)
-      ∙ ap (λ cs. record { from = unit_of W (whole name); to = n + unit_at rs k; size = bytes_of (shape_at (map (λ u. u.shape) (flat_map units_from rs)) (unit_at rs k)) } ∷ cs) (same_carries holders sources held.1)
+  same_carries [] sources persisted = refl
+  same_carries (None ∷ holders) [] persisted = refl
+  same_carries (Some k ∷ holders) [] persisted = refl
+  same_carries (None ∷ holders) (source ∷ sources) persisted = same_carries holders sources persisted
+  same_carries (Some k ∷ holders) (Kept bytes ∷ sources) persisted = same_carries holders sources persisted.1
+  same_carries (Some k ∷ holders) (Named name ∷ sources) persisted =
+      ap₂ (λ u m. record { from = unit_of W (whole name); to = u; size = m } ∷ map (carry_of W) (named_carries i rs holders sources)) (own_unit k persisted.0) (shape_there rs k persisted.0)
+      ∙ ap (λ cs. record { from = unit_of W (whole name); to = n + unit_at rs k; size = bytes_of (shape_at (map (λ u. u.shape) (flat_map units_from rs)) (unit_at rs k)) } ∷ cs) (same_carries holders sources persisted.1)

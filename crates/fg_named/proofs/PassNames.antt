@@ -29,7 +29,7 @@ pub record IsNamed (d : Declared) : Type 0 where
   pub few_passes : length d.frame.passes ≤ 256
   pub clashless : AllByRecursion IsClashless d.frame.passes
   pub known : AllByRecursion (IsKnownPass d.frame (numbering d.frame)) d.frame.passes
-  pub held : HaveOneLayer d.frame.resources d.holders
+  pub persisted : HaveOneLayer d.frame.resources d.holders
   pub different : AreDifferent d.holders
 
 -- NAMES OF PASSES
@@ -89,8 +89,8 @@ module _ (queue : List ℕ) where
       let cs = named_carries i rs d.holders sources in
       let renamed = renamed_passes i 0 (rename_in i d.frame) d.frame.passes in
       all_append IsClashless (named_joins i queue cs ++ renamed) (declared_passes queue (suc i) (named_after i d.holders sources) ds)
-      (all_append IsClashless (named_joins i queue cs) renamed (joins_clashless i cs (join_clashless i rs D.few_resources queue d.holders sources D.held D.different fresh.apart)) (renamed_clashless i 0 d.frame d.frame.passes D.few_resources D.known D.clashless))
-      (all_clashless (suc i) (named_after i d.holders sources) ds named.1 (still_fresh i rs D.few_resources d.holders sources D.held D.different fresh))
+      (all_append IsClashless (named_joins i queue cs) renamed (joins_clashless i cs (join_clashless i rs D.few_resources queue d.holders sources D.persisted D.different fresh.apart)) (renamed_clashless i 0 d.frame d.frame.passes D.few_resources D.known D.clashless))
+      (all_clashless (suc i) (named_after i d.holders sources) ds named.1 (still_fresh i rs D.few_resources d.holders sources D.persisted D.different fresh))
 
   pub passes_repeat_nothing : (i : ℕ) (sources : List NamedSource) (ds : List Declared) → AllByRecursion IsNamed ds → AreFresh i (left_names sources) → first_in (repeats_in (map (λ p. p.name) (declared_passes queue i sources ds))) 0 (declared_passes queue i sources ds) ≡ None
   passes_repeat_nothing i sources ds named fresh = none_repeated (declared_passes queue i sources ds) (names_apart i sources ds named) (all_clashless i sources ds named fresh)

@@ -1,4 +1,4 @@
--- Different persisting names are held by different resources.
+-- Different persisting names are persisted by different resources.
 use Rattle.std.proofs.Common.{◌≡◌, ◌≢◌, ℕ, List, [], ◌∷◌, map, get_or, Option, Some, None, true, false, sym, ap, ◌∙◌}
 use Rattle.std.specs.Prelude.{IfSome}
 use Rattle.std.specs.List.{AllByRecursion}
@@ -10,7 +10,7 @@ use Rattle.fg_frame.specs.Repeats.{first_repeat}
 use Rattle.fg_frame.specs.declared.frame.Resource.{Resource}
 use Rattle.fg_named.proofs.Pairs.{NoPair, from_none}
 use Rattle.fg_named.specs.Declared.{holder_in}
-use Rattle.fg_named.specs.Together.{AreHeldIn, AreImports, IsImport}
+use Rattle.fg_named.specs.Together.{ArePersistedIn, AreImports, IsImport}
 use Rattle.fg_window.specs.Together.{Absent}
 
 module _ (rs : List Resource) where
@@ -32,15 +32,15 @@ module _ (rs : List Resource) where
       by_holder None other rest = rest
       by_holder (Some l) other rest = (other l cc, rest)
 
-  all_held : (sizes : List ℕ) (names : List (List ℕ)) → NoPair bytes_eq names → AreImports rs sizes names → AreHeldIn rs sizes (map (holder_in rs) names)
+  all_held : (sizes : List ℕ) (names : List (List ℕ)) → NoPair bytes_eq names → AreImports rs sizes names → ArePersistedIn rs sizes (map (holder_in rs) names)
   all_held [] [] apart imports = tt
   all_held [] (name ∷ names) apart imports = absurd imports
   all_held (size ∷ sizes) [] apart imports = absurd imports
   all_held (size ∷ sizes) (name ∷ names) apart imports = by_holder (holder_in rs name) imports.0 (λ k at. absent name k at names apart.0) (all_held sizes names apart.1 imports.1)
     where
-      by_holder : (o : Option ℕ) → IfSome o (λ k. IsImport rs k size) → ((k : ℕ) → o ≡ Some k → Absent k (map (holder_in rs) names)) → AreHeldIn rs sizes (map (holder_in rs) names) → AreHeldIn rs (size ∷ sizes) (o ∷ map (holder_in rs) names)
+      by_holder : (o : Option ℕ) → IfSome o (λ k. IsImport rs k size) → ((k : ℕ) → o ≡ Some k → Absent k (map (holder_in rs) names)) → ArePersistedIn rs sizes (map (holder_in rs) names) → ArePersistedIn rs (size ∷ sizes) (o ∷ map (holder_in rs) names)
       by_holder None import other rest = rest
       by_holder (Some k) import other rest = (import, other k cc, rest)
 
-pub held_by_names : (rs : List Resource) (sizes : List ℕ) (persist : List (List ℕ)) → first_repeat persist ≡ None → AreImports rs sizes persist → AreHeldIn rs sizes (map (holder_in rs) persist)
+pub held_by_names : (rs : List Resource) (sizes : List ℕ) (persist : List (List ℕ)) → first_repeat persist ≡ None → AreImports rs sizes persist → ArePersistedIn rs sizes (map (holder_in rs) persist)
 held_by_names rs sizes persist once imports = all_held rs sizes persist (from_none bytes_eq persist once) imports

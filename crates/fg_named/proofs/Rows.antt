@@ -20,7 +20,7 @@ use Rattle.fg_named.specs.Names.{numbered_name}
 use Rattle.fg_named.specs.Together.{FliesDeclared, FlyDeclared}
 use Rattle.fg_named.specs.WindowFrame.{window_frame}
 use Rattle.fg_window.proofs.Each.{all_of}
-use Rattle.fg_window.specs.Held.{first_held}
+use Rattle.fg_window.specs.Persisted.{first_persisted}
 use Rattle.fg_window.specs.Means.{MeansTheSame}
 use Rattle.fg_window.specs.Window.{window}
 
@@ -56,13 +56,13 @@ persist = codes "b" ∷ codes "d" ∷ []
 abbrev two : List Declared
 two = map (declared_in persist) (frame ∷ frame ∷ [])
 
-abbrev held : List (List ℕ)
-held = (1 ∷ 0 ∷ 0 ∷ 0 ∷ []) ∷ [] ∷ []
+abbrev persisted : List (List ℕ)
+persisted = (1 ∷ 0 ∷ 0 ∷ 0 ∷ []) ∷ [] ∷ []
 
-first : first_held (map flown_of two) ([] ∷ [] ∷ []) ≡ held
+first : first_persisted (map flown_of two) ([] ∷ [] ∷ []) ≡ persisted
 first = refl
 
-two_is : window_frame queues two held ≡ record {
+two_is : window_frame queues two persisted ≡ record {
   queues = queues;
   resources = record { name = codes "0.0"; shape = Buffer 4; layers = 1; import = Some (1 ∷ 0 ∷ 0 ∷ 0 ∷ []); sharing = Exclusive }
       ∷ record { name = codes "0.1"; shape = Buffer 4; layers = 1; import = None; sharing = Exclusive }
@@ -78,20 +78,20 @@ two_is = refl
 
 -- the laws speak of them
 flies : FliesDeclared queues (4 ∷ 0 ∷ []) (declared_in persist frame)
-flies = record { none = refl; same = refl; held = held_by_names frame.resources (4 ∷ 0 ∷ []) persist refl ((refl, refl), (tt, tt)) }
+flies = record { none = refl; same = refl; persisted = held_by_names frame.resources (4 ∷ 0 ∷ []) persist refl ((refl, refl), (tt, tt)) }
 
-fly : FlyDeclared queues (4 ∷ 0 ∷ []) two held
+fly : FlyDeclared queues (4 ∷ 0 ∷ []) two persisted
 fly = record { some = omega arith; each = all_of (FliesDeclared queues (4 ∷ 0 ∷ [])) two (flies, (flies, tt)); sized = refl }
 
-within : limit_broken (window_frame queues two held) ≡ None
+within : limit_broken (window_frame queues two persisted) ≡ None
 unfolding digits
 within = refl
 
-no_fault : first_fault (window_frame queues two held) ≡ None
-no_fault = declared_good queues (4 ∷ 0 ∷ []) two held fly within
+no_fault : first_fault (window_frame queues two persisted) ≡ None
+no_fault = declared_good queues (4 ∷ 0 ∷ []) two persisted fly within
 
-numbers : numbered (window_frame queues two held) ≡ window (Graphics ∷ []) (map flown_of two) held
-numbers = declared_numbered queues (4 ∷ 0 ∷ []) two held fly
+numbers : numbered (window_frame queues two persisted) ≡ window (Graphics ∷ []) (map flown_of two) persisted
+numbers = declared_numbered queues (4 ∷ 0 ∷ []) two persisted fly
 
-means : MeansTheSame (Graphics ∷ []) (map flown_of two) held
-means = declared_means queues (4 ∷ 0 ∷ []) two held fly within
+means : MeansTheSame (Graphics ∷ []) (map flown_of two) persisted
+means = declared_means queues (4 ∷ 0 ∷ []) two persisted fly within

@@ -11,11 +11,11 @@ use Rattle.fg_named.specs.Together.{FliesDeclared, FlyDeclared}
 use Rattle.fg_named.specs.WindowFrame.{window_frame}
 use Rattle.fg_window.proofs.InTurn.{each_together, means_in_turn}
 use Rattle.fg_window.specs.Flown.{Flown}
-use Rattle.fg_window.specs.InTurn.{MeansInTurn, frames_in, held_before}
+use Rattle.fg_window.specs.InTurn.{MeansInTurn, frames_in, persisted_before}
 use Rattle.fg_window.specs.Small.{IsSmall}
 use Rattle.fg_window.specs.Window.{window}
 
-module _ (queues : List QueueDecl) (sizes : List ℕ) (ds : List Declared) (held : List (List ℕ)) (F : FlyDeclared queues sizes ds held) (depth w : ℕ) (deep : 0 < depth) (there : w * depth < length ds) where
+module _ (queues : List QueueDecl) (sizes : List ℕ) (ds : List Declared) (persisted : List (List ℕ)) (F : FlyDeclared queues sizes ds persisted) (depth w : ℕ) (deep : 0 < depth) (there : w * depth < length ds) where
   abbrev families : List Family
   families = map (λ q. q.family) queues
 
@@ -23,7 +23,7 @@ module _ (queues : List QueueDecl) (sizes : List ℕ) (ds : List Declared) (held
   flown = map flown_of ds
 
   abbrev begun : List (List ℕ)
-  begun = held_before depth flown held w
+  begun = persisted_before depth flown persisted w
 
   among : w * depth < length flown
   among = subst (λ n. w * depth < n) (sym (length-map ds flown_of)) there
@@ -38,10 +38,10 @@ module _ (queues : List QueueDecl) (sizes : List ℕ) (ds : List Declared) (held
         let dropped : length (drop (w * depth) ds) ≡ length ds - w * depth = length-drop (w * depth) ds in
         omega (arith, taken, dropped, deep, there);
     each = All-take (FliesDeclared queues sizes) depth (drop (w * depth) ds) (All-drop (FliesDeclared queues sizes) (w * depth) ds F.each);
-    sized = (each_together families sizes flown held (declared_together queues sizes ds held F) depth w deep among).sized;
+    sized = (each_together families sizes flown persisted (declared_together queues sizes ds persisted F) depth w deep among).sized;
   }
 
-  pub declared_in_turn : limit_broken (window_frame queues (frames_in depth ds w) begun) ≡ None → MeansInTurn families depth flown held w
+  pub declared_in_turn : limit_broken (window_frame queues (frames_in depth ds w) begun) ≡ None → MeansInTurn families depth flown persisted w
   declared_in_turn within =
       let small = is_small queues sizes (frames_in depth ds w) begun each_declared within in
-      means_in_turn families sizes flown held (declared_together queues sizes ds held F) depth w deep among (subst (λ frames. IsSmall (window families frames begun)) same_frames small)
+      means_in_turn families sizes flown persisted (declared_together queues sizes ds persisted F) depth w deep among (subst (λ frames. IsSmall (window families frames begun)) same_frames small)

@@ -47,16 +47,16 @@ same_layer (r ∷ rs) (suc k) zero import one = one
 same_layer (r ∷ rs) (suc k) (suc j) import one = same_layer rs k j import one
 
 all_layers : (rs : List Resource) (k : ℕ) (import : Option (List ℕ)) (holders : List (Option ℕ)) → HaveOneLayer rs holders → HaveOneLayer (set_import rs k import) holders
-all_layers rs k import [] held = tt
-all_layers rs k import (None ∷ holders) held = all_layers rs k import holders held
-all_layers rs k import (Some j ∷ holders) held = (same_layer rs k j import held.0, all_layers rs k import holders held.1)
+all_layers rs k import [] persisted = tt
+all_layers rs k import (None ∷ holders) persisted = all_layers rs k import holders persisted
+all_layers rs k import (Some j ∷ holders) persisted = (same_layer rs k j import persisted.0, all_layers rs k import holders persisted.1)
 
 -- imports of resources are imports of their units
 pub units_with_imports : (holders : List (Option ℕ)) (imports : List (Option (List ℕ))) (rs : List Resource) → HaveOneLayer rs holders → flat_map units_from (set_imports holders imports rs) ≡ with_imports (places_in rs holders) imports (flat_map units_from rs)
-units_with_imports [] imports rs held = refl
-units_with_imports (None ∷ holders) [] rs held = refl
-units_with_imports (Some k ∷ holders) [] rs held = refl
-units_with_imports (None ∷ holders) (import ∷ imports) rs held = units_with_imports holders imports rs held
-units_with_imports (Some k ∷ holders) (import ∷ imports) rs held =
-    units_with_imports holders imports (set_import rs k import) (all_layers rs k import holders held.1)
-    ∙ ap₂ (λ ps us. with_imports ps imports us) (all_places rs k import holders) (one_import rs k import held.0)
+units_with_imports [] imports rs persisted = refl
+units_with_imports (None ∷ holders) [] rs persisted = refl
+units_with_imports (Some k ∷ holders) [] rs persisted = refl
+units_with_imports (None ∷ holders) (import ∷ imports) rs persisted = units_with_imports holders imports rs persisted
+units_with_imports (Some k ∷ holders) (import ∷ imports) rs persisted =
+    units_with_imports holders imports (set_import rs k import) (all_layers rs k import holders persisted.1)
+    ∙ ap₂ (λ ps us. with_imports ps imports us) (all_places rs k import holders) (one_import rs k import persisted.0)

@@ -24,7 +24,7 @@ use Rattle.fg_frame.specs.declared.frame.Resource.{Resource}
 use Rattle.fg_frame.specs.declared.frame.Spot.{Spot}
 use Rattle.fg_frame.specs.declared.numbered.NumberedPass.{NumberedPass}
 use Rattle.fg_frame.specs.declared.numbered.Stretch.{Stretch}
-use Rattle.fg_frame.specs.declared.place.Place.TheVariants as at
+use Rattle.fg_frame.specs.declared.location.Location.TheVariants as at
 use Rattle.fg_named.proofs.Distinct.{all_distinct}
 use Rattle.fg_named.proofs.Exported.{fewer, is_other}
 use Rattle.fg_named.proofs.Holders.{IsUsable}
@@ -130,22 +130,22 @@ module _ (Wf : Frame) (W : Numbering) (queue : List ℕ) (first : queue_number W
       let some = λ (name : List ℕ) (s : Stretch) (e : stretch_of (numbering f) name ≡ Some s). found_some rs s (position (bytes_eq name) (map (λ r. r.name) rs)) (some_layers f (limits_none f good)) e in
       let own_long : length (own_names i 0 (length rs)) ≡ length own = own_count i 0 (length rs) ∙ sym (length-map (stretches 0 rs) (moved_stretch n) ∙ stretch_count 0 rs) in
       let longer : length (names-before ++ own_names i 0 (length rs)) ≡ length (before ++ own) = length-append names-before (own_names i 0 (length rs)) ∙ ap₂ (λ a b. a + b) same own_long ∙ sym (length-append before own) in
-      let sources : map (source_of W) after ≡ sources_after n (places_in rs d.holders) (map (source_of W) named) = after_sources W i n rs S d.holders named declared.0.held in
-      let tail = all_same ds declared.1 (suc i) (next n (flown_of d)) after (names-before ++ own_names i 0 (length rs)) (before ++ own) (names ∙ sym (append_assoc names-before (own_names i 0 (length rs)) (all_names (suc i) (counts_of ds)))) (stands ∙ ap (λ s. before ++ s) split ∙ sym (append_assoc before own (stretches (next n (flown_of d)) rest))) longer (after_named W i n rs S d.holders named declared.0.held is_named) in
+      let sources : map (source_of W) after ≡ sources_after n (places_in rs d.holders) (map (source_of W) named) = after_sources W i n rs S d.holders named declared.0.persisted in
+      let tail = all_same ds declared.1 (suc i) (next n (flown_of d)) after (names-before ++ own_names i 0 (length rs)) (before ++ own) (names ∙ sym (append_assoc names-before (own_names i 0 (length rs)) (all_names (suc i) (counts_of ds)))) (stands ∙ ap (λ s. before ++ s) split ∙ sym (append_assoc before own (stretches (next n (flown_of d)) rest))) longer (after_named W i n rs S d.holders named declared.0.persisted is_named) in
       let cs = named_carries i rs d.holders named in
       let renamed = renamed_passes i 0 (rename_in i f) f.passes in
       let known = all_pass (is_known (numbering f)) f.exports (map_none (λ k. at.Export k) (position (λ spot. not (is_known (numbering f) spot)) f.exports) (or_second passes_unknown exports_unknown unknown)) in
       record {
-        units = flat_map-append units_from part rest ∙ ap₂ (λ a b. a ++ b) (same_units i 0 (set_imports d.holders imports rs) ∙ units_with_imports d.holders imports rs declared.0.held ∙ ap (λ is. with_imports (places_in rs d.holders) is (flat_map units_from rs)) (sym (same_imports W named))) (tail.units ∙ ap (λ ss. all_units (next n (flown_of d)) ss (map flown_of ds)) sources);
+        units = flat_map-append units_from part rest ∙ ap₂ (λ a b. a ++ b) (same_units i 0 (set_imports d.holders imports rs) ∙ units_with_imports d.holders imports rs declared.0.persisted ∙ ap (λ is. with_imports (places_in rs d.holders) is (flat_map units_from rs)) (sym (same_imports W named))) (tail.units ∙ ap (λ ss. all_units (next n (flown_of d)) ss (map flown_of ds)) sources);
         passes =
             map-append (numbered_pass Wf W) (named_joins i queue cs ++ renamed) (declared_passes queue (suc i) after ds)
             ∙ ap₂ (λ a b. a ++ b)
-            (map-append (numbered_pass Wf W) (named_joins i queue cs) renamed ∙ ap₂ (λ a b. a ++ b) (joins_numbered Wf W i queue cs first (carries_single W i n rs S d.holders named declared.0.held is_named) ∙ ap joins (same_carries W i n rs S d.holders named declared.0.held)) (passes_moved (numbering f) W (rename_in i f) n moves some f Wf (sym declared.0.same) i 0 0 f.passes (or_first passes_unknown exports_unknown unknown)))
+            (map-append (numbered_pass Wf W) (named_joins i queue cs) renamed ∙ ap₂ (λ a b. a ++ b) (joins_numbered Wf W i queue cs first (carries_single W i n rs S d.holders named declared.0.persisted is_named) ∙ ap joins (same_carries W i n rs S d.holders named declared.0.persisted)) (passes_moved (numbering f) W (rename_in i f) n moves some f Wf (sym declared.0.same) i 0 0 f.passes (or_first passes_unknown exports_unknown unknown)))
             (tail.passes ∙ ap (λ ss. all_passes (next n (flown_of d)) ss (map flown_of ds)) sources);
         exports = flat_map-append (units_of W) (map (renamed_spot (rename_in i f)) f.exports) (declared_exports (suc i) ds) ∙ ap₂ (λ a b. a ++ b) (reads_moved (numbering f) W (rename_in i f) n moves some f.exports known) tail.exports;
         last = tail.last ∙ ap (λ ss. last_sources (next n (flown_of d)) ss (map flown_of ds)) sources;
         still_named = tail.still_named;
-        known = all_append (IsKnownPass Wf W) (named_joins i queue cs ++ renamed) (declared_passes queue (suc i) after ds) (all_append (IsKnownPass Wf W) (named_joins i queue cs) renamed (joins_known Wf W i queue cs there (carries_single W i n rs S d.holders named declared.0.held is_named)) (passes_known (numbering f) W (rename_in i f) n moves f Wf (sym declared.0.same) i 0 0 f.passes (or_first passes_unknown exports_unknown unknown))) tail.known;
+        known = all_append (IsKnownPass Wf W) (named_joins i queue cs ++ renamed) (declared_passes queue (suc i) after ds) (all_append (IsKnownPass Wf W) (named_joins i queue cs) renamed (joins_known Wf W i queue cs there (carries_single W i n rs S d.holders named declared.0.persisted is_named)) (passes_known (numbering f) W (rename_in i f) n moves f Wf (sym declared.0.same) i 0 0 f.passes (or_first passes_unknown exports_unknown unknown))) tail.known;
         exports_known = all_append (λ spot. is_known W spot ≡ true) (map (renamed_spot (rename_in i f)) f.exports) (declared_exports (suc i) ds) (spots_known (numbering f) W (rename_in i f) n moves f.exports (each (λ spot. is_known (numbering f) spot ≡ true) f.exports known)) tail.exports_known;
       }
 
@@ -168,13 +168,13 @@ first_queue frame = by_queues frame.queues
     by_queues [] = refl
     by_queues (q ∷ queues) = ap (λ o. unwrap_or o 0) (position_here (λ x. bytes_eq x.name q.name) q queues ((bytes_eq-Decides q.name q.name).1 refl))
 
-start_sources : (W : Numbering) (held : List (List ℕ)) → map (source_of W) (kept held) ≡ given held
+start_sources : (W : Numbering) (persisted : List (List ℕ)) → map (source_of W) (kept persisted) ≡ given persisted
 start_sources W [] = refl
-start_sources W (bytes ∷ held) = ap (λ ss. Given bytes ∷ ss) (start_sources W held)
+start_sources W (bytes ∷ persisted) = ap (λ ss. Given bytes ∷ ss) (start_sources W persisted)
 
-start_named : (W : Numbering) (held : List (List ℕ)) → AreNamed W (kept held)
+start_named : (W : Numbering) (persisted : List (List ℕ)) → AreNamed W (kept persisted)
 start_named W [] = tt
-start_named W (bytes ∷ held) = start_named W held
+start_named W (bytes ∷ persisted) = start_named W persisted
 
 same_left : (W : Numbering) (named : List NamedSource) → map (λ name. unit_of W (whole name)) (left_names named) ≡ left_units (map (source_of W) named)
 same_left W [] = refl
@@ -202,18 +202,18 @@ first_there : (queues : List QueueDecl) → 0 < length queues → is_some (posit
 first_there [] some = absurd (omega arith)
 first_there (q ∷ queues) some = ap is_some (position_here (λ x. bytes_eq x.name q.name) q queues ((bytes_eq-Decides q.name q.name).1 refl))
 
-module _ (queues : List QueueDecl) (ds : List Declared) (held : List (List ℕ)) (declared : AllByRecursion (IsUsable queues) ds) (some_queue : 0 < length queues) where
+module _ (queues : List QueueDecl) (ds : List Declared) (persisted : List (List ℕ)) (declared : AllByRecursion (IsUsable queues) ds) (some_queue : 0 < length queues) where
   abbrev Wf : Frame
-  Wf = window_frame queues ds held
+  Wf = window_frame queues ds persisted
 
   abbrev W : Numbering
   W = numbering Wf
 
   pub once : first_repeat W.names ≡ None
-  once = ap first_repeat (window_names 0 (kept held) ds) ∙ no_first bytes_eq (all_names 0 (counts_of ds)) (all_distinct 0 (counts_of ds) (few_counts queues ds declared))
+  once = ap first_repeat (window_names 0 (kept persisted) ds) ∙ no_first bytes_eq (all_names 0 (counts_of ds)) (all_distinct 0 (counts_of ds) (few_counts queues ds declared))
 
-  pub window_same : Same Wf W (first_name queues) 0 0 (kept held) ds
-  window_same = all_same Wf W (first_name queues) (first_queue Wf) (first_there queues some_queue) once ds declared 0 0 (kept held) [] [] (window_names 0 (kept held) ds) refl refl (start_named W held)
+  pub window_same : Same Wf W (first_name queues) 0 0 (kept persisted) ds
+  window_same = all_same Wf W (first_name queues) (first_queue Wf) (first_there queues some_queue) once ds declared 0 0 (kept persisted) [] [] (window_names 0 (kept persisted) ds) refl refl (start_named W persisted)
 
   wholes_known : (names : List (List ℕ)) → AllByRecursion (IsSingle W) names → AllByRecursion (λ spot. is_known W spot ≡ true) (map whole names)
   wholes_known [] single = tt
@@ -222,23 +222,23 @@ module _ (queues : List QueueDecl) (ds : List Declared) (held : List (List ℕ))
   pub nothing_unknown : unknown Wf ≡ None
   nothing_unknown =
       let own = declared_exports 0 ds in
-      let last = left_names (last_named 0 (kept held) ds) in
+      let last = left_names (last_named 0 (kept persisted) ds) in
       let Known = λ (spot : Spot). is_known W spot ≡ true in
-      let more = wholes_known (filter (is_other own) last) (fewer (IsSingle W) (is_other own) last (all_single W (last_named 0 (kept held) ds) window_same.still_named)) in
+      let more = wholes_known (filter (is_other own) last) (fewer (IsSingle W) (is_other own) last (all_single W (last_named 0 (kept persisted) ds) window_same.still_named)) in
       let spots = all_of Known (own ++ named_others own last) (all_append Known own (named_others own last) window_same.exports_known more) in
       ap₂ option_or (none_in (unknown_in Wf W) Wf.passes (λ p d lt. none_unknown Wf W p (get_or Wf.passes p d) (all_of (IsKnownPass Wf W) Wf.passes window_same.known p d lt)))
       (ap (option_map (λ k. at.Export k)) (none_found (λ spot. not (is_known W spot)) Wf.exports (λ k d lt. not_from_true (is_known W (get_or Wf.exports k d)) (spots k d lt))))
 
-pub window_numbered : (queues : List QueueDecl) (ds : List Declared) (held : List (List ℕ)) → AllByRecursion (IsUsable queues) ds → 0 < length queues → numbered (window_frame queues ds held) ≡ window (map (λ q. q.family) queues) (map flown_of ds) held
-window_numbered queues ds held declared some_queue =
-    let Wf = window_frame queues ds held in
+pub window_numbered : (queues : List QueueDecl) (ds : List Declared) (persisted : List (List ℕ)) → AllByRecursion (IsUsable queues) ds → 0 < length queues → numbered (window_frame queues ds persisted) ≡ window (map (λ q. q.family) queues) (map flown_of ds) persisted
+window_numbered queues ds persisted declared some_queue =
+    let Wf = window_frame queues ds persisted in
     let W = numbering Wf in
-    let start = kept held in
-    let sources = start_sources W held in
+    let start = kept persisted in
+    let sources = start_sources W persisted in
     let last = last_named 0 start ds in
     let own = declared_exports 0 ds in
-    let A = window_same queues ds held declared some_queue in
-    let more : flat_map (units_of W) (named_others own (left_names last)) ≡ others (own_exports 0 (map flown_of ds)) (left_units (last_sources 0 (given held) (map flown_of ds))) =
+    let A = window_same queues ds persisted declared some_queue in
+    let more : flat_map (units_of W) (named_others own (left_names last)) ≡ others (own_exports 0 (map flown_of ds)) (left_units (last_sources 0 (given persisted) (map flown_of ds))) =
     others_numbered Wf own (all_of (λ spot. is_known W spot ≡ true) own A.exports_known) (left_names last) (all_single W last A.still_named) ∙ ap₂ (λ a b. others a b) A.exports (same_left W last ∙ ap left_units (A.last ∙ ap (λ ss. last_sources 0 ss (map flown_of ds)) sources)) in
     same (A.units ∙ ap (λ ss. all_units 0 ss (map flown_of ds)) sources) (A.passes ∙ ap (λ ss. all_passes 0 ss (map flown_of ds)) sources) (flat_map-append (units_of W) own (named_others own (left_names last)) ∙ ap₂ (λ a b. a ++ b) A.exports more)
   where

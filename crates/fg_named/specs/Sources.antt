@@ -3,15 +3,15 @@ use Rattle.std.specs.Prelude.{ℕ, suc, List, [], ◌∷◌, map, Option, Some, 
 use Rattle.fg_named.specs.Declared.{Declared}
 use Rattle.fg_named.specs.Names.{numbered_name}
 
--- held from before the window, or in a resource of it
+-- persisted from before the window, or in a resource of it
 pub data NamedSource : Type 0 where
   Kept : List ℕ → NamedSource
   Named : List ℕ → NamedSource
 
 abbrev pub kept : List (List ℕ) → List NamedSource
-kept held = map (λ bytes. Kept bytes) held
+kept persisted = map (λ bytes. Kept bytes) persisted
 
--- a resource whose bytes were held is an import; one whose bytes are in another gets them by a copy
+-- a resource whose bytes were persisted is an import; one whose bytes are in another gets them by a copy
 abbrev pub named_import : NamedSource → Option (List ℕ)
 named_import (Kept bytes) = Some bytes
 named_import (Named name) = None

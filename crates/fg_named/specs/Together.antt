@@ -15,12 +15,12 @@ IsImport (r ∷ rs) zero size = (is_some r.import ≡ true) × (bytes_of r.shape
 IsImport (r ∷ rs) (suc k) size = IsImport rs k size
 
 -- different imports have the persisting names, each of the size that belongs to its name
-abbrev pub AreHeldIn : List Resource → List ℕ → List (Option ℕ) → Type 0
-AreHeldIn rs [] [] = Unit {0}
-AreHeldIn rs [] (holder ∷ holders) = ⊥
-AreHeldIn rs (size ∷ sizes) [] = ⊥
-AreHeldIn rs (size ∷ sizes) (None ∷ holders) = AreHeldIn rs sizes holders
-AreHeldIn rs (size ∷ sizes) (Some k ∷ holders) = IsImport rs k size × Absent k holders × AreHeldIn rs sizes holders
+abbrev pub ArePersistedIn : List Resource → List ℕ → List (Option ℕ) → Type 0
+ArePersistedIn rs [] [] = Unit {0}
+ArePersistedIn rs [] (holder ∷ holders) = ⊥
+ArePersistedIn rs (size ∷ sizes) [] = ⊥
+ArePersistedIn rs (size ∷ sizes) (None ∷ holders) = ArePersistedIn rs sizes holders
+ArePersistedIn rs (size ∷ sizes) (Some k ∷ holders) = IsImport rs k size × Absent k holders × ArePersistedIn rs sizes holders
 
 -- each resource that has one of these names is an import of the size that belongs to the name
 abbrev pub AreImports : List Resource → List ℕ → List (List ℕ) → Type 0
@@ -33,10 +33,10 @@ AreImports rs (size ∷ sizes) (name ∷ names) = IfSome (holder_in rs name) (λ
 pub record FliesDeclared (queues : List QueueDecl) (sizes : List ℕ) (d : Declared) : Type 0 where
   pub none : first_fault d.frame ≡ None
   pub same : d.frame.queues ≡ queues
-  pub held : AreHeldIn d.frame.resources sizes d.holders
+  pub persisted : ArePersistedIn d.frame.resources sizes d.holders
 
--- at least one frame, and for each persisting name held bytes of its size
-pub record FlyDeclared (queues : List QueueDecl) (sizes : List ℕ) (ds : List Declared) (held : List (List ℕ)) : Type 0 where
+-- at least one frame, and for each persisting name persisted bytes of its size
+pub record FlyDeclared (queues : List QueueDecl) (sizes : List ℕ) (ds : List Declared) (persisted : List (List ℕ)) : Type 0 where
   pub some : 0 < length ds
   pub each : All (FliesDeclared queues sizes) ds
-  pub sized : map length held ≡ sizes
+  pub sized : map length persisted ≡ sizes

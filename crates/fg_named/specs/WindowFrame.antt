@@ -14,7 +14,7 @@ use Rattle.fg_named.specs.Sources.{NamedSource, kept, last_named, left_names, na
 
 -- FRAME i OF A WINDOW
 
--- only those are imports under persisting names whose bytes are held from before the window
+-- only those are imports under persisting names whose bytes are persisted from before the window
 abbrev pub resources_in : ℕ → List NamedSource → Declared → List Resource
 resources_in i sources d = renamed_resources i 0 (set_imports d.holders (map named_import sources) d.frame.resources)
 
@@ -36,14 +36,14 @@ abbrev pub first_name : List QueueDecl → List ℕ
 first_name [] = []
 first_name (queue ∷ queues) = queue.name
 
--- the window of frames over these queues, of which the first begins with the held bytes. After the exports of its frames
+-- the window of frames over these queues, of which the first begins with the persisted bytes. After the exports of its frames
 -- it exports the last resource of each persisting name
 abbrev pub window_frame : List QueueDecl → List Declared → List (List ℕ) → Frame
-window_frame queues ds held =
+window_frame queues ds persisted =
     let own = declared_exports 0 ds in
     record {
       queues = queues;
-      resources = declared_resources 0 (kept held) ds;
-      passes = declared_passes (first_name queues) 0 (kept held) ds;
-      exports = own ++ named_others own (left_names (last_named 0 (kept held) ds));
+      resources = declared_resources 0 (kept persisted) ds;
+      passes = declared_passes (first_name queues) 0 (kept persisted) ds;
+      exports = own ++ named_others own (left_names (last_named 0 (kept persisted) ds));
     }

@@ -8,21 +8,21 @@ ghost use Rattle.fg_frame.specs.Repeats.{first_repeat};
 ghost use Rattle.fg_frame.specs.declared.frame.Resource.{Resource};
 ghost use Rattle.fg_named.specs.Declared.{flown_of, holder_in};
 ghost use Rattle.fg_named.specs.DeclaredLaws.{EachDeclared, EachDeclaredInTurn, OfDeclared};
-ghost use Rattle.fg_named.specs.Together.{AreHeldIn, AreImports};
+ghost use Rattle.fg_named.specs.Together.{ArePersistedIn, AreImports};
 ghost use Rattle.fg_named.specs.WindowFrame.{window_frame};
 ghost use Rattle.fg_window.specs.Means.{MeansTheSame};
 ghost use Rattle.fg_window.specs.Together.{FlyTogether};
 ghost use Rattle.fg_window.specs.Window.{window};
 
-/// Different persisting names are held by different resources. The numbers of a declared window are the window of its frames'
+/// Different persisting names are persisted by different resources. The numbers of a declared window are the window of its frames'
 /// numbers, and these can be compiled together. A window that breaks no limit has no fault, and it means what its frames mean one
 /// after another. So it is for each window of one depth, and for all of them one after another. It does nothing.
 pub fn named_laws()
-    ensures held { (rs : List Resource) (sizes : List ℕ) (persist : List (List ℕ)) → first_repeat persist ≡ None → AreImports rs sizes persist → AreHeldIn rs sizes (map (holder_in rs) persist) }
-    ensures numbers { OfDeclared (λ queues sizes ds held. numbered (window_frame queues ds held) ≡ window (map (λ q. q.family) queues) (map flown_of ds) held) }
-    ensures together { OfDeclared (λ queues sizes ds held. FlyTogether (map (λ q. q.family) queues) sizes (map flown_of ds) held) }
-    ensures faultless { OfDeclared (λ queues sizes ds held. limit_broken (window_frame queues ds held) ≡ None → first_fault (window_frame queues ds held) ≡ None) }
-    ensures means { OfDeclared (λ queues sizes ds held. limit_broken (window_frame queues ds held) ≡ None → MeansTheSame (map (λ q. q.family) queues) (map flown_of ds) held) }
+    ensures persisted { (rs : List Resource) (sizes : List ℕ) (persist : List (List ℕ)) → first_repeat persist ≡ None → AreImports rs sizes persist → ArePersistedIn rs sizes (map (holder_in rs) persist) }
+    ensures numbers { OfDeclared (λ queues sizes ds persisted. numbered (window_frame queues ds persisted) ≡ window (map (λ q. q.family) queues) (map flown_of ds) persisted) }
+    ensures together { OfDeclared (λ queues sizes ds persisted. FlyTogether (map (λ q. q.family) queues) sizes (map flown_of ds) persisted) }
+    ensures faultless { OfDeclared (λ queues sizes ds persisted. limit_broken (window_frame queues ds persisted) ≡ None → first_fault (window_frame queues ds persisted) ≡ None) }
+    ensures means { OfDeclared (λ queues sizes ds persisted. limit_broken (window_frame queues ds persisted) ≡ None → MeansTheSame (map (λ q. q.family) queues) (map flown_of ds) persisted) }
     ensures each { OfDeclared EachDeclared }
     ensures in_turn { OfDeclared EachDeclaredInTurn }
 {}

@@ -9,7 +9,7 @@ use crate::reading::parts;
 use crate::writing::op_value;
 use crate::{members, op_kind};
 use fg_base::Op;
-use fg_forms::{Place, ReadEnd, Reader, Typed, Writer, object, others};
+use fg_forms::{Location, ReadError, Reader, Typed, Writer, object, others};
 use serde_json::Value;
 use std::alloc::{AllocError, Global};
 use std::marker::PhantomData;
@@ -27,7 +27,7 @@ impl<F: Reader> Reader for OpForm<F> {
     ghost Fits = { FitsOp F.Fits };
 
     #[tactic(auto, unfolding(crate::specs::OpReading::op_at))]
-    fn read(alloc: Global, at: &Place<'_>, json: &Value) -> Result<Op<F::Out>, ReadEnd> {
+    fn read(alloc: Global, at: &Location<'_>, json: &Value) -> Result<Op<F::Out>, ReadError> {
         object(alloc, at, json)?;
         let op = parts::<F>(alloc, at, json)?;
         others(alloc, at, members(op_kind(&op)), json)?;

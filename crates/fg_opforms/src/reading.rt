@@ -1,7 +1,7 @@
 //! Reading the members of operations.
 
 ghost use Rattle.std.specs.Prelude.{IfOk};
-ghost use Rattle.fg_forms.specs.Places.{legs};
+ghost use Rattle.fg_forms.specs.Locations.{legs};
 ghost use Rattle.fg_forms.specs.Reading.{Gives};
 ghost use Rattle.fg_opforms.specs.OpFits.{FitsOp};
 ghost use Rattle.fg_opforms.specs.OpReading.{parts_at, variant_at, fill_buffer_at, clear_image_at, copy_buffer_at, copy_image_at, buffer_to_image_at, image_to_buffer_at, ramp_at, map_at, combine_at, select_at, convert_at, box3_at, halve_at, histogram_at, draw_at};
@@ -9,14 +9,14 @@ ghost use Rattle.serde_json.specs.View.{view};
 
 use crate::{FunForm, Kind, KindForm, RectForm};
 use fg_base::Op;
-use fg_forms::{ListForm, NumberForm, Place, ReadEnd, Reader, optional, required};
+use fg_forms::{ListForm, NumberForm, Location, ReadError, Reader, optional, required};
 use serde_json::Value;
 use std::alloc::Global;
 
 /// An operation whose object may have further members: its word under `op`, and then its other members in order.
 /// That the value is an object, and that it has no unknown member, is for the caller to test, by `members`.
 #[tactic(auto, unfolding(crate::specs::OpReading::parts_at))]
-pub fn parts<F: Reader>(alloc: Global, at: &Place<'_>, json: &Value) -> Result<Op<F::Out>, ReadEnd>
+pub fn parts<F: Reader>(alloc: Global, at: &Location<'_>, json: &Value) -> Result<Op<F::Out>, ReadError>
     ensures gives { Gives result (parts_at F.reads (legs at.now) (view json.now)) }
     ensures fits { IfOk result (FitsOp F.Fits) }
 {
@@ -27,10 +27,10 @@ pub fn parts<F: Reader>(alloc: Global, at: &Place<'_>, json: &Value) -> Result<O
 #[tactic(auto, unfolding(crate::specs::OpReading::variant_at))]
 fn variant<F: Reader>(
     alloc: Global,
-    at: &Place<'_>,
+    at: &Location<'_>,
     kind: Kind,
     json: &Value,
-) -> Result<Op<F::Out>, ReadEnd>
+) -> Result<Op<F::Out>, ReadError>
     ensures gives { Gives result (variant_at F.reads kind (legs at.now) (view json.now)) }
     ensures fits { IfOk result (FitsOp F.Fits) }
 {
@@ -56,9 +56,9 @@ fn variant<F: Reader>(
 #[tactic(auto, unfolding(crate::specs::OpReading::fill_buffer_at))]
 fn fill_buffer<F: Reader>(
     alloc: Global,
-    at: &Place<'_>,
+    at: &Location<'_>,
     json: &Value,
-) -> Result<Op<F::Out>, ReadEnd>
+) -> Result<Op<F::Out>, ReadError>
     ensures gives { Gives result (fill_buffer_at F.reads (legs at.now) (view json.now)) }
     ensures fits { IfOk result (FitsOp F.Fits) }
 {
@@ -77,9 +77,9 @@ fn fill_buffer<F: Reader>(
 #[tactic(auto, unfolding(crate::specs::OpReading::clear_image_at))]
 fn clear_image<F: Reader>(
     alloc: Global,
-    at: &Place<'_>,
+    at: &Location<'_>,
     json: &Value,
-) -> Result<Op<F::Out>, ReadEnd>
+) -> Result<Op<F::Out>, ReadError>
     ensures gives { Gives result (clear_image_at F.reads (legs at.now) (view json.now)) }
     ensures fits { IfOk result (FitsOp F.Fits) }
 {
@@ -91,9 +91,9 @@ fn clear_image<F: Reader>(
 #[tactic(auto, unfolding(crate::specs::OpReading::copy_buffer_at))]
 fn copy_buffer<F: Reader>(
     alloc: Global,
-    at: &Place<'_>,
+    at: &Location<'_>,
     json: &Value,
-) -> Result<Op<F::Out>, ReadEnd>
+) -> Result<Op<F::Out>, ReadError>
     ensures gives { Gives result (copy_buffer_at F.reads (legs at.now) (view json.now)) }
     ensures fits { IfOk result (FitsOp F.Fits) }
 {
@@ -112,7 +112,7 @@ fn copy_buffer<F: Reader>(
 }
 
 #[tactic(auto, unfolding(crate::specs::OpReading::copy_image_at))]
-fn copy_image<F: Reader>(alloc: Global, at: &Place<'_>, json: &Value) -> Result<Op<F::Out>, ReadEnd>
+fn copy_image<F: Reader>(alloc: Global, at: &Location<'_>, json: &Value) -> Result<Op<F::Out>, ReadError>
     ensures gives { Gives result (copy_image_at F.reads (legs at.now) (view json.now)) }
     ensures fits { IfOk result (FitsOp F.Fits) }
 {
@@ -139,9 +139,9 @@ fn copy_image<F: Reader>(alloc: Global, at: &Place<'_>, json: &Value) -> Result<
 #[tactic(auto, unfolding(crate::specs::OpReading::buffer_to_image_at))]
 fn buffer_to_image<F: Reader>(
     alloc: Global,
-    at: &Place<'_>,
+    at: &Location<'_>,
     json: &Value,
-) -> Result<Op<F::Out>, ReadEnd>
+) -> Result<Op<F::Out>, ReadError>
     ensures gives { Gives result (buffer_to_image_at F.reads (legs at.now) (view json.now)) }
     ensures fits { IfOk result (FitsOp F.Fits) }
 {
@@ -154,9 +154,9 @@ fn buffer_to_image<F: Reader>(
 #[tactic(auto, unfolding(crate::specs::OpReading::image_to_buffer_at))]
 fn image_to_buffer<F: Reader>(
     alloc: Global,
-    at: &Place<'_>,
+    at: &Location<'_>,
     json: &Value,
-) -> Result<Op<F::Out>, ReadEnd>
+) -> Result<Op<F::Out>, ReadError>
     ensures gives { Gives result (image_to_buffer_at F.reads (legs at.now) (view json.now)) }
     ensures fits { IfOk result (FitsOp F.Fits) }
 {
@@ -167,7 +167,7 @@ fn image_to_buffer<F: Reader>(
 }
 
 #[tactic(auto, unfolding(crate::specs::OpReading::ramp_at))]
-fn ramp<F: Reader>(alloc: Global, at: &Place<'_>, json: &Value) -> Result<Op<F::Out>, ReadEnd>
+fn ramp<F: Reader>(alloc: Global, at: &Location<'_>, json: &Value) -> Result<Op<F::Out>, ReadError>
     ensures gives { Gives result (ramp_at F.reads (legs at.now) (view json.now)) }
     ensures fits { IfOk result (FitsOp F.Fits) }
 {
@@ -179,7 +179,7 @@ fn ramp<F: Reader>(alloc: Global, at: &Place<'_>, json: &Value) -> Result<Op<F::
 }
 
 #[tactic(auto, unfolding(crate::specs::OpReading::map_at))]
-fn map<F: Reader>(alloc: Global, at: &Place<'_>, json: &Value) -> Result<Op<F::Out>, ReadEnd>
+fn map<F: Reader>(alloc: Global, at: &Location<'_>, json: &Value) -> Result<Op<F::Out>, ReadError>
     ensures gives { Gives result (map_at F.reads (legs at.now) (view json.now)) }
     ensures fits { IfOk result (FitsOp F.Fits) }
 {
@@ -196,7 +196,7 @@ fn map<F: Reader>(alloc: Global, at: &Place<'_>, json: &Value) -> Result<Op<F::O
 }
 
 #[tactic(auto, unfolding(crate::specs::OpReading::combine_at))]
-fn combine<F: Reader>(alloc: Global, at: &Place<'_>, json: &Value) -> Result<Op<F::Out>, ReadEnd>
+fn combine<F: Reader>(alloc: Global, at: &Location<'_>, json: &Value) -> Result<Op<F::Out>, ReadError>
     ensures gives { Gives result (combine_at F.reads (legs at.now) (view json.now)) }
     ensures fits { IfOk result (FitsOp F.Fits) }
 {
@@ -208,7 +208,7 @@ fn combine<F: Reader>(alloc: Global, at: &Place<'_>, json: &Value) -> Result<Op<
 }
 
 #[tactic(auto, unfolding(crate::specs::OpReading::select_at))]
-fn select<F: Reader>(alloc: Global, at: &Place<'_>, json: &Value) -> Result<Op<F::Out>, ReadEnd>
+fn select<F: Reader>(alloc: Global, at: &Location<'_>, json: &Value) -> Result<Op<F::Out>, ReadError>
     ensures gives { Gives result (select_at F.reads (legs at.now) (view json.now)) }
     ensures fits { IfOk result (FitsOp F.Fits) }
 {
@@ -220,7 +220,7 @@ fn select<F: Reader>(alloc: Global, at: &Place<'_>, json: &Value) -> Result<Op<F
 }
 
 #[tactic(auto, unfolding(crate::specs::OpReading::convert_at))]
-fn convert<F: Reader>(alloc: Global, at: &Place<'_>, json: &Value) -> Result<Op<F::Out>, ReadEnd>
+fn convert<F: Reader>(alloc: Global, at: &Location<'_>, json: &Value) -> Result<Op<F::Out>, ReadError>
     ensures gives { Gives result (convert_at F.reads (legs at.now) (view json.now)) }
     ensures fits { IfOk result (FitsOp F.Fits) }
 {
@@ -230,7 +230,7 @@ fn convert<F: Reader>(alloc: Global, at: &Place<'_>, json: &Value) -> Result<Op<
 }
 
 #[tactic(auto, unfolding(crate::specs::OpReading::box3_at))]
-fn box3<F: Reader>(alloc: Global, at: &Place<'_>, json: &Value) -> Result<Op<F::Out>, ReadEnd>
+fn box3<F: Reader>(alloc: Global, at: &Location<'_>, json: &Value) -> Result<Op<F::Out>, ReadError>
     ensures gives { Gives result (box3_at F.reads (legs at.now) (view json.now)) }
     ensures fits { IfOk result (FitsOp F.Fits) }
 {
@@ -240,7 +240,7 @@ fn box3<F: Reader>(alloc: Global, at: &Place<'_>, json: &Value) -> Result<Op<F::
 }
 
 #[tactic(auto, unfolding(crate::specs::OpReading::halve_at))]
-fn halve<F: Reader>(alloc: Global, at: &Place<'_>, json: &Value) -> Result<Op<F::Out>, ReadEnd>
+fn halve<F: Reader>(alloc: Global, at: &Location<'_>, json: &Value) -> Result<Op<F::Out>, ReadError>
     ensures gives { Gives result (halve_at F.reads (legs at.now) (view json.now)) }
     ensures fits { IfOk result (FitsOp F.Fits) }
 {
@@ -250,7 +250,7 @@ fn halve<F: Reader>(alloc: Global, at: &Place<'_>, json: &Value) -> Result<Op<F:
 }
 
 #[tactic(auto, unfolding(crate::specs::OpReading::histogram_at))]
-fn histogram<F: Reader>(alloc: Global, at: &Place<'_>, json: &Value) -> Result<Op<F::Out>, ReadEnd>
+fn histogram<F: Reader>(alloc: Global, at: &Location<'_>, json: &Value) -> Result<Op<F::Out>, ReadError>
     ensures gives { Gives result (histogram_at F.reads (legs at.now) (view json.now)) }
     ensures fits { IfOk result (FitsOp F.Fits) }
 {
@@ -260,7 +260,7 @@ fn histogram<F: Reader>(alloc: Global, at: &Place<'_>, json: &Value) -> Result<O
 }
 
 #[tactic(auto, unfolding(crate::specs::OpReading::draw_at))]
-fn draw<F: Reader>(alloc: Global, at: &Place<'_>, json: &Value) -> Result<Op<F::Out>, ReadEnd>
+fn draw<F: Reader>(alloc: Global, at: &Location<'_>, json: &Value) -> Result<Op<F::Out>, ReadError>
     ensures gives { Gives result (draw_at F.reads (legs at.now) (view json.now)) }
     ensures fits { IfOk result (FitsOp F.Fits) }
 {

@@ -5,7 +5,7 @@ ghost use Rattle.fg_opforms.specs.Rects.{rect_at, rect_data, FitsRect};
 use crate::MixForm;
 use fg_base::{Mix, Rect};
 use fg_forms::{
-    NumberForm, Place, ReadEnd, Reader, Typed, Writer, object, optional, others, required,
+    NumberForm, Location, ReadError, Reader, Typed, Writer, object, optional, others, required,
     with_form,
 };
 use serde_json::{Map, Value};
@@ -22,7 +22,7 @@ impl Reader for RectForm {
     ghost Fits = { FitsRect };
 
     #[tactic(auto, unfolding(crate::specs::Rects::rect_at))]
-    fn read(alloc: Global, at: &Place<'_>, json: &Value) -> Result<Rect, ReadEnd> {
+    fn read(alloc: Global, at: &Location<'_>, json: &Value) -> Result<Rect, ReadError> {
         object(alloc, at, json)?;
         let x = required::<NumberForm>(alloc, at, "x", json)?;
         let y = required::<NumberForm>(alloc, at, "y", json)?;

@@ -1,5 +1,5 @@
 pub mod Anew
 pub mod Bands
 pub mod Closures
-pub mod Code
+pub mod Internal
 pub mod Sources

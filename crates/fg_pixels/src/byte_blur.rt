@@ -5,7 +5,7 @@ ghost use Rattle.fg_base.specs.Kernels.{three, box3};
 ghost use Rattle.fg_base.specs.Texels.{picture, band};
 ghost use Rattle.fg_base.specs.declared.shape.Texel.TheVariants.{R8};
 ghost use Rattle.fg_pixels.specs.Bands.{HasRows};
-ghost use Rattle.fg_pixels.specs.Code.Sums.{AreColumns, AreSmall};
+ghost use Rattle.fg_pixels.specs.Internal.Sums.{AreColumns, AreSmall};
 
 use crate::columns::{after, column_sum};
 use crate::painting::paint_framed;

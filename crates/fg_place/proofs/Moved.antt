@@ -3,7 +3,7 @@ use Rattle.std.proofs.Common.{◌≡◌, ℕ, ◌+◌, ◌%◌, ◌<◌, ◌≤�
 use Rattle.std.proofs.lemmas.Bool.{cases_lt}
 use Rattle.std.proofs.lemmas.List.{get_or_default}
 use Rattle.fg_place.specs.Placing.{collides, granule}
-use Rattle.fg_place.specs.Code.Moving.{IsPast, IsTaken}
+use Rattle.fg_place.specs.Internal.Moving.{IsPast, IsTaken}
 
 module _ (sizes : List ℕ) (ordered : ℕ → ℕ → Bool) (offsets placed : List ℕ) (i k : ℕ) (lt : k < length placed) where
   pub taken_more : (old new : ℕ) → IsTaken sizes ordered offsets placed i old → ((lower : ℕ) → old ≤ lower → lower < new → lower % granule ≡ 0 → collides sizes ordered offsets i lower (get_or placed k 0) ≡ true) → IsTaken sizes ordered offsets placed i new

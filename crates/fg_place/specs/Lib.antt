@@ -1,3 +1,3 @@
-pub mod Code
+pub mod Internal
 pub mod Pairs
 pub mod Placing

@@ -4,8 +4,8 @@ ghost use Rattle.std.specs.Prelude.{◌≡◌, ◌<◌, ◌≤◌, ◌+◌, ◌%
 ghost use Rattle.std.specs.List.{All};
 ghost use Rattle.fg_place.specs.Pairs.{has};
 ghost use Rattle.fg_place.specs.Placing.{number_at, collides, granule};
-ghost use Rattle.fg_place.specs.Code.Moving.{Fits, IsLowest};
-ghost use Rattle.fg_place.specs.Code.Rising.{IsRising};
+ghost use Rattle.fg_place.specs.Internal.Moving.{Fits, IsLowest};
+ghost use Rattle.fg_place.specs.Internal.Rising.{IsRising};
 
 use crate::Pairs;
 

@@ -5,7 +5,7 @@ use Rattle.std.proofs.lemmas.Nat.Bits.{bit_at-zero}
 use Rattle.std.proofs.lemmas.List.{get_or_append_left, get_or-append-add}
 use Rattle.std.specs.Int.{bit_at}
 use Rattle.fg_reach.specs.Bits.{bit}
-use Rattle.fg_reach.specs.Code.Closing.{row_bit, ClosedRows, Reaches, FirstClosed}
+use Rattle.fg_reach.specs.Internal.Closing.{row_bit, ClosedRows, Reaches, FirstClosed}
 
 pub cat_left : (xs ys : List ℕ) (b : ℕ) → b < 64 * length xs → bit (xs ++ ys) b ≡ bit xs b
 unfolding bit

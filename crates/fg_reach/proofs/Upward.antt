@@ -5,7 +5,7 @@ use Rattle.std.proofs.lemmas.List.{get_or_append_left}
 use Rattle.std.specs.Int.{bit_at}
 use Rattle.std.proofs.Math.Seq.{drop-append_seam, drop-append-add}
 use Rattle.fg_reach.specs.Bits.{bit}
-use Rattle.fg_reach.specs.Code.Closing.{row_bit, ClosedRows, FirstClosed}
+use Rattle.fg_reach.specs.Internal.Closing.{row_bit, ClosedRows, FirstClosed}
 use Rattle.fg_reach.specs.Pairs.{pairs_of, Ahead}
 use Rattle.fg_reach.specs.Paths.{Path, one, then_on}
 use Rattle.fg_reach.proofs.FirstRow.{cat_right, here}

@@ -9,7 +9,7 @@ use Rattle.std.specs.Int.{bit_not}
 use Rattle.std.specs.Prelude.{bit_or, bit_and, nat_le, if◌then◌else◌}
 use Rattle.std.specs.Int.{bit_at}
 use Rattle.fg_reach.specs.Bits.{bit}
-use Rattle.fg_reach.specs.Code.Closing.{row_bit, ClosedRows, Reaches, Grown}
+use Rattle.fg_reach.specs.Internal.Closing.{row_bit, ClosedRows, Reaches, Grown}
 
 pub eq_no : (a b : ℕ) → a ≢ b → (a == b) ≡ false
 eq_no a b ne = ⊎_elim (λ h. absurd (ne (eqb-true a b h))) (λ h. h) (cases_Bool (a == b))

@@ -1,4 +1,4 @@
 pub mod Bits
-pub mod Code
+pub mod Internal
 pub mod Pairs
 pub mod Paths

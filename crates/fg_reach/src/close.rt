@@ -2,7 +2,7 @@
 
 ghost use Rattle.std.specs.Prelude.{◌≡◌, ◌<◌, ◌≤◌, ◌↔◌, ◌||◌, ◌+◌, ◌-◌, ◌*◌, ◌/◌, ◌^◌, ◌==◌, ℕ, length, true, false, get_or, bit_or, nat_le, drop, if◌then◌else◌};
 ghost use Rattle.fg_reach.specs.Bits.{bit};
-ghost use Rattle.fg_reach.specs.Code.Closing.{ClosedRows, Reaches, Grown, FirstClosed};
+ghost use Rattle.fg_reach.specs.Internal.Closing.{ClosedRows, Reaches, Grown, FirstClosed};
 ghost use Rattle.fg_reach.specs.Pairs.{pairs_of, Ahead};
 ghost use Rattle.fg_reach.specs.Paths.{Path};
 

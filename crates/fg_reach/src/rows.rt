@@ -24,7 +24,7 @@ pub struct Rows {
 
 impl Model for Rows {
     ghost use Rattle.fg_reach.specs.Pairs.{Pairs};
-    ghost use Rattle.fg_reach.specs.Code.Fields.{view_of, IsKept};
+    ghost use Rattle.fg_reach.specs.Internal.Fields.{view_of, IsKept};
 
     ghost Value = { Pairs };
 

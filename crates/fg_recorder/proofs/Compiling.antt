@@ -8,8 +8,8 @@ use Rattle.fg_groups.specs.Placed.{placed, sizes}
 use Rattle.fg_groups.specs.declared.grouping.Grouping.{Grouping}
 use Rattle.fg_lifetimes.specs.Ordered.{IsOrdered}
 use Rattle.fg_place.specs.Placing.{Places, IsLeast}
-use Rattle.fg_recorder.specs.Code.Folded.{all_steps, whole_program}
-use Rattle.fg_recorder.specs.Code.Stages.{IsLaid}
+use Rattle.fg_recorder.specs.Internal.Folded.{all_steps, whole_program}
+use Rattle.fg_recorder.specs.Internal.Laid.{IsLaid}
 use Rattle.fg_recorder.specs.Marks.{steps_of}
 use Rattle.fg_recorder.specs.Pieces.{memories, pieces, readbacks}
 use Rattle.fg_recorder.specs.Recorded.{heap_with, program_of, IsCompiled}

@@ -7,9 +7,9 @@ use Rattle.std.proofs.lemmas.List.FromFn.{length-range_with_len, length-map-rang
 use Rattle.std.proofs.lemmas.List.Sums.{count_by-le-length, sum_by_push}
 use Rattle.fg_base.proofs.Lists.{range_more}
 use Rattle.fg_groups.specs.declared.grouping.Grouping.{Grouping}
-use Rattle.fg_recorder.specs.Code.Resources.{AreFew, resource_at, all_resources, given_below, next_resource, next_given, one_if, is_placed}
+use Rattle.fg_recorder.specs.Internal.Resources.{AreFew, resource_at, all_resources, assigned_below, next_resource, next_assigned, one_if, is_placed}
 use Rattle.fg_recorder.specs.Pieces.{has_piece, has_memory}
-use Rattle.fg_recorder.specs.declared.resource.Given.{Given}
+use Rattle.fg_recorder.specs.declared.resource.Assigned.{Assigned}
 use Rattle.fg_recorder.specs.declared.resource.Resource.{Resource}
 
 range_next : (n : ℕ) → range_with_len 0 (n + 1) ≡ range_with_len 0 n ++ n ∷ []
@@ -37,22 +37,22 @@ mapped_more front f p n list more e m =
 count-few : (p : ℕ → Bool) (n most : ℕ) → n ≤ most → count_by p (range_with_len 0 n) ≤ most
 count-few p n most le = omega (arith, le, count_by-le-length p (range_with_len 0 n), length-range_with_len 0 n)
 
-pub given-few : (G : Grouping) (r : ℕ) (given : Given) → r ≤ 288 → given ≡ given_below G r → AreFew given
-given-few G r given le is = subst AreFew (sym is) (record {
+pub assigned-few : (G : Grouping) (r : ℕ) (assigned : Assigned) → r ≤ 288 → assigned ≡ assigned_below G r → AreFew assigned
+assigned-few G r assigned le is = subst AreFew (sym is) (record {
   pieces = count-few (has_piece G) r 288 le;
   memories = count-few (has_memory G) r 288 le;
   places = count-few (is_placed G) r 288 le;
 })
 
-made : (m n a b p q : ℕ) → m ≡ n → a ≡ b → p ≡ q → (let given : Given = record { pieces = m; memories = a; places = p } in given) ≡ record { pieces = n; memories = b; places = q }
+made : (m n a b p q : ℕ) → m ≡ n → a ≡ b → p ≡ q → (let assigned : Assigned = record { pieces = m; memories = a; places = p } in assigned) ≡ record { pieces = n; memories = b; places = q }
 made m n a b p q e f g =
-    ap₂ (λ (x y : ℕ). let given : Given = record { pieces = x; memories = y; places = p } in given) e f
-    ∙ ap (λ (z : ℕ). let given : Given = record { pieces = n; memories = b; places = z } in given) g
+    ap₂ (λ (x y : ℕ). let assigned : Assigned = record { pieces = x; memories = y; places = p } in assigned) e f
+    ∙ ap (λ (z : ℕ). let assigned : Assigned = record { pieces = n; memories = b; places = z } in assigned) g
 
-pub given_more : (G : Grouping) (r : ℕ) (given more : Given) (piece memory : Bool) → given ≡ given_below G r → piece ≡ has_piece G r → memory ≡ has_memory G r → more ≡ next_given given piece memory → more ≡ given_below G (r + 1)
-given_more G r given more piece memory is of_piece of_memory e =
-    e ∙ ap₂ (next_given given) of_piece of_memory
-    ∙ ap (λ (g : Given). next_given g (has_piece G r) (has_memory G r)) is
+pub assigned_more : (G : Grouping) (r : ℕ) (assigned more : Assigned) (piece memory : Bool) → assigned ≡ assigned_below G r → piece ≡ has_piece G r → memory ≡ has_memory G r → more ≡ next_assigned assigned piece memory → more ≡ assigned_below G (r + 1)
+assigned_more G r assigned more piece memory is of_piece of_memory e =
+    e ∙ ap₂ (next_assigned assigned) of_piece of_memory
+    ∙ ap (λ (g : Assigned). next_assigned g (has_piece G r) (has_memory G r)) is
     ∙ made (count_by (has_piece G) (range_with_len 0 r) + one_if (has_piece G r)) (count_by (has_piece G) (range_with_len 0 (r + 1)))
     (count_by (has_memory G) (range_with_len 0 r) + one_if (has_memory G r)) (count_by (has_memory G) (range_with_len 0 (r + 1)))
     (count_by (is_placed G) (range_with_len 0 r) + one_if (is_placed G r)) (count_by (is_placed G) (range_with_len 0 (r + 1)))
@@ -60,9 +60,9 @@ given_more G r given more piece memory is of_piece of_memory e =
 
 -- RESOURCES
 
-pub resource_more : (G : Grouping) (r : ℕ) (given : Given) (piece memory : Bool) (resource : Resource) (list more : List Resource) → given ≡ given_below G r → piece ≡ has_piece G r → memory ≡ has_memory G r → resource ≡ next_resource given piece memory → list ≡ map (resource_at G) (range_with_len 0 r) → more ≡ list ++ resource ∷ [] → more ≡ map (resource_at G) (range_with_len 0 (r + 1))
-resource_more G r given piece memory resource list more is of_piece of_memory e so_far m =
-    let here : resource ≡ resource_at G r = e ∙ ap₂ (next_resource given) of_piece of_memory ∙ ap (λ (g : Given). next_resource g (has_piece G r) (has_memory G r)) is in
+pub resource_more : (G : Grouping) (r : ℕ) (assigned : Assigned) (piece memory : Bool) (resource : Resource) (list more : List Resource) → assigned ≡ assigned_below G r → piece ≡ has_piece G r → memory ≡ has_memory G r → resource ≡ next_resource assigned piece memory → list ≡ map (resource_at G) (range_with_len 0 r) → more ≡ list ++ resource ∷ [] → more ≡ map (resource_at G) (range_with_len 0 (r + 1))
+resource_more G r assigned piece memory resource list more is of_piece of_memory e so_far m =
+    let here : resource ≡ resource_at G r = e ∙ ap₂ (next_resource assigned) of_piece of_memory ∙ ap (λ (g : Assigned). next_resource g (has_piece G r) (has_memory G r)) is in
     m ∙ ap₂ (λ l x. l ++ x ∷ []) so_far here ∙ sym (ap (map (resource_at G)) (range_next r) ∙ map-append (resource_at G) (range_with_len 0 r) (r ∷ []))
 
 pub resource_there : (G : Grouping) (resources : List Resource) (r : ℕ) (d : Resource) → resources ≡ all_resources G → r < length G.shapes → get_or resources r d ≡ resource_at G r

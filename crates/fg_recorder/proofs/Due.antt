@@ -19,30 +19,30 @@ use Rattle.fg_groups.specs.declared.grouping.Grouping.{Grouping}
 use Rattle.fg_groups.specs.declared.unit_use.Use.{Use}
 use Rattle.fg_recorder.proofs.Contained.{contains_filter, contains_some, kept}
 use Rattle.fg_recorder.proofs.Membership.{IsMember, IsUsed, member_of, contained, some, first_member, last_member, command_below, queue_below, member_queue, after_first, before_last, groups_rise, next_shares, each_used}
-use Rattle.fg_recorder.specs.Items.{layouts_between, barrier, transfer, init, does_turn, items_of, turn_items, release_item}
+use Rattle.fg_recorder.specs.Items.{layouts_between, barrier, transfer, init, does_prologue, items_of, prologue_items, release_item}
 use Rattle.fg_recorder.specs.Pieces.{piece_of}
-use Rattle.fg_recorder.specs.Script.{is_command, use_needs, use_turns, is_released, use_releases, host_barrier, groups_used, does_command, block}
+use Rattle.fg_recorder.specs.Script.{is_command, use_needs, use_prologues, is_released, use_releases, host_barrier, groups_used, does_command, block}
 use Rattle.fg_recorder.specs.Standing.{beside, IsRecorded}
 use Rattle.fg_recorder.specs.Wanted.{last_command, last_on, last_elsewhere, wanted_by, wanted_first, is_there, wanted_further, wanted_release}
 use Rattle.fg_recorder.specs.declared.mark.Mark.{Mark}
-use Rattle.fg_recorder.specs.declared.mark.Mark.TheVariants.{Command, Turn as OfTurn, Release}
+use Rattle.fg_recorder.specs.declared.mark.Mark.TheVariants.{Command, Prologue as OfPrologue, Release}
 use Rattle.fg_recorder.specs.declared.mark.Marked.{Marked}
 use Rattle.fg_recorder.specs.declared.mark.Marked.TheVariants.{Does, Needs}
 use Rattle.fg_subs.specs.declared.program.Item.{Item}
 use Rattle.fg_subs.specs.declared.program.Item.TheVariants as item
 use Rattle.fg_turns.specs.Masks.{host_masks}
-use Rattle.fg_turns.specs.Turns.{first, last, has_uses, earlier, first_kind, kind_of, turn_of, is_transfer}
+use Rattle.fg_turns.specs.Prologues.{first, last, has_uses, earlier, first_kind, kind_of, prologue_of, is_transfer}
 use Rattle.fg_turns.specs.Under.{Heap, place_of, uses_under}
 use Rattle.fg_turns.specs.Unions.{on}
-use Rattle.fg_turns.specs.declared.turn.TurnKind.{TurnKind}
-use Rattle.fg_turns.specs.declared.turn.TurnKind.TheVariants as kinds
+use Rattle.fg_turns.specs.declared.prologue.PrologueKind.{PrologueKind}
+use Rattle.fg_turns.specs.declared.prologue.PrologueKind.TheVariants as kinds
 
 -- MARKS
 
 -- the queue of the item with the mark
 abbrev pub home : Grouping → Mark → ℕ
 home G (Command c) = queue_of G c
-home G (OfTurn g) = (first (group_at G g)).queue
+home G (OfPrologue g) = (first (group_at G g)).queue
 home G (Release g) = (last (group_at G g)).queue
 
 -- queue q can need it before command c, or right after it
@@ -126,7 +126,7 @@ module _ (G : Grouping) (heap : Heap) (L : IsGrouped G) (known : All (λ command
     Due = IsDue G heap c q
 
     -- after the uses of the group before
-    after_group : (g : ℕ) → suc g < length G.groups → goes_on G g ≡ true → (first (group_at G (suc g))).command ≡ c → (kind : TurnKind) → (turn_of G heap (suc g)).kind ≡ kind → earlier G (suc g) ≡ group_at G g → All Due (wanted_by kind G (turn_of G heap (suc g)) (group_at G g))
+    after_group : (g : ℕ) → suc g < length G.groups → goes_on G g ≡ true → (first (group_at G (suc g))).command ≡ c → (kind : PrologueKind) → (prologue_of G heap (suc g)).kind ≡ kind → earlier G (suc g) ≡ group_at G g → All Due (wanted_by kind G (prologue_of G heap (suc g)) (group_at G g))
     after_group g within goes command kinds.Nothing e is = All-nil Due
     after_group g within goes command kinds.Barrier e is = elsewhere Due G (first (group_at G (suc g))).queue (group_at G g) each
       where
@@ -146,7 +146,7 @@ module _ (G : Grouping) (heap : Heap) (L : IsGrouped G) (known : All (λ command
         let apart = (transfer_between G (earlier G (suc g)) (uses_under G heap (place_of G (first (group_at G (suc g))).unit)) (group_at G (suc g)) e).1 in
         one Due (Release (suc g - 1))
         (subst (λ n. Due (Release n)) number (record {
-          recorded = (under, and_from (goes_on G g) (is_transfer (turn_of G heap (suc g)).kind) goes (ap is_transfer e));
+          recorded = (under, and_from (goes_on G g) (is_transfer (prologue_of G heap (suc g)).kind) goes (ap is_transfer e));
           before = subst (λ n. (last (group_at G g)).command < n) command (groups_rise G L g (last (group_at G g)) (first (group_at G (suc g))) M N goes);
           other = λ same. false≢true (sym (subst (λ A. shares G.families G.sharings (first (group_at G (suc g))).unit (first A).queue (first (group_at G (suc g))).queue ≡ false) is apart)
               ∙ subst (λ r. shares G.families G.sharings (first (group_at G (suc g))).unit (first (group_at G g)).queue r ≡ true) (same ∙ sym (own_queue (suc g) (first (group_at G (suc g))) N command)) (next_shares G L g within goes));
@@ -156,7 +156,7 @@ module _ (G : Grouping) (heap : Heap) (L : IsGrouped G) (known : All (λ command
     after_group g within goes command kinds.AliasInit e is = All-nil Due
 
     -- where there is none before
-    after_none : (kind : TurnKind) (g : ℕ) → g < length G.groups → (turn_of G heap g).kind ≡ kind → earlier G g ≡ [] → All Due (wanted_by kind G (turn_of G heap g) [])
+    after_none : (kind : PrologueKind) (g : ℕ) → g < length G.groups → (prologue_of G heap g).kind ≡ kind → earlier G g ≡ [] → All Due (wanted_by kind G (prologue_of G heap g) [])
     after_none kinds.Nothing g within e is = All-nil Due
     after_none kinds.Barrier g within e is = elsewhere Due G (first (group_at G g)).queue [] (λ p differ none. absurd (omega (arith, none)))
     after_none kinds.Transfer g within e is =
@@ -166,27 +166,27 @@ module _ (G : Grouping) (heap : Heap) (L : IsGrouped G) (known : All (λ command
     after_none kinds.Init g within e is = All-nil Due
     after_none kinds.AliasInit g within e is = All-nil Due
 
-    first_due : (g : ℕ) → g < length G.groups → (first (group_at G g)).command ≡ c → All Due (wanted_first G (turn_of G heap g) (earlier G g))
-    first_due zero within command = after_none (turn_of G heap zero).kind zero within refl refl
+    first_due : (g : ℕ) → g < length G.groups → (first (group_at G g)).command ≡ c → All Due (wanted_first G (prologue_of G heap g) (earlier G g))
+    first_due zero within command = after_none (prologue_of G heap zero).kind zero within refl refl
     first_due (suc g) within command = go (goes_on G g) refl
       where
-        go : (o : Bool) → goes_on G g ≡ o → All Due (wanted_by (turn_of G heap (suc g)).kind G (turn_of G heap (suc g)) (earlier G (suc g)))
+        go : (o : Bool) → goes_on G g ≡ o → All Due (wanted_by (prologue_of G heap (suc g)).kind G (prologue_of G heap (suc g)) (earlier G (suc g)))
         go true e =
             let is : earlier G (suc g) ≡ group_at G g = ap (λ o. if o then group_at G g else []) e in
-            subst (λ A. All Due (wanted_by (turn_of G heap (suc g)).kind G (turn_of G heap (suc g)) A)) (sym is) (after_group g within e command (turn_of G heap (suc g)).kind refl is)
+            subst (λ A. All Due (wanted_by (prologue_of G heap (suc g)).kind G (prologue_of G heap (suc g)) A)) (sym is) (after_group g within e command (prologue_of G heap (suc g)).kind refl is)
         go false e =
             let is : earlier G (suc g) ≡ [] = ap (λ o. if o then group_at G g else []) e in
-            subst (λ A. All Due (wanted_by (turn_of G heap (suc g)).kind G (turn_of G heap (suc g)) A)) (sym is) (after_none (turn_of G heap (suc g)).kind (suc g) within refl is)
+            subst (λ A. All Due (wanted_by (prologue_of G heap (suc g)).kind G (prologue_of G heap (suc g)) A)) (sym is) (after_none (prologue_of G heap (suc g)).kind (suc g) within refl is)
 
     -- FURTHER QUEUES OF A GROUP
 
-    further_due : (g : ℕ) → g < length G.groups → 0 < length (on q (group_at G g)) → is_command c (first (group_at G g)) ≡ false → is_command c (first (on q (group_at G g))) ≡ true → All Due (wanted_further (turn_of G heap g))
-    further_due g within some-on miss hit = either Due (is_there (turn_of G heap g).kind) (OfTurn g ∷ []) [] (λ e. one Due (OfTurn g) (due e)) (λ e. All-nil Due)
+    further_due : (g : ℕ) → g < length G.groups → 0 < length (on q (group_at G g)) → is_command c (first (group_at G g)) ≡ false → is_command c (first (on q (group_at G g))) ≡ true → All Due (wanted_further (prologue_of G heap g))
+    further_due g within some-on miss hit = either Due (is_there (prologue_of G heap g).kind) (OfPrologue g ∷ []) [] (λ e. one Due (OfPrologue g) (due e)) (λ e. All-nil Due)
       where
         differ : first (on q (group_at G g)) ≡ first (group_at G g) → ⊥
         differ e = false≢true (sym miss ∙ ap (is_command c) (sym e) ∙ hit)
 
-        due : is_there (turn_of G heap g).kind ≡ true → Due (OfTurn g)
+        due : is_there (prologue_of G heap g).kind ≡ true → Due (OfPrologue g)
         due e = record {
           recorded = (within, e);
           before = subst (λ n. (first (group_at G g)).command < n) (eqb-true (first (on q (group_at G g))).command c hit) (after_first G L g (first (on q (group_at G g))) (on_member g q 0 within some-on) differ);
@@ -195,9 +195,9 @@ module _ (G : Grouping) (heap : Heap) (L : IsGrouped G) (known : All (λ command
 
     needs_due : (g : ℕ) → IsUsed G c g → All Due (use_needs G heap q c g)
     needs_due g U =
-        either Due (is_command c (first (group_at G g))) (wanted_first G (turn_of G heap g) (earlier G g)) (if is_command c (first (on q (group_at G g))) then wanted_further (turn_of G heap g) else [])
+        either Due (is_command c (first (group_at G g))) (wanted_first G (prologue_of G heap g) (earlier G g)) (if is_command c (first (on q (group_at G g))) then wanted_further (prologue_of G heap g) else [])
         (λ e. first_due g U.member.group (eqb-true (first (group_at G g)).command c e))
-        (λ miss. either Due (is_command c (first (on q (group_at G g)))) (wanted_further (turn_of G heap g)) []
+        (λ miss. either Due (is_command c (first (on q (group_at G g)))) (wanted_further (prologue_of G heap g)) []
         (λ hit. further_due g U.member.group some-on miss hit)
         (λ e. All-nil Due))
       where
@@ -206,32 +206,32 @@ module _ (G : Grouping) (heap : Heap) (L : IsGrouped G) (known : All (λ command
 
     -- ITEMS
 
-    turns_fit : (g : ℕ) → IsUsed G c g → All (Fits G heap c) (use_turns G heap c g)
-    turns_fit g U = either (Fits G heap c) (is_command c (first (group_at G g))) (turn_items G (turn_of G heap g) (earlier G g) (group_at G g)) [] (λ e. items (turn_of G heap g).kind) (λ e. All-nil (Fits G heap c))
+    prologues_fit : (g : ℕ) → IsUsed G c g → All (Fits G heap c) (use_prologues G heap c g)
+    prologues_fit g U = either (Fits G heap c) (is_command c (first (group_at G g))) (prologue_items G (prologue_of G heap g) (earlier G g) (group_at G g)) [] (λ e. items (prologue_of G heap g).kind) (λ e. All-nil (Fits G heap c))
       where
         below : (first (group_at G g)).queue < length G.families
         below = queue_below G L known g (first (group_at G g)) (first_member G L g U.member.group)
 
-        does : (item : Item) → Fits G heap c (does_turn (turn_of G heap g) item)
+        does : (item : Item) → Fits G heap c (does_prologue (prologue_of G heap g) item)
         does item = (below, refl)
 
-        items : (kind : TurnKind) → All (Fits G heap c) (items_of kind G (turn_of G heap g) (earlier G g) (group_at G g))
+        items : (kind : PrologueKind) → All (Fits G heap c) (items_of kind G (prologue_of G heap g) (earlier G g) (group_at G g))
         items kinds.Nothing = All-nil (Fits G heap c)
         items kinds.Barrier =
-            let it : Item = barrier (piece_of G (first (group_at G g)).unit) (layouts_between (earlier G g) (group_at G g)) (turn_of G heap g).masks in
-            one (Fits G heap c) (does_turn (turn_of G heap g) it) (does it)
+            let it : Item = barrier (piece_of G (first (group_at G g)).unit) (layouts_between (earlier G g) (group_at G g)) (prologue_of G heap g).masks in
+            one (Fits G heap c) (does_prologue (prologue_of G heap g) it) (does it)
         items kinds.Transfer =
-            let it : Item = item.Acquire (transfer G (earlier G g) (group_at G g) (turn_of G heap g).masks) in
-            one (Fits G heap c) (does_turn (turn_of G heap g) it) (does it)
+            let it : Item = item.Acquire (transfer G (earlier G g) (group_at G g) (prologue_of G heap g).masks) in
+            one (Fits G heap c) (does_prologue (prologue_of G heap g) it) (does it)
         items kinds.Alias =
-            let it : Item = item.Global (turn_of G heap g).masks in
-            one (Fits G heap c) (does_turn (turn_of G heap g) it) (does it)
+            let it : Item = item.Global (prologue_of G heap g).masks in
+            one (Fits G heap c) (does_prologue (prologue_of G heap g) it) (does it)
         items kinds.Init =
             let it : Item = init G (group_at G g) in
-            one (Fits G heap c) (does_turn (turn_of G heap g) it) (does it)
+            one (Fits G heap c) (does_prologue (prologue_of G heap g) it) (does it)
         items kinds.AliasInit =
-            let global : Marked = Does (turn_of G heap g).queue None (item.Global (turn_of G heap g).masks) in
-            let it : Marked = does_turn (turn_of G heap g) (init G (group_at G g)) in
+            let global : Marked = Does (prologue_of G heap g).queue None (item.Global (prologue_of G heap g).masks) in
+            let it : Marked = does_prologue (prologue_of G heap g) (init G (group_at G g)) in
             All-append (Fits G heap c) (global ∷ []) (it ∷ []) (one (Fits G heap c) global (below, tt)) (one (Fits G heap c) it (does (init G (group_at G g))))
 
     releases_fit : (g : ℕ) → IsUsed G c g → All (Fits G heap c) (use_releases G heap q c g)
@@ -281,13 +281,13 @@ module _ (G : Grouping) (heap : Heap) (L : IsGrouped G) (known : All (λ command
       let own : queue_of G c ≡ command.queue = ap (λ o. option_map_or (λ (x : commands.Command). x.queue) o 0) there in
       let gs : List ℕ = groups_used G c in
       let needs : List Marked = map (Needs q) (flat_map (use_needs G heap q c) gs) in
-      let turns : List Marked = flat_map (use_turns G heap c) gs in
+      let prologues : List Marked = flat_map (use_prologues G heap c) gs in
       let after : List Marked = does_command G c command ∷ flat_map (use_releases G heap q c) gs in
-      All-append (Fits G heap c) ((needs ++ turns) ++ after) (host_barrier G command command.export)
-      (All-append (Fits G heap c) (needs ++ turns) after
-      (All-append (Fits G heap c) needs turns
+      All-append (Fits G heap c) ((needs ++ prologues) ++ after) (host_barrier G command command.export)
+      (All-append (Fits G heap c) (needs ++ prologues) after
+      (All-append (Fits G heap c) needs prologues
       (All-map (Fits G heap c) (Needs q) (flat_map (use_needs G heap q c) gs) (each_of (λ mark. Fits G heap c (Needs q mark)) (use_needs G heap q c) gs (λ k d h. λ j e l. (lt, needs_due c q lt own (get_or gs k d) (each_used G L c k d h) j e l))))
-      (each_of (Fits G heap c) (use_turns G heap c) gs (λ k d h. turns_fit c q lt own (get_or gs k d) (each_used G L c k d h))))
+      (each_of (Fits G heap c) (use_prologues G heap c) gs (λ k d h. prologues_fit c q lt own (get_or gs k d) (each_used G L c k d h))))
       (All-append (Fits G heap c) (does_command G c command ∷ []) (flat_map (use_releases G heap q c) gs)
       (one (Fits G heap c) (does_command G c command) (lt, sym own))
       (each_of (Fits G heap c) (use_releases G heap q c) gs (λ k d h. releases_fit c q lt own (get_or gs k d) (each_used G L c k d h)))))

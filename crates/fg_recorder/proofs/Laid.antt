@@ -18,23 +18,23 @@ use Rattle.fg_recorder.proofs.Contained.{contains_entry, entry_contained, contai
 use Rattle.fg_recorder.proofs.Entries.{entry_left, entry_map, entry_right, entry_there, joint, joined_entry, one_entry}
 use Rattle.fg_recorder.proofs.Membership.{IsUsed, IsMember, member_of, first_member, last_member, member_queue, each_used, is_used, after_first, command_below}
 use Rattle.fg_recorder.proofs.Scripted.{first_step}
-use Rattle.fg_recorder.proofs.Sides.{IsTurnItem, IsTurnOf, IsReleaseItem, IsReleaseOf, marks_needed, needed, released, own_place, IsPart, part_of, needed_entry, turned_entry, command_entry, released_entry, host_entry, turn_in, release_in, HasMark, mark_in, beside_is, one_place, side_less, own_entry, own_is, own_turn, alias_turn, release_need, own_release, in_needed, in_turned, at_command, in_released, in_host}
+use Rattle.fg_recorder.proofs.Sides.{IsPrologueItem, IsPrologueOf, IsReleaseItem, IsReleaseOf, marks_needed, needed, released, own_place, IsPart, part_of, needed_entry, prologue_part_entry, command_entry, released_entry, host_entry, prologue_in, release_in, HasMark, mark_in, beside_is, one_place, side_less, own_entry, own_is, own_prologue, alias_prologue, release_need, own_release, in_needed, in_prologue_part, at_command, in_released, in_host}
 use Rattle.fg_recorder.proofs.Starts.{start, at_start, IsLocated, located, start_less}
-use Rattle.fg_recorder.specs.Items.{items_of, turn_items, release_item}
-use Rattle.fg_recorder.specs.Script.{is_command, use_needs, use_turns, is_released, use_releases, host_barrier, groups_used, does_command, block, script}
-use Rattle.fg_recorder.specs.Standing.{beside, Precedes, host_item, host_step, turn_item, step, IsKnown, IsNeeded, IsRecorded, IsStanding, NeedsOthers, by_mark, by_alias, by_copy}
+use Rattle.fg_recorder.specs.Items.{items_of, prologue_items, release_item}
+use Rattle.fg_recorder.specs.Script.{is_command, use_needs, use_prologues, is_released, use_releases, host_barrier, groups_used, does_command, block, script}
+use Rattle.fg_recorder.specs.Standing.{beside, Precedes, host_item, host_step, prologue_item, step, IsKnown, IsNeeded, IsRecorded, IsStanding, NeedsOthers, by_mark, by_alias, by_copy}
 use Rattle.fg_recorder.specs.Wanted.{is_there, last_command, last_on, last_elsewhere, wanted_by, wanted_first, wanted_further, wanted_release}
 use Rattle.fg_recorder.specs.declared.mark.Mark.{Mark}
-use Rattle.fg_recorder.specs.declared.mark.Mark.TheVariants.{Command, Turn as OfTurn, Release}
+use Rattle.fg_recorder.specs.declared.mark.Mark.TheVariants.{Command, Prologue as OfPrologue, Release}
 use Rattle.fg_recorder.specs.declared.mark.Marked.{Marked}
 use Rattle.fg_recorder.specs.declared.mark.Marked.TheVariants.{Does, Needs}
 use Rattle.fg_subs.specs.declared.program.Item.{Item}
 use Rattle.fg_subs.specs.declared.program.Item.TheVariants as item
-use Rattle.fg_turns.specs.Turns.{first, last, earlier, turn_of}
+use Rattle.fg_turns.specs.Prologues.{first, last, earlier, prologue_of}
 use Rattle.fg_turns.specs.Under.{Heap}
 use Rattle.fg_turns.specs.Unions.{on}
-use Rattle.fg_turns.specs.declared.turn.TurnKind.{TurnKind}
-use Rattle.fg_turns.specs.declared.turn.TurnKind.TheVariants as kinds
+use Rattle.fg_turns.specs.declared.prologue.PrologueKind.{PrologueKind}
+use Rattle.fg_turns.specs.declared.prologue.PrologueKind.TheVariants as kinds
 
 last_listed : (B : List Use) → 0 < length B → Contains (last_command B) (Command (last B).command)
 last_listed [] lt = absurd (omega (arith, lt))
@@ -106,18 +106,18 @@ module _ (G : Grouping) (heap : Heap) (L : IsGrouped G) where
   pub command_step : (c : ℕ) (command : commands.Command) → slice_get G.commands c ≡ Some command → start G heap c + own_place G heap c command ≡ step G heap (Command c)
   command_step c command there = step_is (start G heap c + own_place G heap c command) command.queue (Command c) _ (at_start G heap c (own_place G heap c command) command (does_command G c command) there (command_entry G heap c command))
 
-  turn_there : (c g j : ℕ) (command : commands.Command) → slice_get (groups_used G c) j ≡ Some g → (first (group_at G g)).command ≡ c → (m : ℕ) (x : Marked) → slice_get (items_of (turn_of G heap g).kind G (turn_of G heap g) (earlier G g) (group_at G g)) m ≡ Some x → slice_get G.commands c ≡ Some command → slice_get (script G heap) (start G heap c + (length (needed G heap c command) + (joint (use_turns G heap c) (groups_used G c) j + m))) ≡ Some x
-  turn_there c g j command at mine m x is there =
-      at_start G heap c (length (needed G heap c command) + (joint (use_turns G heap c) (groups_used G c) j + m)) command x there
-      (turned_entry G heap c command (joint (use_turns G heap c) (groups_used G c) j + m) x
-      (joined_entry (use_turns G heap c) (groups_used G c) j m (joint (use_turns G heap c) (groups_used G c) j + m) g x at
-      (subst (λ b. slice_get (if b then turn_items G (turn_of G heap g) (earlier G g) (group_at G g) else []) m ≡ Some x) (sym (eq-eqb (first (group_at G g)).command c mine)) is) refl))
+  prologue_there : (c g j : ℕ) (command : commands.Command) → slice_get (groups_used G c) j ≡ Some g → (first (group_at G g)).command ≡ c → (m : ℕ) (x : Marked) → slice_get (items_of (prologue_of G heap g).kind G (prologue_of G heap g) (earlier G g) (group_at G g)) m ≡ Some x → slice_get G.commands c ≡ Some command → slice_get (script G heap) (start G heap c + (length (needed G heap c command) + (joint (use_prologues G heap c) (groups_used G c) j + m))) ≡ Some x
+  prologue_there c g j command at mine m x is there =
+      at_start G heap c (length (needed G heap c command) + (joint (use_prologues G heap c) (groups_used G c) j + m)) command x there
+      (prologue_part_entry G heap c command (joint (use_prologues G heap c) (groups_used G c) j + m) x
+      (joined_entry (use_prologues G heap c) (groups_used G c) j m (joint (use_prologues G heap c) (groups_used G c) j + m) g x at
+      (subst (λ b. slice_get (if b then prologue_items G (prologue_of G heap g) (earlier G g) (group_at G g) else []) m ≡ Some x) (sym (eq-eqb (first (group_at G g)).command c mine)) is) refl))
 
-  turn_step : (c g j : ℕ) (command : commands.Command) → slice_get (groups_used G c) j ≡ Some g → (first (group_at G g)).command ≡ c → is_there (turn_of G heap g).kind ≡ true → slice_get G.commands c ≡ Some command → start G heap c + (length (needed G heap c command) + (joint (use_turns G heap c) (groups_used G c) j + own_entry (turn_of G heap g).kind)) ≡ step G heap (OfTurn g)
-  turn_step c g j command at mine there is =
-      let kind : TurnKind = (turn_of G heap g).kind in
-      step_is (start G heap c + (length (needed G heap c command) + (joint (use_turns G heap c) (groups_used G c) j + own_entry (turn_of G heap g).kind))) (first (group_at G g)).queue (OfTurn g) (turn_item G heap g)
-      (turn_there c g j command at mine (own_entry (turn_of G heap g).kind) (Does (first (group_at G g)).queue (Some (OfTurn g)) (turn_item G heap g)) (own_is (turn_of G heap g).kind G (turn_of G heap g) (earlier G g) (group_at G g) there) is)
+  prologue_step : (c g j : ℕ) (command : commands.Command) → slice_get (groups_used G c) j ≡ Some g → (first (group_at G g)).command ≡ c → is_there (prologue_of G heap g).kind ≡ true → slice_get G.commands c ≡ Some command → start G heap c + (length (needed G heap c command) + (joint (use_prologues G heap c) (groups_used G c) j + own_entry (prologue_of G heap g).kind)) ≡ step G heap (OfPrologue g)
+  prologue_step c g j command at mine there is =
+      let kind : PrologueKind = (prologue_of G heap g).kind in
+      step_is (start G heap c + (length (needed G heap c command) + (joint (use_prologues G heap c) (groups_used G c) j + own_entry (prologue_of G heap g).kind))) (first (group_at G g)).queue (OfPrologue g) (prologue_item G heap g)
+      (prologue_there c g j command at mine (own_entry (prologue_of G heap g).kind) (Does (first (group_at G g)).queue (Some (OfPrologue g)) (prologue_item G heap g)) (own_is (prologue_of G heap g).kind G (prologue_of G heap g) (earlier G g) (group_at G g) there) is)
 
   abbrev wants : ℕ → ℕ → List Marked
   wants q g = map (Needs q) (wanted_release G (group_at G g))
@@ -170,13 +170,13 @@ module _ (G : Grouping) (heap : Heap) (L : IsGrouped G) where
   commands_stand c command there =
       subst (λ i. slice_get (script G heap) i ≡ Some (does_command G c command)) (command_step c command there) (at_start G heap c (own_place G heap c command) command (does_command G c command) there (command_entry G heap c command))
 
-  pub turns_stand : (g : ℕ) → IsRecorded G heap (OfTurn g) → slice_get (script G heap) (step G heap (OfTurn g)) ≡ Some (Does (first (group_at G g)).queue (Some (OfTurn g)) (turn_item G heap g))
-  turns_stand g (lt, there) =
+  pub prologues_stand : (g : ℕ) → IsRecorded G heap (OfPrologue g) → slice_get (script G heap) (step G heap (OfPrologue g)) ≡ Some (Does (first (group_at G g)).queue (Some (OfPrologue g)) (prologue_item G heap g))
+  prologues_stand g (lt, there) =
       let F = first_of g lt in
       let c : ℕ = (first (group_at G g)).command in
-      let x : Marked = Does (first (group_at G g)).queue (Some (OfTurn g)) (turn_item G heap g) in
-      subst (λ i. slice_get (script G heap) i ≡ Some (Does (first (group_at G g)).queue (Some (OfTurn g)) (turn_item G heap g))) (turn_step (first (group_at G g)).command g F.number F.command F.at refl there F.there)
-      (turn_there (first (group_at G g)).command g F.number F.command F.at refl (own_entry (turn_of G heap g).kind) x (own_is (turn_of G heap g).kind G (turn_of G heap g) (earlier G g) (group_at G g) there) F.there)
+      let x : Marked = Does (first (group_at G g)).queue (Some (OfPrologue g)) (prologue_item G heap g) in
+      subst (λ i. slice_get (script G heap) i ≡ Some (Does (first (group_at G g)).queue (Some (OfPrologue g)) (prologue_item G heap g))) (prologue_step (first (group_at G g)).command g F.number F.command F.at refl there F.there)
+      (prologue_there (first (group_at G g)).command g F.number F.command F.at refl (own_entry (prologue_of G heap g).kind) x (own_is (prologue_of G heap g).kind G (prologue_of G heap g) (earlier G g) (group_at G g) there) F.there)
 
   pub releases_stand : (g : ℕ) → IsRecorded G heap (Release g) → slice_get (script G heap) (step G heap (Release g)) ≡ Some (release_item G g (group_at G g) (group_at G (suc g)))
   releases_stand g (lt, so) =
@@ -186,18 +186,18 @@ module _ (G : Grouping) (heap : Heap) (L : IsGrouped G) where
       subst (λ i. slice_get (script G heap) i ≡ Some (release_item G g (group_at G g) (group_at G (suc g)))) (release_step (last (group_at G g)).command g F.number F.command F.at refl so F.there)
       (release_there (last (group_at G g)).command g F.number F.command F.at refl so (length (wants F.command.queue g)) it (entry_right (wants F.command.queue g) (it ∷ []) 0 (length (wants F.command.queue g)) it refl number) F.there)
 
-  pub aliases_stand : (g : ℕ) → g < length G.groups → (turn_of G heap g).kind ≡ kinds.AliasInit → (i : ℕ) × (suc i ≡ step G heap (OfTurn g)) × (slice_get (script G heap) i ≡ Some (Does (turn_of G heap g).queue None (item.Global (turn_of G heap g).masks)))
+  pub aliases_stand : (g : ℕ) → g < length G.groups → (prologue_of G heap g).kind ≡ kinds.AliasInit → (i : ℕ) × (suc i ≡ step G heap (OfPrologue g)) × (slice_get (script G heap) i ≡ Some (Does (prologue_of G heap g).queue None (item.Global (prologue_of G heap g).masks)))
   aliases_stand g lt kind =
       let F = first_of g lt in
       let c : ℕ = (first (group_at G g)).command in
-      let x : Marked = Does (turn_of G heap g).queue None (item.Global (turn_of G heap g).masks) in
-      let own : own_entry (turn_of G heap g).kind ≡ 1 = ap own_entry kind in
-      let end = turn_step (first (group_at G g)).command g F.number F.command F.at refl (ap is_there kind) F.there in
-      let number : joint (use_turns G heap (first (group_at G g)).command) (groups_used G (first (group_at G g)).command) F.number + 0 ≡ joint (use_turns G heap (first (group_at G g)).command) (groups_used G (first (group_at G g)).command) F.number = omega arith in (
-        start G heap (first (group_at G g)).command + (length (needed G heap (first (group_at G g)).command F.command) + joint (use_turns G heap (first (group_at G g)).command) (groups_used G (first (group_at G g)).command) F.number),
+      let x : Marked = Does (prologue_of G heap g).queue None (item.Global (prologue_of G heap g).masks) in
+      let own : own_entry (prologue_of G heap g).kind ≡ 1 = ap own_entry kind in
+      let end = prologue_step (first (group_at G g)).command g F.number F.command F.at refl (ap is_there kind) F.there in
+      let number : joint (use_prologues G heap (first (group_at G g)).command) (groups_used G (first (group_at G g)).command) F.number + 0 ≡ joint (use_prologues G heap (first (group_at G g)).command) (groups_used G (first (group_at G g)).command) F.number = omega arith in (
+        start G heap (first (group_at G g)).command + (length (needed G heap (first (group_at G g)).command F.command) + joint (use_prologues G heap (first (group_at G g)).command) (groups_used G (first (group_at G g)).command) F.number),
         omega (arith, own, end),
-        subst (λ n. slice_get (script G heap) (start G heap (first (group_at G g)).command + (length (needed G heap (first (group_at G g)).command F.command) + n)) ≡ Some (Does (turn_of G heap g).queue None (item.Global (turn_of G heap g).masks))) number
-            (turn_there (first (group_at G g)).command g F.number F.command F.at refl 0 x (subst (λ k. slice_get (items_of k G (turn_of G heap g) (earlier G g) (group_at G g)) 0 ≡ Some (Does (turn_of G heap g).queue None (item.Global (turn_of G heap g).masks))) (sym kind) refl) F.there),
+        subst (λ n. slice_get (script G heap) (start G heap (first (group_at G g)).command + (length (needed G heap (first (group_at G g)).command F.command) + n)) ≡ Some (Does (prologue_of G heap g).queue None (item.Global (prologue_of G heap g).masks))) number
+            (prologue_there (first (group_at G g)).command g F.number F.command F.at refl 0 x (subst (λ k. slice_get (items_of k G (prologue_of G heap g) (earlier G g) (group_at G g)) 0 ≡ Some (Does (prologue_of G heap g).queue None (item.Global (prologue_of G heap g).masks))) (sym kind) refl) F.there),
       )
 
   host_place : (c : ℕ) (command : commands.Command) (h : ℕ) → h ≡ 0 → slice_get G.commands c ≡ Some command → start G heap c + (own_place G heap c command + (1 + length (released G heap c command) + h)) ≡ host_step G heap c command
@@ -226,11 +226,11 @@ module _ (G : Grouping) (heap : Heap) (L : IsGrouped G) where
       no_need : (mark : Mark) × (slice_get (marks_needed G heap P.number P.command) P.entry ≡ Some mark) × (Needs P.command.queue mark ≡ Does q of it) → ⊥
       no_need (mark, there, is) = absurd cc
 
-      by_turn : (t : ℕ) → P.entry ≡ length (needed G heap P.number P.command) + t → (T : IsTurnOf G heap P.number P.command t (Does q of it)) → IsTurnItem (turn_of G heap T.group).kind G (turn_of G heap T.group) (earlier G T.group) (group_at G T.group) T.entry (Does q of it) → IsKnown G heap i q of it
-      by_turn t is T (own_turn there entry-is same) = let m : of ≡ Some (OfTurn T.group) = cc in by_mark (OfTurn T.group) m (group_low T.number T.group T.used_there, there) (marked (OfTurn T.group) m)
-      by_turn t is T (alias_turn kind entry-is same) =
-          let s = turn_step P.number T.group T.number P.command T.used_there T.mine (ap is_there kind) P.there in
-          let own : own_entry (turn_of G heap T.group).kind ≡ 1 = ap own_entry kind in
+      by_prologue : (t : ℕ) → P.entry ≡ length (needed G heap P.number P.command) + t → (T : IsPrologueOf G heap P.number P.command t (Does q of it)) → IsPrologueItem (prologue_of G heap T.group).kind G (prologue_of G heap T.group) (earlier G T.group) (group_at G T.group) T.entry (Does q of it) → IsKnown G heap i q of it
+      by_prologue t is T (own_prologue there entry-is same) = let m : of ≡ Some (OfPrologue T.group) = cc in by_mark (OfPrologue T.group) m (group_low T.number T.group T.used_there, there) (marked (OfPrologue T.group) m)
+      by_prologue t is T (alias_prologue kind entry-is same) =
+          let s = prologue_step P.number T.group T.number P.command T.used_there T.mine (ap is_there kind) P.there in
+          let own : own_entry (prologue_of G heap T.group).kind ≡ 1 = ap own_entry kind in
           let a = P.place in
           let b = T.place in
           by_alias T.group (let h = same in cc) (group_low T.number T.group T.used_there) kind (omega (arith, s, own, a, b, is, entry-is)) (let h = same in cc) (let h = same in cc)
@@ -250,7 +250,7 @@ module _ (G : Grouping) (heap : Heap) (L : IsGrouped G) where
 
       go : IsPart G heap P.number P.command P.entry (Does q of it) → IsKnown G heap i q of it
       go (in_needed h) = absurd (no_need (entry_map (Needs P.command.queue) (marks_needed G heap P.number P.command) P.entry (Does q of it) h))
-      go (in_turned t h is) = let T = turn_in G heap P.number P.command t (Does q of it) h in by_turn t is T T.is
+      go (in_prologue_part t h is) = let T = prologue_in G heap P.number P.command t (Does q of it) h in by_prologue t is T T.is
       go (at_command same is) = let m : of ≡ Some (Command P.number) = cc in by_mark (Command P.number) m (slice_get_within G.commands P.number P.command P.there) (marked (Command P.number) m)
       go (in_released r h is) = let R = release_in G heap P.number P.command r (Does q of it) h in by_release r R R.is
       go (in_host h at is) = by_host h P.command.export refl at is
@@ -261,7 +261,7 @@ module _ (G : Grouping) (heap : Heap) (L : IsGrouped G) where
   spot (Command c) r =
       let C = entry_there G.commands c r in
       (does_command G c C.0, mark_at (step G heap (Command c)) C.0.queue (Command c) _ (commands_stand c C.0 C.1))
-  spot (OfTurn g) r = (Does (first (group_at G g)).queue (Some (OfTurn g)) (turn_item G heap g), mark_at (step G heap (OfTurn g)) (first (group_at G g)).queue (OfTurn g) (turn_item G heap g) (turns_stand g r))
+  spot (OfPrologue g) r = (Does (first (group_at G g)).queue (Some (OfPrologue g)) (prologue_item G heap g), mark_at (step G heap (OfPrologue g)) (first (group_at G g)).queue (OfPrologue g) (prologue_item G heap g) (prologues_stand g r))
   spot (Release g) r = (release_item G g (group_at G g) (group_at G (suc g)), mark_at (step G heap (Release g)) (last (group_at G g)).queue (Release g) _ (releases_stand g r))
 
   pub ordered : (x y : Mark) → IsRecorded G heap x → IsRecorded G heap y → Precedes G x y → step G heap x < step G heap y
@@ -297,26 +297,26 @@ module _ (G : Grouping) (heap : Heap) (L : IsGrouped G) where
       }
 
   -- of the first member of a group
-  first_needs : (g : ℕ) (mark : Mark) → IsRecorded G heap (OfTurn g) → Contains (wanted_first G (turn_of G heap g) (earlier G g)) mark → IsNeeded G heap (first (group_at G g)).queue mark (step G heap (OfTurn g))
+  first_needs : (g : ℕ) (mark : Mark) → IsRecorded G heap (OfPrologue g) → Contains (wanted_first G (prologue_of G heap g) (earlier G g)) mark → IsNeeded G heap (first (group_at G g)).queue mark (step G heap (OfPrologue g))
   first_needs g mark (lt, there) has =
       let F = first_of g lt in
-      let s = turn_step (first (group_at G g)).command g F.number F.command F.at refl there F.there in
-      needed_before (first (group_at G g)).command F.command mark (step G heap (OfTurn g)) (first (group_at G g)).queue F.there
+      let s = prologue_step (first (group_at G g)).command g F.number F.command F.at refl there F.there in
+      needed_before (first (group_at G g)).command F.command mark (step G heap (OfPrologue g)) (first (group_at G g)).queue F.there
       (contains_part (use_needs G heap F.command.queue (first (group_at G g)).command) (groups_used G (first (group_at G g)).command) g mark (contains_entry (groups_used G (first (group_at G g)).command) F.number g F.at)
-      (subst (λ b. Contains (if b then wanted_first G (turn_of G heap g) (earlier G g) else if is_command (first (group_at G g)).command (first (on F.command.queue (group_at G g))) then wanted_further (turn_of G heap g) else []) mark) (sym (eq-eqb (first (group_at G g)).command (first (group_at G g)).command refl)) has))
+      (subst (λ b. Contains (if b then wanted_first G (prologue_of G heap g) (earlier G g) else if is_command (first (group_at G g)).command (first (on F.command.queue (group_at G g))) then wanted_further (prologue_of G heap g) else []) mark) (sym (eq-eqb (first (group_at G g)).command (first (group_at G g)).command refl)) has))
       (omega (arith, s)) F.queue
 
-  pub barriers_need : (g : ℕ) → g < length G.groups → (turn_of G heap g).kind ≡ kinds.Barrier → NeedsOthers G heap (earlier G g) (first (group_at G g)).queue (step G heap (OfTurn g))
+  pub barriers_need : (g : ℕ) → g < length G.groups → (prologue_of G heap g).kind ≡ kinds.Barrier → NeedsOthers G heap (earlier G g) (first (group_at G g)).queue (step G heap (OfPrologue g))
   barriers_need g lt kind p low differ some-on =
       first_needs g (Command (last (on p (earlier G g))).command) (lt, ap is_there kind)
-      (subst (λ k. Contains (wanted_by k G (turn_of G heap g) (earlier G g)) (Command (last (on p (earlier G g))).command)) (sym kind) (elsewhere_has G (first (group_at G g)).queue (earlier G g) p low differ some-on))
+      (subst (λ k. Contains (wanted_by k G (prologue_of G heap g) (earlier G g)) (Command (last (on p (earlier G g))).command)) (sym kind) (elsewhere_has G (first (group_at G g)).queue (earlier G g) p low differ some-on))
 
-  pub acquires_need : (g : ℕ) → g < length G.groups → (turn_of G heap g).kind ≡ kinds.Transfer → IsNeeded G heap (first (group_at G g)).queue (Release (g - 1)) (step G heap (OfTurn g))
+  pub acquires_need : (g : ℕ) → g < length G.groups → (prologue_of G heap g).kind ≡ kinds.Transfer → IsNeeded G heap (first (group_at G g)).queue (Release (g - 1)) (step G heap (OfPrologue g))
   acquires_need g lt kind =
       first_needs g (Release (g - 1)) (lt, ap is_there kind)
-      (subst (λ k. Contains (wanted_by k G (turn_of G heap g) (earlier G g)) (Release (g - 1))) (sym kind) (contains_head (Release (g - 1)) []))
+      (subst (λ k. Contains (wanted_by k G (prologue_of G heap g) (earlier G g)) (Release (g - 1))) (sym kind) (contains_head (Release (g - 1)) []))
 
-  pub members_need : (g q : ℕ) → IsRecorded G heap (OfTurn g) → q ≢ (first (group_at G g)).queue → 0 < length (on q (group_at G g)) → IsNeeded G heap q (OfTurn g) (step G heap (Command (first (on q (group_at G g))).command))
+  pub members_need : (g q : ℕ) → IsRecorded G heap (OfPrologue g) → q ≢ (first (group_at G g)).queue → 0 < length (on q (group_at G g)) → IsNeeded G heap q (OfPrologue g) (step G heap (Command (first (on q (group_at G g))).command))
   members_need g q (lt, there) differ some-on =
       let u : Use = first (on q (group_at G g)) in
       let K = kept (λ (v : Use). v.queue == q) (group_at G g) 0 no_use some-on in
@@ -328,12 +328,12 @@ module _ (G : Grouping) (heap : Heap) (L : IsGrouped G) where
       let miss : is_command (first (on q (group_at G g))).command (first (group_at G g)) ≡ false = unlike (first (group_at G g)).command (first (on q (group_at G g))).command later in
       let hit : is_command (first (on q (group_at G g))).command (first (on q (group_at G g))) ≡ true = eq-eqb (first (on q (group_at G g))).command (first (on q (group_at G g))).command refl in
       let s = command_step (first (on q (group_at G g))).command F.command F.there in
-      needed_before (first (on q (group_at G g))).command F.command (OfTurn g) (step G heap (Command (first (on q (group_at G g))).command)) q F.there
-      (contains_part (use_needs G heap F.command.queue (first (on q (group_at G g))).command) (groups_used G (first (on q (group_at G g))).command) g (OfTurn g) (contains_entry (groups_used G (first (on q (group_at G g))).command) F.number g F.at)
-      (subst (λ b. Contains (if b then wanted_first G (turn_of G heap g) (earlier G g) else if is_command (first (on q (group_at G g))).command (first (on F.command.queue (group_at G g))) then wanted_further (turn_of G heap g) else []) (OfTurn g)) (sym miss)
-      (subst (λ r. Contains (if is_command (first (on q (group_at G g))).command (first (on r (group_at G g))) then wanted_further (turn_of G heap g) else []) (OfTurn g)) (sym queue)
-      (subst (λ b. Contains (if b then wanted_further (turn_of G heap g) else []) (OfTurn g)) (sym hit)
-      (subst (λ b. Contains (if b then OfTurn g ∷ [] else []) (OfTurn g)) (sym there) (contains_head (OfTurn g) []))))))
+      needed_before (first (on q (group_at G g))).command F.command (OfPrologue g) (step G heap (Command (first (on q (group_at G g))).command)) q F.there
+      (contains_part (use_needs G heap F.command.queue (first (on q (group_at G g))).command) (groups_used G (first (on q (group_at G g))).command) g (OfPrologue g) (contains_entry (groups_used G (first (on q (group_at G g))).command) F.number g F.at)
+      (subst (λ b. Contains (if b then wanted_first G (prologue_of G heap g) (earlier G g) else if is_command (first (on q (group_at G g))).command (first (on F.command.queue (group_at G g))) then wanted_further (prologue_of G heap g) else []) (OfPrologue g)) (sym miss)
+      (subst (λ r. Contains (if is_command (first (on q (group_at G g))).command (first (on r (group_at G g))) then wanted_further (prologue_of G heap g) else []) (OfPrologue g)) (sym queue)
+      (subst (λ b. Contains (if b then wanted_further (prologue_of G heap g) else []) (OfPrologue g)) (sym hit)
+      (subst (λ b. Contains (if b then OfPrologue g ∷ [] else []) (OfPrologue g)) (sym there) (contains_head (OfPrologue g) []))))))
       (omega (arith, s)) queue
 
   pub releases_need : (g : ℕ) → IsRecorded G heap (Release g) → NeedsOthers G heap (group_at G g) (last (group_at G g)).queue (step G heap (Release g))
@@ -355,7 +355,7 @@ module _ (G : Grouping) (heap : Heap) (L : IsGrouped G) where
   pub standing : IsStanding G heap
   standing = record {
     each_command = commands_stand;
-    each_turn = turns_stand;
+    each_prologue = prologues_stand;
     each_release = releases_stand;
     each_alias = aliases_stand;
     each_copy = copies_stand;

@@ -1,4 +1,4 @@
--- Two queues of one family: the second one waits for the first, and what is read in two layouts is turned on the second.
+-- Two queues of one family: the second one waits for the first, and what is read in two layouts is prologue_part on the second.
 use Rattle.std.proofs.Common.{◌≡◌, ℕ, true, false, List, [], ◌∷◌, length, Some, None, refl}
 use Rattle.std.specs.Prelude.{slice_get}
 use Rattle.std.specs.Option.{option_map}

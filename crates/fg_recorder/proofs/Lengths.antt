@@ -10,18 +10,18 @@ use Rattle.fg_groups.specs.declared.command.Command as commands
 use Rattle.fg_groups.specs.declared.grouping.Grouping.{Grouping}
 use Rattle.fg_groups.specs.declared.unit_use.Use.{Use}
 use Rattle.fg_groups.specs.declared.unit_use.UseAt.{UseAt}
-use Rattle.fg_recorder.specs.Items.{items_of, turn_items, release_item}
-use Rattle.fg_recorder.specs.Script.{is_command, use_needs, use_turns, is_released, use_releases, host_barrier, groups_used, does_command, block, blocks, script}
+use Rattle.fg_recorder.specs.Items.{items_of, prologue_items, release_item}
+use Rattle.fg_recorder.specs.Script.{is_command, use_needs, use_prologues, is_released, use_releases, host_barrier, groups_used, does_command, block, blocks, script}
 use Rattle.fg_recorder.specs.Wanted.{last_command, last_on, last_elsewhere, wanted_by, wanted_first, is_there, wanted_further, wanted_release}
 use Rattle.fg_recorder.specs.declared.mark.Mark.{Mark}
 use Rattle.fg_recorder.specs.declared.mark.Marked.{Marked}
 use Rattle.fg_recorder.specs.declared.mark.Marked.TheVariants.{Needs}
-use Rattle.fg_turns.specs.Turns.{first, last, earlier, turn_of}
+use Rattle.fg_turns.specs.Prologues.{first, last, earlier, prologue_of}
 use Rattle.fg_turns.specs.Under.{Heap}
 use Rattle.fg_turns.specs.Unions.{on}
-use Rattle.fg_turns.specs.declared.turn.Turn.{Turn}
-use Rattle.fg_turns.specs.declared.turn.TurnKind.{TurnKind}
-use Rattle.fg_turns.specs.declared.turn.TurnKind.TheVariants as kinds
+use Rattle.fg_turns.specs.declared.prologue.Prologue.{Prologue}
+use Rattle.fg_turns.specs.declared.prologue.PrologueKind.{PrologueKind}
+use Rattle.fg_turns.specs.declared.prologue.PrologueKind.TheVariants as kinds
 
 one_each : {X Y : Type 0} (f : X → List Y) (xs : List X) → ((x : X) → length (f x) ≤ 1) → length (flat_map f xs) ≤ length xs
 one_each f [] few = omega arith
@@ -50,30 +50,30 @@ module _ (G : Grouping) (heap : Heap) (families : length G.families ≤ 4) where
       one : (p : ℕ) → length (last_on q A p) ≤ 1
       one p = chosen (p == q) p
 
-  wanted_few : (kind : TurnKind) (turn : Turn) (A : List Use) → length (wanted_by kind G turn A) ≤ 5
-  wanted_few kinds.Nothing turn A = omega arith
-  wanted_few kinds.Barrier turn A = omega (arith, elsewhere_few turn.queue A)
-  wanted_few kinds.Transfer turn A = omega arith
-  wanted_few kinds.Alias turn A = omega arith
-  wanted_few kinds.Init turn A = omega arith
-  wanted_few kinds.AliasInit turn A = omega arith
+  wanted_few : (kind : PrologueKind) (prologue : Prologue) (A : List Use) → length (wanted_by kind G prologue A) ≤ 5
+  wanted_few kinds.Nothing prologue A = omega arith
+  wanted_few kinds.Barrier prologue A = omega (arith, elsewhere_few prologue.queue A)
+  wanted_few kinds.Transfer prologue A = omega arith
+  wanted_few kinds.Alias prologue A = omega arith
+  wanted_few kinds.Init prologue A = omega arith
+  wanted_few kinds.AliasInit prologue A = omega arith
 
   needs_few : (q c g : ℕ) → length (use_needs G heap q c g) ≤ 5
   needs_few q c g =
-      both_few (is_command c (first (group_at G g))) (wanted_first G (turn_of G heap g) (earlier G g)) (if is_command c (first (on q (group_at G g))) then wanted_further (turn_of G heap g) else [])
-      (wanted_few (turn_of G heap g).kind (turn_of G heap g) (earlier G g))
-      (both_few (is_command c (first (on q (group_at G g)))) (wanted_further (turn_of G heap g)) [] (both_few (is_there (turn_of G heap g).kind) _ [] (omega arith) (omega arith)) (omega arith))
+      both_few (is_command c (first (group_at G g))) (wanted_first G (prologue_of G heap g) (earlier G g)) (if is_command c (first (on q (group_at G g))) then wanted_further (prologue_of G heap g) else [])
+      (wanted_few (prologue_of G heap g).kind (prologue_of G heap g) (earlier G g))
+      (both_few (is_command c (first (on q (group_at G g)))) (wanted_further (prologue_of G heap g)) [] (both_few (is_there (prologue_of G heap g).kind) _ [] (omega arith) (omega arith)) (omega arith))
 
-  items_few : (kind : TurnKind) (turn : Turn) (A B : List Use) → length (items_of kind G turn A B) ≤ 5
-  items_few kinds.Nothing turn A B = omega arith
-  items_few kinds.Barrier turn A B = omega arith
-  items_few kinds.Transfer turn A B = omega arith
-  items_few kinds.Alias turn A B = omega arith
-  items_few kinds.Init turn A B = omega arith
-  items_few kinds.AliasInit turn A B = omega arith
+  items_few : (kind : PrologueKind) (prologue : Prologue) (A B : List Use) → length (items_of kind G prologue A B) ≤ 5
+  items_few kinds.Nothing prologue A B = omega arith
+  items_few kinds.Barrier prologue A B = omega arith
+  items_few kinds.Transfer prologue A B = omega arith
+  items_few kinds.Alias prologue A B = omega arith
+  items_few kinds.Init prologue A B = omega arith
+  items_few kinds.AliasInit prologue A B = omega arith
 
-  turns_few : (c g : ℕ) → length (use_turns G heap c g) ≤ 5
-  turns_few c g = both_few (is_command c (first (group_at G g))) (turn_items G (turn_of G heap g) (earlier G g) (group_at G g)) [] (items_few (turn_of G heap g).kind (turn_of G heap g) (earlier G g) (group_at G g)) (omega arith)
+  prologues_few : (c g : ℕ) → length (use_prologues G heap c g) ≤ 5
+  prologues_few c g = both_few (is_command c (first (group_at G g))) (prologue_items G (prologue_of G heap g) (earlier G g) (group_at G g)) [] (items_few (prologue_of G heap g).kind (prologue_of G heap g) (earlier G g) (group_at G g)) (omega arith)
 
   releases_few : (q c g : ℕ) → length (use_releases G heap q c g) ≤ 5
   releases_few q c g =
@@ -100,7 +100,7 @@ module _ (G : Grouping) (heap : Heap) (families : length G.families ≤ 4) where
         let gs : List ℕ = groups_used G c in
         let marks : List Mark = flat_map (use_needs G heap q c) gs in
         let needs : List Marked = map (Needs q) marks in
-        let turns : List Marked = flat_map (use_turns G heap c) gs in
+        let prologues : List Marked = flat_map (use_prologues G heap c) gs in
         let releases : List Marked = flat_map (use_releases G heap q c) gs in
         let after : List Marked = does_command G c command ∷ releases in
         let host : List Marked = host_barrier G command command.export in
@@ -109,12 +109,12 @@ module _ (G : Grouping) (heap : Heap) (families : length G.families ≤ 4) where
           groups_few c,
           length-map marks (Needs q),
           five_each (use_needs G heap q c) gs (needs_few q c),
-          five_each (use_turns G heap c) gs (turns_few c),
+          five_each (use_prologues G heap c) gs (prologues_few c),
           five_each (use_releases G heap q c) gs (releases_few q c),
           host_few command command.export,
-          length-append ((needs ++ turns) ++ after) host,
-          length-append (needs ++ turns) after,
-          length-append needs turns,
+          length-append ((needs ++ prologues) ++ after) host,
+          length-append (needs ++ prologues) after,
+          length-append needs prologues,
         )
 
     blocks_few : (c : ℕ) (rest : List commands.Command) → length (blocks G heap c rest) ≤ 17282 * length rest

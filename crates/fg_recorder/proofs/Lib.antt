@@ -23,5 +23,5 @@ pub mod Standing
 pub mod Starts
 mod Told
 pub mod Touched
-mod Turned
+mod PrologueFacts
 mod TwoLives

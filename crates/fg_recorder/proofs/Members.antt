@@ -12,7 +12,7 @@ use Rattle.fg_groups.specs.declared.command.Command.{Command}
 use Rattle.fg_groups.specs.declared.grouping.Grouping.{Grouping}
 use Rattle.fg_groups.specs.declared.unit_use.Use.{Use}
 use Rattle.fg_turns.proofs.Members.{some_use}
-use Rattle.fg_turns.specs.Turns.{first, last}
+use Rattle.fg_turns.specs.Prologues.{first, last}
 
 -- a use of a shape and a queue that there are
 pub record IsThere (G : Grouping) (u : Use) : Type 0 where

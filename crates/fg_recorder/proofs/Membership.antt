@@ -22,7 +22,7 @@ use Rattle.fg_groups.specs.declared.unit_use.UseAt.{UseAt}
 use Rattle.fg_lifetimes.proofs.Forward.{same_unit}
 use Rattle.fg_recorder.proofs.Contained.{contains_entry, at_entry, contains_filter, contains_map}
 use Rattle.fg_recorder.specs.Script.{groups_used}
-use Rattle.fg_turns.specs.Turns.{first, last}
+use Rattle.fg_turns.specs.Prologues.{first, last}
 
 -- the use is number `entry` of group g
 pub record IsMember (G : Grouping) (g : ℕ) (u : Use) : Type 0 where

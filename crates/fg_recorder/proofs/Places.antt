@@ -11,7 +11,7 @@ use Rattle.fg_base.specs.declared.shape.Shape.{Shape}
 use Rattle.fg_bits.specs.declared.sharing.Sharing.{Sharing}
 use Rattle.fg_groups.specs.Groups.{sharing_of}
 use Rattle.fg_place.specs.Placing.{number_at}
-use Rattle.fg_recorder.specs.Code.Resources.{resource_at, is_placed, one_if}
+use Rattle.fg_recorder.specs.Internal.Resources.{resource_at, is_placed, one_if}
 use Rattle.fg_recorder.specs.Pieces.{is_readback, has_piece, has_memory, memory_of, offset_of, piece}
 use Rattle.fg_recorder.specs.declared.resource.Resource.{Resource}
 use Rattle.fg_subs.specs.declared.program.Piece.{Piece}

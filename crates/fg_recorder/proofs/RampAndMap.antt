@@ -58,12 +58,12 @@ signal = record { value = 1; stages = record { 0 = all_commands } }
 
 -- the first queue, by what stands before the image is read
 abbrev mapping : Item → Queue
-mapping turn = record {
+mapping prologue = record {
   family = Graphics;
   batches = record {
     waits = record { queue = 1; value = 1; stages = record { 0 = all_commands } } ∷ [];
     items =
-        turn
+        prologue
         ∷ ImageBarrier 1 to_write written
         ∷ Command (Map 0 1 Add 1)
         ∷ ImageBarrier 1 (record { from = General; to = TransferSrc }) (masks compute_shader shader_storage_write copy transfer_read)
@@ -82,14 +82,14 @@ making releases = record {
 }
 
 abbrev program : Sharing → Item → List Item → Program
-program sharing turn releases = record {
+program sharing prologue releases = record {
   memories = Plain 320 ∷ Plain 64 ∷ [];
   pieces =
       record { shape = Image 4 4 R32; memory = 0; offset = 0; sharing = sharing }
       ∷ record { shape = Image 4 4 R32; memory = 0; offset = 256; sharing = sharing }
       ∷ record { shape = Buffer 64; memory = 1; offset = 0; sharing = Exclusive }
       ∷ [];
-  queues = mapping turn ∷ making releases ∷ [];
+  queues = mapping prologue ∷ making releases ∷ [];
   readbacks = 2 ∷ [];
 }
 

@@ -21,14 +21,14 @@ use Rattle.fg_recorder.proofs.Standing.{Stands, stands}
 use Rattle.fg_recorder.specs.Marks.{same, has_mark, step_of, unmarked, steps_of}
 use Rattle.fg_recorder.specs.Script.{block, blocks, script}
 use Rattle.fg_recorder.specs.declared.mark.Mark.{Mark}
-use Rattle.fg_recorder.specs.declared.mark.Mark.TheVariants.{Command, Turn, Release}
+use Rattle.fg_recorder.specs.declared.mark.Mark.TheVariants.{Command, Prologue, Release}
 use Rattle.fg_recorder.specs.declared.mark.Marked.{Marked}
 use Rattle.fg_recorder.specs.declared.mark.Marked.TheVariants.{Does, Needs}
 use Rattle.fg_subs.specs.declared.program.Item.{Item}
 use Rattle.fg_timeline.specs.Steps.{queue_of, queue_at, is_item, has_item, IsScript}
 use Rattle.fg_timeline.specs.declared.step.Step.{Step}
 use Rattle.fg_timeline.specs.declared.step.Step.TheVariants as steps
-use Rattle.fg_turns.specs.Turns.{first, last}
+use Rattle.fg_turns.specs.Prologues.{first, last}
 use Rattle.fg_turns.specs.Under.{Heap}
 
 -- WHERE IN THE LIST
@@ -124,7 +124,7 @@ module _ (G : Grouping) (heap : Heap) (L : IsGrouped G) (known : All (λ command
 
   pub beside_below : (mark : Mark) → IsRecorded G heap mark → beside G mark < length G.commands
   beside_below (Command c) r = r
-  beside_below (Turn g) r = command_below G L g (first (group_at G g)) (first_member G L g r.0)
+  beside_below (Prologue g) r = command_below G L g (first (group_at G g)) (first_member G L g r.0)
   beside_below (Release g) r = command_below G L g (last (group_at G g)) (last_member G L g r.0)
 
   -- a need is for an earlier item on another queue
@@ -149,18 +149,18 @@ module _ (G : Grouping) (heap : Heap) (L : IsGrouped G) (known : All (λ command
 
 same_is : (a b : Mark) → same a b ≡ true → a ≡ b
 same_is (Command c) (Command d) h = ap (λ z. Command z) (eqb-true c d h)
-same_is (Turn g) (Turn h) e = ap (λ z. Turn z) (eqb-true g h e)
+same_is (Prologue g) (Prologue h) e = ap (λ z. Prologue z) (eqb-true g h e)
 same_is (Release g) (Release h) e = ap (λ z. Release z) (eqb-true g h e)
-same_is (Command c) (Turn h) e = absurd (false≢true e)
+same_is (Command c) (Prologue h) e = absurd (false≢true e)
 same_is (Command c) (Release h) e = absurd (false≢true e)
-same_is (Turn g) (Command d) e = absurd (false≢true e)
-same_is (Turn g) (Release h) e = absurd (false≢true e)
+same_is (Prologue g) (Command d) e = absurd (false≢true e)
+same_is (Prologue g) (Release h) e = absurd (false≢true e)
 same_is (Release g) (Command d) e = absurd (false≢true e)
-same_is (Release g) (Turn h) e = absurd (false≢true e)
+same_is (Release g) (Prologue h) e = absurd (false≢true e)
 
 same_itself : (mark : Mark) → same mark mark ≡ true
 same_itself (Command c) = eq-eqb c c refl
-same_itself (Turn g) = eq-eqb g g refl
+same_itself (Prologue g) = eq-eqb g g refl
 same_itself (Release g) = eq-eqb g g refl
 
 -- the step with a mark, not after the place

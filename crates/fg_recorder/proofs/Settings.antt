@@ -9,13 +9,13 @@ use Rattle.std.proofs.lemmas.Option.{slice_get_past}
 use Rattle.fg_base.specs.Shapes.{shape_at, bytes_of}
 use Rattle.fg_base.specs.declared.shape.Shape.{Shape}
 use Rattle.fg_base.specs.declared.shape.Shape.TheVariants.{Buffer}
-use Rattle.fg_frame.specs.Good.{IsGood, shapes_in}
+use Rattle.fg_frame.specs.Valid.{IsValid, shapes_in}
 use Rattle.fg_frame.specs.Numbered.{NumberedFrame}
 use Rattle.fg_frame.specs.Units.{Unit}
 use Rattle.fg_groups.specs.Commands.{readback_shape}
 use Rattle.fg_groups.specs.Groups.{grouping}
 use Rattle.fg_groups.specs.declared.grouping.Grouping.{Grouping}
-use Rattle.fg_recorder.specs.Code.Resources.{IsOf}
+use Rattle.fg_recorder.specs.Internal.Resources.{IsOf}
 use Rattle.fg_recorder.specs.Pieces.{imported}
 
 pub is_of : (frame : NumberedFrame) (kept : List Bool) (G : Grouping) → G ≡ grouping frame kept → IsOf frame G
@@ -36,13 +36,13 @@ module _ (frame : NumberedFrame) (G : Grouping) (of : IsOf frame G) where
   pub shapes_count : length G.shapes ≡ length frame.units + length frame.exports
   shapes_count = omega (arith, ap length of.shapes, length-append (shapes_in frame) (map (readback_shape frame) frame.exports), length-map frame.units (λ u. u.shape), length-map frame.exports (readback_shape frame))
 
-  pub shapes_few : IsGood frame → length G.shapes ≤ 288
+  pub shapes_few : IsValid frame → length G.shapes ≤ 288
   shapes_few good =
       let units = good.few_units in
       let exports = good.few_exports in
       omega (arith, shapes_count, units, exports)
 
-  pub families_few : IsGood frame → length G.families ≤ 4
+  pub families_few : IsValid frame → length G.families ≤ 4
   families_few good = let few = good.few_queues in omega (arith, ap length of.families, few)
 
 -- SIZES
@@ -50,17 +50,17 @@ module _ (frame : NumberedFrame) (G : Grouping) (of : IsOf frame G) where
 abbrev IsSmall : Shape → Type 0
 IsSmall shape = bytes_of shape ≤ 16777216
 
-units-small : (frame : NumberedFrame) → IsGood frame → All IsSmall (shapes_in frame)
+units-small : (frame : NumberedFrame) → IsValid frame → All IsSmall (shapes_in frame)
 units-small frame good =
     All-map IsSmall (λ (u : Unit). u.shape) frame.units
     (λ i d lt. leb-true (bytes_of (get_or frame.units i d).shape) 16777216 (and_parts (nat_le 1 (bytes_of (get_or frame.units i d).shape)) (nat_le (bytes_of (get_or frame.units i d).shape) 16777216) (good.sized i d lt)).1)
 
-readbacks-small : (frame : NumberedFrame) → IsGood frame → All IsSmall (map (readback_shape frame) frame.exports)
+readbacks-small : (frame : NumberedFrame) → IsValid frame → All IsSmall (map (readback_shape frame) frame.exports)
 readbacks-small frame good =
     All-map IsSmall (readback_shape frame) frame.exports
     (λ i d lt. units-small frame good (get_or frame.exports i d) (Buffer 0) (subst (λ n. get_or frame.exports i d < n) (sym (length-map frame.units (λ u. u.shape))) (good.exports_within i d lt)))
 
-pub shape_fits : (frame : NumberedFrame) (G : Grouping) (r : ℕ) → IsOf frame G → IsGood frame → r < length G.shapes → bytes_of (shape_at G.shapes r) < 2 ^ 32
+pub shape_fits : (frame : NumberedFrame) (G : Grouping) (r : ℕ) → IsOf frame G → IsValid frame → r < length G.shapes → bytes_of (shape_at G.shapes r) < 2 ^ 32
 shape_fits frame G r of good lt =
     let all : All IsSmall G.shapes = subst (All IsSmall) (sym of.shapes) (All-append IsSmall (shapes_in frame) (map (readback_shape frame) frame.exports) (units-small frame good) (readbacks-small frame good)) in
     let here : bytes_of (shape_at G.shapes r) ≤ 16777216 = all r (Buffer 0) lt in

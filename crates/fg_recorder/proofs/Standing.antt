@@ -14,21 +14,21 @@ use Rattle.fg_recorder.proofs.Due.{home}
 use Rattle.fg_recorder.specs.Standing.{beside, IsRecorded}
 use Rattle.fg_recorder.proofs.Contained.{contains_head, contains_tail, contains_part}
 use Rattle.fg_recorder.proofs.Membership.{first_member, last_member, is_used}
-use Rattle.fg_recorder.specs.Items.{layouts_between, barrier, transfer, init, does_turn, items_of, turn_items, release_item}
+use Rattle.fg_recorder.specs.Items.{layouts_between, barrier, transfer, init, does_prologue, items_of, prologue_items, release_item}
 use Rattle.fg_recorder.specs.Pieces.{piece_of}
-use Rattle.fg_recorder.specs.Script.{is_command, use_needs, use_turns, is_released, use_releases, host_barrier, groups_used, does_command, block}
+use Rattle.fg_recorder.specs.Script.{is_command, use_needs, use_prologues, is_released, use_releases, host_barrier, groups_used, does_command, block}
 use Rattle.fg_recorder.specs.Wanted.{is_there, wanted_release}
 use Rattle.fg_recorder.specs.declared.mark.Mark.{Mark}
-use Rattle.fg_recorder.specs.declared.mark.Mark.TheVariants.{Command, Turn as OfTurn, Release}
+use Rattle.fg_recorder.specs.declared.mark.Mark.TheVariants.{Command, Prologue as OfPrologue, Release}
 use Rattle.fg_recorder.specs.declared.mark.Marked.{Marked}
 use Rattle.fg_recorder.specs.declared.mark.Marked.TheVariants.{Does, Needs}
 use Rattle.fg_subs.specs.declared.program.Item.{Item}
 use Rattle.fg_subs.specs.declared.program.Item.TheVariants as item
 use Rattle.fg_turns.specs.Masks.{release_masks}
-use Rattle.fg_turns.specs.Turns.{first, last, earlier, turn_of}
+use Rattle.fg_turns.specs.Prologues.{first, last, earlier, prologue_of}
 use Rattle.fg_turns.specs.Under.{Heap}
-use Rattle.fg_turns.specs.declared.turn.TurnKind.{TurnKind}
-use Rattle.fg_turns.specs.declared.turn.TurnKind.TheVariants as kinds
+use Rattle.fg_turns.specs.declared.prologue.PrologueKind.{PrologueKind}
+use Rattle.fg_turns.specs.declared.prologue.PrologueKind.TheVariants as kinds
 
 -- an item of the list has the mark, on this queue
 pub record Stands (list : List Marked) (q : ℕ) (mark : Mark) : Type 0 where
@@ -38,23 +38,23 @@ pub record Stands (list : List Marked) (q : ℕ) (mark : Mark) : Type 0 where
 module _ (G : Grouping) (heap : Heap) where
   -- PARTS OF A BLOCK
 
-  of_turns : (c : ℕ) (command : commands.Command) (x : Marked) → Contains (flat_map (use_turns G heap c) (groups_used G c)) x → Contains (block G heap c command) x
-  of_turns c command x h =
+  of_prologues : (c : ℕ) (command : commands.Command) (x : Marked) → Contains (flat_map (use_prologues G heap c) (groups_used G c)) x → Contains (block G heap c command) x
+  of_prologues c command x h =
       let gs : List ℕ = groups_used G c in
       let needs : List Marked = map (Needs command.queue) (flat_map (use_needs G heap command.queue c) gs) in
-      let turns : List Marked = flat_map (use_turns G heap c) gs in
+      let prologues : List Marked = flat_map (use_prologues G heap c) gs in
       let after : List Marked = does_command G c command ∷ flat_map (use_releases G heap command.queue c) gs in
-      Contains-append_left ((needs ++ turns) ++ after) (host_barrier G command command.export) x
-      (Contains-append_left (needs ++ turns) after x (Contains-append_right needs turns x h))
+      Contains-append_left ((needs ++ prologues) ++ after) (host_barrier G command command.export) x
+      (Contains-append_left (needs ++ prologues) after x (Contains-append_right needs prologues x h))
 
   of_rest : (c : ℕ) (command : commands.Command) (x : Marked) → Contains (does_command G c command ∷ flat_map (use_releases G heap command.queue c) (groups_used G c)) x → Contains (block G heap c command) x
   of_rest c command x h =
       let gs : List ℕ = groups_used G c in
       let needs : List Marked = map (Needs command.queue) (flat_map (use_needs G heap command.queue c) gs) in
-      let turns : List Marked = flat_map (use_turns G heap c) gs in
+      let prologues : List Marked = flat_map (use_prologues G heap c) gs in
       let after : List Marked = does_command G c command ∷ flat_map (use_releases G heap command.queue c) gs in
-      Contains-append_left ((needs ++ turns) ++ after) (host_barrier G command command.export) x
-      (Contains-append_right (needs ++ turns) after x h)
+      Contains-append_left ((needs ++ prologues) ++ after) (host_barrier G command command.export) x
+      (Contains-append_right (needs ++ prologues) after x h)
 
   module _ (L : IsGrouped G) where
     command_stands : (c : ℕ) (command : commands.Command) → slice_get G.commands c ≡ Some command → Stands (block G heap c command) (queue_of G c) (Command c)
@@ -66,36 +66,36 @@ module _ (G : Grouping) (heap : Heap) where
               (of_rest c command (does_command G c command) (contains_head (does_command G c command) (flat_map (use_releases G heap command.queue c) (groups_used G c))));
         }
 
-    turn_stands : (g : ℕ) → g < length G.groups → (kind : TurnKind) → is_there kind ≡ true → Stands (items_of kind G (turn_of G heap g) (earlier G g) (group_at G g)) (first (group_at G g)).queue (OfTurn g)
-    turn_stands g lt kinds.Nothing e = absurd (false≢true e)
-    turn_stands g lt kinds.Barrier e =
-        let it : Item = barrier (piece_of G (first (group_at G g)).unit) (layouts_between (earlier G g) (group_at G g)) (turn_of G heap g).masks in
-        record { item = it; there = contains_head (does_turn (turn_of G heap g) it) [] }
-    turn_stands g lt kinds.Transfer e =
-        let it : Item = item.Acquire (transfer G (earlier G g) (group_at G g) (turn_of G heap g).masks) in
-        record { item = it; there = contains_head (does_turn (turn_of G heap g) it) [] }
-    turn_stands g lt kinds.Alias e =
-        let it : Item = item.Global (turn_of G heap g).masks in
-        record { item = it; there = contains_head (does_turn (turn_of G heap g) it) [] }
-    turn_stands g lt kinds.Init e =
+    prologue_stands : (g : ℕ) → g < length G.groups → (kind : PrologueKind) → is_there kind ≡ true → Stands (items_of kind G (prologue_of G heap g) (earlier G g) (group_at G g)) (first (group_at G g)).queue (OfPrologue g)
+    prologue_stands g lt kinds.Nothing e = absurd (false≢true e)
+    prologue_stands g lt kinds.Barrier e =
+        let it : Item = barrier (piece_of G (first (group_at G g)).unit) (layouts_between (earlier G g) (group_at G g)) (prologue_of G heap g).masks in
+        record { item = it; there = contains_head (does_prologue (prologue_of G heap g) it) [] }
+    prologue_stands g lt kinds.Transfer e =
+        let it : Item = item.Acquire (transfer G (earlier G g) (group_at G g) (prologue_of G heap g).masks) in
+        record { item = it; there = contains_head (does_prologue (prologue_of G heap g) it) [] }
+    prologue_stands g lt kinds.Alias e =
+        let it : Item = item.Global (prologue_of G heap g).masks in
+        record { item = it; there = contains_head (does_prologue (prologue_of G heap g) it) [] }
+    prologue_stands g lt kinds.Init e =
         let it : Item = init G (group_at G g) in
-        record { item = it; there = contains_head (does_turn (turn_of G heap g) it) [] }
-    turn_stands g lt kinds.AliasInit e =
+        record { item = it; there = contains_head (does_prologue (prologue_of G heap g) it) [] }
+    prologue_stands g lt kinds.AliasInit e =
         let it : Item = init G (group_at G g) in
-        let global : Marked = Does (turn_of G heap g).queue None (item.Global (turn_of G heap g).masks) in
-        record { item = it; there = contains_tail global (does_turn (turn_of G heap g) it ∷ []) (does_turn (turn_of G heap g) it) (contains_head (does_turn (turn_of G heap g) it) []) }
+        let global : Marked = Does (prologue_of G heap g).queue None (item.Global (prologue_of G heap g).masks) in
+        record { item = it; there = contains_tail global (does_prologue (prologue_of G heap g) it ∷ []) (does_prologue (prologue_of G heap g) it) (contains_head (does_prologue (prologue_of G heap g) it) []) }
 
-    turn_beside : (g : ℕ) (command : commands.Command) → g < length G.groups → is_there (turn_of G heap g).kind ≡ true → Stands (block G heap (first (group_at G g)).command command) (first (group_at G g)).queue (OfTurn g)
-    turn_beside g command lt e =
+    prologue_beside : (g : ℕ) (command : commands.Command) → g < length G.groups → is_there (prologue_of G heap g).kind ≡ true → Stands (block G heap (first (group_at G g)).command command) (first (group_at G g)).queue (OfPrologue g)
+    prologue_beside g command lt e =
         let c : ℕ = (first (group_at G g)).command in
-        let S : Stands (items_of (turn_of G heap g).kind G (turn_of G heap g) (earlier G g) (group_at G g)) (first (group_at G g)).queue (OfTurn g) = turn_stands g lt (turn_of G heap g).kind e in
-        let x : Marked = Does (first (group_at G g)).queue (Some (OfTurn g)) S.item in
+        let S : Stands (items_of (prologue_of G heap g).kind G (prologue_of G heap g) (earlier G g) (group_at G g)) (first (group_at G g)).queue (OfPrologue g) = prologue_stands g lt (prologue_of G heap g).kind e in
+        let x : Marked = Does (first (group_at G g)).queue (Some (OfPrologue g)) S.item in
         let own : is_command c (first (group_at G g)) ≡ true = eq-eqb c c refl in
         record {
           item = S.item;
-          there = of_turns c command x
-              (contains_part (use_turns G heap c) (groups_used G c) g x (is_used G L g (first (group_at G g)) (first_member G L g lt))
-              (subst (λ b. Contains (if b then turn_items G (turn_of G heap g) (earlier G g) (group_at G g) else []) x) (sym own) S.there));
+          there = of_prologues c command x
+              (contains_part (use_prologues G heap c) (groups_used G c) g x (is_used G L g (first (group_at G g)) (first_member G L g lt))
+              (subst (λ b. Contains (if b then prologue_items G (prologue_of G heap g) (earlier G g) (group_at G g) else []) x) (sym own) S.there));
         }
 
     release_beside : (g : ℕ) (command : commands.Command) → g < length G.groups → is_released G heap g ≡ true → Stands (block G heap (last (group_at G g)).command command) (last (group_at G g)).queue (Release g)
@@ -117,5 +117,5 @@ module _ (G : Grouping) (heap : Heap) where
 
     pub stands : (mark : Mark) (command : commands.Command) → IsRecorded G heap mark → slice_get G.commands (beside G mark) ≡ Some command → Stands (block G heap (beside G mark) command) (home G mark) mark
     stands (Command c) command r there = command_stands c command there
-    stands (OfTurn g) command r there = turn_beside g command r.0 r.1
+    stands (OfPrologue g) command r there = prologue_beside g command r.0 r.1
     stands (Release g) command r there = release_beside g command r.0 r.1

@@ -10,8 +10,8 @@ use Rattle.fg_groups.specs.declared.command.Command.{Command}
 use Rattle.fg_groups.specs.declared.grouping.Grouping.{Grouping}
 use Rattle.fg_groups.specs.declared.unit_use.Use.{Use}
 use Rattle.fg_groups.specs.declared.unit_use.UseAt.{UseAt}
-use Rattle.fg_recorder.specs.Code.Turned.{IsUsed}
-use Rattle.fg_recorder.specs.Code.Wants.{group_by}
+use Rattle.fg_recorder.specs.Internal.PrologueFacts.{IsUsed}
+use Rattle.fg_recorder.specs.Internal.Wants.{group_by}
 use Rattle.fg_recorder.specs.Script.{groups_used}
 use Rattle.fg_turns.specs.Unions.{on}
 

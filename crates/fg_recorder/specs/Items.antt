@@ -15,10 +15,10 @@ use Rattle.fg_subs.specs.declared.program.Item.{Item}
 use Rattle.fg_subs.specs.declared.program.Item.TheVariants as item
 use Rattle.fg_subs.specs.declared.program.Transfer.{Transfer}
 use Rattle.fg_turns.specs.Masks.{entry_masks, release_masks}
-use Rattle.fg_turns.specs.Turns.{first, last}
-use Rattle.fg_turns.specs.declared.turn.Turn.{Turn}
-use Rattle.fg_turns.specs.declared.turn.TurnKind.{TurnKind}
-use Rattle.fg_turns.specs.declared.turn.TurnKind.TheVariants.{Nothing, Barrier, Transfer as Handover, Alias, Init, AliasInit}
+use Rattle.fg_turns.specs.Prologues.{first, last}
+use Rattle.fg_turns.specs.declared.prologue.Prologue.{Prologue}
+use Rattle.fg_turns.specs.declared.prologue.PrologueKind.{PrologueKind}
+use Rattle.fg_turns.specs.declared.prologue.PrologueKind.TheVariants.{Nothing, Barrier, Transfer as Handover, Alias, Init, AliasInit}
 
 -- LAYOUTS
 
@@ -53,20 +53,20 @@ init G B = barrier (piece_of G (first B).unit) (both (Some Undefined) (first B).
 
 -- ROUND A GROUP
 
-abbrev pub does_turn : Turn → Item → Marked
-does_turn turn item = Does turn.queue (Some (marks.Turn turn.group)) item
+abbrev pub does_prologue : Prologue → Item → Marked
+does_prologue prologue item = Does prologue.queue (Some (marks.Prologue prologue.group)) item
 
 -- between the uses A and the uses B of the next group of the unit
-abbrev pub items_of : TurnKind → Grouping → Turn → List Use → List Use → List Marked
-items_of Nothing G turn A B = []
-items_of Barrier G turn A B = does_turn turn (barrier (piece_of G (first B).unit) (layouts_between A B) turn.masks) ∷ []
-items_of Handover G turn A B = does_turn turn (item.Acquire (transfer G A B turn.masks)) ∷ []
-items_of Alias G turn A B = does_turn turn (item.Global turn.masks) ∷ []
-items_of Init G turn A B = does_turn turn (init G B) ∷ []
-items_of AliasInit G turn A B = Does turn.queue None (item.Global turn.masks) ∷ does_turn turn (init G B) ∷ []
+abbrev pub items_of : PrologueKind → Grouping → Prologue → List Use → List Use → List Marked
+items_of Nothing G prologue A B = []
+items_of Barrier G prologue A B = does_prologue prologue (barrier (piece_of G (first B).unit) (layouts_between A B) prologue.masks) ∷ []
+items_of Handover G prologue A B = does_prologue prologue (item.Acquire (transfer G A B prologue.masks)) ∷ []
+items_of Alias G prologue A B = does_prologue prologue (item.Global prologue.masks) ∷ []
+items_of Init G prologue A B = does_prologue prologue (init G B) ∷ []
+items_of AliasInit G prologue A B = Does prologue.queue None (item.Global prologue.masks) ∷ does_prologue prologue (init G B) ∷ []
 
-abbrev pub turn_items : Grouping → Turn → List Use → List Use → List Marked
-turn_items G turn A B = items_of turn.kind G turn A B
+abbrev pub prologue_items : Grouping → Prologue → List Use → List Use → List Marked
+prologue_items G prologue A B = items_of prologue.kind G prologue A B
 
 -- after the uses A with group number g, before the uses B of another family
 abbrev pub release_item : Grouping → ℕ → List Use → List Use → Marked

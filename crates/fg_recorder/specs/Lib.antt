@@ -1,4 +1,4 @@
-pub mod Code
+pub mod Internal
 pub mod Items
 pub mod Marks
 pub mod Pieces

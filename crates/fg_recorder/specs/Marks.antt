@@ -11,7 +11,7 @@ use Rattle.fg_timeline.specs.declared.step.Step.TheVariants as steps
 
 abbrev pub same : Mark → Mark → Bool
 same (marks.Command c) (marks.Command d) = c == d
-same (marks.Turn g) (marks.Turn h) = g == h
+same (marks.Prologue g) (marks.Prologue h) = g == h
 same (marks.Release g) (marks.Release h) = g == h
 same mark other = false
 

@@ -1,6 +1,6 @@
 -- The submissions of a frame.
 use Rattle.std.specs.Prelude.{◌≡◌, ℕ, List, Bool}
-use Rattle.fg_frame.specs.Good.{IsGood}
+use Rattle.fg_frame.specs.Valid.{IsValid}
 use Rattle.fg_frame.specs.Numbered.{NumberedFrame}
 use Rattle.fg_groups.specs.Groups.{grouping}
 use Rattle.fg_groups.specs.Placed.{sizes}
@@ -42,5 +42,5 @@ pub record IsCompiled (frame : NumberedFrame) (kept : List Bool) (places : Place
 abbrev pub OfRecorded : (NumberedFrame → List Bool → Places → Program → Type 0) → Type 0
 OfRecorded Law =
     (frame : NumberedFrame) (kept : List Bool) (places : Places) (program : Program)
-    → IsGood frame → AreKept frame kept → IsCompiled frame kept places program
+    → IsValid frame → AreKept frame kept → IsCompiled frame kept places program
     → Law frame kept places program

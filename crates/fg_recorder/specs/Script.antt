@@ -6,7 +6,7 @@ use Rattle.fg_groups.specs.Needs.{group_at, goes_on, uses_at}
 use Rattle.fg_groups.specs.declared.command.Command.{Command}
 use Rattle.fg_groups.specs.declared.grouping.Grouping.{Grouping}
 use Rattle.fg_groups.specs.declared.unit_use.Use.{Use}
-use Rattle.fg_recorder.specs.Items.{turn_items, release_item}
+use Rattle.fg_recorder.specs.Items.{prologue_items, release_item}
 use Rattle.fg_recorder.specs.Pieces.{piece_of}
 use Rattle.fg_recorder.specs.Wanted.{wanted_first, wanted_further, wanted_release}
 use Rattle.fg_recorder.specs.declared.mark.Mark.{Mark}
@@ -15,7 +15,7 @@ use Rattle.fg_recorder.specs.declared.mark.Marked.{Marked}
 use Rattle.fg_recorder.specs.declared.mark.Marked.TheVariants.{Does, Needs}
 use Rattle.fg_subs.specs.declared.program.Item.TheVariants as item
 use Rattle.fg_turns.specs.Masks.{host_masks}
-use Rattle.fg_turns.specs.Turns.{turn_of, earlier, first, last, is_transfer}
+use Rattle.fg_turns.specs.Prologues.{prologue_of, earlier, first, last, is_transfer}
 use Rattle.fg_turns.specs.Under.{Heap}
 use Rattle.fg_turns.specs.Unions.{on}
 
@@ -27,18 +27,18 @@ is_command c u = u.command == c
 -- the first member of a group brings what stands before it; the first one on another queue needs that
 abbrev pub use_needs : Grouping → Heap → ℕ → ℕ → ℕ → List Mark
 use_needs G heap q c g =
-    if is_command c (first (group_at G g)) then wanted_first G (turn_of G heap g) (earlier G g)
-    else if is_command c (first (on q (group_at G g))) then wanted_further (turn_of G heap g)
+    if is_command c (first (group_at G g)) then wanted_first G (prologue_of G heap g) (earlier G g)
+    else if is_command c (first (on q (group_at G g))) then wanted_further (prologue_of G heap g)
     else []
 
-abbrev pub use_turns : Grouping → Heap → ℕ → ℕ → List Marked
-use_turns G heap c g = if is_command c (first (group_at G g)) then turn_items G (turn_of G heap g) (earlier G g) (group_at G g) else []
+abbrev pub use_prologues : Grouping → Heap → ℕ → ℕ → List Marked
+use_prologues G heap c g = if is_command c (first (group_at G g)) then prologue_items G (prologue_of G heap g) (earlier G g) (group_at G g) else []
 
 -- AFTER A COMMAND
 
 -- the next group of the unit is of another family
 abbrev pub is_released : Grouping → Heap → ℕ → Bool
-is_released G heap g = goes_on G g && is_transfer (turn_of G heap (suc g)).kind
+is_released G heap g = goes_on G g && is_transfer (prologue_of G heap (suc g)).kind
 
 -- the last member of a group brings the release after it
 abbrev pub use_releases : Grouping → Heap → ℕ → ℕ → ℕ → List Marked
@@ -63,7 +63,7 @@ does_command G c command = Does command.queue (Some (marks.Command c)) (item.Com
 abbrev pub block : Grouping → Heap → ℕ → Command → List Marked
 block G heap c command =
     map (Needs command.queue) (flat_map (use_needs G heap command.queue c) (groups_used G c))
-    ++ flat_map (use_turns G heap c) (groups_used G c)
+    ++ flat_map (use_prologues G heap c) (groups_used G c)
     ++ does_command G c command
     ∷ flat_map (use_releases G heap command.queue c) (groups_used G c)
     ++ host_barrier G command command.export

@@ -4,12 +4,12 @@ use Rattle.std.specs.List.{flat_map, range_with_len}
 use Rattle.fg_groups.specs.declared.grouping.Grouping.{Grouping}
 use Rattle.fg_groups.specs.declared.unit_use.Use.{Use}
 use Rattle.fg_recorder.specs.declared.mark.Mark.{Mark}
-use Rattle.fg_recorder.specs.declared.mark.Mark.TheVariants.{Command, Turn as OfTurn, Release}
-use Rattle.fg_turns.specs.Turns.{last}
+use Rattle.fg_recorder.specs.declared.mark.Mark.TheVariants.{Command, Prologue as OfPrologue, Release}
+use Rattle.fg_turns.specs.Prologues.{last}
 use Rattle.fg_turns.specs.Unions.{on}
-use Rattle.fg_turns.specs.declared.turn.Turn.{Turn}
-use Rattle.fg_turns.specs.declared.turn.TurnKind.{TurnKind}
-use Rattle.fg_turns.specs.declared.turn.TurnKind.TheVariants.{Nothing, Barrier, Transfer}
+use Rattle.fg_turns.specs.declared.prologue.Prologue.{Prologue}
+use Rattle.fg_turns.specs.declared.prologue.PrologueKind.{PrologueKind}
+use Rattle.fg_turns.specs.declared.prologue.PrologueKind.TheVariants.{Nothing, Barrier, Transfer}
 
 abbrev pub last_command : List Use → List Mark
 last_command [] = []
@@ -25,21 +25,21 @@ last_elsewhere G q A = flat_map (last_on q A) (range_with_len 0 (length G.famili
 
 -- before the first member of a group: a barrier needs the last uses of the group before it, A, on other queues, and an acquire
 -- needs its release. Before a unit's first group nothing is needed: an alias barrier has what its unit's commands need
-abbrev pub wanted_by : TurnKind → Grouping → Turn → List Use → List Mark
-wanted_by Barrier G turn A = last_elsewhere G turn.queue A
-wanted_by Transfer G turn A = Release (turn.group - 1) ∷ []
-wanted_by kind G turn A = []
+abbrev pub wanted_by : PrologueKind → Grouping → Prologue → List Use → List Mark
+wanted_by Barrier G prologue A = last_elsewhere G prologue.queue A
+wanted_by Transfer G prologue A = Release (prologue.group - 1) ∷ []
+wanted_by kind G prologue A = []
 
-abbrev pub wanted_first : Grouping → Turn → List Use → List Mark
-wanted_first G turn A = wanted_by turn.kind G turn A
+abbrev pub wanted_first : Grouping → Prologue → List Use → List Mark
+wanted_first G prologue A = wanted_by prologue.kind G prologue A
 
-abbrev pub is_there : TurnKind → Bool
+abbrev pub is_there : PrologueKind → Bool
 is_there Nothing = false
 is_there kind = true
 
--- before the first member of a group on a queue that does not have the turn
-abbrev pub wanted_further : Turn → List Mark
-wanted_further turn = if is_there turn.kind then OfTurn turn.group ∷ [] else []
+-- before the first member of a group on a queue that does not have the prologue
+abbrev pub wanted_further : Prologue → List Mark
+wanted_further prologue = if is_there prologue.kind then OfPrologue prologue.group ∷ [] else []
 
 -- before the release after the uses A
 abbrev pub wanted_release : Grouping → List Use → List Mark

@@ -5,18 +5,18 @@ ghost use Rattle.std.specs.List.{All, flat_map};
 ghost use Rattle.fg_base.specs.Operands.{operands_of, mapped};
 ghost use Rattle.fg_groups.specs.Laws.{IsGrouped, IsKnown};
 ghost use Rattle.fg_groups.specs.Needs.{group_at};
-ghost use Rattle.fg_recorder.specs.Code.Resources.{all_resources};
-ghost use Rattle.fg_recorder.specs.Code.Turned.{IsUsed, Stands, released_items};
+ghost use Rattle.fg_recorder.specs.Internal.Resources.{all_resources};
+ghost use Rattle.fg_recorder.specs.Internal.PrologueFacts.{IsUsed, Stands, released_items};
 ghost use Rattle.fg_recorder.specs.Pieces.{piece_of};
-ghost use Rattle.fg_recorder.specs.Script.{is_command, use_needs, use_turns, use_releases, is_released, host_barrier, does_command, block};
+ghost use Rattle.fg_recorder.specs.Script.{is_command, use_needs, use_prologues, use_releases, is_released, host_barrier, does_command, block};
 ghost use Rattle.fg_recorder.specs.declared.mark.Marked.TheVariants.{Needs};
 ghost use Rattle.fg_turns.specs.Masks.{release_masks, host_masks};
-ghost use Rattle.fg_turns.specs.Turns.{first, last, turn_of, turns as all_turns};
+ghost use Rattle.fg_turns.specs.Prologues.{first, last, prologue_of, prologues as all_prologues};
 ghost use Rattle.fg_turns.specs.Under.{Heap};
 ghost use Rattle.fg_turns.specs.Unions.{on};
 
-use crate::items::{piece_of, push_release, push_turn};
-use crate::needs::{need_elsewhere, need_first, need_turn};
+use crate::items::{piece_of, push_release, push_prologue};
+use crate::needs::{need_elsewhere, need_first, need_prologue};
 use crate::resource::Resource;
 use crate::used::groups_used;
 use crate::{Mark, Marked};
@@ -24,18 +24,18 @@ use fg_base::{List, NoMemory, Op};
 use fg_bits::{Accesses, Masks, Stages};
 use fg_groups::{Command, Groups, Use};
 use fg_subs::Item;
-use fg_turns::Turn;
+use fg_turns::Prologue;
 use std::alloc::Global;
 
 // What stands before group g.
-fn turn_of(groups: &Groups, turns: &[Turn], g: u32) -> Turn
+fn prologue_of(groups: &Groups, prologues: &[Prologue], g: u32) -> Prologue
     ghost heap: { Heap }
-    requires turns { turns.now ≡ all_turns groups.now heap }
+    requires prologues { prologues.now ≡ all_prologues groups.now heap }
     requires group { g < length groups.now.groups }
-    ensures is { result ≡ turn_of groups.now heap g }
+    ensures is { result ≡ prologue_of groups.now heap g }
     ensures stands { Stands groups.now result }
 {
-    turns[g as usize]
+    prologues[g as usize]
 }
 
 // Whether the command is the first member of group g.
@@ -74,21 +74,21 @@ fn is_first_on(uses: &[Use], queue: u32, command: u32) -> bool
 fn need_group(
     script: &mut List<Marked>,
     groups: &Groups,
-    turns: &[Turn],
+    prologues: &[Prologue],
     queue: u32,
     command: u32,
     g: u32,
 ) -> Result<(), NoMemory>
     ghost heap: { Heap }
-    requires turns { turns.now ≡ all_turns groups.now heap }
+    requires prologues { prologues.now ≡ all_prologues groups.now heap }
     requires used { IsUsed groups.now queue g }
     ensures { OnOk result (script.new ≡ script.old ++ map (Needs queue) (use_needs groups.now heap queue command g)) }
 {
-    let turn = turn_of(groups, turns, g);
+    let prologue = prologue_of(groups, prologues, g);
     if begins(groups, g, command) {
-        need_first(script, groups, queue, &turn)
+        need_first(script, groups, queue, &prologue)
     } else if is_first_on(groups.members(g), queue, command) {
-        need_turn(script, queue, &turn)
+        need_prologue(script, queue, &prologue)
     } else {
         Ok(())
     }
@@ -98,63 +98,63 @@ fn need_group(
 fn need_groups(
     script: &mut List<Marked>,
     groups: &Groups,
-    turns: &[Turn],
+    prologues: &[Prologue],
     queue: u32,
     command: u32,
     used: &[u32],
 ) -> Result<(), NoMemory>
     ghost heap: { Heap }
-    requires turns { turns.now ≡ all_turns groups.now heap }
+    requires prologues { prologues.now ≡ all_prologues groups.now heap }
     requires used { All (IsUsed groups.now queue) used.now }
     ensures { OnOk result (script.new ≡ script.old ++ map (Needs queue) (flat_map (use_needs groups.now heap queue command) used.now)) }
 {
     for g in used {
-        need_group(script, groups, turns, queue, command, *g)?;
+        need_group(script, groups, prologues, queue, command, *g)?;
     }
     Ok(())
 }
 
-// The turn of one of the command's groups, if the command is the group's first member.
-fn push_turn_of(
+// The prologue of one of the command's groups, if the command is the group's first member.
+fn push_prologue_of(
     script: &mut List<Marked>,
     groups: &Groups,
-    turns: &[Turn],
+    prologues: &[Prologue],
     resources: &[Resource],
     command: u32,
     g: u32,
 ) -> Result<(), NoMemory>
     ghost heap: { Heap }
-    requires turns { turns.now ≡ all_turns groups.now heap }
+    requires prologues { prologues.now ≡ all_prologues groups.now heap }
     requires resources { resources.now ≡ all_resources groups.now }
     requires known { IsKnown groups.now }
     requires group { g < length groups.now.groups }
-    ensures { OnOk result (script.new ≡ script.old ++ use_turns groups.now heap command g) }
+    ensures { OnOk result (script.new ≡ script.old ++ use_prologues groups.now heap command g) }
 {
     if begins(groups, g, command) {
-        push_turn(script, groups, resources, &turn_of(groups, turns, g))
+        push_prologue(script, groups, resources, &prologue_of(groups, prologues, g))
     } else {
         Ok(())
     }
 }
 
-// The turns of all of the command's groups of which it is the first member.
-fn push_turns(
+// The prologues of all of the command's groups of which it is the first member.
+fn push_prologues(
     script: &mut List<Marked>,
     groups: &Groups,
-    turns: &[Turn],
+    prologues: &[Prologue],
     resources: &[Resource],
     command: u32,
     used: &[u32],
 ) -> Result<(), NoMemory>
     ghost heap: { Heap }
-    requires turns { turns.now ≡ all_turns groups.now heap }
+    requires prologues { prologues.now ≡ all_prologues groups.now heap }
     requires resources { resources.now ≡ all_resources groups.now }
     requires known { IsKnown groups.now }
     requires used { All (λ g. g < length groups.now.groups) used.now }
-    ensures { OnOk result (script.new ≡ script.old ++ flat_map (use_turns groups.now heap command) used.now) }
+    ensures { OnOk result (script.new ≡ script.old ++ flat_map (use_prologues groups.now heap command) used.now) }
 {
     for g in used {
-        push_turn_of(script, groups, turns, resources, command, *g)?;
+        push_prologue_of(script, groups, prologues, resources, command, *g)?;
     }
     Ok(())
 }
@@ -162,10 +162,10 @@ fn push_turns(
 // AFTER THE COMMAND
 
 // The masks of the release after group g, if there is one.
-#[tactic(auto, using(crate::proofs::Turned::masks_given))]
-fn released(groups: &Groups, turns: &[Turn], g: u32) -> Option<Masks>
+#[tactic(auto, using(crate::proofs::PrologueFacts::masks_given))]
+fn released(groups: &Groups, prologues: &[Prologue], g: u32) -> Option<Masks>
     ghost heap: { Heap }
-    requires turns { turns.now ≡ all_turns groups.now heap }
+    requires prologues { prologues.now ≡ all_prologues groups.now heap }
     requires group { g < length groups.now.groups }
     ensures is { is_some result ≡ is_released groups.now heap g }
     ensures within { IfSome result (λ masks. g + 1 < length groups.now.groups) }
@@ -173,7 +173,7 @@ fn released(groups: &Groups, turns: &[Turn], g: u32) -> Option<Masks>
     ensures masks { IfSome result (λ masks. masks ≡ release_masks (group_at groups.now g) (last (group_at groups.now g)).queue) }
 {
     if groups.group_count() > g + 1 {
-        turn_of(groups, turns, g + 1).release
+        prologue_of(groups, prologues, g + 1).release
     } else {
         None
     }
@@ -205,14 +205,14 @@ fn release_group(
 fn push_release_of(
     script: &mut List<Marked>,
     groups: &Groups,
-    turns: &[Turn],
+    prologues: &[Prologue],
     resources: &[Resource],
     queue: u32,
     command: u32,
     g: u32,
 ) -> Result<(), NoMemory>
     ghost heap: { Heap }
-    requires turns { turns.now ≡ all_turns groups.now heap }
+    requires prologues { prologues.now ≡ all_prologues groups.now heap }
     requires resources { resources.now ≡ all_resources groups.now }
     requires known { IsKnown groups.now }
     requires group { g < length groups.now.groups }
@@ -221,7 +221,7 @@ fn push_release_of(
     if !ends(groups, g, command) {
         return Ok(());
     }
-    match released(groups, turns, g) {
+    match released(groups, prologues, g) {
         Some(masks) => release_group(script, groups, resources, queue, g, masks),
         None => Ok(()),
     }
@@ -231,21 +231,21 @@ fn push_release_of(
 fn push_releases(
     script: &mut List<Marked>,
     groups: &Groups,
-    turns: &[Turn],
+    prologues: &[Prologue],
     resources: &[Resource],
     queue: u32,
     command: u32,
     used: &[u32],
 ) -> Result<(), NoMemory>
     ghost heap: { Heap }
-    requires turns { turns.now ≡ all_turns groups.now heap }
+    requires prologues { prologues.now ≡ all_prologues groups.now heap }
     requires resources { resources.now ≡ all_resources groups.now }
     requires known { IsKnown groups.now }
     requires used { All (λ g. g < length groups.now.groups) used.now }
     ensures { OnOk result (script.new ≡ script.old ++ flat_map (use_releases groups.now heap queue command) used.now) }
 {
     for g in used {
-        push_release_of(script, groups, turns, resources, queue, command, *g)?;
+        push_release_of(script, groups, prologues, resources, queue, command, *g)?;
     }
     Ok(())
 }
@@ -327,13 +327,13 @@ pub(crate) fn push_block(
     alloc: Global,
     script: &mut List<Marked>,
     groups: &Groups,
-    turns: &[Turn],
+    prologues: &[Prologue],
     resources: &[Resource],
     c: u32,
     command: &Command,
 ) -> Result<(), NoMemory>
     ghost heap: { Heap }
-    requires turns { turns.now ≡ all_turns groups.now heap }
+    requires prologues { prologues.now ≡ all_prologues groups.now heap }
     requires resources { resources.now ≡ all_resources groups.now }
     requires grouped { IsGrouped groups.now }
     requires known { IsKnown groups.now }
@@ -343,9 +343,9 @@ pub(crate) fn push_block(
     let queue = command.queue;
     let list = groups_used(alloc, groups, c)?;
     let used = list.as_slice();
-    need_groups(script, groups, turns, queue, c, used)?;
-    push_turns(script, groups, turns, resources, c, used)?;
+    need_groups(script, groups, prologues, queue, c, used)?;
+    push_prologues(script, groups, prologues, resources, c, used)?;
     push_command(alloc, script, groups, resources, c, command)?;
-    push_releases(script, groups, turns, resources, queue, c, used)?;
+    push_releases(script, groups, prologues, resources, queue, c, used)?;
     push_host_barrier(script, groups, resources, command)
 }

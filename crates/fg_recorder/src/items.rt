@@ -4,13 +4,13 @@ ghost use Rattle.std.specs.Prelude.{◌≡◌, ◌+◌, ◌-◌, ◌<◌, ◌++�
 ghost use Rattle.fg_groups.specs.Groups.{family_of};
 ghost use Rattle.fg_groups.specs.Laws.{IsKnown};
 ghost use Rattle.fg_groups.specs.Needs.{group_at};
-ghost use Rattle.fg_recorder.specs.Code.Resources.{all_resources};
-ghost use Rattle.fg_recorder.specs.Code.Turned.{Stands, Enters, entered};
-ghost use Rattle.fg_recorder.specs.Items.{both, layouts_between, barrier, transfer, init, does_turn, turn_items, items_of, release_item};
+ghost use Rattle.fg_recorder.specs.Internal.Resources.{all_resources};
+ghost use Rattle.fg_recorder.specs.Internal.PrologueFacts.{Stands, Enters, entered};
+ghost use Rattle.fg_recorder.specs.Items.{both, layouts_between, barrier, transfer, init, does_prologue, prologue_items, items_of, release_item};
 ghost use Rattle.fg_recorder.specs.Pieces.{piece_of};
 ghost use Rattle.fg_turns.specs.Masks.{release_masks};
-ghost use Rattle.fg_turns.specs.Turns.{earlier, first, last};
-ghost use Rattle.fg_turns.specs.declared.turn.TurnKind.TheVariants as kinds;
+ghost use Rattle.fg_turns.specs.Prologues.{earlier, first, last};
+ghost use Rattle.fg_turns.specs.declared.prologue.PrologueKind.TheVariants as kinds;
 
 use crate::resource::Resource;
 use crate::{Mark, Marked};
@@ -18,7 +18,7 @@ use fg_base::{Family, List, NoMemory};
 use fg_bits::{Accesses, Layout, Layouts, Masks};
 use fg_groups::{Groups, Use};
 use fg_subs::{Item, Transfer};
-use fg_turns::{Turn, TurnKind};
+use fg_turns::{Prologue, PrologueKind};
 
 /// The number of the piece of a resource.
 pub(crate) fn piece_of(groups: &Groups, resources: &[Resource], r: u32) -> u32
@@ -120,25 +120,25 @@ fn barrier_to(groups: &Groups, resources: &[Resource], g: u32, masks: Masks) -> 
 }
 
 // Out of UNDEFINED.
-fn init(groups: &Groups, resources: &[Resource], turn: &Turn) -> Item
+fn init(groups: &Groups, resources: &[Resource], prologue: &Prologue) -> Item
     requires resources { resources.now ≡ all_resources groups.now }
     requires known { IsKnown groups.now }
-    requires group { turn.now.group < length groups.now.groups }
-    requires enters { Enters groups.now turn.now }
-    ensures { result ≡ init groups.now (group_at groups.now turn.now.group) }
+    requires group { prologue.now.group < length groups.now.groups }
+    requires enters { Enters groups.now prologue.now }
+    ensures { result ≡ init groups.now (group_at groups.now prologue.now.group) }
 {
-    let after = groups.members(turn.group);
+    let after = groups.members(prologue.group);
     let piece = piece_of(groups, resources, after[0].unit);
     let layouts = both(Some(Layout::Undefined), after[0].layout);
-    barrier(piece, layouts, entered(turn.masks))
+    barrier(piece, layouts, entered(prologue.masks))
 }
 
-fn does_turn(turn: &Turn, item: Item) -> Marked
-    ensures { result ≡ does_turn turn.now item }
+fn does_prologue(prologue: &Prologue, item: Item) -> Marked
+    ensures { result ≡ does_prologue prologue.now item }
 {
     Marked::Does {
-        queue: turn.queue,
-        mark: Some(Mark::Turn(turn.group)),
+        queue: prologue.queue,
+        mark: Some(Mark::Prologue(prologue.group)),
         item,
     }
 }
@@ -148,47 +148,47 @@ fn push_alias_init(
     script: &mut List<Marked>,
     groups: &Groups,
     resources: &[Resource],
-    turn: &Turn,
+    prologue: &Prologue,
 ) -> Result<(), NoMemory>
     requires resources { resources.now ≡ all_resources groups.now }
     requires known { IsKnown groups.now }
-    requires group { turn.now.group < length groups.now.groups }
-    requires enters { Enters groups.now turn.now }
-    ensures { OnOk result (script.new ≡ script.old ++ items_of kinds.AliasInit groups.now turn.now (earlier groups.now turn.now.group) (group_at groups.now turn.now.group)) }
+    requires group { prologue.now.group < length groups.now.groups }
+    requires enters { Enters groups.now prologue.now }
+    ensures { OnOk result (script.new ≡ script.old ++ items_of kinds.AliasInit groups.now prologue.now (earlier groups.now prologue.now.group) (group_at groups.now prologue.now.group)) }
 {
     script.push(Marked::Does {
-        queue: turn.queue,
+        queue: prologue.queue,
         mark: None,
-        item: Item::Global(turn.masks),
+        item: Item::Global(prologue.masks),
     })?;
-    script.push(does_turn(turn, init(groups, resources, turn)))
+    script.push(does_prologue(prologue, init(groups, resources, prologue)))
 }
 
 /// What stands before the first member of a group.
-pub(crate) fn push_turn(
+pub(crate) fn push_prologue(
     script: &mut List<Marked>,
     groups: &Groups,
     resources: &[Resource],
-    turn: &Turn,
+    prologue: &Prologue,
 ) -> Result<(), NoMemory>
     requires resources { resources.now ≡ all_resources groups.now }
     requires known { IsKnown groups.now }
-    requires stands { Stands groups.now turn.now }
-    ensures { OnOk result (script.new ≡ script.old ++ turn_items groups.now turn.now (earlier groups.now turn.now.group) (group_at groups.now turn.now.group)) }
+    requires stands { Stands groups.now prologue.now }
+    ensures { OnOk result (script.new ≡ script.old ++ prologue_items groups.now prologue.now (earlier groups.now prologue.now.group) (group_at groups.now prologue.now.group)) }
 {
-    match turn.kind {
-        TurnKind::Nothing => Ok(()),
-        TurnKind::Barrier => {
-            let item = barrier_to(groups, resources, turn.group, turn.masks);
-            script.push(does_turn(turn, item))
+    match prologue.kind {
+        PrologueKind::Nothing => Ok(()),
+        PrologueKind::Barrier => {
+            let item = barrier_to(groups, resources, prologue.group, prologue.masks);
+            script.push(does_prologue(prologue, item))
         }
-        TurnKind::Transfer => {
-            let transfer = transfer_to(groups, resources, turn.group, turn.masks);
-            script.push(does_turn(turn, Item::Acquire(transfer)))
+        PrologueKind::Transfer => {
+            let transfer = transfer_to(groups, resources, prologue.group, prologue.masks);
+            script.push(does_prologue(prologue, Item::Acquire(transfer)))
         }
-        TurnKind::Alias => script.push(does_turn(turn, Item::Global(turn.masks))),
-        TurnKind::Init => script.push(does_turn(turn, init(groups, resources, turn))),
-        TurnKind::AliasInit => push_alias_init(script, groups, resources, turn),
+        PrologueKind::Alias => script.push(does_prologue(prologue, Item::Global(prologue.masks))),
+        PrologueKind::Init => script.push(does_prologue(prologue, init(groups, resources, prologue))),
+        PrologueKind::AliasInit => push_alias_init(script, groups, resources, prologue),
     }
 }
 

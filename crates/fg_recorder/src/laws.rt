@@ -1,7 +1,7 @@
 //! Laws of what is recorded.
 
 ghost use Rattle.std.specs.Prelude.{◌<◌, List, Bool, length};
-ghost use Rattle.fg_frame.specs.Good.{IsGood};
+ghost use Rattle.fg_frame.specs.Valid.{IsValid};
 ghost use Rattle.fg_frame.specs.Numbered.{NumberedFrame};
 ghost use Rattle.fg_groups.specs.Groups.{grouping};
 ghost use Rattle.fg_recorder.specs.Marks.{steps_of};
@@ -12,13 +12,13 @@ ghost use Rattle.fg_turns.specs.Under.{Heap};
 
 use fg_groups::group_laws;
 
-/// What is recorded of a good frame can be cut into queues: each need is for an earlier item of another queue. Each command, turn
+/// What is recorded of a good frame can be cut into queues: each need is for an earlier item of another queue. Each command, prologue
 /// and release stands once, in the order of the commands beside it, with what it needs before it. And a step is told by 32 bits.
 /// It does nothing.
 pub fn script_laws()
-    ensures in_turn { (frame : NumberedFrame) (kept : List Bool) (heap : Heap) → IsGood frame → IsScript (steps_of (script (grouping frame kept) heap)) (length frame.queues) }
+    ensures in_turn { (frame : NumberedFrame) (kept : List Bool) (heap : Heap) → IsValid frame → IsScript (steps_of (script (grouping frame kept) heap)) (length frame.queues) }
     ensures standing { (frame : NumberedFrame) (kept : List Bool) (heap : Heap) → IsStanding (grouping frame kept) heap }
-    ensures few { (frame : NumberedFrame) (kept : List Bool) (heap : Heap) → IsGood frame → length (script (grouping frame kept) heap) < 4294967296 }
+    ensures few { (frame : NumberedFrame) (kept : List Bool) (heap : Heap) → IsValid frame → length (script (grouping frame kept) heap) < 4294967296 }
 {
     group_laws();
 }

@@ -8,12 +8,12 @@ pub enum Mark {
     /// The command with this number.
     Command(u32),
     /// What stands right before the first member of the group with this number.
-    Turn(u32),
+    Prologue(u32),
     /// The release after the group with this number.
     Release(u32),
 }
 
-/// What is recorded in turn, for all queues together.
+/// What is recorded in prologue, for all queues together.
 #[derive(Debug, Drop)]
 pub enum Marked {
     /// The queue does this after its earlier items. Nothing needs an item without a mark.

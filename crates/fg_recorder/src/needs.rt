@@ -1,17 +1,17 @@
 //! What a queue needs of others.
 
 ghost use Rattle.std.specs.Prelude.{◌≡◌, ◌++◌, map, OnOk};
-ghost use Rattle.fg_recorder.specs.Code.Turned.{Stands};
-ghost use Rattle.fg_recorder.specs.Code.Wants.{last_number, later_number};
+ghost use Rattle.fg_recorder.specs.Internal.PrologueFacts.{Stands};
+ghost use Rattle.fg_recorder.specs.Internal.Wants.{last_number, later_number};
 ghost use Rattle.fg_recorder.specs.Wanted.{last_on, last_elsewhere, wanted_first, wanted_further};
 ghost use Rattle.fg_recorder.specs.declared.mark.Marked.TheVariants.{Needs};
-ghost use Rattle.fg_turns.specs.Turns.{earlier};
+ghost use Rattle.fg_turns.specs.Prologues.{earlier};
 ghost use Rattle.fg_turns.specs.Unions.{on};
 
 use crate::{Mark, Marked};
 use fg_base::{List, NoMemory};
 use fg_groups::{Groups, Use};
-use fg_turns::{Turn, TurnKind};
+use fg_turns::{Prologue, PrologueKind};
 
 fn later_number(found: Option<u32>, one: &Use, queue: usize) -> Option<u32>
     ensures { result ≡ later_number queue found one.now }
@@ -77,33 +77,33 @@ pub(crate) fn need_first(
     script: &mut List<Marked>,
     groups: &Groups,
     queue: u32,
-    turn: &Turn,
+    prologue: &Prologue,
 ) -> Result<(), NoMemory>
-    requires { Stands groups.now turn.now }
-    ensures { OnOk result (script.new ≡ script.old ++ map (Needs queue) (wanted_first groups.now turn.now (earlier groups.now turn.now.group))) }
+    requires { Stands groups.now prologue.now }
+    ensures { OnOk result (script.new ≡ script.old ++ map (Needs queue) (wanted_first groups.now prologue.now (earlier groups.now prologue.now.group))) }
 {
-    match turn.kind {
-        TurnKind::Barrier => {
-            let before = groups.members(turn.group - 1);
-            need_elsewhere(script, groups, queue, turn.queue, before)
+    match prologue.kind {
+        PrologueKind::Barrier => {
+            let before = groups.members(prologue.group - 1);
+            need_elsewhere(script, groups, queue, prologue.queue, before)
         }
-        TurnKind::Transfer => script.push(Marked::Needs {
+        PrologueKind::Transfer => script.push(Marked::Needs {
             queue,
-            mark: Mark::Release(turn.group - 1),
+            mark: Mark::Release(prologue.group - 1),
         }),
         _ => Ok(()),
     }
 }
 
-/// The need of `queue` before the first member of a group on it, where another queue has the turn.
-pub(crate) fn need_turn(script: &mut List<Marked>, queue: u32, turn: &Turn) -> Result<(), NoMemory>
-    ensures { OnOk result (script.new ≡ script.old ++ map (Needs queue) (wanted_further turn.now)) }
+/// The need of `queue` before the first member of a group on it, where another queue has the prologue.
+pub(crate) fn need_prologue(script: &mut List<Marked>, queue: u32, prologue: &Prologue) -> Result<(), NoMemory>
+    ensures { OnOk result (script.new ≡ script.old ++ map (Needs queue) (wanted_further prologue.now)) }
 {
-    match turn.kind {
-        TurnKind::Nothing => Ok(()),
+    match prologue.kind {
+        PrologueKind::Nothing => Ok(()),
         _ => script.push(Marked::Needs {
             queue,
-            mark: Mark::Turn(turn.group),
+            mark: Mark::Prologue(prologue.group),
         }),
     }
 }

@@ -2,18 +2,18 @@
 
 ghost use Rattle.std.specs.Prelude.{◌≡◌, ◌<◌, ◌^◌, ◌++◌, [], ◌∷◌, length, true, false, option_copied, IfOk, OnOk, if◌then◌else◌};
 ghost use Rattle.fg_base.specs.Shapes.{shape_at, bytes_of};
-ghost use Rattle.fg_frame.specs.Good.{IsGood};
+ghost use Rattle.fg_frame.specs.Valid.{IsValid};
 ghost use Rattle.fg_frame.specs.Numbered.{numbered};
 ghost use Rattle.fg_groups.specs.Groups.{sharing_of};
 ghost use Rattle.fg_groups.specs.Placed.{placed};
 ghost use Rattle.fg_place.specs.Placing.{number_at};
-ghost use Rattle.fg_recorder.specs.Code.Resources.{IsOf, resource_at, all_resources};
+ghost use Rattle.fg_recorder.specs.Internal.Resources.{IsOf, resource_at, all_resources};
 ghost use Rattle.fg_recorder.specs.Pieces.{has_piece, has_memory, is_readback, piece, piece_of, pieces, imported, own_memory, memories, readbacks};
 
 use crate::resource::Resource;
 use fg_base::{List, NoMemory, shape_at};
 use fg_bits::Sharing;
-use fg_frame::GoodFrame;
+use fg_frame::ValidFrame;
 use fg_groups::Groups;
 use fg_place::Placement;
 use fg_subs::{Memory, Piece};
@@ -111,7 +111,7 @@ pub(crate) fn pieces(
 // MEMORIES
 
 // The bytes of an import.
-fn imported(frame: &GoodFrame, r: u32) -> Option<&[u8]>
+fn imported(frame: &ValidFrame, r: u32) -> Option<&[u8]>
     ensures { option_copied result ≡ imported (numbered frame.now) r }
 {
     if r < frame.unit_count() {
@@ -121,7 +121,7 @@ fn imported(frame: &GoodFrame, r: u32) -> Option<&[u8]>
     }
 }
 
-fn own_memory(alloc: Global, frame: &GoodFrame, groups: &Groups, r: u32) -> Result<Memory, NoMemory>
+fn own_memory(alloc: Global, frame: &ValidFrame, groups: &Groups, r: u32) -> Result<Memory, NoMemory>
     requires r { r < length groups.now.shapes }
     requires small { bytes_of (shape_at groups.now.shapes r) < 2 ^ 32 }
     ensures { IfOk result (λ memory. memory ≡ own_memory groups.now r (imported (numbered frame.now) r)) }
@@ -140,7 +140,7 @@ fn own_memory(alloc: Global, frame: &GoodFrame, groups: &Groups, r: u32) -> Resu
 fn push_memory(
     alloc: Global,
     list: &mut List<Memory>,
-    frame: &GoodFrame,
+    frame: &ValidFrame,
     groups: &Groups,
     resources: &[Resource],
     r: u32,
@@ -160,12 +160,12 @@ fn push_memory(
 /// The heap, and then a memory for each import that a command uses and each export.
 pub(crate) fn memories(
     alloc: Global,
-    frame: &GoodFrame,
+    frame: &ValidFrame,
     groups: &Groups,
     heap: u32,
     resources: &[Resource],
 ) -> Result<List<Memory>, NoMemory>
-    requires good { IsGood (numbered frame.now) }
+    requires good { IsValid (numbered frame.now) }
     requires of { IsOf (numbered frame.now) groups.now }
     requires resources { resources.now ≡ all_resources groups.now }
     ensures { IfOk result (λ list. list ≡ memories (numbered frame.now) groups.now heap) }

@@ -2,12 +2,12 @@
 
 ghost use Rattle.std.specs.Prelude.{◌≡◌, ◌≤◌, length, IfOk};
 ghost use Rattle.fg_base.specs.Maxima.{max_queues};
-ghost use Rattle.fg_frame.specs.Good.{IsGood};
+ghost use Rattle.fg_frame.specs.Valid.{IsValid};
 ghost use Rattle.fg_frame.specs.Numbered.{numbered};
 ghost use Rattle.fg_groups.specs.Placed.{placed};
 ghost use Rattle.fg_place.specs.Pairs.{has};
-ghost use Rattle.fg_recorder.specs.Code.Folded.{all_steps, whole_program};
-ghost use Rattle.fg_recorder.specs.Code.Resources.{IsOf, all_resources};
+ghost use Rattle.fg_recorder.specs.Internal.Folded.{all_steps, whole_program};
+ghost use Rattle.fg_recorder.specs.Internal.Resources.{IsOf, all_resources};
 ghost use Rattle.fg_timeline.specs.Batches.{queues};
 ghost use Rattle.fg_timeline.specs.Steps.{IsScript};
 ghost use Rattle.fg_turns.specs.Under.{Heap, heap_of};
@@ -17,12 +17,12 @@ use crate::resource::{Resource, all_resources};
 use crate::script::script;
 use crate::steps::steps_of;
 use fg_base::{List, NoMemory};
-use fg_frame::GoodFrame;
+use fg_frame::ValidFrame;
 use fg_groups::Groups;
 use fg_place::{Pairs, Placement};
 use fg_subs::{Program, Queue};
 use fg_timeline::{Step, batches};
-use fg_turns::turns;
+use fg_turns::prologues;
 use std::alloc::Global;
 
 // What all queues do and need, in the order of recording.
@@ -42,8 +42,8 @@ fn steps(
     ensures steps { IfOk result (λ steps. steps ≡ all_steps groups.now heap) }
     ensures script { IfOk result (λ steps. IsScript steps (length groups.now.families)) }
 {
-    let turns = turns(alloc, groups, ordered, placement)?;
-    let script = script(alloc, groups, turns.as_slice(), resources)?;
+    let prologues = prologues(alloc, groups, ordered, placement)?;
+    let script = script(alloc, groups, prologues.as_slice(), resources)?;
     let steps = steps_of(alloc, script)?;
     Ok(steps)
 }
@@ -70,13 +70,13 @@ fn queues_of(
 
 fn with_resources(
     alloc: Global,
-    frame: &GoodFrame,
+    frame: &ValidFrame,
     groups: &Groups,
     ordered: &Pairs,
     placement: &Placement,
     resources: &[Resource],
 ) -> Result<Program, NoMemory>
-    requires good { IsGood (numbered frame.now) }
+    requires good { IsValid (numbered frame.now) }
     requires of { IsOf (numbered frame.now) groups.now }
     requires ordered { ordered.now.count ≡ length (placed groups.now) }
     requires placement { length placement.now.offsets ≡ length (placed groups.now) }
@@ -98,7 +98,7 @@ fn with_resources(
 /// The submissions of a frame whose placed units lie at these places. `ordered` are the pairs of them that may share bytes.
 pub(crate) fn program_of(
     alloc: Global,
-    frame: &GoodFrame,
+    frame: &ValidFrame,
     groups: &Groups,
     ordered: &Pairs,
     placement: &Placement,

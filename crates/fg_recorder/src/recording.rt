@@ -5,15 +5,15 @@ ghost use Rattle.fg_frame.specs.Numbered.{numbered};
 ghost use Rattle.fg_groups.specs.Placed.{placed};
 ghost use Rattle.fg_lifetimes.specs.Ordered.{IsOrdered};
 ghost use Rattle.fg_place.specs.Pairs.{has};
-ghost use Rattle.fg_recorder.specs.Code.Resources.{IsOf};
-ghost use Rattle.fg_recorder.specs.Code.Stages.{IsLaid};
+ghost use Rattle.fg_recorder.specs.Internal.Resources.{IsOf};
+ghost use Rattle.fg_recorder.specs.Internal.Laid.{IsLaid};
 ghost use Rattle.fg_recorder.specs.Recorded.{IsCompiled};
 ghost use Rattle.fg_versions.specs.Culled.{AreKept};
 ghost use Rattle.fg_versions.specs.Versions.{numbers_of};
 
 use crate::program::program_of;
 use fg_base::NoMemory;
-use fg_frame::GoodFrame;
+use fg_frame::ValidFrame;
 use fg_groups::{Groups, groups_of};
 use fg_lifetimes::ordered;
 use fg_place::{Pairs, Placement, place};
@@ -37,7 +37,7 @@ pub struct Recorded {
 #[tactic(auto, using(crate::proofs::Compiling::as_many))]
 fn laid(
     alloc: Global,
-    frame: &GoodFrame,
+    frame: &ValidFrame,
     groups: &Groups,
     ordered: &Pairs,
 ) -> Result<(Placement, Program), NoMemory>
@@ -53,7 +53,7 @@ fn laid(
 
 fn of_groups(
     alloc: Global,
-    frame: &GoodFrame,
+    frame: &ValidFrame,
     groups: &Groups,
 ) -> Result<(Placement, Program), NoMemory>
     requires { IsOf (numbered frame.now) groups.now }
@@ -66,7 +66,7 @@ fn of_groups(
 #[tactic(auto, using(crate::proofs::Compiling::of_grouping))]
 fn of_kept(
     alloc: Global,
-    frame: &GoodFrame,
+    frame: &ValidFrame,
     versions: &Versions,
     kept: &Kept,
 ) -> Result<(Placement, Program), NoMemory>
@@ -78,7 +78,7 @@ fn of_kept(
     of_groups(alloc, frame, &groups)
 }
 
-fn of_versions(alloc: Global, frame: &GoodFrame, versions: &Versions) -> Result<Recorded, NoMemory>
+fn of_versions(alloc: Global, frame: &ValidFrame, versions: &Versions) -> Result<Recorded, NoMemory>
     requires { versions.now ≡ numbers_of (numbered frame.now) }
     ensures kept { IfOk result (λ r. AreKept (numbered frame.now) r.kept) }
     ensures compiled { IfOk result (λ r. IsCompiled (numbered frame.now) r.kept r.placement r.program) }
@@ -94,7 +94,7 @@ fn of_versions(alloc: Global, frame: &GoodFrame, versions: &Versions) -> Result<
 
 /// The submissions of a frame: what its kept passes do, and the barriers, transfers, waits and signals that this needs. Want
 /// of memory is its one refusal.
-pub fn record(alloc: Global, frame: &GoodFrame) -> Result<Recorded, NoMemory>
+pub fn record(alloc: Global, frame: &ValidFrame) -> Result<Recorded, NoMemory>
     ensures kept { IfOk result (λ r. AreKept (numbered frame.now) r.kept) }
     ensures compiled { IfOk result (λ r. IsCompiled (numbered frame.now) r.kept r.placement r.program) }
 {

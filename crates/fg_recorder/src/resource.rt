@@ -3,7 +3,7 @@
 ghost use Rattle.std.specs.Prelude.{◌≡◌, ◌<◌, ◌≤◌, ◌||◌, ℕ, length, slice_index_or, false, IfOk};
 ghost use Rattle.std.specs.List.{All};
 ghost use Rattle.fg_groups.specs.Needs.{has_unit};
-ghost use Rattle.fg_recorder.specs.Code.Resources.{AreTouched, AreFew, all_resources, next_resource, next_given};
+ghost use Rattle.fg_recorder.specs.Internal.Resources.{AreTouched, AreFew, all_resources, next_resource, next_assigned};
 ghost use Rattle.fg_recorder.specs.Pieces.{has_piece, has_memory};
 
 use fg_base::{List, NoMemory};
@@ -26,18 +26,18 @@ pub(crate) struct Resource {
 
 /// How many pieces, memories and places were given to the resources so far. The heap is not counted.
 #[derive(Clone, Copy, Debug, PartialEq, Eq)]
-pub(crate) struct Given {
+pub(crate) struct Assigned {
     pub(crate) pieces: u32,
     pub(crate) memories: u32,
     pub(crate) places: u32,
 }
 
-impl Given {
+impl Assigned {
     // The next resource, with its numbers.
-    fn give(&mut self, has_piece: bool, has_memory: bool) -> Resource
+    fn assign(&mut self, has_piece: bool, has_memory: bool) -> Resource
         requires { AreFew self.old }
         ensures resource { result ≡ next_resource self.old has_piece has_memory }
-        ensures given { self.new ≡ next_given self.old has_piece has_memory }
+        ensures assigned { self.new ≡ next_assigned self.old has_piece has_memory }
     {
         let resource = Resource {
             has_piece,
@@ -101,7 +101,7 @@ pub(crate) fn all_resources(
 {
     let touched = touched(alloc, groups)?;
     let mut list = List::new(alloc);
-    let mut given = Given {
+    let mut assigned = Assigned {
         pieces: 0,
         memories: 0,
         places: 0,
@@ -109,7 +109,7 @@ pub(crate) fn all_resources(
     for r in 0..count {
         let has_piece = has_piece(groups, &touched, r);
         let has_memory = has_memory(groups, &touched, r);
-        list.push(given.give(has_piece, has_memory))?;
+        list.push(assigned.assign(has_piece, has_memory))?;
     }
     Ok(list)
 }

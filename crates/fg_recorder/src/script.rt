@@ -2,9 +2,9 @@
 
 ghost use Rattle.std.specs.Prelude.{◌≡◌, IfOk};
 ghost use Rattle.fg_groups.specs.Laws.{IsGrouped, IsKnown, IsSmall};
-ghost use Rattle.fg_recorder.specs.Code.Resources.{all_resources};
+ghost use Rattle.fg_recorder.specs.Internal.Resources.{all_resources};
 ghost use Rattle.fg_recorder.specs.Script.{script};
-ghost use Rattle.fg_turns.specs.Turns.{turns as all_turns};
+ghost use Rattle.fg_turns.specs.Prologues.{prologues as all_prologues};
 ghost use Rattle.fg_turns.specs.Under.{Heap};
 
 use crate::Marked;
@@ -12,18 +12,18 @@ use crate::block::push_block;
 use crate::resource::Resource;
 use fg_base::{List, NoMemory};
 use fg_groups::Groups;
-use fg_turns::Turn;
+use fg_turns::Prologue;
 use std::alloc::Global;
 
 /// What is recorded for the commands of a frame, one command after another.
 pub(crate) fn script(
     alloc: Global,
     groups: &Groups,
-    turns: &[Turn],
+    prologues: &[Prologue],
     resources: &[Resource],
 ) -> Result<List<Marked>, NoMemory>
     ghost heap: { Heap }
-    requires turns { turns.now ≡ all_turns groups.now heap }
+    requires prologues { prologues.now ≡ all_prologues groups.now heap }
     requires resources { resources.now ≡ all_resources groups.now }
     ensures script { IfOk result (λ list. list ≡ script groups.now heap) }
     ensures grouped { IsGrouped groups.now }
@@ -33,7 +33,7 @@ pub(crate) fn script(
     let mut list = List::new(alloc);
     for (c, command) in groups.commands().iter().enumerate() {
         push_block(
-            alloc, &mut list, groups, turns, resources, c as u32, command,
+            alloc, &mut list, groups, prologues, resources, c as u32, command,
         )?;
     }
     Ok(list)

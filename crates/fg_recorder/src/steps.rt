@@ -1,7 +1,7 @@
 //! From marks to steps.
 
 ghost use Rattle.std.specs.Prelude.{◌≡◌, ◌+◌, ◌<◌, ◌^◌, length, IfOk, OnOk, Some};
-ghost use Rattle.fg_recorder.specs.Code.Tables.{Finds, with_step};
+ghost use Rattle.fg_recorder.specs.Internal.Tables.{Finds, with_step};
 ghost use Rattle.fg_recorder.specs.Marks.{steps_of};
 
 use crate::Marked;

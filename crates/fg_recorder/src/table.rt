@@ -1,7 +1,7 @@
 //! Steps looked up by marks.
 
 ghost use Rattle.std.specs.Prelude.{◌≡◌, ℕ, ◌==◌, ◌<◌, length, OnOk, if◌then◌else◌};
-ghost use Rattle.fg_recorder.specs.Code.Tables.{step_at, step_for};
+ghost use Rattle.fg_recorder.specs.Internal.Tables.{step_at, step_for};
 ghost use Rattle.fg_recorder.specs.Marks.{same};
 ghost use Rattle.fg_recorder.specs.declared.mark.Mark.{Mark};
 
@@ -59,7 +59,7 @@ impl Table {
 #[derive(Debug, Drop)]
 pub(crate) struct StepTable {
     pub(crate) commands: Table,
-    pub(crate) turns: Table,
+    pub(crate) prologues: Table,
     pub(crate) releases: Table,
 }
 
@@ -70,7 +70,7 @@ impl StepTable {
     {
         StepTable {
             commands: Table::new(alloc, none),
-            turns: Table::new(alloc, none),
+            prologues: Table::new(alloc, none),
             releases: Table::new(alloc, none),
         }
     }
@@ -81,7 +81,7 @@ impl StepTable {
     {
         match mark {
             Mark::Command(command) => self.commands.step_at(command),
-            Mark::Turn(group) => self.turns.step_at(group),
+            Mark::Prologue(group) => self.prologues.step_at(group),
             Mark::Release(group) => self.releases.step_at(group),
         }
     }
@@ -92,7 +92,7 @@ impl StepTable {
     {
         match mark {
             Mark::Command(command) => self.commands.set(command, step),
-            Mark::Turn(group) => self.turns.set(group, step),
+            Mark::Prologue(group) => self.prologues.set(group, step),
             Mark::Release(group) => self.releases.set(group, step),
         }
     }

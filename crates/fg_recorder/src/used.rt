@@ -1,7 +1,7 @@
 //! The groups that a command uses.
 
 ghost use Rattle.std.specs.Prelude.{◌≡◌, ◌<◌, ◌++◌, IfOk, OnOk};
-ghost use Rattle.fg_recorder.specs.Code.Wants.{group_by};
+ghost use Rattle.fg_recorder.specs.Internal.Wants.{group_by};
 ghost use Rattle.fg_recorder.specs.Script.{groups_used};
 
 use fg_base::{List, NoMemory};

@@ -1,10 +1,10 @@
 -- How many passes a good frame has.
 use Rattle.std.proofs.Common.{◌≤◌, length}
-use Rattle.fg_frame.specs.Good.{IsGood}
+use Rattle.fg_frame.specs.Valid.{IsValid}
 use Rattle.fg_frame.specs.Numbered.{numbered, numbered_pass}
 use Rattle.fg_frame.specs.Units.{numbering}
 use Rattle.fg_frame.specs.declared.frame.Frame.{Frame}
 use Rattle.std.proofs.lemmas.List.{length-map}
 
-pub few : (frame : Frame) → IsGood (numbered frame) → length frame.passes ≤ 256
+pub few : (frame : Frame) → IsValid (numbered frame) → length frame.passes ≤ 256
 few frame good = rw (← length-map frame.passes (numbered_pass frame (numbering frame))) good.few_passes

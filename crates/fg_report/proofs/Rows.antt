@@ -15,14 +15,14 @@ use Rattle.fg_frame.specs.declared.frame.Resource.{Resource}
 use Rattle.fg_report.specs.BoundLines.{bound_line, name_lines}
 use Rattle.fg_report.specs.CostLines.{cost_text}
 use Rattle.fg_report.specs.Exports.{export_lines}
-use Rattle.fg_report.specs.Faults.{frame_fault_text, sub_fault_text}
+use Rattle.fg_report.specs.Faults.{frame_fault_text, program_fault_text}
 use Rattle.fg_report.specs.Flights.{flight_text}
 use Rattle.fg_report.specs.Hazards.{hazard_text, check_text}
 use Rattle.fg_report.specs.Readbacks.{readback_text}
 use Rattle.fg_report.specs.Summaries.{summary_text}
 use Rattle.fg_report.specs.Traces.{trace_text}
 use Rattle.fg_report.specs.declared.flight.FlightLine.TheVariants as flights
-use Rattle.fg_subs.specs.Faults as subs
+use Rattle.fg_subs.specs.Faults as programs
 use Rattle.fg_checker.specs.declared.hazard.Hazard.TheVariants.{Stuck, NotVisible, BadLayout, BadOwner, Unmatched, Aliased}
 
 at_the_root : frame_fault_text not_json ≡ codes "fault F1 $\n"
@@ -33,7 +33,7 @@ with_a_limit : frame_fault_text (over_limit Passes (Member (codes "passes") ∷ 
 unfolding digits
 with_a_limit = refl
 
-in_a_pass : frame_fault_text (record { number = 10; limit = None; place = Member (codes "passes") ∷ Position 12 ∷ Member (codes "reads") ∷ Position 0 ∷ [] }) ≡ codes "fault F10 $.passes[12].reads[0]\n"
+in_a_pass : frame_fault_text (record { number = 10; limit = None; location = Member (codes "passes") ∷ Position 12 ∷ Member (codes "reads") ∷ Position 0 ∷ [] }) ≡ codes "fault F10 $.passes[12].reads[0]\n"
 unfolding digits
 in_a_pass = refl
 
@@ -49,7 +49,7 @@ with_layer : export_lines (record { name = codes "im"; layer = Some 1 }) (5 ∷ 
 unfolding digits hex_on_literals
 with_layer = refl
 
-in_a_batch : sub_fault_text (subs.misshapen (Member (codes "queues") ∷ Position 0 ∷ [])) ≡ codes "fault G11 $.queues[0]\n"
+in_a_batch : program_fault_text (programs.misshapen (Member (codes "queues") ∷ Position 0 ∷ [])) ≡ codes "fault G11 $.queues[0]\n"
 unfolding digits
 in_a_batch = refl
 

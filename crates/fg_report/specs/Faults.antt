@@ -6,7 +6,7 @@ use Rattle.fg_base.specs.declared.limit.Limit.{Limit}
 use Rattle.fg_base.specs.declared.path.Leg.{Leg}
 use Rattle.fg_frame.specs.declared.fault.FrameFault.{FrameFault}
 use Rattle.fg_report.specs.Paths.{path_text}
-use Rattle.fg_subs.specs.declared.fault.SubFault.{SubFault}
+use Rattle.fg_subs.specs.declared.fault.ProgramFault.{ProgramFault}
 
 -- the name of the quantity that is over its limit, where the fault has one
 abbrev pub limit_text : Option Limit → List ℕ
@@ -18,7 +18,7 @@ abbrev pub fault_text : List ℕ → ℕ → Option Limit → List Leg → List 
 fault_text letter number limit place = codes "fault " ++ letter ++ decimal number ++ limit_text limit ++ codes " " ++ path_text place ++ codes "\n"
 
 abbrev pub frame_fault_text : FrameFault → List ℕ
-frame_fault_text fault = fault_text (codes "F") fault.number fault.limit fault.place
+frame_fault_text fault = fault_text (codes "F") fault.number fault.limit fault.location
 
-abbrev pub sub_fault_text : SubFault → List ℕ
-sub_fault_text fault = fault_text (codes "G") fault.number fault.limit fault.place
+abbrev pub program_fault_text : ProgramFault → List ℕ
+program_fault_text fault = fault_text (codes "G") fault.number fault.limit fault.location

@@ -8,7 +8,7 @@ ghost use Rattle.fg_report.specs.BoundLines.{bound_line, bound_text, name_line, 
 
 use crate::unit::add_unit;
 use fg_base::{List, NoMemory, Text};
-use fg_frame::GoodFrame;
+use fg_frame::ValidFrame;
 use fg_groups::Groups;
 use fg_lines::Lines;
 use std::alloc::Global;
@@ -23,7 +23,7 @@ fn add_bound(text: &mut Text, least: u64, heap: u32) -> Result<(), NoMemory>
     text.end_line()
 }
 
-fn add_name(text: &mut Text, frame: &GoodFrame, unit: u32) -> Result<(), NoMemory>
+fn add_name(text: &mut Text, frame: &ValidFrame, unit: u32) -> Result<(), NoMemory>
     requires { unit < length (numbered frame.now).units }
     ensures { OnOk result (text.new ≡ text.old ++ name_line frame.now unit) }
 {
@@ -33,7 +33,7 @@ fn add_name(text: &mut Text, frame: &GoodFrame, unit: u32) -> Result<(), NoMemor
 
 fn add_names(
     text: &mut Text,
-    frame: &GoodFrame,
+    frame: &ValidFrame,
     units: &[u32],
     chosen: &[u32],
 ) -> Result<(), NoMemory>
@@ -52,7 +52,7 @@ fn add_names(
 #[tactic(auto, using(crate::proofs::Places::placed_known))]
 pub fn bound_text(
     alloc: Global,
-    frame: &GoodFrame,
+    frame: &ValidFrame,
     groups: &Groups,
     least: u64,
     heap: u32,

@@ -7,7 +7,7 @@ ghost use Rattle.fg_report.specs.Exports.{export_lines, export_text};
 
 use crate::unit::add_spot;
 use fg_base::{NoMemory, Text};
-use fg_frame::{GoodFrame, Spot};
+use fg_frame::{ValidFrame, Spot};
 use fg_lines::{Lines, cut_back};
 
 // Where memory runs out, some of the lines may have been added.
@@ -26,7 +26,7 @@ pub(crate) fn add_export(text: &mut Text, unit: &Spot, bytes: &[u8]) -> Result<(
 
 /// Adds export number `k`: its unit, how many bytes it has, and the bytes. Where there is no memory for all of it, the
 /// text is as before.
-pub fn export_text(text: &mut Text, frame: &GoodFrame, k: u32, bytes: &[u8]) -> Result<(), NoMemory>
+pub fn export_text(text: &mut Text, frame: &ValidFrame, k: u32, bytes: &[u8]) -> Result<(), NoMemory>
     requires { k < length (numbered frame.now).exports }
     ensures ok { OnOk result (text.new ≡ text.old ++ export_text frame.now k bytes.now) }
     ensures err { OnErr result (text.new ≡ text.old) }

@@ -1,13 +1,13 @@
 //! Faults of files.
 
 ghost use Rattle.std.specs.Prelude.{◌≡◌, ◌++◌, OnOk, IfOk};
-ghost use Rattle.fg_report.specs.Faults.{limit_text, fault_text, frame_fault_text, sub_fault_text};
+ghost use Rattle.fg_report.specs.Faults.{limit_text, fault_text, frame_fault_text, program_fault_text};
 
 use crate::path::add_path;
 use fg_base::{Leg, Limit, List, NoMemory, Text};
 use fg_frame::FrameFault;
 use fg_lines::Lines;
-use fg_subs::SubFault;
+use fg_subs::ProgramFault;
 use std::alloc::Global;
 
 fn add_limit(text: &mut Text, limit: Option<Limit>) -> Result<(), NoMemory>
@@ -28,16 +28,16 @@ fn add_fault(
     letter: &[u8],
     number: u8,
     limit: Option<Limit>,
-    place: &[Leg],
+    location: &[Leg],
 ) -> Result<(), NoMemory>
-    ensures { OnOk result (text.new ≡ text.old ++ fault_text letter.now number limit place.now) }
+    ensures { OnOk result (text.new ≡ text.old ++ fault_text letter.now number limit location.now) }
 {
     text.word(b"fault ")?;
     text.word(letter)?;
     text.number(u64::from(number))?;
     add_limit(text, limit)?;
     text.word(b" ")?;
-    add_path(text, place)?;
+    add_path(text, location)?;
     text.end_line()
 }
 
@@ -46,15 +46,15 @@ pub fn frame_fault_text(alloc: Global, fault: &FrameFault) -> Result<Text, NoMem
     ensures { IfOk result (λ text. text ≡ frame_fault_text fault.now) }
 {
     let mut text = List::new(alloc);
-    add_fault(&mut text, b"F", fault.number, fault.limit, &fault.place)?;
+    add_fault(&mut text, b"F", fault.number, fault.limit, &fault.location)?;
     Ok(text)
 }
 
 /// The line that names the first fault of a submission file, as `fault G9 $.queues[0].batches[1].signal`.
-pub fn sub_fault_text(alloc: Global, fault: &SubFault) -> Result<Text, NoMemory>
-    ensures { IfOk result (λ text. text ≡ sub_fault_text fault.now) }
+pub fn program_fault_text(alloc: Global, fault: &ProgramFault) -> Result<Text, NoMemory>
+    ensures { IfOk result (λ text. text ≡ program_fault_text fault.now) }
 {
     let mut text = List::new(alloc);
-    add_fault(&mut text, b"G", fault.number, fault.limit, &fault.place)?;
+    add_fault(&mut text, b"G", fault.number, fault.limit, &fault.location)?;
     Ok(text)
 }

@@ -4,7 +4,7 @@ ghost use Rattle.std.specs.Prelude.{◌≡◌, ◌≤◌, ◌++◌, OnOk, IfOk, 
 ghost use Rattle.fg_report.specs.KeptLines.{kept_line, pass_line, state_of, pass_lines, listed, run_text, cull_text};
 
 use fg_base::{List, NoMemory, Text};
-use fg_frame::{GoodFrame, Pass};
+use fg_frame::{ValidFrame, Pass};
 use fg_lines::Lines;
 use fg_versions::Kept;
 use std::alloc::Global;
@@ -71,7 +71,7 @@ fn add_passes(
 }
 
 #[tactic(auto, using(crate::proofs::Passes::few))]
-fn listed(alloc: Global, listing: Listing, frame: &GoodFrame, kept: &Kept) -> Result<Text, NoMemory>
+fn listed(alloc: Global, listing: Listing, frame: &ValidFrame, kept: &Kept) -> Result<Text, NoMemory>
     requires { length kept.now ≡ length frame.now.passes }
     ensures { IfOk result (λ text. text ≡ listed listing frame.now kept.now) }
 {
@@ -83,7 +83,7 @@ fn listed(alloc: Global, listing: Listing, frame: &GoodFrame, kept: &Kept) -> Re
 }
 
 /// The lines that `run` prints before the exports: how many passes are kept and culled, and the culled ones by name.
-pub fn run_text(alloc: Global, frame: &GoodFrame, kept: &Kept) -> Result<Text, NoMemory>
+pub fn run_text(alloc: Global, frame: &ValidFrame, kept: &Kept) -> Result<Text, NoMemory>
     requires { length kept.now ≡ length frame.now.passes }
     ensures { IfOk result (λ text. text ≡ run_text frame.now kept.now) }
 {
@@ -91,7 +91,7 @@ pub fn run_text(alloc: Global, frame: &GoodFrame, kept: &Kept) -> Result<Text, N
 }
 
 /// The lines that `cull` prints: how many passes are kept and culled, and what becomes of each.
-pub fn cull_text(alloc: Global, frame: &GoodFrame, kept: &Kept) -> Result<Text, NoMemory>
+pub fn cull_text(alloc: Global, frame: &ValidFrame, kept: &Kept) -> Result<Text, NoMemory>
     requires { length kept.now ≡ length frame.now.passes }
     ensures { IfOk result (λ text. text ≡ cull_text frame.now kept.now) }
 {

@@ -21,7 +21,7 @@ pub use audit::{AuditLine, audit_text};
 pub use bound::bound_text;
 pub use cost::cost_text;
 pub use export::export_text;
-pub use fault::{frame_fault_text, sub_fault_text};
+pub use fault::{frame_fault_text, program_fault_text};
 pub use flight::{FlightLine, flight_text};
 pub use hazard::{check_text, hazard_text};
 pub use kept::{cull_text, run_text};

@@ -23,12 +23,12 @@ fn add_leg(text: &mut Text, leg: &Leg) -> Result<(), NoMemory>
     }
 }
 
-/// Adds the steps from the root, which is `$`, to a place.
-pub(crate) fn add_path(text: &mut Text, place: &[Leg]) -> Result<(), NoMemory>
-    ensures { OnOk result (text.new ≡ text.old ++ path_text place.now) }
+/// Adds the steps from the root, which is `$`, to a location.
+pub(crate) fn add_path(text: &mut Text, location: &[Leg]) -> Result<(), NoMemory>
+    ensures { OnOk result (text.new ≡ text.old ++ path_text location.now) }
 {
     text.word(b"$")?;
-    for leg in place {
+    for leg in location {
         add_leg(text, leg)?;
     }
     Ok(())

@@ -9,7 +9,7 @@ ghost use Rattle.fg_report.specs.PlaceLines.{heap_line, place_line, place_lines,
 
 use crate::unit::add_unit;
 use fg_base::{List, NoMemory, Text};
-use fg_frame::GoodFrame;
+use fg_frame::ValidFrame;
 use fg_groups::Groups;
 use fg_lines::Lines;
 use fg_place::Placement;
@@ -41,7 +41,7 @@ fn add_heap(text: &mut Text, sizes: &[u32], heap: u32) -> Result<(), NoMemory>
 
 fn add_place(
     text: &mut Text,
-    frame: &GoodFrame,
+    frame: &ValidFrame,
     offset: u32,
     size: u32,
     unit: u32,
@@ -59,7 +59,7 @@ fn add_place(
 
 fn add_places(
     text: &mut Text,
-    frame: &GoodFrame,
+    frame: &ValidFrame,
     units: &[u32],
     sizes: &[u32],
     placement: &Placement,
@@ -82,7 +82,7 @@ fn add_places(
 #[tactic(auto, using(crate::proofs::Places::placed_known, crate::proofs::Places::as_many))]
 pub fn place_text(
     alloc: Global,
-    frame: &GoodFrame,
+    frame: &ValidFrame,
     groups: &Groups,
     placement: &Placement,
 ) -> Result<Text, NoMemory>

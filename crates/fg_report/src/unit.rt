@@ -6,7 +6,7 @@ ghost use Rattle.fg_lines.specs.Starts.{Starts};
 ghost use Rattle.fg_report.specs.UnitNames.{spot_text, unit_text};
 
 use fg_base::{NoMemory, Text};
-use fg_frame::{GoodFrame, Spot};
+use fg_frame::{ValidFrame, Spot};
 use fg_lines::Lines;
 
 /// Adds the name of a unit, and after a stroke its layer where it is one of several.
@@ -26,7 +26,7 @@ pub(crate) fn add_spot(text: &mut Text, spot: &Spot) -> Result<(), NoMemory>
 }
 
 /// Adds the name of a unit of a frame.
-pub(crate) fn add_unit(text: &mut Text, frame: &GoodFrame, unit: u32) -> Result<(), NoMemory>
+pub(crate) fn add_unit(text: &mut Text, frame: &ValidFrame, unit: u32) -> Result<(), NoMemory>
     requires { unit < length (numbered frame.now).units }
     ensures { OnOk result (text.new ≡ text.old ++ unit_text frame.now unit) }
 {

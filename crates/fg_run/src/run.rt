@@ -7,7 +7,7 @@ ghost use Rattle.fg_run.specs.FrameRuns.{RunsOn};
 use crate::program::run_program;
 use fg_base::{Gate, NoMemory, RunOptions};
 use fg_device::Device;
-use fg_frame::GoodFrame;
+use fg_frame::ValidFrame;
 use fg_stages::compiled;
 use std::alloc::Global;
 use std::sync::Wait;
@@ -19,7 +19,7 @@ pub fn run_good<R: Threads + Wait + Sync, G: Gate + Sync>(
     alloc: Global,
     options: RunOptions,
     tight: bool,
-    good: &GoodFrame,
+    good: &ValidFrame,
     gate: &G,
 ) -> Result<Device, NoMemory>
     ensures { IfOk result (RunsOn options.tend tight (numbered good.now)) }

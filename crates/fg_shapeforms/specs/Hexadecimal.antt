@@ -5,8 +5,8 @@ use Rattle.fg_forms.specs.Parts.{Reader}
 use Rattle.hex.specs.Hex.{decode_of, encode_lower}
 use Rattle.hex.specs.declared.error.FromHexError.{FromHexError}
 use Rattle.serde_json.specs.Data.{Data}
-use Rattle.fg_shapeforms.specs.declared.hexadecimal.HexEnd.{HexEnd}
-use Rattle.fg_shapeforms.specs.declared.hexadecimal.HexEnd.TheVariants as ends
+use Rattle.fg_shapeforms.specs.declared.hexadecimal.HexError.{HexError}
+use Rattle.fg_shapeforms.specs.declared.hexadecimal.HexError.TheVariants as ends
 
 abbrev pub bytes_in : Result (List ℕ) FromHexError → Option (List ℕ)
 bytes_in (Ok bytes) = Some bytes
@@ -17,7 +17,7 @@ abbrev pub hex_of : List ℕ → Option (List ℕ)
 hex_of text = bytes_in (decode_of text)
 
 -- what a function returned are these bytes, unless memory ran out
-abbrev pub HexGives : Result (List ℕ) HexEnd → Option (List ℕ) → Type 0
+abbrev pub HexGives : Result (List ℕ) HexError → Option (List ℕ) → Type 0
 HexGives (Ok bytes) found = found ≡ Some bytes
 HexGives (Err ends.NoMemory) found = Unit {0}
 HexGives (Err ends.NoBytes) found = found ≡ None

@@ -2,14 +2,14 @@
 
 ghost use Rattle.std.specs.Prelude.{◌≡◌, IfOk};
 ghost use Rattle.fg_forms.specs.Leaves.{FitsRange};
-ghost use Rattle.fg_forms.specs.Places.{legs};
+ghost use Rattle.fg_forms.specs.Locations.{legs};
 ghost use Rattle.fg_forms.specs.Reading.{Gives};
 ghost use Rattle.fg_shapeforms.specs.Bodies.{body_at, image_at, layers_at, is_buffer, FitsBody};
 ghost use Rattle.serde_json.specs.View.{view};
 
 use crate::{SidesForm, TexelWord};
 use fg_base::Shape;
-use fg_forms::{Place, RangeForm, ReadEnd, TextForm, optional, required};
+use fg_forms::{Location, RangeForm, ReadError, TextForm, optional, required};
 use serde_json::Value;
 use std::alloc::Global;
 
@@ -27,7 +27,7 @@ fn is_buffer(json: &Value) -> bool
     json.get("buffer").is_some() || json.get("image").is_none()
 }
 
-fn layers<const FORMAT: u32>(alloc: Global, at: &Place<'_>, json: &Value) -> Result<u32, ReadEnd>
+fn layers<const FORMAT: u32>(alloc: Global, at: &Location<'_>, json: &Value) -> Result<u32, ReadError>
     ensures gives { Gives result (layers_at FORMAT (legs at.now) (view json.now)) }
     ensures fits { IfOk result (FitsRange 1 8) }
 {
@@ -38,7 +38,7 @@ fn layers<const FORMAT: u32>(alloc: Global, at: &Place<'_>, json: &Value) -> Res
     Ok(layers.unwrap_or(1))
 }
 
-fn image<const FORMAT: u32>(alloc: Global, at: &Place<'_>, json: &Value) -> Result<Body, ReadEnd>
+fn image<const FORMAT: u32>(alloc: Global, at: &Location<'_>, json: &Value) -> Result<Body, ReadError>
     ensures gives { Gives result (image_at FORMAT (legs at.now) (view json.now)) }
     ensures fits { IfOk result FitsBody }
 {
@@ -59,9 +59,9 @@ fn image<const FORMAT: u32>(alloc: Global, at: &Place<'_>, json: &Value) -> Resu
 /// it has no unknown member, is for the caller to test.
 pub fn read_body<const FORMAT: u32>(
     alloc: Global,
-    at: &Place<'_>,
+    at: &Location<'_>,
     json: &Value,
-) -> Result<Body, ReadEnd>
+) -> Result<Body, ReadError>
     ensures gives { Gives result (body_at FORMAT (legs at.now) (view json.now)) }
     ensures fits { IfOk result FitsBody }
 {

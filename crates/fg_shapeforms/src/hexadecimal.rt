@@ -5,7 +5,7 @@ ghost use Rattle.hex.specs.Hex.{IsBytes};
 ghost use Rattle.fg_shapeforms.specs.Hexadecimal.{hex_at, hex_data, hex_of, HexGives};
 
 use fg_base::List;
-use fg_forms::{Place, ReadEnd, Reader, Typed, Writer};
+use fg_forms::{Location, ReadError, Reader, Typed, Writer};
 use hex::FromHexError;
 use serde_json::Value;
 use std::alloc::{AllocError, Global};
@@ -15,19 +15,19 @@ pub struct HexForm;
 
 /// Why a text gave no bytes.
 #[derive(Clone, Copy, Debug, PartialEq, Eq)]
-enum HexEnd {
+enum HexError {
     NoMemory,
     NoBytes,
 }
 
-fn decode(alloc: Global, text: &str) -> Result<List<u8>, HexEnd>
+fn decode(alloc: Global, text: &str) -> Result<List<u8>, HexError>
     ensures gives { HexGives result (hex_of text.now) }
     ensures fits { IfOk result IsBytes }
 {
     match hex::decode(alloc, text) {
         Ok(bytes) => Ok(List::from_vec(bytes)),
-        Err(FromHexError::OutOfMemory) => Err(HexEnd::NoMemory),
-        Err(_) => Err(HexEnd::NoBytes),
+        Err(FromHexError::OutOfMemory) => Err(HexError::NoMemory),
+        Err(_) => Err(HexError::NoBytes),
     }
 }
 
@@ -38,14 +38,14 @@ impl Reader for HexForm {
 
     ghost Fits = { IsBytes };
 
-    fn read(alloc: Global, at: &Place<'_>, value: &Value) -> Result<List<u8>, ReadEnd> {
+    fn read(alloc: Global, at: &Location<'_>, value: &Value) -> Result<List<u8>, ReadError> {
         let Some(text) = value.as_str() else {
             return Err(at.refused(alloc));
         };
         match decode(alloc, text) {
             Ok(bytes) => Ok(bytes),
-            Err(HexEnd::NoMemory) => Err(ReadEnd::NoMemory),
-            Err(HexEnd::NoBytes) => Err(at.refused(alloc)),
+            Err(HexError::NoMemory) => Err(ReadError::NoMemory),
+            Err(HexError::NoBytes) => Err(at.refused(alloc)),
         }
     }
 }

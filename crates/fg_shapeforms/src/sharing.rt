@@ -1,13 +1,13 @@
 //! Whether queue families share a resource, in a file.
 
 ghost use Rattle.std.specs.Prelude.{⊤};
-ghost use Rattle.fg_forms.specs.Places.{legs};
+ghost use Rattle.fg_forms.specs.Locations.{legs};
 ghost use Rattle.fg_forms.specs.Reading.{Gives};
 ghost use Rattle.fg_shapeforms.specs.Sharings.{sharing_of, sharing_text, sharing_again, sharing_at};
 ghost use Rattle.serde_json.specs.View.{view};
 
 use fg_bits::Sharing;
-use fg_forms::{Place, ReadEnd, TextForm, Word, optional};
+use fg_forms::{Location, ReadError, TextForm, Word, optional};
 use serde_json::Value;
 use std::alloc::Global;
 
@@ -46,9 +46,9 @@ impl Word for SharingWord {
 /// The member `sharing`, which only files of format 2 have. Without it a resource is exclusive.
 pub fn read_sharing<const FORMAT: u32>(
     alloc: Global,
-    at: &Place<'_>,
+    at: &Location<'_>,
     json: &Value,
-) -> Result<Sharing, ReadEnd>
+) -> Result<Sharing, ReadError>
     ensures { Gives result (sharing_at FORMAT (legs at.now) (view json.now)) }
 {
     if FORMAT == 1 {

@@ -1,12 +1,12 @@
 //! The sides of an image in a file.
 
 ghost use Rattle.std.specs.Prelude.{IfOk};
-ghost use Rattle.fg_forms.specs.Places.{legs};
+ghost use Rattle.fg_forms.specs.Locations.{legs};
 ghost use Rattle.fg_forms.specs.Reading.{Gives};
 ghost use Rattle.fg_shapeforms.specs.Sides.{sides_at, two_at, FitsSides};
 ghost use Rattle.serde_json.specs.View.{items_view};
 
-use fg_forms::{Place, RangeForm, ReadEnd, Reader};
+use fg_forms::{Location, RangeForm, ReadError, Reader};
 use serde_json::Value;
 use std::alloc::Global;
 
@@ -29,7 +29,7 @@ impl Reader for SidesForm {
 
     ghost Fits = { FitsSides };
 
-    fn read(alloc: Global, at: &Place<'_>, value: &Value) -> Result<Sides, ReadEnd> {
+    fn read(alloc: Global, at: &Location<'_>, value: &Value) -> Result<Sides, ReadError> {
         match value {
             Value::Array(entries) => two_sides(alloc, at, entries.as_slice()),
             _ => Err(at.refused(alloc)),
@@ -37,7 +37,7 @@ impl Reader for SidesForm {
     }
 }
 
-fn two_sides(alloc: Global, at: &Place<'_>, entries: &[Value]) -> Result<Sides, ReadEnd>
+fn two_sides(alloc: Global, at: &Location<'_>, entries: &[Value]) -> Result<Sides, ReadError>
     ensures gives { Gives result (two_at (legs at.now) (items_view entries.now)) }
     ensures fits { IfOk result FitsSides }
 {

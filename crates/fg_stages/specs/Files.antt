@@ -5,8 +5,8 @@ use Rattle.fg_frame.specs.declared.fault.FrameFault.{FrameFault}
 use Rattle.fg_frame.specs.declared.frame.Frame.{Frame}
 use Rattle.fg_framefile.specs.Files.{frame_of}
 use Rattle.fg_subfile.specs.Files.{program_of}
-use Rattle.fg_subs.specs.FirstFault as subs
-use Rattle.fg_subs.specs.declared.fault.SubFault.{SubFault}
+use Rattle.fg_subs.specs.FirstFault as programs
+use Rattle.fg_subs.specs.declared.fault.ProgramFault.{ProgramFault}
 use Rattle.fg_subs.specs.declared.program.Program.{Program}
 
 -- a value, or the first rule that it breaks
@@ -23,5 +23,5 @@ if_read broken (Err fault) = Err fault
 abbrev pub frame_file : List ℕ → Result Frame FrameFault
 frame_file bytes = if_read first_fault (frame_of bytes)
 
-abbrev pub program_file : List ℕ → Result Program SubFault
-program_file bytes = if_read subs.first_fault (program_of bytes)
+abbrev pub program_file : List ℕ → Result Program ProgramFault
+program_file bytes = if_read programs.first_fault (program_of bytes)

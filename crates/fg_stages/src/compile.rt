@@ -6,14 +6,14 @@ ghost use Rattle.fg_stages.specs.Compiles.{Compiles};
 
 use fg_base::NoMemory;
 use fg_compile::{Compiled, compile};
-use fg_frame::GoodFrame;
+use fg_frame::ValidFrame;
 use fg_tight::tighten;
 use fg_waits::wait_laws;
 use std::alloc::Global;
 
 // The same without the waits that soundness does not need, which change nothing of what the host reads.
 #[tactic(auto, using(crate::proofs::TightLemmas::as_tight))]
-fn tightened(alloc: Global, good: &GoodFrame, made: Compiled) -> Result<Compiled, NoMemory>
+fn tightened(alloc: Global, good: &ValidFrame, made: Compiled) -> Result<Compiled, NoMemory>
     requires { Compiles false (numbered good.now) made.kept made.placement made.program.program }
     ensures { IfOk result (λ tight. Compiles true (numbered good.now) tight.kept tight.placement tight.program.program) }
 {
@@ -33,7 +33,7 @@ fn tightened(alloc: Global, good: &GoodFrame, made: Compiled) -> Result<Compiled
 
 /// What the kept passes of a frame are compiled to; where it is to be tight, without the waits that it does not need.
 #[tactic(auto, using(crate::proofs::TightLemmas::as_compiled))]
-pub fn compiled(alloc: Global, good: &GoodFrame, tight: bool) -> Result<Compiled, NoMemory>
+pub fn compiled(alloc: Global, good: &ValidFrame, tight: bool) -> Result<Compiled, NoMemory>
     ensures { IfOk result (λ made. Compiles tight (numbered good.now) made.kept made.placement made.program.program) }
 {
     let made = compile(alloc, good)?;

@@ -1,18 +1,18 @@
--- What the tables hold is what an access finds, and that decides whether it is stated.
+-- What the tables hold is what an access finds, and that decides whether it is state_valid.
 use Rattle.std.proofs.Common.{◌≡◌, ◌↔◌, ℕ, Bool, ◌<◌, true, false, List, length, get_or, take, Option, Some, None, arith, IsTrue, refl, sym, ap, ◌∙◌, subst}
 use Rattle.std.specs.Option.{option_map_or}
 use Rattle.fg_bits.specs.declared.layout.Layout.{Layout}
 use Rattle.fg_bits.specs.declared.layout.Layout.TheVariants.{Undefined}
 use Rattle.fg_view.specs.AccessKinds.{sets_owner, wanted, transfers}
-use Rattle.fg_view.specs.ShapedView.{NodeAccessAt}
+use Rattle.fg_view.specs.ValidView.{NodeAccessAt}
 use Rattle.fg_view.specs.Views.{View, family_at}
 use Rattle.fg_view.specs.declared.access.AccessKind.{AccessKind}
 use Rattle.fg_view.specs.declared.access.AccessKind.TheVariants.{Load, Store, Transition, Discard, Release, Acquire}
 use Rattle.fg_view.specs.declared.access.Handover.{Handover}
 use Rattle.fg_view.specs.declared.node_access.NodeAccess.{NodeAccess}
 use Rattle.fg_stated.specs.PieceStates.{kind_of, last_on, layout_after, owner_after, next_transfer, last_transfer}
-use Rattle.fg_stated.specs.Stated.{LayoutAt, OwnerAt, MatchAt, Matches, needs_owner}
-use Rattle.fg_stated.specs.Code.Tables.{Finds, IsAhead, IsPast}
+use Rattle.fg_stated.specs.StateValid.{LayoutAt, OwnerAt, MatchAt, Matches, needs_owner}
+use Rattle.fg_stated.specs.Internal.Tables.{Finds, IsAhead, IsPast}
 use Rattle.fg_stated.specs.declared.ahead.Ahead.{Ahead}
 use Rattle.fg_stated.specs.declared.piece_state.PieceState.{PieceState}
 use Rattle.fg_stated.specs.declared.past.Past.{Past}

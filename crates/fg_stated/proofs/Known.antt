@@ -4,20 +4,20 @@ use Rattle.std.proofs.lemmas.Option.{slice_get-get_or}
 use Rattle.std.specs.List.{find}
 use Rattle.std.specs.Option.{option_or}
 use Rattle.std.specs.Prelude.{IfSome, if◌then◌else◌}
-use Rattle.fg_view.specs.ShapedView.{NodeAccessAt, Listed, ShapedView}
+use Rattle.fg_view.specs.ValidView.{NodeAccessAt, Listed, ValidView}
 use Rattle.fg_view.specs.Views.{View}
 use Rattle.fg_view.specs.declared.node_access.NodeAccess.{NodeAccess}
 use Rattle.fg_stated.specs.PieceStates.{last_that}
-use Rattle.fg_stated.specs.Code.Tables.{IsLast, IsFirst}
+use Rattle.fg_stated.specs.Internal.Tables.{IsLast, IsFirst}
 
-pub known_piece : (V : View) (accesses : List NodeAccess) → ShapedView V → Listed V accesses → (j : ℕ) (a : NodeAccess) → NodeAccessAt accesses j a → a.access.piece < length V.pieces
+pub known_piece : (V : View) (accesses : List NodeAccess) → ValidView V → Listed V accesses → (j : ℕ) (a : NodeAccess) → NodeAccessAt accesses j a → a.access.piece < length V.pieces
 known_piece V accesses S L j a at = let h = L.has j a at in S.known a.node h.0 a.access h.1
 
 -- as an access is read by its place
-pub read_piece : (V : View) (accesses : List NodeAccess) → ShapedView V → Listed V accesses → (j : ℕ) (d : NodeAccess) → j < length accesses → (get_or accesses j d).access.piece < length V.pieces
+pub read_piece : (V : View) (accesses : List NodeAccess) → ValidView V → Listed V accesses → (j : ℕ) (d : NodeAccess) → j < length accesses → (get_or accesses j d).access.piece < length V.pieces
 read_piece V accesses S L j d lt = known_piece V accesses S L j (get_or accesses j d) (slice_get-get_or accesses j d lt)
 
-pub read_within : (V : View) (accesses : List NodeAccess) → ShapedView V → Listed V accesses → (j : ℕ) (d : NodeAccess) (table : List (Option NodeAccess)) → j < length accesses → length table ≡ length V.pieces → (get_or accesses j d).access.piece < length table
+pub read_within : (V : View) (accesses : List NodeAccess) → ValidView V → Listed V accesses → (j : ℕ) (d : NodeAccess) (table : List (Option NodeAccess)) → j < length accesses → length table ≡ length V.pieces → (get_or accesses j d).access.piece < length table
 read_within V accesses S L j d table lt size = rw size (read_piece V accesses S L j d lt)
 
 last_in : (test : NodeAccess → Bool) (accesses : List NodeAccess) (j : ℕ) (a : NodeAccess) → last_that test (take j accesses) ≡ Some a → (i : ℕ) × NodeAccessAt accesses i a

@@ -6,14 +6,14 @@ use Rattle.std.proofs.lemmas.List.{take_all}
 use Rattle.std.specs.List.{find, list_any}
 use Rattle.std.specs.Option.{option_or}
 use Rattle.std.specs.Prelude.{if◌then◌else◌}
-use Rattle.fg_view.specs.ShapedView.{NodeAccessAt}
+use Rattle.fg_view.specs.ValidView.{NodeAccessAt}
 use Rattle.fg_view.proofs.Overlapping.{has_overlapping}
 use Rattle.fg_view.specs.AccessKinds.{changes, transfers}
 use Rattle.fg_view.specs.Views.{View, overlap, overlapping}
 use Rattle.fg_view.specs.declared.access.AccessKind.{AccessKind}
 use Rattle.fg_view.specs.declared.node_access.NodeAccess.{NodeAccess}
 use Rattle.fg_stated.specs.PieceStates.{changes_bytes, last_that, on_piece, kind_of}
-use Rattle.fg_stated.specs.Code.Tables.{PutWhere, IsLast, IsFirst, NextFrom}
+use Rattle.fg_stated.specs.Internal.Tables.{PutWhere, IsLast, IsFirst, NextFrom}
 
 last_more : (test : NodeAccess → Bool) (accesses : List NodeAccess) (j : ℕ) (a : NodeAccess) → NodeAccessAt accesses j a → last_that test (take (suc j) accesses) ≡ (if test a then Some a else last_that test (take j accesses))
 last_more test [] j a h = absurd cc

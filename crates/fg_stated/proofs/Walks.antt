@@ -2,7 +2,7 @@
 use Rattle.std.proofs.Common.{◌≡◌, ℕ, zero, suc, ◌+◌, ◌<◌, ◌≤◌, List, [], ◌∷◌, length, refl, sym, subst, ⊎_elim, arith}
 use Rattle.std.proofs.lemmas.Bool.{cases_eq}
 use Rattle.std.proofs.lemmas.Option.{slice_get_within}
-use Rattle.fg_view.specs.ShapedView.{NodeAccessAt}
+use Rattle.fg_view.specs.ValidView.{NodeAccessAt}
 use Rattle.fg_view.specs.declared.node_access.NodeAccess.{NodeAccess}
 
 pub node_access_there : (accesses : List NodeAccess) (j : ℕ) → j < length accesses → (a : NodeAccess) × NodeAccessAt accesses j a

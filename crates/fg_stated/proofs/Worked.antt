@@ -15,7 +15,7 @@ use Rattle.fg_view.specs.declared.access.AccessKind.TheVariants.{Load, Store, Tr
 use Rattle.fg_view.specs.declared.access.Handover.{Handover}
 use Rattle.fg_view.specs.declared.node_access.NodeAccess.{NodeAccess}
 use Rattle.fg_stated.specs.PieceStates.{found_layout, found_owner, next_transfer, last_transfer, last_change}
-use Rattle.fg_stated.specs.Stated.{needs_owner}
+use Rattle.fg_stated.specs.StateValid.{needs_owner}
 
 -- 64 bytes of memory 0
 abbrev piece : ℕ → Piece

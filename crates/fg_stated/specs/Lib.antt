@@ -1,4 +1,4 @@
-pub mod Code
-pub mod Fed
+pub mod Internal
+pub mod Initialized
 pub mod PieceStates
-pub mod Stated
+pub mod StateValid

@@ -1,8 +1,8 @@
 //! What comes after accesses.
 
 ghost use Rattle.std.specs.Prelude.{◌≡◌, ◌+◌, ◌<◌, List, None, length, replicate, IfOk};
-ghost use Rattle.fg_view.specs.ShapedView.{NodeAccessAt, Listed, ShapedView};
-ghost use Rattle.fg_stated.specs.Code.Tables.{IsAhead};
+ghost use Rattle.fg_view.specs.ValidView.{NodeAccessAt, Listed, ValidView};
+ghost use Rattle.fg_stated.specs.Internal.Tables.{IsAhead};
 
 use crate::table::{Table, kind_of};
 use fg_base::{List, NoMemory};
@@ -57,7 +57,7 @@ pub(crate) fn ahead_of(
     view: &View,
     accesses: &[NodeAccess],
 ) -> Result<Ahead, NoMemory>
-    requires shape { ShapedView view.now }
+    requires shape { ValidView view.now }
     requires listed { Listed view.now accesses.now }
     ensures { IfOk result (λ ahead. IsAhead view.now accesses.now 0 ahead) }
 {

@@ -1,20 +1,20 @@
 //! Whether accesses find their pieces in the layouts that they want, owned by their families, and with the other half of their
-//! transfers (`Stated`); and whether loads find bytes, stored through their own pieces (`Fed`).
+//! transfers (`StateValid`); and whether loads find bytes, stored through their own pieces (`Initialized`).
 #![tactic(auto)]
 
 mod ahead;
-mod fed;
-mod misstated;
-mod misstatement;
+mod initialized;
+mod state_hazard_at;
+mod state_hazard;
 mod past;
 mod piece_state;
 mod same;
-mod stated;
+mod state_valid;
 mod table;
-mod unfed;
+mod load_hazard;
 
-pub use fed::first_unfed;
-pub use misstated::needs_owner;
-pub use misstatement::Misstatement;
-pub use stated::first_misstated;
-pub use unfed::Unfed;
+pub use initialized::first_load_hazard;
+pub use state_hazard_at::needs_owner;
+pub use state_hazard::StateHazard;
+pub use state_valid::first_state_hazard;
+pub use load_hazard::LoadHazard;

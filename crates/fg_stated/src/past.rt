@@ -1,8 +1,8 @@
 //! What accesses find of earlier ones.
 
 ghost use Rattle.std.specs.Prelude.{◌+◌, ◌<◌, ℕ, List, [], length, take, IfOk};
-ghost use Rattle.fg_view.specs.ShapedView.{NodeAccessAt};
-ghost use Rattle.fg_stated.specs.Code.Tables.{IsPast};
+ghost use Rattle.fg_view.specs.ValidView.{NodeAccessAt};
+ghost use Rattle.fg_stated.specs.Internal.Tables.{IsPast};
 
 use crate::table::Table;
 use fg_base::NoMemory;

@@ -3,10 +3,10 @@
 ghost use Rattle.std.specs.Prelude.{◌≡◌, ◌<◌, length, take, None, IfSome};
 ghost use Rattle.std.specs.Option.{option_map_or};
 ghost use Rattle.fg_bits.specs.declared.layout.Layout.TheVariants.{Undefined};
-ghost use Rattle.fg_view.specs.ShapedView.{NodeAccessAt, Listed, ShapedView};
+ghost use Rattle.fg_view.specs.ValidView.{NodeAccessAt, Listed, ValidView};
 ghost use Rattle.fg_view.specs.Views.{family_at};
 ghost use Rattle.fg_stated.specs.PieceStates.{layout_after, owner_after, kind_of};
-ghost use Rattle.fg_stated.specs.Code.Tables.{Finds, IsAhead, IsPast};
+ghost use Rattle.fg_stated.specs.Internal.Tables.{Finds, IsAhead, IsPast};
 
 use crate::ahead::Ahead;
 use crate::past::Past;
@@ -84,7 +84,7 @@ pub(crate) fn found_at(
     accesses: &[NodeAccess],
     j: usize,
 ) -> PieceState
-    requires shape { ShapedView view.now }
+    requires shape { ValidView view.now }
     requires listed { Listed view.now accesses.now }
     requires j { j < length accesses.now }
     requires past { IsPast (length view.now.pieces) (take j accesses.now) past.now }

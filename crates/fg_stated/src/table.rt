@@ -2,7 +2,7 @@
 
 ghost use Rattle.std.specs.Prelude.{◌≡◌, ◌==◌, ◌&&◌, ◌<◌, length, get_or, replicate, IfOk, None};
 ghost use Rattle.fg_stated.specs.PieceStates.{changes_bytes, kind_of};
-ghost use Rattle.fg_stated.specs.Code.Tables.{PutWhere};
+ghost use Rattle.fg_stated.specs.Internal.Tables.{PutWhere};
 
 use fg_base::{List, NoMemory};
 use fg_view::{AccessKind, NodeAccess, View};

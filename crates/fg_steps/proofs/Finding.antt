@@ -11,9 +11,9 @@ use Rattle.law_runs.specs.Found as found
 use Rattle.law_runs.specs.Orders as order
 use Rattle.law_runs.specs.Systems as law
 use Rattle.fg_stated.specs.PieceStates.{layout_after, owner_after}
-use Rattle.fg_stated.specs.Stated.{needs_owner}
-use Rattle.fg_steps.proofs.Found.{Feeds, Imports, LastOf, NoneOf, LayoutBy, OwnerBy, Finds}
-use Rattle.fg_steps.proofs.Viewed.{From, from, to_law, OneStage, joined, path_to, old_path, within, changes_same, tied_of, order_of}
+use Rattle.fg_stated.specs.StateValid.{needs_owner}
+use Rattle.fg_steps.proofs.Found.{Initializes, Imports, LastOf, NoneOf, LayoutBy, OwnerBy, Finds}
+use Rattle.fg_steps.proofs.Viewed.{From, from, to_law, OneStage, joined, path_to, old_path, within, changes_same, synchronized_of, order_of}
 use Rattle.fg_steps.proofs.SystemOf.{doing_of, lays_of, hands_of, access_of, family_numbered, needs, system_of}
 use Rattle.fg_base.specs.declared.shape.Family.{Family}
 use Rattle.fg_bits.specs.Families.{family_number}
@@ -22,9 +22,9 @@ use Rattle.fg_bits.specs.declared.layout.Layout.{Layout}
 use Rattle.fg_hb.specs.Edges.{edge, is_host, node_at}
 use Rattle.fg_hb.specs.Orders.{Order}
 use Rattle.fg_ties.specs.Passing.{Before}
-use Rattle.fg_ties.specs.Tied.{Tied}
+use Rattle.fg_ties.specs.Synchronized.{Synchronized}
 use Rattle.fg_view.specs.AccessKinds.{stores, loads, wanted, sets_layout, sets_owner, is_discard, is_acquire}
-use Rattle.fg_view.specs.ShapedView.{ShapedView, Has}
+use Rattle.fg_view.specs.ValidView.{ValidView, Has}
 use Rattle.fg_view.specs.Views.{View, accesses_of, overlap, family_at, shared_at, node_access}
 use Rattle.fg_view.specs.declared.access.Access.{Access}
 use Rattle.fg_view.specs.declared.access.AccessKind.{AccessKind}
@@ -93,7 +93,7 @@ hands_what (Acquire r) f h = refl
 pub needs_same : (V : View) (n : ℕ) (a : Access) → needs V n (access_of V n a) ≡ needs_owner V (node_access n a)
 needs_same V n a = ap (λ z. not (z || (list_any (λ c. is_acquire c.kind) (accesses_of V n) || (is_host (node_at V.nodes n).kind || shared_at V a.piece)))) (discards_same a.kind)
 
-module _ (V : View) (out : ℕ → (ℕ → List ℕ) → ℕ → List ℕ) (X : ShapedView V) (J : OneStage V) (F : Formed (system_of V out)) (A : (x : ℕ) → Before V x x → ⊥) where
+module _ (V : View) (out : ℕ → (ℕ → List ℕ) → ℕ → List ℕ) (X : ValidView V) (J : OneStage V) (F : Formed (system_of V out)) (A : (x : ℕ) → Before V x x → ⊥) where
   has_law : (n : ℕ) (a : Access) → Has V n a → law.Has (system_of V out) n (access_of V n a)
   has_law n a h = (h.0, to_law V out n h.0 a h.1)
 
@@ -108,8 +108,8 @@ module _ (V : View) (out : ℕ → (ℕ → List ℕ) → ℕ → List ℕ) (X :
 
   -- LOADS
 
-  feeds : (n w : ℕ) (b c : Access) → Feeds V n b.piece w c → found.Feeds (system_of V out) n (access_of V n b) w (access_of V w c)
-  feeds n w b c D = record {
+  initializes : (n w : ℕ) (b c : Access) → Initializes V n b.piece w c → found.Initializes (system_of V out) n (access_of V n b) w (access_of V w c)
+  initializes n w b c D = record {
     has = has_law w c D.has;
     leaves = stores_same c.kind ∙ D.leaves;
     piece = D.piece;
@@ -129,10 +129,10 @@ module _ (V : View) (out : ℕ → (ℕ → List ℕ) → ℕ → List ℕ) (X :
       none v d hd ne ch ov B g = I.none v g.access (hd.0, g.at) (sym (changes_same g.access.kind) ∙ ap (λ z. law.changes z.doing) (sym g.same) ∙ ch) (ap (λ z. overlap V z.piece b.piece) (sym g.same) ∙ ov) (back v n d (access_of V n b) ne B)
 
   module _ (first : ℕ → Option Family) (Y : Finds V first) where
-    pub fed_of : found.Fed (system_of V out)
-    fed_of n a h l = let f = from V out n h.0 a h.1 in subst (λ z. found.FedBy (system_of V out) n z) (sym f.same)
-        (⊎_elim (λ q. inl (q.0, access_of V q.0 q.1, feeds n q.0 f.access q.1 q.2)) (λ I. inr (starts n f.access I))
-        (Y.fed n f.access (h.0, f.at) (sym (loads_same f.access.kind) ∙ ap (λ z. law.loads z.doing) (sym f.same) ∙ l)))
+    pub initialized_of : found.Initialized (system_of V out)
+    initialized_of n a h l = let f = from V out n h.0 a h.1 in subst (λ z. found.InitializedBy (system_of V out) n z) (sym f.same)
+        (⊎_elim (λ q. inl (q.0, access_of V q.0 q.1, initializes n q.0 f.access q.1 q.2)) (λ I. inr (starts n f.access I))
+        (Y.initialized n f.access (h.0, f.at) (sym (loads_same f.access.kind) ∙ ap (λ z. law.loads z.doing) (sym f.same) ∙ l)))
 
     -- LAYOUTS AND OWNERS
 
@@ -153,8 +153,8 @@ module _ (V : View) (out : ℕ → (ℕ → List ℕ) → ℕ → List ℕ) (X :
     none_of : (sort : AccessKind → Bool) (by : law.Access → Bool) → ((v : ℕ) (c : Access) → by (access_of V v c) ≡ sort c.kind) → (n : ℕ) (b : Access) → NoneOf V sort n b.piece → found.NoneOf (system_of V out) by n (access_of V n b)
     none_of sort by same n b M v c hc ne s e B = let g = from V out v hc.0 c hc.1 in M v g.access (hc.0, g.at) (sym (same v g.access) ∙ ap by (sym g.same) ∙ s) (ap (λ z. z.piece) (sym g.same) ∙ e) (back v n c (access_of V n b) ne B)
 
-    pub stated_of : found.Stated (system_of V out)
-    stated_of = record {
+    pub state_valid_of : found.StateValid (system_of V out)
+    state_valid_of = record {
       first = λ p. option_map family_number (first p);
       first_is = λ p o e. absurd (no_first o e);
       layout = λ n a want h e. let f = from V out n h.0 a h.1 in subst (λ z. found.LayoutBy (system_of V out) n z want) (sym f.same) (layout n f.access want (h.0, f.at) (wanted f.access.kind) refl (ap (λ z. z.wants) (sym f.same) ∙ e));
@@ -184,5 +184,5 @@ module _ (V : View) (out : ℕ → (ℕ → List ℕ) → ℕ → List ℕ) (X :
 
   -- A PROGRAM IS SOUND
 
-  pub sound_of : Tied V → (list : List ℕ) → Order V.nodes list → (first : ℕ → Option Family) → Finds V first → Sound (system_of V out)
-  sound_of T list O first Y = record { tied = tied_of V out X J F T; stated = stated_of first Y; fed = fed_of first Y; order = list; ordered = order_of V out X J list O }
+  pub sound_of : Synchronized V → (list : List ℕ) → Order V.nodes list → (first : ℕ → Option Family) → Finds V first → Sound (system_of V out)
+  sound_of T list O first Y = record { synchronized = synchronized_of V out X J F T; state_valid = state_valid_of first Y; initialized = initialized_of first Y; order = list; ordered = order_of V out X J list O }

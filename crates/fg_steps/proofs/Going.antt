@@ -9,7 +9,7 @@ use Rattle.fg_bits.specs.Sets.{meets}
 use Rattle.std.proofs.lemmas.List.{length-map}
 use Rattle.std.proofs.lemmas.List.FromFn.{get_or-map-range_with_len}
 use Rattle.law_runs.specs.Device as dev
-use Rattle.law_runs.specs.Device.{Device, Busy, DeviceSpoilt, IsHit, Begins, Ends, Synchronizes, DeviceJunkedAt, DeviceGoes, begins, ends, synchronizes, History, opens, goes_on, moves_on, fresh_device, did_begin, did_end, did_synchronize}
+use Rattle.law_runs.specs.Device.{Device, Busy, DeviceLoadsUndefined, IsHit, Begins, Ends, Synchronizes, DeviceJunkedAt, DeviceGoes, begins, ends, synchronizes, History, opens, goes_on, moves_on, fresh_device, did_begin, did_end, did_synchronize}
 use Rattle.law_runs.specs.Runs.{reads, WrongLayout, WrongOwner, Takes, StoresAt, Lays, Hands, Moves, writes_back, fills, drops}
 use Rattle.law_runs.specs.States as states
 use Rattle.law_runs.specs.Systems as law
@@ -23,7 +23,7 @@ use Rattle.fg_bits.specs.declared.layout.Layout.{Layout}
 use Rattle.fg_caches.specs.Lines.{Bytes, Dirty, range, dropped, cleaned}
 use Rattle.fg_hb.specs.Edges.{edge, is_sync, is_host}
 use Rattle.fg_stated.specs.PieceStates.{layout_after, owner_after}
-use Rattle.fg_stated.specs.Stated.{needs_owner, acquires}
+use Rattle.fg_stated.specs.StateValid.{needs_owner, acquires}
 use Rattle.fg_steps.proofs.Cases.{is_store, store_changes, IsPlain, not_sync, not_host, sync_not_host, acquire_sets_owner, discard_sets_owner, command_is}
 use Rattle.fg_steps.proofs.Control.{begun_started, begun_not_done, idle_not_done, any_at, put_other, put_at, not_same, still_begun, ready_within, ready_first, edges_done}
 use Rattle.fg_steps.proofs.Finding.{discards_same, lays_same, lays_what, hands_same, hands_what, needs_same}
@@ -34,16 +34,16 @@ use Rattle.fg_steps.proofs.SystemOf.{command_at, doing_of, family_numbered, acce
 use Rattle.fg_steps.proofs.Viewed.{From, from, to_law, clash_turned, clash_same, changes_same}
 use Rattle.fg_steps.specs.Agents.{agent_at, agent_of, in_scope, piece_range, covers, bytes_in, flushes_at, shows_at}
 use Rattle.fg_steps.specs.Outputs.{stored}
-use Rattle.fg_steps.specs.Ready.{is_command, kind_at, some_node, ready, stores_over, is_torn, is_wrong, is_foreign, is_spoilt, hits, marked_by}
+use Rattle.fg_steps.specs.Ready.{is_command, kind_at, some_node, ready, stores_over, is_torn, is_wrong, is_foreign, loads_undefined, hits, marked_by}
 use Rattle.fg_steps.specs.States.{State, opened, is_idle, is_begun, is_done, put, junk_at, junk_bytes}
-use Rattle.fg_steps.specs.Steps.{used, owner_by, layout_by, owned_after, laid_after, sight, taken, begun, store_of, made, ended, flushed, junks, turned, agent_count, synced, host_takes, hosted, written_back, lines_filled, lines_dropped, may_move, step, Told, after}
+use Rattle.fg_steps.specs.Steps.{used, owner_by, layout_by, owned_after, laid_after, sight, taken, begun, store_of, made, ended, flushed, junks, after_junk, agent_count, synced, host_takes, hosted, written_back, lines_filled, lines_dropped, may_move, step, Told, after}
 use Rattle.fg_steps.specs.declared.owner.Owner.{Owner}
 use Rattle.fg_steps.specs.declared.owner.Owner.TheVariants as owners
 use Rattle.fg_steps.specs.declared.phase.Phase.{Phase}
 use Rattle.fg_steps.specs.declared.phase.Phase.TheVariants.{Begun, Done}
 use Rattle.fg_subs.specs.declared.program.Program.{Program}
 use Rattle.fg_view.specs.AccessKinds.{changes, loads, transfers, wanted, sets_layout, sets_owner, is_discard, is_acquire}
-use Rattle.fg_view.specs.ShapedView.{Has, IsByQueue, IsByBarrier}
+use Rattle.fg_view.specs.ValidView.{Has, IsByQueue, IsByBarrier}
 use Rattle.fg_view.specs.Views.{View, view_of, accesses_of, loads_of, effect_at, has_agent, family_at, piece_at, queue_at, overlap, clash, shared_at, node_access}
 use Rattle.fg_view.specs.declared.access.Access.{Access}
 use Rattle.fg_view.specs.declared.access.AccessKind.{AccessKind}
@@ -207,11 +207,11 @@ laid p [] layout = inr ((λ a h s e. at_none a h), refl)
 laid p (b ∷ rest) layout = laid_more p b rest layout (if b.piece == p then layout_by b.kind layout else layout) (laid_after (b ∷ rest) p layout) refl (laid p rest (if b.piece == p then layout_by b.kind layout else layout))
 
 -- main's byte is as before, or something that leaves junk covers it
-turned_or : (V : View) (s : State) (n m i : ℕ) (junk : List ℕ) (v : ℕ) (list : List Access) → (turned V s n junk list m i v ≡ v) ⊎ ((a : Access) × At list a × (covers V a.piece m i ≡ true) × (junks V s n a ≡ true))
+turned_or : (V : View) (s : State) (n m i : ℕ) (junk : List ℕ) (v : ℕ) (list : List Access) → (after_junk V s n junk list m i v ≡ v) ⊎ ((a : Access) × At list a × (covers V a.piece m i ≡ true) × (junks V s n a ≡ true))
 turned_or V s n m i junk v [] = inl refl
 turned_or V s n m i junk v (a ∷ rest) = go (cases_Bool (covers V a.piece m i && junks V s n a)) (turned_or V s n m i junk (if covers V a.piece m i && junks V s n a then junk_at junk (i - (piece_at V a.piece).offset) else v) rest)
   where
-    go : ((covers V a.piece m i && junks V s n a) ≡ true) ⊎ ((covers V a.piece m i && junks V s n a) ≡ false) → (turned V s n junk (a ∷ rest) m i v ≡ (if covers V a.piece m i && junks V s n a then junk_at junk (i - (piece_at V a.piece).offset) else v)) ⊎ ((b : Access) × At rest b × (covers V b.piece m i ≡ true) × (junks V s n b ≡ true)) → (turned V s n junk (a ∷ rest) m i v ≡ v) ⊎ ((b : Access) × At (a ∷ rest) b × (covers V b.piece m i ≡ true) × (junks V s n b ≡ true))
+    go : ((covers V a.piece m i && junks V s n a) ≡ true) ⊎ ((covers V a.piece m i && junks V s n a) ≡ false) → (after_junk V s n junk (a ∷ rest) m i v ≡ (if covers V a.piece m i && junks V s n a then junk_at junk (i - (piece_at V a.piece).offset) else v)) ⊎ ((b : Access) × At rest b × (covers V b.piece m i ≡ true) × (junks V s n b ≡ true)) → (after_junk V s n junk (a ∷ rest) m i v ≡ v) ⊎ ((b : Access) × At (a ∷ rest) b × (covers V b.piece m i ≡ true) × (junks V s n b ≡ true))
     go (inl e) r = let p = and_parts (covers V a.piece m i) (junks V s n a) e in inr (a, at_first a rest, p.0, p.1)
     go (inr e) (inl q) = inl (q ∙ ap (λ z. if z then junk_at junk (i - (piece_at V a.piece).offset) else v) e)
     go (inr e) (inr q) = inr (q.0, at_rest q.0 a rest q.1, q.2, q.3)
@@ -265,8 +265,8 @@ module _ (program : Program) (F : Formed (view_of program)) where
     busy : (n v : ℕ) → is_begun (s.phase v) ≡ true → v ≢ n → Busy (device_of V s) n v
     busy n v b ne = record { other = ne; begun = and_from (not (is_idle (s.phase v))) (command_at V v) (ap not (begun_started (s.phase v) b)) (Q.commands v b); fresh = begun_fresh (s.phase v) b }
 
-    spoilt : (n : ℕ) (b : Access) → is_spoilt V s n b ≡ true → DeviceSpoilt (law_of program) (device_of V s) n (access_of V n b)
-    spoilt n b h = ⊎_elim (λ e. inl (torn e)) (λ e. inr (⊎_elim (λ q. inl (wrong (wanted b.kind) refl q)) (λ q. inr (foreign (and_parts (needs_owner V (node_access n b)) (is_foreign (s.owner b.piece) (family_at V n)) q))) (or_cases (is_wrong (wanted b.kind) (s.layout b.piece)) (needs_owner V (node_access n b) && is_foreign (s.owner b.piece) (family_at V n)) e)))
+    undefined : (n : ℕ) (b : Access) → loads_undefined V s n b ≡ true → DeviceLoadsUndefined (law_of program) (device_of V s) n (access_of V n b)
+    undefined n b h = ⊎_elim (λ e. inl (torn e)) (λ e. inr (⊎_elim (λ q. inl (wrong (wanted b.kind) refl q)) (λ q. inr (foreign (and_parts (needs_owner V (node_access n b)) (is_foreign (s.owner b.piece) (family_at V n)) q))) (or_cases (is_wrong (wanted b.kind) (s.layout b.piece)) (needs_owner V (node_access n b) && is_foreign (s.owner b.piece) (family_at V n)) e)))
         (or_cases (is_torn V s n b.piece) (is_wrong (wanted b.kind) (s.layout b.piece) || (needs_owner V (node_access n b) && is_foreign (s.owner b.piece) (family_at V n))) h)
       where
         torn : is_torn V s n b.piece ≡ true → (v : ℕ) × (c : law.Access) × Busy (device_of V s) n v × law.Has (law_of program) v c × (law.is_long c.doing ≡ true) × (law.overlap (law_of program) c.piece b.piece ≡ true)
@@ -335,8 +335,8 @@ module _ (program : Program) (F : Formed (view_of program)) where
       entered : (a : law.Access) → law.Has (law_of program) n a → states.Entered (law_of program) (device_of V s).state n a
       entered a h y e = edges_done V s n r y (sym (ap (λ z. if z then edge V.nodes y n else n == y) cl) ∙ e)
 
-      gets : (k : ℕ) (a : law.Access) → law.At (law_of program) n k a → law.is_load a.doing ≡ true → DeviceSpoilt (law_of program) (device_of V s) n a ⊎ (placed (accesses_of V n) (map (taken V s n junk) (loads_of V n)) k ≡ states.sight (law_of program) (device_of V s).state a)
-      gets k a at l = subst (λ z. DeviceSpoilt (law_of program) (device_of V s) n z ⊎ (placed (accesses_of V n) (map (taken V s n junk) (loads_of V n)) k ≡ states.sight (law_of program) (device_of V s).state z)) (sym f.same) (by (cases_Bool (is_spoilt V s n f.access)))
+      gets : (k : ℕ) (a : law.Access) → law.At (law_of program) n k a → law.is_load a.doing ≡ true → DeviceLoadsUndefined (law_of program) (device_of V s) n a ⊎ (placed (accesses_of V n) (map (taken V s n junk) (loads_of V n)) k ≡ states.sight (law_of program) (device_of V s).state a)
+      gets k a at l = subst (λ z. DeviceLoadsUndefined (law_of program) (device_of V s) n z ⊎ (placed (accesses_of V n) (map (taken V s n junk) (loads_of V n)) k ≡ states.sight (law_of program) (device_of V s).state z)) (sym f.same) (by (cases_Bool (loads_undefined V s n f.access)))
         where
           f : From V n k a
           f = from V (out_of program) n k a at
@@ -344,8 +344,8 @@ module _ (program : Program) (F : Formed (view_of program)) where
           got : placed (accesses_of V n) (map (taken V s n junk) (loads_of V n)) k ≡ taken V s n junk (from V (out_of program) n k a at).access
           got = ap (λ l. placed (accesses_of V n) (map (taken V s n junk) l) k) (sym (takes_loads n cl)) ∙ placed_map (taken V s n junk) (accesses_of V n) k f.access f.at (ap (λ z. law.is_load z.doing) (sym f.same) ∙ l)
 
-          by : (is_spoilt V s n f.access ≡ true) ⊎ (is_spoilt V s n f.access ≡ false) → DeviceSpoilt (law_of program) (device_of V s) n (access_of V n f.access) ⊎ (placed (accesses_of V n) (map (taken V s n junk) (loads_of V n)) k ≡ states.sight (law_of program) (device_of V s).state (access_of V n f.access))
-          by (inl e) = inl (spoilt n f.access e)
+          by : (loads_undefined V s n f.access ≡ true) ⊎ (loads_undefined V s n f.access ≡ false) → DeviceLoadsUndefined (law_of program) (device_of V s) n (access_of V n f.access) ⊎ (placed (accesses_of V n) (map (taken V s n junk) (loads_of V n)) k ≡ states.sight (law_of program) (device_of V s).state (access_of V n f.access))
+          by (inl e) = inl (undefined n f.access e)
           by (inr e) = inr (got ∙ ap (λ z. if z then junk_bytes junk (bytes_of (piece_at V f.access.piece).shape) else sight V s f.access) e)
 
       begin_marks : (v j : ℕ) → (begun V s n junk).marked v ≡ true → (s.marked v ≡ true) ⊎ (IsHit (law_of program) (device_of V s) n v ⊎ ((w : ℕ) × (b : law.Access) × (a : law.Access) × Busy (device_of V s) n w × law.Has (law_of program) n b × (law.is_long b.doing ≡ true) × law.Has (law_of program) w a × (clashes V b a ≡ true)))
@@ -462,11 +462,11 @@ module _ (program : Program) (F : Formed (view_of program)) where
           omega (arith, le, q, lt)
 
       sync_main : (m i : ℕ) → ((synced V s n junk).main m i ≡ flushed (agent_count V) (λ g. flushes_at V n g m i) (λ g. s.line g m i) (s.main m i)) ⊎ DeviceJunkedAt (law_of program) (device_of V s) n m i
-      sync_main m i = ⊎_elim (λ e. inl e) (λ t. inr (by t.0 t.1 t.2 (or_cases (is_discard t.0.kind) (loads t.0.kind && is_spoilt V s n t.0) t.3))) (turned_or V s n m i junk (flushed (agent_count V) (λ g. flushes_at V n g m i) (λ g. s.line g m i) (s.main m i)) (accesses_of V n))
+      sync_main m i = ⊎_elim (λ e. inl e) (λ t. inr (by t.0 t.1 t.2 (or_cases (is_discard t.0.kind) (loads t.0.kind && loads_undefined V s n t.0) t.3))) (turned_or V s n m i junk (flushed (agent_count V) (λ g. flushes_at V n g m i) (λ g. s.line g m i) (s.main m i)) (accesses_of V n))
         where
-          by : (a : Access) (h : Has V n a) → covers V a.piece m i ≡ true → (is_discard a.kind ≡ true) ⊎ ((loads a.kind && is_spoilt V s n a) ≡ true) → DeviceJunkedAt (law_of program) (device_of V s) n m i
+          by : (a : Access) (h : Has V n a) → covers V a.piece m i ≡ true → (is_discard a.kind ≡ true) ⊎ ((loads a.kind && loads_undefined V s n a) ≡ true) → DeviceJunkedAt (law_of program) (device_of V s) n m i
           by a h at (inl e) = record { access = access_of V n a; has = to_has n a h; changes = changes_same a.kind ∙ barrier_changes a.kind (barrier a h) (inl e); covered = at; why = inl (discards_same a.kind ∙ e) }
-          by a h at (inr e) = let p = and_parts (loads a.kind) (is_spoilt V s n a) e in record { access = access_of V n a; has = to_has n a h; changes = changes_same a.kind ∙ barrier_changes a.kind (barrier a h) (inr p.0); covered = at; why = inr (spoilt n a p.1) }
+          by a h at (inr e) = let p = and_parts (loads a.kind) (loads_undefined V s n a) e in record { access = access_of V n a; has = to_has n a h; changes = changes_same a.kind ∙ barrier_changes a.kind (barrier a h) (inr p.0); covered = at; why = inr (undefined n a p.1) }
 
       sync_lays : (p : ℕ) → Lays (law_of program) (device_of V s).state n p (layout_number (laid_after (accesses_of V n) p (s.layout p)))
       sync_lays p = ⊎_elim
@@ -507,15 +507,15 @@ module _ (program : Program) (F : Formed (view_of program)) where
       never_shows : (g m i : ℕ) → shows_at V n g m i ≡ false
       never_shows g m i = ⊎_elim (λ e. absurd (sync_not_host (kind_at V n) (show_syncs V F.shaped n g m i e) hl)) (λ e. e) (cases_Bool (shows_at V n g m i))
 
-      host_reads : (a : Access) → Has V n a → DeviceSpoilt (law_of program) (device_of V s) n (access_of V n a) ⊎ (host_takes V s n junk (accesses_of V n) ≡ bytes_in V s.main a.piece)
+      host_reads : (a : Access) → Has V n a → DeviceLoadsUndefined (law_of program) (device_of V s) n (access_of V n a) ⊎ (host_takes V s n junk (accesses_of V n) ≡ bytes_in V s.main a.piece)
       host_reads a h =
           let one = F.read n hl in
           let same : a ≡ one.0 = only (subst (λ l. At l a) one.1 h) in
-          subst (λ z. DeviceSpoilt (law_of program) (device_of V s) n (access_of V n z) ⊎ (host_takes V s n junk (accesses_of V n) ≡ bytes_in V s.main z.piece)) (sym same)
+          subst (λ z. DeviceLoadsUndefined (law_of program) (device_of V s) n (access_of V n z) ⊎ (host_takes V s n junk (accesses_of V n) ≡ bytes_in V s.main z.piece)) (sym same)
           (⊎_elim
-          (λ e. inl (spoilt n one.0 e))
+          (λ e. inl (undefined n one.0 e))
           (λ e. inr (ap (host_takes V s n junk) one.1 ∙ ap (λ z. if z then junk_bytes junk (bytes_of (piece_at V one.0.piece).shape) else bytes_in V s.main one.0.piece) e))
-          (cases_Bool (is_spoilt V s n one.0)))
+          (cases_Bool (loads_undefined V s n one.0)))
         where
           only : At ((F.read n hl).0 ∷ []) a → a ≡ (F.read n hl).0
           only k = ⊎_elim (λ e. e) (λ e. absurd (at_none a e)) (at_cases a (F.read n hl).0 [] k)
@@ -526,7 +526,7 @@ module _ (program : Program) (F : Formed (view_of program)) where
         flushed = s.main;
         flush = λ m i. inr (λ g e. absurd (false≢true (sym (never_flushes g m i) ∙ e)), refl);
         main_is = λ m i. inl refl;
-        read_is = λ a h q. let f = of n a h in subst (λ z. DeviceSpoilt (law_of program) (device_of V s) n z ⊎ (host_takes V s n junk (accesses_of V n) ≡ bytes_in V s.main z.piece)) (sym f.same) (host_reads f.access (h.0, f.at));
+        read_is = λ a h q. let f = of n a h in subst (λ z. DeviceLoadsUndefined (law_of program) (device_of V s) n z ⊎ (host_takes V s n junk (accesses_of V n) ≡ bytes_in V s.main z.piece)) (sym f.same) (host_reads f.access (h.0, f.at));
         marks = λ v j h. marks n v h;
         lays = λ p. inr (refl, λ a l h e q. let f = of n a h in false≢true (sym (lays_same f.access.kind ∙ ap sets_layout (reading f.access (h.0, f.at))) ∙ ap (λ z. is_some z.lays) (sym f.same) ∙ ap is_some e));
         hands = λ p. inr (inl refl, λ a o h e q. let f = of n a h in false≢true (sym (hands_same f.access.kind (family_numbered V n) ∙ ap sets_owner (reading f.access (h.0, f.at))) ∙ ap (λ z. is_some z.hands) (sym f.same) ∙ ap is_some e));

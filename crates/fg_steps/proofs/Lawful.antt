@@ -70,4 +70,4 @@ module _ (program : Program) (C : Commands program) where
 
   pub law_sound : IsSound program → Sound (law_of program)
   law_sound sound = sound_of V (out_of program) C.formed.shaped one_stage law_formed (comes_never_back V.nodes sound.0 sound.1.order_is.order)
-      sound.1.tied sound.0 sound.1.order_is.order (first_owner V (node_accesses_of V sound.0)) (finds V C.formed sound.0 sound.1.order_is.order sound.1.tied sound.1.stated sound.1.fed)
+      sound.1.synchronized sound.0 sound.1.order_is.order (first_owner V (node_accesses_of V sound.0)) (finds V C.formed sound.0 sound.1.order_is.order sound.1.synchronized sound.1.state_valid sound.1.initialized)

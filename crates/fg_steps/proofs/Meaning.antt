@@ -30,7 +30,7 @@ use Rattle.fg_subs.specs.Rules.{shapes_of}
 use Rattle.fg_subs.specs.declared.program.Program.{Program}
 use Rattle.fg_ties.proofs.Ordered.{has_within}
 use Rattle.fg_view.specs.AccessKinds.{loads}
-use Rattle.fg_view.specs.ShapedView.{Has}
+use Rattle.fg_view.specs.ValidView.{Has}
 use Rattle.fg_view.specs.Views.{View, view_of, accesses_of, piece_at, imported_at}
 use Rattle.fg_view.specs.declared.access.Access as view
 

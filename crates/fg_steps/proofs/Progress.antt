@@ -31,7 +31,7 @@ use Rattle.fg_steps.specs.declared.phase.Phase.{Phase}
 use Rattle.fg_steps.specs.declared.phase.Phase.TheVariants.{Idle, Begun, Done}
 use Rattle.fg_subs.specs.declared.program.Program.{Program}
 use Rattle.fg_view.specs.AccessKinds.{changes}
-use Rattle.fg_view.specs.ShapedView.{Has}
+use Rattle.fg_view.specs.ValidView.{Has}
 use Rattle.fg_view.specs.Views.{View, view_of, queue_at}
 use Rattle.fg_view.specs.declared.access.Access.{Access}
 

@@ -28,7 +28,7 @@ use Rattle.fg_steps.specs.Ready.{read_node}
 use Rattle.fg_steps.specs.States.{is_idle, is_begun, is_done, State, opened, junk_bytes}
 use Rattle.fg_steps.specs.Steps.{store_of, made, Told, after}
 use Rattle.fg_subs.specs.declared.program.Program.{Program}
-use Rattle.fg_view.specs.ShapedView.{Has}
+use Rattle.fg_view.specs.ValidView.{Has}
 use Rattle.fg_view.specs.Views.{View, view_of, accesses_of, piece_at}
 use Rattle.fg_view.specs.declared.access.Access.{Access}
 

@@ -1,4 +1,4 @@
--- Today's views as the law of single accesses sees them: what is tied is tied, an order is an order, and they give what the
+-- Today's views as the law of single accesses sees them: what is synchronized is synchronized, an order is an order, and they give what the
 -- law asks of a program.
 use Rattle.std.proofs.Common.{◌≡◌, ◌≢◌, ◌⊎◌, inl, inr, ℕ, ◌<◌, ◌==◌, ◌&&◌, ◌||◌, not, Bool, true, false, if◌then◌else◌, List, [], ◌∷◌, length, slice_get, Option, Some, None, refl, sym, ap, ◌∙◌, subst, ⊎_elim, eq-eqb, eqb-true, arith}
 use Rattle.std.specs.Option.{option_map, is_some}
@@ -29,9 +29,9 @@ use Rattle.fg_hb.specs.declared.kind.Kind.TheVariants as kinds
 use Rattle.fg_reach.specs.Paths as old
 use Rattle.fg_ties.proofs.Ordered.{has_within}
 use Rattle.fg_ties.specs.Passing.{Before, UpTo, Reaches, AvailableBy, VisibleBy, Passed}
-use Rattle.fg_ties.specs.Tied.{Tied}
+use Rattle.fg_ties.specs.Synchronized.{Synchronized}
 use Rattle.fg_view.specs.AccessKinds.{changes, transfers, sets_layout, sets_owner, is_acquire}
-use Rattle.fg_view.specs.ShapedView.{ShapedView, AccessAt, Has, IsByQueue, IsByBarrier}
+use Rattle.fg_view.specs.ValidView.{ValidView, AccessAt, Has, IsByQueue, IsByBarrier}
 use Rattle.fg_view.specs.Views.{View, accesses_of, clash, overlap, makes_available, makes_visible, has_agent, is_on, queue_at, effect_at, piece_at, is_before_end, shared_at}
 use Rattle.fg_view.specs.declared.access.Access.{Access}
 use Rattle.fg_view.specs.declared.access.AccessKind.{AccessKind}
@@ -181,7 +181,7 @@ module _ (V : View) (out : ℕ → (ℕ → List ℕ) → ℕ → List ℕ) wher
       and_from (has_agent (queue_at V x) (effect_at V x).visible (agent_at (agent_number agent))) (in_scope V (effect_at V x).scope m i)
       (ap (λ a. has_agent (queue_at V x) (effect_at V x).visible a) e ∙ q.0) (on_within V (effect_at V x).scope p m i q.1 k)
 
-  module _ (X : ShapedView V) (J : OneStage V) where
+  module _ (X : ValidView V) (J : OneStage V) where
     abbrev S : law.System
     S = system_of V out
 
@@ -301,8 +301,8 @@ module _ (V : View) (out : ℕ → (ℕ → List ℕ) → ℕ → List ℕ) wher
     old_path a b (order.one q) = old.one q
     old_path a b (order.then_on {b = c} p q) = old.then_on (old_path a c p) (old_path c b q)
 
-    pub tied_of : Formed (system_of V out) → Tied V → order.Tied S
-    tied_of F T = record {
+    pub synchronized_of : Formed (system_of V out) → Synchronized V → order.Synchronized S
+    synchronized_of F T = record {
       ordered = λ n m a b ha hb ne c. ordered n m a b (from V out n ha.0 a ha.1) (from V out m hb.0 b hb.1) ne c;
       passed = λ n m a b ha hb ne c B ch keeps full. passed n m a b (from V out n ha.0 a ha.1) (from V out m hb.0 b hb.1) ne c B ch keeps;
     }

@@ -1,21 +1,21 @@
 //! The masks of barriers in a file.
 
 ghost use Rattle.std.specs.Prelude.{◌≡◌, IfOk};
-ghost use Rattle.fg_forms.specs.Places.{legs};
+ghost use Rattle.fg_forms.specs.Locations.{legs};
 ghost use Rattle.fg_forms.specs.Reading.{Gives};
 ghost use Rattle.fg_subfile.specs.BarrierMasks.{masks_at, mask_members, piece_members, FitsMasks};
 ghost use Rattle.serde_json.specs.View.{view, members_view};
 
 use crate::mask::{AccessesForm, StagesForm};
 use fg_bits::Masks;
-use fg_forms::{Members, Place, ReadEnd, required, with_form, with_member, with_text};
+use fg_forms::{Members, Location, ReadError, required, with_form, with_member, with_text};
 use serde_json::{Map, Value};
 use std::alloc::{AllocError, Global};
 
 /// The four masks of a barrier's object. That the value is an object, and that it has no unknown member, is for the
 /// caller to test.
 #[tactic(auto, unfolding(crate::specs::BarrierMasks::masks_at))]
-pub fn read_masks(alloc: Global, at: &Place<'_>, json: &Value) -> Result<Masks, ReadEnd>
+pub fn read_masks(alloc: Global, at: &Location<'_>, json: &Value) -> Result<Masks, ReadError>
     ensures gives { Gives result (masks_at (legs at.now) (view json.now)) }
     ensures fits { IfOk result FitsMasks }
 {

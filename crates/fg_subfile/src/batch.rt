@@ -6,7 +6,7 @@ use crate::item::ItemForm;
 use crate::signal::SignalForm;
 use crate::wait::WaitForm;
 use fg_base::List;
-use fg_forms::{ListForm, Place, ReadEnd, Reader, Writer, object, optional, others, with_form};
+use fg_forms::{ListForm, Location, ReadError, Reader, Writer, object, optional, others, with_form};
 use fg_subs::Batch;
 use serde_json::{Map, Value};
 use std::alloc::{AllocError, Global};
@@ -22,7 +22,7 @@ impl Reader for BatchForm {
     ghost Fits = { FitsBatch };
 
     #[tactic(auto, unfolding(crate::specs::Batches::batch_at))]
-    fn read(alloc: Global, at: &Place<'_>, json: &Value) -> Result<Batch, ReadEnd> {
+    fn read(alloc: Global, at: &Location<'_>, json: &Value) -> Result<Batch, ReadError> {
         object(alloc, at, json)?;
         let waits = optional::<ListForm<WaitForm>>(alloc, at, "waits", json)?;
         let items = optional::<ListForm<ItemForm>>(alloc, at, "items", json)?;

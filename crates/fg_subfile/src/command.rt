@@ -1,14 +1,14 @@
 //! Commands in a file: operations whose operands are the numbers of pieces, with the member `item` beside.
 
 ghost use Rattle.std.specs.Prelude.{◌≡◌, ◌∷◌, codes, map, IfOk};
-ghost use Rattle.fg_forms.specs.Places.{legs};
+ghost use Rattle.fg_forms.specs.Locations.{legs};
 ghost use Rattle.fg_forms.specs.Reading.{Gives};
 ghost use Rattle.fg_opforms.specs.Kinds.{members_of};
 ghost use Rattle.fg_subfile.specs.Items.{command_at, command_data, FitsItem};
 ghost use Rattle.serde_json.specs.View.{view};
 
 use fg_base::{NoMemory, Op};
-use fg_forms::{NumberForm, Place, ReadEnd, Writer, others, with_text};
+use fg_forms::{NumberForm, Location, ReadError, Writer, others, with_text};
 use fg_opforms::{Kind, OpForm, members, op_kind, parts};
 use fg_subs::Item;
 use serde_json::Value;
@@ -25,7 +25,7 @@ fn known(alloc: Global, kind: Kind) -> Result<Vec<&'static str>, NoMemory>
 
 /// A command, whose `item` was examined before.
 #[tactic(auto, unfolding(crate::specs::Items::command_at))]
-pub fn read_command(alloc: Global, at: &Place<'_>, json: &Value) -> Result<Item, ReadEnd>
+pub fn read_command(alloc: Global, at: &Location<'_>, json: &Value) -> Result<Item, ReadError>
     ensures gives { Gives result (command_at (legs at.now) (view json.now)) }
     ensures fits { IfOk result FitsItem }
 {

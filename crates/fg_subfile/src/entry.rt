@@ -3,12 +3,12 @@
 ghost use Rattle.std.specs.Prelude.{◌≡◌, ◌++◌, map, option_map, IfOk, IfSome};
 ghost use Rattle.std.specs.List.{AllByRecursion};
 ghost use Rattle.fg_forms.specs.Parts.{or_at};
-ghost use Rattle.fg_forms.specs.Places.{legs};
+ghost use Rattle.fg_forms.specs.Locations.{legs};
 ghost use Rattle.fg_forms.specs.Reading.{Gives};
 ghost use Rattle.fg_subfile.specs.Pieces.{piece_after, behind, row_of, members_of, entry_at, pieces_at, flat, FitsPiece};
 
 use fg_base::{List, NoMemory, Shape};
-use fg_forms::{ListForm, NumberForm, Place, ReadEnd, Reader, object, others, required};
+use fg_forms::{ListForm, NumberForm, Location, ReadError, Reader, object, others, required};
 use fg_shapeforms::{read_body, read_sharing};
 use fg_subs::Piece;
 use serde_json::Value;
@@ -40,11 +40,11 @@ fn piece_after(piece: Piece) -> Option<Piece>
 // Adds so many pieces behind this one. A start that no `u32` holds is refused.
 fn push_behind(
     alloc: Global,
-    at: &Place<'_>,
+    at: &Location<'_>,
     mut pieces: List<Piece>,
     piece: Piece,
     more: u32,
-) -> Result<List<Piece>, ReadEnd>
+) -> Result<List<Piece>, ReadError>
     ensures gives { Gives result (or_at (legs at.now) (option_map (λ row. pieces ++ row) (behind more piece))) }
     ensures fits { AllByRecursion FitsPiece pieces → FitsPiece piece → IfOk result (AllByRecursion FitsPiece) }
 {
@@ -59,7 +59,7 @@ fn push_behind(
 }
 
 // A piece for each of so many layers.
-fn row(alloc: Global, at: &Place<'_>, piece: Piece, layers: u32) -> Result<List<Piece>, ReadEnd>
+fn row(alloc: Global, at: &Location<'_>, piece: Piece, layers: u32) -> Result<List<Piece>, ReadError>
     ensures gives { Gives result (or_at (legs at.now) (row_of layers piece)) }
     ensures fits { FitsPiece piece → IfOk result (AllByRecursion FitsPiece) }
 {
@@ -94,7 +94,7 @@ impl<const FORMAT: u32> Reader for EntryForm<FORMAT> {
     ghost Fits = { AllByRecursion FitsPiece };
 
     #[tactic(auto, unfolding(crate::specs::Pieces::entry_at))]
-    fn read(alloc: Global, at: &Place<'_>, json: &Value) -> Result<List<Piece>, ReadEnd> {
+    fn read(alloc: Global, at: &Location<'_>, json: &Value) -> Result<List<Piece>, ReadError> {
         object(alloc, at, json)?;
         let body = read_body::<FORMAT>(alloc, at, json)?;
         let memory = required::<NumberForm>(alloc, at, "memory", json)?;
@@ -129,7 +129,7 @@ impl<const FORMAT: u32> Reader for PiecesForm<FORMAT> {
 
     ghost Fits = { AllByRecursion FitsPiece };
 
-    fn read(alloc: Global, at: &Place<'_>, json: &Value) -> Result<List<Piece>, ReadEnd> {
+    fn read(alloc: Global, at: &Location<'_>, json: &Value) -> Result<List<Piece>, ReadError> {
         let rows = <ListForm<EntryForm<FORMAT>>>::read(alloc, at, json)?;
         Ok(flat(alloc, &rows)?)
     }

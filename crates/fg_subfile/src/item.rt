@@ -1,7 +1,7 @@
 //! Items in a file.
 
 ghost use Rattle.std.specs.Prelude.{◌≡◌, IfOk};
-ghost use Rattle.fg_forms.specs.Places.{legs};
+ghost use Rattle.fg_forms.specs.Locations.{legs};
 ghost use Rattle.fg_forms.specs.Reading.{Gives};
 ghost use Rattle.fg_subfile.specs.Items.{global_at, buffer_at, image_at, kind_at, item_at, global_data, buffer_data, image_data, item_data, FitsItem};
 ghost use Rattle.serde_json.specs.View.{view};
@@ -11,7 +11,7 @@ use crate::command::{command_value, read_command};
 use crate::item_kind::{ItemKind, ItemKindForm};
 use crate::transfer::{read_both, read_transfer, transfer_value, with_both};
 use fg_bits::{Layouts, Masks};
-use fg_forms::{NumberForm, Place, ReadEnd, Reader, Writer, object, others, required, with_text};
+use fg_forms::{NumberForm, Location, ReadError, Reader, Writer, object, others, required, with_text};
 use fg_subs::Item;
 use serde_json::Value;
 use std::alloc::{AllocError, Global};
@@ -20,7 +20,7 @@ use std::alloc::{AllocError, Global};
 pub struct ItemForm;
 
 #[tactic(auto, unfolding(crate::specs::Items::global_at))]
-fn global(alloc: Global, at: &Place<'_>, json: &Value) -> Result<Item, ReadEnd>
+fn global(alloc: Global, at: &Location<'_>, json: &Value) -> Result<Item, ReadError>
     ensures gives { Gives result (global_at (legs at.now) (view json.now)) }
     ensures fits { IfOk result FitsItem }
 {
@@ -35,7 +35,7 @@ fn global(alloc: Global, at: &Place<'_>, json: &Value) -> Result<Item, ReadEnd>
 }
 
 #[tactic(auto, unfolding(crate::specs::Items::buffer_at))]
-fn buffer(alloc: Global, at: &Place<'_>, json: &Value) -> Result<Item, ReadEnd>
+fn buffer(alloc: Global, at: &Location<'_>, json: &Value) -> Result<Item, ReadError>
     ensures gives { Gives result (buffer_at (legs at.now) (view json.now)) }
     ensures fits { IfOk result FitsItem }
 {
@@ -58,7 +58,7 @@ fn buffer(alloc: Global, at: &Place<'_>, json: &Value) -> Result<Item, ReadEnd>
 }
 
 #[tactic(auto, unfolding(crate::specs::Items::image_at))]
-fn image(alloc: Global, at: &Place<'_>, json: &Value) -> Result<Item, ReadEnd>
+fn image(alloc: Global, at: &Location<'_>, json: &Value) -> Result<Item, ReadError>
     ensures gives { Gives result (image_at (legs at.now) (view json.now)) }
     ensures fits { IfOk result FitsItem }
 {
@@ -84,7 +84,7 @@ fn image(alloc: Global, at: &Place<'_>, json: &Value) -> Result<Item, ReadEnd>
 }
 
 #[tactic(auto, unfolding(crate::specs::Items::kind_at))]
-fn of_kind(alloc: Global, at: &Place<'_>, kind: ItemKind, json: &Value) -> Result<Item, ReadEnd>
+fn of_kind(alloc: Global, at: &Location<'_>, kind: ItemKind, json: &Value) -> Result<Item, ReadError>
     ensures gives { Gives result (kind_at kind (legs at.now) (view json.now)) }
     ensures fits { IfOk result FitsItem }
 {
@@ -106,7 +106,7 @@ impl Reader for ItemForm {
     ghost Fits = { FitsItem };
 
     #[tactic(auto, unfolding(crate::specs::Items::item_at))]
-    fn read(alloc: Global, at: &Place<'_>, json: &Value) -> Result<Item, ReadEnd> {
+    fn read(alloc: Global, at: &Location<'_>, json: &Value) -> Result<Item, ReadError> {
         object(alloc, at, json)?;
         let kind = required::<ItemKindForm>(alloc, at, "item", json)?;
         of_kind(alloc, at, kind, json)

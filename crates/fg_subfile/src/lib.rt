@@ -21,5 +21,5 @@ mod typed;
 mod value;
 mod wait;
 
-pub use file::{SubReadEnd, read_program};
+pub use file::{ProgramReadError, read_program};
 pub use text::write_program;

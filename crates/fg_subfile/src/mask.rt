@@ -6,7 +6,7 @@ ghost use Rattle.fg_forms.specs.Leaves.{text_at, text_data};
 ghost use Rattle.fg_subfile.specs.Masks.{stages_of, names_of_stages, FitsStages, accesses_of, names_of_accesses, FitsAccesses};
 
 use fg_bits::{Accesses, Stages};
-use fg_forms::{Place, ReadEnd, Reader, Writer};
+use fg_forms::{Location, ReadError, Reader, Writer};
 use serde_json::Value;
 use std::alloc::{AllocError, Global};
 use std::marker::PhantomData;
@@ -84,7 +84,7 @@ impl<M: Mask + Drop> Reader for MaskForm<M> {
 
     ghost Fits = { M.Fits };
 
-    fn read(alloc: Global, at: &Place<'_>, json: &Value) -> Result<M, ReadEnd> {
+    fn read(alloc: Global, at: &Location<'_>, json: &Value) -> Result<M, ReadError> {
         match json.as_str() {
             Some(text) => match M::value(text.as_bytes()) {
                 Some(mask) => Ok(mask),

@@ -1,12 +1,12 @@
 //! Memories in a file.
 
 ghost use Rattle.std.specs.Prelude.{◌≡◌, IfOk};
-ghost use Rattle.fg_forms.specs.Places.{legs};
+ghost use Rattle.fg_forms.specs.Locations.{legs};
 ghost use Rattle.fg_forms.specs.Reading.{Gives};
 ghost use Rattle.fg_subfile.specs.Memories.{plain_at, import_at, is_plain, memory_at, memory_data, FitsMemory};
 ghost use Rattle.serde_json.specs.View.{view};
 
-use fg_forms::{NumberForm, Place, ReadEnd, Reader, Writer, object, others, required, with_form};
+use fg_forms::{NumberForm, Location, ReadError, Reader, Writer, object, others, required, with_form};
 use fg_shapeforms::HexForm;
 use fg_subs::Memory;
 use serde_json::{Map, Value};
@@ -23,7 +23,7 @@ fn is_plain(json: &Value) -> bool
 }
 
 #[tactic(auto, unfolding(crate::specs::Memories::plain_at))]
-fn plain(alloc: Global, at: &Place<'_>, json: &Value) -> Result<Memory, ReadEnd>
+fn plain(alloc: Global, at: &Location<'_>, json: &Value) -> Result<Memory, ReadError>
     ensures gives { Gives result (plain_at (legs at.now) (view json.now)) }
     ensures fits { IfOk result FitsMemory }
 {
@@ -33,7 +33,7 @@ fn plain(alloc: Global, at: &Place<'_>, json: &Value) -> Result<Memory, ReadEnd>
 }
 
 #[tactic(auto, unfolding(crate::specs::Memories::import_at))]
-fn import(alloc: Global, at: &Place<'_>, json: &Value) -> Result<Memory, ReadEnd>
+fn import(alloc: Global, at: &Location<'_>, json: &Value) -> Result<Memory, ReadError>
     ensures gives { Gives result (import_at (legs at.now) (view json.now)) }
     ensures fits { IfOk result FitsMemory }
 {
@@ -50,7 +50,7 @@ impl Reader for MemoryForm {
     ghost Fits = { FitsMemory };
 
     #[tactic(auto, unfolding(crate::specs::Memories::memory_at))]
-    fn read(alloc: Global, at: &Place<'_>, json: &Value) -> Result<Memory, ReadEnd> {
+    fn read(alloc: Global, at: &Location<'_>, json: &Value) -> Result<Memory, ReadError> {
         object(alloc, at, json)?;
         if is_plain(json) {
             plain(alloc, at, json)

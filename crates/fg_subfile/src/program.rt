@@ -1,7 +1,7 @@
 //! The program that a JSON value is.
 
 ghost use Rattle.std.specs.Prelude.{IfOk};
-ghost use Rattle.fg_forms.specs.Places.{legs};
+ghost use Rattle.fg_forms.specs.Locations.{legs};
 ghost use Rattle.fg_forms.specs.Reading.{Gives};
 ghost use Rattle.fg_subfile.specs.Programs.{parts_at, program_at, program_data, FitsProgram};
 ghost use Rattle.serde_json.specs.View.{view};
@@ -11,7 +11,7 @@ use crate::memory::MemoryForm;
 use crate::piece::PieceForm;
 use crate::queue::QueueForm;
 use fg_forms::{
-    ListForm, NumberForm, Place, RangeForm, ReadEnd, Reader, Writer, object, others, required,
+    ListForm, NumberForm, Location, RangeForm, ReadError, Reader, Writer, object, others, required,
     with_form, with_member,
 };
 use fg_subs::Program;
@@ -23,7 +23,7 @@ pub struct ProgramForm;
 
 // The members after `format`, in a file of this format.
 #[tactic(auto, unfolding(crate::specs::Programs::parts_at))]
-fn parts<const FORMAT: u32>(alloc: Global, at: &Place<'_>, json: &Value) -> Result<Program, ReadEnd>
+fn parts<const FORMAT: u32>(alloc: Global, at: &Location<'_>, json: &Value) -> Result<Program, ReadError>
     ensures gives { Gives result (parts_at FORMAT (legs at.now) (view json.now)) }
     ensures fits { IfOk result FitsProgram }
 {
@@ -53,7 +53,7 @@ impl Reader for ProgramForm {
     ghost Fits = { FitsProgram };
 
     #[tactic(auto, unfolding(crate::specs::Programs::program_at))]
-    fn read(alloc: Global, at: &Place<'_>, json: &Value) -> Result<Program, ReadEnd> {
+    fn read(alloc: Global, at: &Location<'_>, json: &Value) -> Result<Program, ReadError> {
         object(alloc, at, json)?;
         let format = required::<RangeForm<1, 2>>(alloc, at, "format", json)?;
         if format == 1 {

@@ -4,7 +4,7 @@ ghost use Rattle.fg_subfile.specs.Batches.{queue_at, queue_data, FitsQueue};
 
 use crate::batch::BatchForm;
 use fg_forms::{
-    ListForm, Place, ReadEnd, Reader, TextForm, Writer, object, others, required, with_form,
+    ListForm, Location, ReadError, Reader, TextForm, Writer, object, others, required, with_form,
 };
 use fg_shapeforms::FamilyWord;
 use fg_subs::Queue;
@@ -22,7 +22,7 @@ impl Reader for QueueForm {
     ghost Fits = { FitsQueue };
 
     #[tactic(auto, unfolding(crate::specs::Batches::queue_at))]
-    fn read(alloc: Global, at: &Place<'_>, json: &Value) -> Result<Queue, ReadEnd> {
+    fn read(alloc: Global, at: &Location<'_>, json: &Value) -> Result<Queue, ReadError> {
         object(alloc, at, json)?;
         let family = required::<TextForm<FamilyWord>>(alloc, at, "family", json)?;
         let batches = required::<ListForm<BatchForm>>(alloc, at, "batches", json)?;

@@ -4,7 +4,7 @@ ghost use Rattle.fg_subfile.specs.Timelines.{signal_at, signal_data, FitsSignal}
 
 use crate::mask::StagesForm;
 use crate::value::ValueForm;
-use fg_forms::{Place, ReadEnd, Reader, Writer, object, others, required, with_form, with_member};
+use fg_forms::{Location, ReadError, Reader, Writer, object, others, required, with_form, with_member};
 use fg_subs::Signal;
 use serde_json::{Map, Value};
 use std::alloc::{AllocError, Global};
@@ -20,7 +20,7 @@ impl Reader for SignalForm {
     ghost Fits = { FitsSignal };
 
     #[tactic(auto, unfolding(crate::specs::Timelines::signal_at))]
-    fn read(alloc: Global, at: &Place<'_>, json: &Value) -> Result<Signal, ReadEnd> {
+    fn read(alloc: Global, at: &Location<'_>, json: &Value) -> Result<Signal, ReadError> {
         object(alloc, at, json)?;
         let value = required::<ValueForm>(alloc, at, "value", json)?;
         let stages = required::<StagesForm>(alloc, at, "stage", json)?;

@@ -1,7 +1,7 @@
 //! Halves of transfers of ownership in a file.
 
 ghost use Rattle.std.specs.Prelude.{◌≡◌, Some, IfOk};
-ghost use Rattle.fg_forms.specs.Places.{legs};
+ghost use Rattle.fg_forms.specs.Locations.{legs};
 ghost use Rattle.fg_forms.specs.Reading.{Gives};
 ghost use Rattle.fg_subfile.specs.Transfers.{both_at, has_layouts, layouts_at, transfer_at, with_layouts, with_families, transfer_data, FitsTransfer};
 ghost use Rattle.serde_json.specs.View.{view, members_view};
@@ -10,7 +10,7 @@ use crate::barrier_masks::{piece_members, read_masks};
 use crate::layout::LayoutForm;
 use fg_base::Family;
 use fg_bits::Layouts;
-use fg_forms::{Members, NumberForm, Place, ReadEnd, TextForm, others, required, with_form};
+use fg_forms::{Members, NumberForm, Location, ReadError, TextForm, others, required, with_form};
 use fg_shapeforms::FamilyWord;
 use fg_subs::Transfer;
 use serde_json::Value;
@@ -18,7 +18,7 @@ use std::alloc::{AllocError, Global};
 
 /// The members `from` and `to`, which both have to be there.
 #[tactic(auto, unfolding(crate::specs::Transfers::both_at))]
-pub fn read_both(alloc: Global, at: &Place<'_>, json: &Value) -> Result<Layouts, ReadEnd>
+pub fn read_both(alloc: Global, at: &Location<'_>, json: &Value) -> Result<Layouts, ReadError>
     ensures { Gives result (both_at (legs at.now) (view json.now)) }
 {
     let from = required::<LayoutForm>(alloc, at, "from", json)?;
@@ -34,7 +34,7 @@ fn has_layouts(json: &Value) -> bool
 
 // Where one of the two members stands alone, the other is absent.
 #[tactic(auto, unfolding(crate::specs::Transfers::layouts_at))]
-fn layouts(alloc: Global, at: &Place<'_>, json: &Value) -> Result<Option<Layouts>, ReadEnd>
+fn layouts(alloc: Global, at: &Location<'_>, json: &Value) -> Result<Option<Layouts>, ReadError>
     ensures { Gives result (layouts_at (legs at.now) (view json.now)) }
 {
     if !has_layouts(json) {
@@ -45,7 +45,7 @@ fn layouts(alloc: Global, at: &Place<'_>, json: &Value) -> Result<Option<Layouts
 
 /// The members of a release or an acquire but for `item`, and that there are no others.
 #[tactic(auto, unfolding(crate::specs::Transfers::transfer_at))]
-pub fn read_transfer(alloc: Global, at: &Place<'_>, json: &Value) -> Result<Transfer, ReadEnd>
+pub fn read_transfer(alloc: Global, at: &Location<'_>, json: &Value) -> Result<Transfer, ReadError>
     ensures gives { Gives result (transfer_at (legs at.now) (view json.now)) }
     ensures fits { IfOk result FitsTransfer }
 {

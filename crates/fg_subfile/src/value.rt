@@ -4,7 +4,7 @@ ghost use Rattle.std.specs.Prelude.{⊤};
 ghost use Rattle.fg_forms.specs.Leaves.{number_data};
 ghost use Rattle.fg_subfile.specs.Values.{value_at};
 
-use fg_forms::{Place, ReadEnd, Reader, Writer};
+use fg_forms::{Location, ReadError, Reader, Writer};
 use serde_json::Value;
 use std::alloc::{AllocError, Global};
 
@@ -18,7 +18,7 @@ impl Reader for ValueForm {
 
     ghost Fits = { λ _. ⊤ };
 
-    fn read(alloc: Global, at: &Place<'_>, json: &Value) -> Result<u64, ReadEnd> {
+    fn read(alloc: Global, at: &Location<'_>, json: &Value) -> Result<u64, ReadError> {
         match json.as_u64() {
             Some(value) => Ok(value),
             None => Err(at.refused(alloc)),

@@ -5,7 +5,7 @@ ghost use Rattle.fg_subfile.specs.Timelines.{wait_at, wait_data, FitsWait};
 use crate::mask::StagesForm;
 use crate::value::ValueForm;
 use fg_forms::{
-    NumberForm, Place, ReadEnd, Reader, Writer, object, others, required, with_form, with_member,
+    NumberForm, Location, ReadError, Reader, Writer, object, others, required, with_form, with_member,
 };
 use fg_subs::WaitFor;
 use serde_json::{Map, Value};
@@ -22,7 +22,7 @@ impl Reader for WaitForm {
     ghost Fits = { FitsWait };
 
     #[tactic(auto, unfolding(crate::specs::Timelines::wait_at))]
-    fn read(alloc: Global, at: &Place<'_>, json: &Value) -> Result<WaitFor, ReadEnd> {
+    fn read(alloc: Global, at: &Location<'_>, json: &Value) -> Result<WaitFor, ReadError> {
         object(alloc, at, json)?;
         let queue = required::<NumberForm>(alloc, at, "queue", json)?;
         let value = required::<ValueForm>(alloc, at, "value", json)?;

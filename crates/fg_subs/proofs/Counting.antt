@@ -2,9 +2,9 @@
 use Rattle.std.proofs.Common.{◌≡◌, ℕ, suc, ◌+◌, ◌<◌, ◌≤◌, List, [], ◌∷◌, ◌++◌, length, map, get_or, drop, take, Option, Some, None, option_to_list, refl, sym, ap, ap₂, ◌∙◌, add-one, drop-cons, arith}
 use Rattle.std.specs.List.{flat_map}
 use Rattle.std.proofs.lemmas.List.{length-append, length-map}
-use Rattle.fg_subs.specs.Code.Counts.{signal_count, batch_count, batches_count, queues_count}
+use Rattle.fg_subs.specs.Internal.Counts.{signal_count, batch_count, batches_count, queues_count}
 use Rattle.fg_base.specs.Maxima.{max_nodes}
-use Rattle.fg_subs.specs.Code.Nodes.{nodes_of}
+use Rattle.fg_subs.specs.Internal.Nodes.{nodes_of}
 use Rattle.fg_subs.specs.Entries.{OfWait, OfItem, OfSignal, OfHost, batch_entries, queue_entries, entries_of, first_node}
 use Rattle.fg_subs.specs.FirstFault.{first_broken}
 use Rattle.fg_subs.specs.Places.{all_in}

@@ -8,9 +8,9 @@ use Rattle.std.proofs.lemmas.List.Elements.{All-nil, All-cons, All-append, All-m
 use Rattle.std.proofs.lemmas.Option.{slice_get-map, slice_get_read, slice_get_within}
 use Rattle.std.proofs.lemmas.Simd.{map-map}
 use Rattle.fg_base.proofs.Lists.{entry_of}
-use Rattle.fg_subs.specs.Code.Standing.{batch_entry, queued_entry, entry_at}
+use Rattle.fg_subs.specs.Internal.Standing.{batch_entry, queued_entry, entry_at}
 use Rattle.fg_subs.specs.Entries.{Entry, OfWait, OfItem, OfSignal, OfHost, batch_entries, queue_entries, entries_of, queue_of, first_node, ByQueue}
-use Rattle.fg_subs.specs.Code.Nodes.{signal_nodes, batch_nodes, queue_nodes, nodes_of}
+use Rattle.fg_subs.specs.Internal.Nodes.{signal_nodes, batch_nodes, queue_nodes, nodes_of}
 use Rattle.fg_subs.specs.Places.{all_in}
 use Rattle.fg_subs.specs.declared.nodes.NodeAt.{NodeAt}
 use Rattle.fg_subs.specs.declared.nodes.NodeAt.TheVariants as node
@@ -57,8 +57,8 @@ flat made i [] = refl
 flat made i (x ∷ xs) = ap (λ l. made x ++ l) (flat made (suc i) xs)
 
 module _ (program : Program) (q b : ℕ) (queue : Queue) (batch : Batch) (queue_is : slice_get program.queues q ≡ Some queue) (batch_is : slice_get queue.batches b ≡ Some batch) where
-  reached : (place : NodeAt) → queued_entry program place q b ≡ batch_entry place batch
-  reached place = ap (option_and_then (λ queue. option_and_then (batch_entry place) (slice_get queue.batches b))) queue_is ∙ ap (option_and_then (batch_entry place)) batch_is
+  reached : (location : NodeAt) → queued_entry program location q b ≡ batch_entry location batch
+  reached location = ap (option_and_then (λ queue. option_and_then (batch_entry location) (slice_get queue.batches b))) queue_is ∙ ap (option_and_then (batch_entry location)) batch_is
 
   waits_stand : Stand program (map (λ k. node.Wait q b k) (range_with_len 0 (length batch.waits))) (map (OfWait q) batch.waits)
   waits_stand = map-map (entry_at program) (λ k. node.Wait q b k) (range_with_len 0 (length batch.waits)) ∙ all_indexed (OfWait q) (λ k. entry_at program (node.Wait q b k)) batch.waits (λ k. reached (node.Wait q b k))
@@ -96,8 +96,8 @@ lifted : (o r : Option Entry) → option_map (λ e. Some e) o ≡ Some r → o �
 lifted None r e = absurd cc
 lifted (Some x) r e = cc
 
-pub entry_there : (program : Program) (n : ℕ) (place : NodeAt) → slice_get (nodes_of program) n ≡ Some place → slice_get (entries_of program) n ≡ entry_at program place
-entry_there program n place is = lifted (slice_get (entries_of program) n) (entry_at program place)
+pub entry_there : (program : Program) (n : ℕ) (location : NodeAt) → slice_get (nodes_of program) n ≡ Some location → slice_get (entries_of program) n ≡ entry_at program location
+entry_there program n location is = lifted (slice_get (entries_of program) n) (entry_at program location)
     (sym (slice_get-map (λ e. Some e) (entries_of program) n) ∙ ap (λ l. slice_get l n) (sym (program_stands program)) ∙ slice_get-map (entry_at program) (nodes_of program) n ∙ ap (option_map (entry_at program)) is)
 
 missing : {X : Type 0} (xs : List X) (n : ℕ) → n < length xs → slice_get xs n ≡ None → ⊥
@@ -109,13 +109,13 @@ module _ (program inside : Program) (places : List NodeAt) (n : ℕ) (same : ins
   pub has_place : n < length places
   has_place = let all : length places ≡ length (nodes_of program) = ap length (are ∙ ap nodes_of same) in let count = as_many program in omega (arith, all, count, lt)
 
-  pub read : (place : NodeAt) → place ≡ slice_index_or places n place → slice_get (entries_of program) n ≡ entry_at inside place
-  read place is =
-      let here = slice_get_read places (length places) n place refl has_place is in
-      entry_there program n place (subst (λ l. slice_get l n ≡ Some place) (are ∙ ap nodes_of same) here) ∙ ap (λ p. entry_at p place) (sym same)
+  pub read : (location : NodeAt) → location ≡ slice_index_or places n location → slice_get (entries_of program) n ≡ entry_at inside location
+  read location is =
+      let here = slice_get_read places (length places) n location refl has_place is in
+      entry_there program n location (subst (λ l. slice_get l n ≡ Some location) (are ∙ ap nodes_of same) here) ∙ ap (λ p. entry_at p location) (sym same)
 
-  pub not_missing : (place : NodeAt) → place ≡ slice_index_or places n place → entry_at inside place ≡ None → ⊥
-  not_missing place is none = missing (entries_of program) n lt (read place is ∙ none)
+  pub not_missing : (location : NodeAt) → location ≡ slice_index_or places n location → entry_at inside location ≡ None → ⊥
+  not_missing location is none = missing (entries_of program) n lt (read location is ∙ none)
 
 -- WHAT HOLDS OF EACH
 

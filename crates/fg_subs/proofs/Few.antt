@@ -16,8 +16,8 @@ use Rattle.fg_subs.specs.Obeys.{IsSmall}
 use Rattle.fg_subs.specs.Limits.{over, memory_bytes, all_bytes, rects_over, count_broken, size_broken, limit_broken}
 use Rattle.fg_subs.specs.Entries.{entries_of}
 use Rattle.fg_subs.specs.Rules.{shapes_of}
-use Rattle.fg_subs.specs.declared.place.Place.{Place}
-use Rattle.fg_subs.specs.declared.place.Place.TheVariants as at
+use Rattle.fg_subs.specs.declared.location.Location.{Location}
+use Rattle.fg_subs.specs.declared.location.Location.TheVariants as at
 use Rattle.fg_subs.specs.declared.program.Memory.{Memory}
 use Rattle.fg_subs.specs.declared.program.Program.{Program}
 use Rattle.fg_subs.specs.declared.rule.Rule.{Rule}
@@ -29,31 +29,31 @@ bytes_sum (memory ∷ memories) = sum_by-cons memory_bytes memory memories ∙ a
 
 -- the limits one after another
 module _ (program : Program) (none : first_broken program ≡ None) where
-  abbrev queues : Option (Broken Rule Place)
+  abbrev queues : Option (Broken Rule Location)
   queues = if is_between 1 4 (length program.queues) then None else Some (over limits.Queues at.Queues)
 
-  abbrev memories : Option (Broken Rule Place)
+  abbrev memories : Option (Broken Rule Location)
   memories = if nat_le (length program.memories) 512 then None else Some (over limits.Memories at.Memories)
 
-  abbrev pieces : Option (Broken Rule Place)
+  abbrev pieces : Option (Broken Rule Location)
   pieces = if nat_le (length program.pieces) 512 then None else Some (over limits.Pieces at.Pieces)
 
-  abbrev nodes : Option (Broken Rule Place)
+  abbrev nodes : Option (Broken Rule Location)
   nodes = if nat_le (length (entries_of program)) max_nodes then None else Some (over limits.Nodes at.Whole)
 
-  abbrev rects : Option (Broken Rule Place)
+  abbrev rects : Option (Broken Rule Location)
   rects = option_map (over limits.Rects) (rects_over program.queues)
 
-  abbrev readbacks : Option (Broken Rule Place)
+  abbrev readbacks : Option (Broken Rule Location)
   readbacks = if nat_le (length program.readbacks) 32 then None else Some (over limits.Readbacks at.Readbacks)
 
-  abbrev sides : Option (Broken Rule Place)
+  abbrev sides : Option (Broken Rule Location)
   sides = option_map (λ i. over limits.Side (at.Piece i)) (position (λ piece. not (sides_allowed piece.shape)) program.pieces)
 
-  abbrev sizes : Option (Broken Rule Place)
+  abbrev sizes : Option (Broken Rule Location)
   sizes = option_map (λ i. over limits.Size (at.Piece i)) (position (λ piece. not (size_allowed piece.shape)) program.pieces)
 
-  abbrev bytes : Option (Broken Rule Place)
+  abbrev bytes : Option (Broken Rule Location)
   bytes = option_map (λ i. over limits.Total (at.Memory i)) (first_over memory_bytes max_memory_bytes 0 program.memories)
 
   no_limit : limit_broken program ≡ None

@@ -14,8 +14,8 @@ use Rattle.fg_subs.specs.Obeys.{BatchObeys, EntryObeys, Obeys}
 use Rattle.fg_subs.specs.Limits.{limit_broken}
 use Rattle.fg_subs.specs.Rules.{piece_obeys, wait_obeys, item_obeys, signal_obeys, readback_obeys, signal_place, batch_place, next_place, queue_place, broken_at, shapes_of}
 use Rattle.fg_subs.specs.Timelines.{highest}
-use Rattle.fg_subs.specs.declared.place.Place.{Place}
-use Rattle.fg_subs.specs.declared.place.Place.TheVariants as at
+use Rattle.fg_subs.specs.declared.location.Location.{Location}
+use Rattle.fg_subs.specs.declared.location.Location.TheVariants as at
 use Rattle.fg_subs.specs.declared.program.Batch.{Batch}
 use Rattle.fg_subs.specs.declared.program.Program.{Program}
 use Rattle.fg_subs.specs.declared.program.Queue.{Queue}
@@ -26,7 +26,7 @@ use Rattle.fg_subs.specs.declared.rule.Rule.TheVariants as rules
 -- EACH RULE BY ITSELF
 
 module _ (program : Program) (none : first_broken program ≡ None) where
-  abbrev by : Rule → Option (Broken Rule Place)
+  abbrev by : Rule → Option (Broken Rule Location)
   by rule = rule_broken rule program (shapes_of program)
 
   all_none : rules_broken program (shapes_of program) ≡ None

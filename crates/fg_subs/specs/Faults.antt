@@ -2,7 +2,7 @@
 use Rattle.std.specs.Prelude.{ℕ, List, [], Some, None}
 use Rattle.fg_base.specs.declared.limit.Limit.{Limit}
 use Rattle.fg_base.specs.declared.path.Leg.{Leg}
-use Rattle.fg_subs.specs.declared.fault.SubFault.{SubFault}
+use Rattle.fg_subs.specs.declared.fault.ProgramFault.{ProgramFault}
 use Rattle.fg_subs.specs.declared.rule.Rule.{Rule}
 use Rattle.fg_subs.specs.declared.rule.Rule.TheVariants as rules
 
@@ -19,13 +19,13 @@ number_of rules.Runs = 8
 number_of rules.Timeline = 9
 
 -- G1, at what goes over the limit
-abbrev pub over_limit : Limit → List Leg → SubFault
-over_limit limit place = record { number = number_of rules.Limits; limit = Some limit; place = place }
+abbrev pub over_limit : Limit → List Leg → ProgramFault
+over_limit limit location = record { number = number_of rules.Limits; limit = Some limit; location = location }
 
 -- G10, at the root of the file
-abbrev pub not_json : SubFault
-not_json = record { number = 10; limit = None; place = [] }
+abbrev pub not_json : ProgramFault
+not_json = record { number = 10; limit = None; location = [] }
 
 -- G11, at the member that does not have its form
-abbrev pub misshapen : List Leg → SubFault
-misshapen place = record { number = 11; limit = None; place = place }
+abbrev pub misshapen : List Leg → ProgramFault
+misshapen location = record { number = 11; limit = None; location = location }

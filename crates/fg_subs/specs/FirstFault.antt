@@ -5,27 +5,27 @@ use Rattle.fg_base.specs.Broken.{of_rule}
 use Rattle.fg_base.specs.declared.broken.Broken.{Broken}
 use Rattle.fg_base.specs.declared.shape.Shape.{Shape}
 use Rattle.fg_subs.specs.Limits.{limit_broken}
-use Rattle.fg_subs.specs.Paths.{told}
+use Rattle.fg_subs.specs.Paths.{fault_of}
 use Rattle.fg_subs.specs.Rules.{broken_at, shapes_of}
-use Rattle.fg_subs.specs.declared.fault.SubFault.{SubFault}
-use Rattle.fg_subs.specs.declared.place.Place.{Place}
+use Rattle.fg_subs.specs.declared.fault.ProgramFault.{ProgramFault}
+use Rattle.fg_subs.specs.declared.location.Location.{Location}
 use Rattle.fg_subs.specs.declared.program.Program.{Program}
 use Rattle.fg_subs.specs.declared.rule.Rule.{Rule}
 use Rattle.fg_subs.specs.declared.rule.Rule.TheVariants as rules
-use Rattle.fg_subs.specs.declared.shaped.ShapeEnd.{ShapeEnd}
-use Rattle.fg_subs.specs.declared.shaped.ShapeEnd.TheVariants.{Refused, NoMemory}
+use Rattle.fg_subs.specs.declared.valid.ProgramError.{ProgramError}
+use Rattle.fg_subs.specs.declared.valid.ProgramError.TheVariants.{Refused, NoMemory}
 
-abbrev pub rule_broken : Rule → Program → List Shape → Option (Broken Rule Place)
+abbrev pub rule_broken : Rule → Program → List Shape → Option (Broken Rule Location)
 rule_broken rule program shapes = option_map (of_rule rule) (broken_at rule program shapes)
 
-abbrev pub form_broken : Program → List Shape → Option (Broken Rule Place)
+abbrev pub form_broken : Program → List Shape → Option (Broken Rule Location)
 form_broken program shapes =
     option_or (rule_broken rules.Range program shapes)
     (option_or (rule_broken rules.Known program shapes)
     (option_or (rule_broken rules.Stages program shapes)
     (rule_broken rules.Ignored program shapes)))
 
-abbrev pub use_broken : Program → List Shape → Option (Broken Rule Place)
+abbrev pub use_broken : Program → List Shape → Option (Broken Rule Location)
 use_broken program shapes =
     option_or (rule_broken rules.Supported program shapes)
     (option_or (rule_broken rules.OnQueue program shapes)
@@ -33,16 +33,16 @@ use_broken program shapes =
     (rule_broken rules.Timeline program shapes)))
 
 -- one rule after another, each over the whole program
-abbrev pub rules_broken : Program → List Shape → Option (Broken Rule Place)
+abbrev pub rules_broken : Program → List Shape → Option (Broken Rule Location)
 rules_broken program shapes = option_or (form_broken program shapes) (use_broken program shapes)
 
-abbrev pub first_broken : Program → Option (Broken Rule Place)
+abbrev pub first_broken : Program → Option (Broken Rule Location)
 first_broken program = option_or (limit_broken program) (rules_broken program (shapes_of program))
 
-abbrev pub first_fault : Program → Option SubFault
-first_fault program = option_map told (first_broken program)
+abbrev pub first_fault : Program → Option ProgramFault
+first_fault program = option_map fault_of (first_broken program)
 
 -- why a program was not taken, and the program itself
-abbrev pub Ends : Program → ShapeEnd → Type 0
+abbrev pub Ends : Program → ProgramError → Type 0
 Ends program (Refused fault back) = (first_fault program ≡ Some fault) × (back ≡ program)
 Ends program (NoMemory back) = back ≡ program

@@ -1,5 +1,5 @@
 pub mod Barriers
-pub mod Code
+pub mod Internal
 pub mod Entries
 pub mod Faults
 pub mod FirstFault

@@ -1,19 +1,19 @@
--- The path of a place.
+-- The path of a location.
 use Rattle.std.specs.Prelude.{ℕ, List, [], ◌∷◌, ◌++◌, codes}
 use Rattle.fg_base.specs.Paths.{entry}
 use Rattle.fg_base.specs.declared.broken.Broken.{Broken}
 use Rattle.fg_base.specs.declared.path.Leg.{Leg}
 use Rattle.fg_base.specs.declared.path.Leg.TheVariants.{Member}
 use Rattle.fg_subs.specs.Faults.{number_of}
-use Rattle.fg_subs.specs.declared.fault.SubFault.{SubFault}
-use Rattle.fg_subs.specs.declared.place.Place.{Place}
-use Rattle.fg_subs.specs.declared.place.Place.TheVariants as at
+use Rattle.fg_subs.specs.declared.fault.ProgramFault.{ProgramFault}
+use Rattle.fg_subs.specs.declared.location.Location.{Location}
+use Rattle.fg_subs.specs.declared.location.Location.TheVariants as at
 use Rattle.fg_subs.specs.declared.rule.Rule.{Rule}
 
 abbrev pub in_batch : ℕ → ℕ → List Leg
 in_batch q b = entry (codes "queues") q ++ entry (codes "batches") b
 
-abbrev pub path_of : Place → List Leg
+abbrev pub path_of : Location → List Leg
 path_of at.Whole = []
 path_of at.Queues = Member (codes "queues") ∷ []
 path_of at.Memories = Member (codes "memories") ∷ []
@@ -26,6 +26,6 @@ path_of (at.Item q b k) = in_batch q b ++ entry (codes "items") k
 path_of (at.Signal q b) = in_batch q b ++ Member (codes "signal") ∷ []
 path_of (at.Readback k) = entry (codes "readbacks") k
 
--- as it is told: with the path of its place
-abbrev pub told : Broken Rule Place → SubFault
-told b = record { number = number_of b.rule; limit = b.limit; place = path_of b.place }
+-- as it is printed: with the path of its location
+abbrev pub fault_of : Broken Rule Location → ProgramFault
+fault_of b = record { number = number_of b.rule; limit = b.limit; location = path_of b.location }

@@ -1,4 +1,4 @@
--- The rules on each part of a program, and the first place where one is broken.
+-- The rules on each part of a program, and the first location where one is broken.
 use Rattle.std.specs.Prelude.{ℕ, List, length, take, map, nat_lt, nat_le, not, Bool, true, Option, Some, None, if◌then◌else◌}
 use Rattle.std.specs.List.{position}
 use Rattle.std.specs.Option.{option_or, option_map}
@@ -11,8 +11,8 @@ use Rattle.fg_subs.specs.Barriers.{masks_are, has_stages, both_have_stages, noth
 use Rattle.fg_subs.specs.Numbers.{has_piece, item_known}
 use Rattle.fg_subs.specs.Ranges.{piece_in_range, item_in_range, is_so}
 use Rattle.fg_subs.specs.Timelines.{highest}
-use Rattle.fg_subs.specs.declared.place.Place.{Place}
-use Rattle.fg_subs.specs.declared.place.Place.TheVariants as at
+use Rattle.fg_subs.specs.declared.location.Location.{Location}
+use Rattle.fg_subs.specs.declared.location.Location.TheVariants as at
 use Rattle.fg_subs.specs.declared.program.Batch.{Batch}
 use Rattle.fg_subs.specs.declared.program.Item.{Item}
 use Rattle.fg_subs.specs.declared.program.Item.TheVariants.{Command}
@@ -69,29 +69,29 @@ readback_obeys rule shapes piece = true
 
 -- THE FIRST PLACE
 
-abbrev pub signal_place : Rule → Family → ℕ → ℕ → ℕ → Option Signal → Option Place
+abbrev pub signal_place : Rule → Family → ℕ → ℕ → ℕ → Option Signal → Option Location
 signal_place rule family reached q b None = None
 signal_place rule family reached q b (Some signal) = if signal_obeys rule family reached signal then None else Some (at.Signal q b)
 
 -- in batch b of a queue: its waits, its items, its signal
-abbrev pub batch_place : Rule → ℕ → List Shape → Family → ℕ → ℕ → ℕ → Batch → Option Place
+abbrev pub batch_place : Rule → ℕ → List Shape → Family → ℕ → ℕ → ℕ → Batch → Option Location
 batch_place rule count shapes family reached q b batch =
     option_or (option_map (λ k. at.Wait q b k) (position (λ wait. not (wait_obeys rule count family wait)) batch.waits))
     (option_or (option_map (λ k. at.Item q b k) (position (λ item. not (item_obeys rule shapes family item)) batch.items))
     (signal_place rule family reached q b batch.signal))
 
 -- batch b, after the batches before it
-abbrev pub next_place : Rule → ℕ → List Shape → Family → ℕ → List Batch → ℕ → Batch → Option Place
+abbrev pub next_place : Rule → ℕ → List Shape → Family → ℕ → List Batch → ℕ → Batch → Option Location
 next_place rule count shapes family q batches b batch = batch_place rule count shapes family (highest (take b batches)) q b batch
 
-abbrev pub queue_place : Rule → ℕ → List Shape → ℕ → Queue → Option Place
+abbrev pub queue_place : Rule → ℕ → List Shape → ℕ → Queue → Option Location
 queue_place rule count shapes q queue = first_in (next_place rule count shapes queue.family q queue.batches) 0 queue.batches
 
 abbrev pub shapes_of : Program → List Shape
 shapes_of program = map (λ piece. piece.shape) program.pieces
 
 -- pieces, queues and readbacks, in this order
-abbrev pub broken_at : Rule → Program → List Shape → Option Place
+abbrev pub broken_at : Rule → Program → List Shape → Option Location
 broken_at rule program shapes =
     option_or (option_map (λ i. at.Piece i) (position (λ piece. not (piece_obeys rule program.memories piece)) program.pieces))
     (option_or (first_in (queue_place rule (length program.queues) shapes) 0 program.queues)

@@ -2,7 +2,7 @@
 
 ghost use Rattle.std.specs.Prelude.{◌≡◌};
 ghost use Rattle.std.specs.Option.{option_map};
-ghost use Rattle.fg_subs.specs.Code.Standing.{batch_entry, queued_entry, entry_at};
+ghost use Rattle.fg_subs.specs.Internal.Standing.{batch_entry, queued_entry, entry_at};
 ghost use Rattle.fg_subs.specs.Entries.{seen};
 
 use crate::nodes::NodeAt;
@@ -18,10 +18,10 @@ pub enum Entry<'a> {
     Host { piece: u32 },
 }
 
-fn batch_entry(place: NodeAt, batch: &Batch) -> Option<Entry<'_>>
-    ensures { option_map seen result ≡ batch_entry place batch.now }
+fn batch_entry(location: NodeAt, batch: &Batch) -> Option<Entry<'_>>
+    ensures { option_map seen result ≡ batch_entry location batch.now }
 {
-    match place {
+    match location {
         NodeAt::Wait { queue, at, .. } => match batch.waits.get(at as usize) {
             Some(wait) => Some(Entry::Wait { queue, wait }),
             None => None,
@@ -38,26 +38,26 @@ fn batch_entry(place: NodeAt, batch: &Batch) -> Option<Entry<'_>>
     }
 }
 
-fn queued_entry(program: &Program, place: NodeAt, queue: u32, batch: u32) -> Option<Entry<'_>>
-    ensures { option_map seen result ≡ queued_entry program.now place queue batch }
+fn queued_entry(program: &Program, location: NodeAt, queue: u32, batch: u32) -> Option<Entry<'_>>
+    ensures { option_map seen result ≡ queued_entry program.now location queue batch }
 {
     match program.queues.get(queue as usize) {
         Some(found) => match found.batches.get(batch as usize) {
-            Some(batch) => batch_entry(place, batch),
+            Some(batch) => batch_entry(location, batch),
             None => None,
         },
         None => None,
     }
 }
 
-/// What stands at the place, if anything does.
-pub(crate) fn entry_at(program: &Program, place: NodeAt) -> Option<Entry<'_>>
-    ensures { option_map seen result ≡ entry_at program.now place }
+/// What stands at the location, if anything does.
+pub(crate) fn entry_at(program: &Program, location: NodeAt) -> Option<Entry<'_>>
+    ensures { option_map seen result ≡ entry_at program.now location }
 {
-    match place {
-        NodeAt::Wait { queue, batch, .. } => queued_entry(program, place, queue, batch),
-        NodeAt::Item { queue, batch, .. } => queued_entry(program, place, queue, batch),
-        NodeAt::Signal { queue, batch } => queued_entry(program, place, queue, batch),
+    match location {
+        NodeAt::Wait { queue, batch, .. } => queued_entry(program, location, queue, batch),
+        NodeAt::Item { queue, batch, .. } => queued_entry(program, location, queue, batch),
+        NodeAt::Signal { queue, batch } => queued_entry(program, location, queue, batch),
         NodeAt::Host { readback } => match program.readbacks.get(readback as usize) {
             Some(piece) => Some(Entry::Host { piece: *piece }),
             None => None,

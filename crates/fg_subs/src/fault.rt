@@ -9,22 +9,22 @@ use std::alloc::Global;
 
 /// The first rule that a submission file breaks, and where. The number is the one that the fault line prints after `G`.
 #[derive(Debug, Drop)]
-pub struct SubFault {
+pub struct ProgramFault {
     pub number: u8,
     /// The quantity that is over its limit, at G1 alone.
     pub limit: Option<Limit>,
-    pub place: Path,
+    pub location: Path,
 }
 
-impl SubFault {
+impl ProgramFault {
     /// G1: a quantity is over its limit.
-    pub fn over_limit(limit: Limit, place: Path) -> Self
-        ensures { result ≡ over_limit limit place }
+    pub fn over_limit(limit: Limit, location: Path) -> Self
+        ensures { result ≡ over_limit limit location }
     {
-        SubFault {
+        ProgramFault {
             number: Rule::Limits.number(),
             limit: Some(limit),
-            place,
+            location,
         }
     }
 
@@ -32,21 +32,21 @@ impl SubFault {
     pub fn not_json(alloc: Global) -> Self
         ensures { result ≡ not_json }
     {
-        SubFault {
+        ProgramFault {
             number: 10,
             limit: None,
-            place: List::new(alloc),
+            location: List::new(alloc),
         }
     }
 
-    /// G11: the value at this place does not have the form of its member.
-    pub fn misshapen(place: Path) -> Self
-        ensures { result ≡ misshapen place }
+    /// G11: the value at this location does not have the form of its member.
+    pub fn misshapen(location: Path) -> Self
+        ensures { result ≡ misshapen location }
     {
-        SubFault {
+        ProgramFault {
             number: 11,
             limit: None,
-            place,
+            location,
         }
     }
 }

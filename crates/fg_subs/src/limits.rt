@@ -3,14 +3,14 @@
 ghost use Rattle.std.specs.Prelude.{◌≡◌, ◌+◌, ◌<◌, ◌≤◌, not, nat_le, IfSome, IfNone, length, take};
 ghost use Rattle.std.specs.List.{position};
 ghost use Rattle.fg_base.specs.Bounds.{sides_allowed, size_allowed};
-ghost use Rattle.fg_subs.specs.Code.Counts.{batch_count, batches_count, queues_count};
+ghost use Rattle.fg_subs.specs.Internal.Counts.{batch_count, batches_count, queues_count};
 ghost use Rattle.fg_subs.specs.Limits.{over, memory_bytes, rects_of, spend_item, spend_batch, spend_queue, rects_over, count_broken, size_broken, limit_broken};
 ghost use Rattle.fg_base.specs.Maxima.{max_memory_bytes, max_nodes};
 ghost use Rattle.fg_base.specs.Rooms.{first_over};
 ghost use Rattle.fg_base.specs.Operands.{rect_count};
 ghost use Rattle.fg_subs.specs.Entries.{entries_of};
 
-use crate::place::Place;
+use crate::location::Location;
 use crate::range::memory_bytes;
 use crate::rule::Rule;
 use crate::{Batch, Item, Memory, Piece, Program, Queue};
@@ -19,10 +19,10 @@ use fg_base::{
     MAX_READBACKS, MAX_RECTS, first_over, spend_in,
 };
 
-fn over(limit: Limit, place: Place) -> Broken<Rule, Place>
-    ensures { result ≡ over limit place }
+fn over(limit: Limit, location: Location) -> Broken<Rule, Location>
+    ensures { result ≡ over limit location }
 {
-    Broken::over_limit(Rule::Limits, limit, place)
+    Broken::over_limit(Rule::Limits, limit, location)
 }
 
 fn wrong_sides(pieces: &[Piece]) -> Option<usize>
@@ -46,18 +46,18 @@ fn rects_of(item: &Item) -> usize
     }
 }
 
-fn spend_item(q: usize, b: usize, room: usize, k: usize, item: &Item) -> Result<usize, Place>
+fn spend_item(q: usize, b: usize, room: usize, k: usize, item: &Item) -> Result<usize, Location>
     ensures { result ≡ spend_item q b room k item.now }
 {
     let count = rects_of(item);
     if room < count {
-        Err(Place::Item(q, b, k))
+        Err(Location::Item(q, b, k))
     } else {
         Ok(room - count)
     }
 }
 
-fn spend_batch(q: usize, room: usize, b: usize, batch: &Batch) -> Result<usize, Place>
+fn spend_batch(q: usize, room: usize, b: usize, batch: &Batch) -> Result<usize, Location>
     ensures { result ≡ spend_batch q room b batch.now }
 {
     spend_in(&batch.items, room, |left, k, item| {
@@ -65,7 +65,7 @@ fn spend_batch(q: usize, room: usize, b: usize, batch: &Batch) -> Result<usize, 
     })
 }
 
-fn spend_queue(room: usize, q: usize, queue: &Queue) -> Result<usize, Place>
+fn spend_queue(room: usize, q: usize, queue: &Queue) -> Result<usize, Location>
     ensures { result ≡ spend_queue room q queue.now }
 {
     spend_in(&queue.batches, room, |left, b, batch| {
@@ -73,7 +73,7 @@ fn spend_queue(room: usize, q: usize, queue: &Queue) -> Result<usize, Place>
     })
 }
 
-fn rects_over(queues: &[Queue]) -> Option<Place>
+fn rects_over(queues: &[Queue]) -> Option<Location>
     ensures { result ≡ rects_over queues.now }
 {
     match spend_in(
@@ -82,7 +82,7 @@ fn rects_over(queues: &[Queue]) -> Option<Place>
         |left, q, queue| spend_queue(left, q, queue),
     ) {
         Ok(_) => None,
-        Err(place) => Some(place),
+        Err(location) => Some(location),
     }
 }
 
@@ -159,48 +159,48 @@ fn nodes_fit(program: &Program) -> bool
 }
 
 // The limits on what stands in the lists.
-fn count_broken(program: &Program) -> Option<Broken<Rule, Place>>
+fn count_broken(program: &Program) -> Option<Broken<Rule, Location>>
     ensures { result ≡ count_broken program.now }
 {
     if program.queues.len() < 1 || program.queues.len() > MAX_QUEUES {
-        return Some(over(Limit::Queues, Place::Queues));
+        return Some(over(Limit::Queues, Location::Queues));
     }
     if program.memories.len() > MAX_MEMORIES {
-        return Some(over(Limit::Memories, Place::Memories));
+        return Some(over(Limit::Memories, Location::Memories));
     }
     if program.pieces.len() > MAX_PIECES {
-        return Some(over(Limit::Pieces, Place::Pieces));
+        return Some(over(Limit::Pieces, Location::Pieces));
     }
     if !nodes_fit(program) {
-        return Some(over(Limit::Nodes, Place::Whole));
+        return Some(over(Limit::Nodes, Location::Whole));
     }
-    if let Some(place) = rects_over(&program.queues) {
-        return Some(over(Limit::Rects, place));
+    if let Some(location) = rects_over(&program.queues) {
+        return Some(over(Limit::Rects, location));
     }
     if program.readbacks.len() > MAX_READBACKS {
-        return Some(over(Limit::Readbacks, Place::Readbacks));
+        return Some(over(Limit::Readbacks, Location::Readbacks));
     }
     None
 }
 
 // The limits on each piece and on the bytes of all memories.
-fn size_broken(program: &Program) -> Option<Broken<Rule, Place>>
+fn size_broken(program: &Program) -> Option<Broken<Rule, Location>>
     ensures { result ≡ size_broken program.now }
 {
     if let Some(i) = wrong_sides(&program.pieces) {
-        return Some(over(Limit::Side, Place::Piece(i)));
+        return Some(over(Limit::Side, Location::Piece(i)));
     }
     if let Some(i) = wrong_size(&program.pieces) {
-        return Some(over(Limit::Size, Place::Piece(i)));
+        return Some(over(Limit::Size, Location::Piece(i)));
     }
     match bytes_over(&program.memories) {
-        Some(i) => Some(over(Limit::Total, Place::Memory(i))),
+        Some(i) => Some(over(Limit::Total, Location::Memory(i))),
         None => None,
     }
 }
 
 /// The first limit that is broken.
-pub(crate) fn limit_broken(program: &Program) -> Option<Broken<Rule, Place>>
+pub(crate) fn limit_broken(program: &Program) -> Option<Broken<Rule, Location>>
     ensures { result ≡ limit_broken program.now }
 {
     if let Some(broken) = count_broken(program) {

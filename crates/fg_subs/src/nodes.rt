@@ -2,7 +2,7 @@
 
 ghost use Rattle.std.specs.Prelude.{◌≡◌, ◌++◌, map, IfOk, OnOk};
 ghost use Rattle.std.specs.List.{range_with_len};
-ghost use Rattle.fg_subs.specs.Code.Nodes.{signal_nodes, batch_nodes, queue_nodes, nodes_of};
+ghost use Rattle.fg_subs.specs.Internal.Nodes.{signal_nodes, batch_nodes, queue_nodes, nodes_of};
 ghost use Rattle.fg_subs.specs.Places.{all_in};
 ghost use Rattle.fg_subs.specs.declared.nodes.NodeAt.TheVariants as node;
 

@@ -1,10 +1,10 @@
-//! The path of a place.
+//! The path of a location.
 
 ghost use Rattle.std.specs.Prelude.{◌≡◌, IfOk};
-ghost use Rattle.fg_subs.specs.Paths.{in_batch, path_of, told};
+ghost use Rattle.fg_subs.specs.Paths.{in_batch, path_of, fault_of};
 
-use crate::SubFault;
-use crate::place::Place;
+use crate::ProgramFault;
+use crate::location::Location;
 use crate::rule::Rule;
 use fg_base::{Broken, List, NoMemory, Path};
 use std::alloc::Global;
@@ -17,32 +17,32 @@ fn in_batch(alloc: Global, q: usize, b: usize) -> Result<Path, NoMemory>
     root.entry(alloc, b"queues", q)?.entry(alloc, b"batches", b)
 }
 
-fn path_of(alloc: Global, place: Place) -> Result<Path, NoMemory>
-    ensures { IfOk result (λ path. path ≡ path_of place) }
+fn path_of(alloc: Global, location: Location) -> Result<Path, NoMemory>
+    ensures { IfOk result (λ path. path ≡ path_of location) }
 {
     let root: Path = List::new(alloc);
-    match place {
-        Place::Whole => Ok(root),
-        Place::Queues => root.member(alloc, b"queues"),
-        Place::Memories => root.member(alloc, b"memories"),
-        Place::Pieces => root.member(alloc, b"pieces"),
-        Place::Readbacks => root.member(alloc, b"readbacks"),
-        Place::Memory(i) => root.entry(alloc, b"memories", i),
-        Place::Piece(i) => root.entry(alloc, b"pieces", i),
-        Place::Wait(q, b, k) => in_batch(alloc, q, b)?.entry(alloc, b"waits", k),
-        Place::Item(q, b, k) => in_batch(alloc, q, b)?.entry(alloc, b"items", k),
-        Place::Signal(q, b) => in_batch(alloc, q, b)?.member(alloc, b"signal"),
-        Place::Readback(k) => root.entry(alloc, b"readbacks", k),
+    match location {
+        Location::Whole => Ok(root),
+        Location::Queues => root.member(alloc, b"queues"),
+        Location::Memories => root.member(alloc, b"memories"),
+        Location::Pieces => root.member(alloc, b"pieces"),
+        Location::Readbacks => root.member(alloc, b"readbacks"),
+        Location::Memory(i) => root.entry(alloc, b"memories", i),
+        Location::Piece(i) => root.entry(alloc, b"pieces", i),
+        Location::Wait(q, b, k) => in_batch(alloc, q, b)?.entry(alloc, b"waits", k),
+        Location::Item(q, b, k) => in_batch(alloc, q, b)?.entry(alloc, b"items", k),
+        Location::Signal(q, b) => in_batch(alloc, q, b)?.member(alloc, b"signal"),
+        Location::Readback(k) => root.entry(alloc, b"readbacks", k),
     }
 }
 
-/// The fault as it is told.
-pub(crate) fn told(alloc: Global, broken: Broken<Rule, Place>) -> Result<SubFault, NoMemory>
-    ensures { IfOk result (λ fault. fault ≡ told broken) }
+/// The fault as it is printed.
+pub(crate) fn fault_of(alloc: Global, broken: Broken<Rule, Location>) -> Result<ProgramFault, NoMemory>
+    ensures { IfOk result (λ fault. fault ≡ fault_of broken) }
 {
-    Ok(SubFault {
+    Ok(ProgramFault {
         number: broken.rule.number(),
         limit: broken.limit,
-        place: path_of(alloc, broken.place)?,
+        location: path_of(alloc, broken.location)?,
     })
 }

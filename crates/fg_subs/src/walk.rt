@@ -1,4 +1,4 @@
-//! The first place where a rule is broken.
+//! The first location where a rule is broken.
 
 ghost use Rattle.std.specs.Prelude.{◌≡◌, not};
 ghost use Rattle.std.specs.List.{position};
@@ -10,7 +10,7 @@ use crate::barriers::{
     has_stages, item_has_stages, item_on_queue, item_supported, nothing_ignored, on_queue,
 };
 use crate::numbers::{has_piece, item_known};
-use crate::place::Place;
+use crate::location::Location;
 use crate::range::{is_buffer, item_in_range, piece_in_range};
 use crate::rule::Rule;
 use crate::{Batch, Item, Memory, Piece, Program, Queue, Signal, WaitFor};
@@ -123,7 +123,7 @@ fn signal_place(
     q: usize,
     b: usize,
     signal: &Option<Signal>,
-) -> Option<Place>
+) -> Option<Location>
     ensures { result ≡ signal_place rule family reached q b signal.now }
 {
     match signal {
@@ -132,7 +132,7 @@ fn signal_place(
             if signal_obeys(rule, family, reached, signal) {
                 None
             } else {
-                Some(Place::Signal(q, b))
+                Some(Location::Signal(q, b))
             }
         }
     }
@@ -153,14 +153,14 @@ fn batch_place(
     q: usize,
     b: usize,
     batch: &Batch,
-) -> Option<Place>
+) -> Option<Location>
     ensures { result ≡ batch_place test.entry.rule test.entry.count test.entry.shapes.now family reached q b batch.now }
 {
     if let Some(k) = broken_wait(test.rule, test.count, family, &batch.waits) {
-        return Some(Place::Wait(q, b, k));
+        return Some(Location::Wait(q, b, k));
     }
     if let Some(k) = broken_item(test.rule, test.shapes, family, &batch.items) {
-        return Some(Place::Item(q, b, k));
+        return Some(Location::Item(q, b, k));
     }
     signal_place(test.rule, family, reached, q, b, &batch.signal)
 }
@@ -174,48 +174,48 @@ fn value_of(signal: &Option<Signal>) -> u64
     }
 }
 
-fn in_batches(test: Test, family: Family, q: usize, batches: &[Batch]) -> Option<Place>
+fn in_batches(test: Test, family: Family, q: usize, batches: &[Batch]) -> Option<Location>
     ensures { result ≡ first_in (next_place test.entry.rule test.entry.count test.entry.shapes.now family q batches.now) 0 batches.now }
 {
     let mut reached = 0;
     for (b, batch) in batches.iter().enumerate() {
-        if let Some(place) = batch_place(test, family, reached, q, b, batch) {
-            return Some(place);
+        if let Some(location) = batch_place(test, family, reached, q, b, batch) {
+            return Some(location);
         }
         reached = reached.max(value_of(&batch.signal));
     }
     None
 }
 
-fn queue_place(test: Test, q: usize, queue: &Queue) -> Option<Place>
+fn queue_place(test: Test, q: usize, queue: &Queue) -> Option<Location>
     ensures { result ≡ queue_place test.entry.rule test.entry.count test.entry.shapes.now q queue.now }
 {
     in_batches(test, queue.family, q, &queue.batches)
 }
 
-fn in_queues(test: Test, queues: &[Queue]) -> Option<Place>
+fn in_queues(test: Test, queues: &[Queue]) -> Option<Location>
     ensures { result ≡ first_in (queue_place test.entry.rule test.entry.count test.entry.shapes.now) 0 queues.now }
 {
     first_in(queues, |q, queue| queue_place(test, q, queue))
 }
 
-/// The first place where a program whose pieces have these shapes breaks the rule.
-pub(crate) fn broken_at(rule: Rule, program: &Program, shapes: &[Shape]) -> Option<Place>
+/// The first location where a program whose pieces have these shapes breaks the rule.
+pub(crate) fn broken_at(rule: Rule, program: &Program, shapes: &[Shape]) -> Option<Location>
     ensures { result ≡ broken_at rule program.now shapes.now }
 {
     if let Some(i) = broken_piece(rule, &program.memories, &program.pieces) {
-        return Some(Place::Piece(i));
+        return Some(Location::Piece(i));
     }
     let test = Test {
         rule,
         count: program.queues.len(),
         shapes,
     };
-    if let Some(place) = in_queues(test, &program.queues) {
-        return Some(place);
+    if let Some(location) = in_queues(test, &program.queues) {
+        return Some(location);
     }
     match broken_readback(rule, shapes, &program.readbacks) {
-        Some(k) => Some(Place::Readback(k)),
+        Some(k) => Some(Location::Readback(k)),
         None => None,
     }
 }

@@ -8,7 +8,7 @@ use Rattle.std.proofs.lemmas.Bool.{cases_lt}
 use Rattle.std.proofs.lemmas.List.{get_or_append_left, get_or_push}
 use Rattle.std.proofs.lemmas.List.Elements.{at_read}
 use Rattle.fg_base.specs.declared.event.Event.{Event}
-use Rattle.fg_taps.specs.Code.Serves.{ServesAt}
+use Rattle.fg_taps.specs.Internal.Serves.{ServesAt}
 use Rattle.fg_taps.specs.Served.{AreServed, IsRising, Splits, none, stays, ends, IsServed}
 
 -- the taps before this place of the lent ones were served, and the others stand behind those that stay

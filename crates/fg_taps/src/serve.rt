@@ -2,7 +2,7 @@
 
 ghost use Rattle.std.specs.Prelude.{◌≡◌, ◌<◌, ◌≤◌, ◌+◌, [], ◌∷◌, ◌++◌, take, drop, vec_len, vec_capacity};
 ghost use Rattle.std.specs.List.{HoldsAt};
-ghost use Rattle.fg_taps.specs.Code.Serves.{ServesAt};
+ghost use Rattle.fg_taps.specs.Internal.Serves.{ServesAt};
 ghost use Rattle.fg_taps.specs.Served.{AreServed, IsServed};
 
 use fg_base::{Event, Tap, Tell};

@@ -1,7 +1,7 @@
 use fg_control::Control;
 use fg_hb::Kind;
 use fg_sketch::{SketchError, sketched_program};
-use fg_subs::{Program, Shaped, shape};
+use fg_subs::{Program, ValidProgram, validate_program};
 use std::alloc::Global;
 use std::test::Fail;
 
@@ -40,8 +40,8 @@ const ROWS: [Row; 3] = [
     },
 ];
 
-fn shaped(alloc: Global, program: Program) -> Result<Shaped, SketchError> {
-    shape(alloc, program).map_err(|_| SketchError::Word)
+fn shaped(alloc: Global, program: Program) -> Result<ValidProgram, SketchError> {
+    validate_program(alloc, program).map_err(|_| SketchError::Word)
 }
 
 fn control(alloc: Global, line: &str) -> Result<Control, Fail> {

@@ -10,7 +10,7 @@ use fg_base::{List, NoMemory};
 use fg_device::{Device, Finished, Landed};
 use fg_hb::Kind;
 use fg_sketch::{SketchError, sketched_program};
-use fg_subs::{Memory, Program, Shaped, shape};
+use fg_subs::{Memory, Program, ValidProgram, validate_program};
 use std::alloc::Global;
 use std::sync::Arc;
 use std::test::Fail;
@@ -95,8 +95,8 @@ fn program(alloc: Global, line: &str) -> Result<Program, SketchError> {
     Ok(program)
 }
 
-fn shaped(alloc: Global, program: Program) -> Result<Arc<Shaped, Global>, SketchError> {
-    match shape(alloc, program) {
+fn shaped(alloc: Global, program: Program) -> Result<Arc<ValidProgram, Global>, SketchError> {
+    match validate_program(alloc, program) {
         Ok(shaped) => Ok(Arc::new(alloc, shaped).map_err(|_| NoMemory)?),
         Err(_) => Err(SketchError::Word),
     }
@@ -173,7 +173,7 @@ fn ends_within(memories: &[Memory], memory: u32, end: u64) -> bool
     }
 }
 
-fn may_move(program: &Shaped, agent: u32, memory: u32, start: u32, len: u32) -> bool
+fn may_move(program: &ValidProgram, agent: u32, memory: u32, start: u32, len: u32) -> bool
     ensures { result ≡ may_move program.now agent (range memory start len) }
 {
     let program = program.program();

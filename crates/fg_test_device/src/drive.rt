@@ -8,7 +8,7 @@ use fg_checker::{Checked, check};
 use fg_device::Device;
 use fg_drive::{drive, tended};
 use fg_sketch::{SketchError, sketched_program};
-use fg_subs::{Program, Shaped, shape};
+use fg_subs::{Program, ValidProgram, validate_program};
 use std::alloc::Global;
 use std::test::Fail;
 use std::thread::Threads;
@@ -118,8 +118,8 @@ const ROWS: [Row; 7] = [
     },
 ];
 
-fn shaped(alloc: Global, program: Program) -> Result<Shaped, SketchError> {
-    shape(alloc, program).map_err(|_| SketchError::Word)
+fn shaped(alloc: Global, program: Program) -> Result<ValidProgram, SketchError> {
+    validate_program(alloc, program).map_err(|_| SketchError::Word)
 }
 
 fn checked(alloc: Global) -> Result<Checked, SketchError> {

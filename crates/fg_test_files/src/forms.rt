@@ -13,7 +13,7 @@ struct Sample {
     sizes: Option<List<u32>>,
 }
 
-fn read_sample(alloc: Global, at: &Place<'_>, value: &Value) -> Result<Sample, ReadEnd> {
+fn read_sample(alloc: Global, at: &Location<'_>, value: &Value) -> Result<Sample, ReadError> {
     object(alloc, at, value)?;
     let name = required::<NameForm>(alloc, at, "name", value)?;
     let count = required::<RangeForm<1, 8>>(alloc, at, "count", value)?;
@@ -44,13 +44,13 @@ fn show_path(alloc: Global, path: Path) -> Result<String, Fail> {
 // What is read of the bytes, or where the first fault is.
 fn answer(alloc: Global, bytes: &[u8]) -> Result<String, Fail> {
     match read_json(alloc, bytes) {
-        Ok(value) => match read_sample(alloc, &Place::Top, &value) {
+        Ok(value) => match read_sample(alloc, &Location::Top, &value) {
             Ok(sample) => show_sample(alloc, sample),
-            Err(ReadEnd::Refused(path)) => show_path(alloc, path),
-            Err(ReadEnd::NoMemory) => Ok(String::from_str(alloc, "no memory")?),
+            Err(ReadError::Refused(path)) => show_path(alloc, path),
+            Err(ReadError::NoMemory) => Ok(String::from_str(alloc, "no memory")?),
         },
-        Err(JsonEnd::NotJson) => Ok(String::from_str(alloc, "no JSON")?),
-        Err(JsonEnd::NoMemory) => Ok(String::from_str(alloc, "no memory")?),
+        Err(JsonError::NotJson) => Ok(String::from_str(alloc, "no JSON")?),
+        Err(JsonError::NoMemory) => Ok(String::from_str(alloc, "no memory")?),
     }
 }
 

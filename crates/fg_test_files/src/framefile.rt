@@ -2,7 +2,7 @@
 
 use fg_base::{Leg, Path};
 use fg_frame::FrameFault;
-use fg_framefile::{FrameReadEnd, read_frame};
+use fg_framefile::{FrameReadError, read_frame};
 use std::alloc::{AllocError, Global};
 use std::process::Abort;
 use std::test::Fail;
@@ -19,13 +19,13 @@ fn judge(alloc: Global, piece: &str, other: &str) -> Result<String, AllocError> 
 fn judge_bytes(alloc: Global, bytes: &[u8]) -> Result<String, AllocError> {
     match read_frame(alloc, bytes) {
         Ok(_) => String::from_str(alloc, "frame"),
-        Err(FrameReadEnd::NoMemory) => String::from_str(alloc, "no memory"),
-        Err(FrameReadEnd::Refused(fault)) => told(alloc, &fault),
+        Err(FrameReadError::NoMemory) => String::from_str(alloc, "no memory"),
+        Err(FrameReadError::Refused(fault)) => told(alloc, &fault),
     }
 }
 
 fn told(alloc: Global, fault: &FrameFault) -> Result<String, AllocError> {
-    let path = written(alloc, &fault.place)?;
+    let path = written(alloc, &fault.location)?;
     format!(in alloc; "F{} {}", fault.number, path.as_str())
 }
 

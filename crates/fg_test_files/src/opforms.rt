@@ -1,7 +1,7 @@
 //! Operations over names, by texts written out by hand.
 
 use fg_base::{Leg, Path};
-use fg_forms::{NameForm, Place, ReadEnd, Reader, Typed, Writer};
+use fg_forms::{NameForm, Location, ReadError, Reader, Typed, Writer};
 use fg_opforms::OpForm;
 use serde_json::Value;
 use std::alloc::{AllocError, Global};
@@ -111,7 +111,7 @@ const REFUSED: [(&str, &str); 12] = [
 
 fn again(alloc: Global, text: &str) -> Result<String, Fail> {
     let json = Value::from_str(alloc, text)?;
-    let op = OpForm::<NameForm>::read(alloc, &Place::Top, &json)?;
+    let op = OpForm::<NameForm>::read(alloc, &Location::Top, &json)?;
     OpForm::<NameForm>::look(&op);
     let written = OpForm::<NameForm>::write(alloc, &op)?;
     Ok(written.to_string(alloc)?)
@@ -119,8 +119,8 @@ fn again(alloc: Global, text: &str) -> Result<String, Fail> {
 
 fn first_fault(alloc: Global, text: &str) -> Result<Path, Fail> {
     let json = Value::from_str(alloc, text)?;
-    match OpForm::<NameForm>::read(alloc, &Place::Top, &json) {
-        Err(ReadEnd::Refused(found)) => Ok(found),
+    match OpForm::<NameForm>::read(alloc, &Location::Top, &json) {
+        Err(ReadError::Refused(found)) => Ok(found),
         _ => Err(Fail::new("no fault")),
     }
 }

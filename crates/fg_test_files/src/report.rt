@@ -2,13 +2,13 @@
 
 use fg_base::{Event, Leg, Limit, List, Name, NoMemory, Text};
 use fg_checker::Hazard;
-use fg_frame::{FrameFault, GoodFrame, well_formed};
+use fg_frame::{FrameFault, ValidFrame, validate_frame};
 use fg_report::{
     FlightLine, check_text, cost_text, export_text, flight_text, frame_fault_text, hazard_text,
-    readback_text, sub_fault_text, trace_text,
+    readback_text, program_fault_text, trace_text,
 };
 use fg_sketch::{SketchError, sketched_frame};
-use fg_subs::SubFault;
+use fg_subs::ProgramFault;
 use std::alloc::Global;
 use std::process::Abort;
 use std::test::Fail;
@@ -48,8 +48,8 @@ fn named(rt: &impl Abort, text: &str) -> Name {
 }
 
 // A frame whose one export is a layer of an image.
-fn layered(alloc: Global) -> Result<GoodFrame, SketchError> {
-    match well_formed(
+fn layered(alloc: Global) -> Result<ValidFrame, SketchError> {
+    match validate_frame(
         alloc,
         sketched_frame(alloc, "x:im/1 |g w:+im/1 clear:im/1")?,
     ) {
@@ -79,7 +79,7 @@ fn checks(rt: HostRuntime) -> Result<(), Fail> {
     };
     is_printed(&rt, hazard_text(alloc, &hazard)?, b"hazard H9 4 0 1\n");
     is_printed(&rt, check_text(alloc, 20000)?, b"accepted 20000 nodes\n");
-    let fault = sub_fault_text(alloc, &SubFault::not_json(alloc))?;
+    let fault = program_fault_text(alloc, &ProgramFault::not_json(alloc))?;
     is_printed(&rt, fault, b"fault G10 $\n");
     Ok(())
 }

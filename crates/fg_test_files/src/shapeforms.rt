@@ -1,6 +1,6 @@
 use fg_base::{Family, List, Shape, Texel};
 use fg_bits::Sharing;
-use fg_forms::{Place, Reader, TextForm, Typed, Writer};
+use fg_forms::{Location, Reader, TextForm, Typed, Writer};
 use fg_shapeforms::{Body, FamilyWord, HexForm, SharingWord, TexelWord, read_body, read_sharing};
 use serde_json::Value;
 use std::alloc::Global;
@@ -44,8 +44,8 @@ const BODIES: [(&str, Body, Sharing, Body, Sharing); 2] = [
 
 fn found<const FORMAT: u32>(alloc: Global, text: &str) -> Result<(Body, Sharing), Fail> {
     let json = Value::from_str(alloc, text)?;
-    let body = read_body::<FORMAT>(alloc, &Place::Top, &json)?;
-    let sharing = read_sharing::<FORMAT>(alloc, &Place::Top, &json)?;
+    let body = read_body::<FORMAT>(alloc, &Location::Top, &json)?;
+    let sharing = read_sharing::<FORMAT>(alloc, &Location::Top, &json)?;
     Ok((body, sharing))
 }
 
@@ -68,7 +68,7 @@ fn bodies_in_both_formats(rt: HostRuntime) -> Result<(), Fail> {
 // The bytes of a text of hexadecimal digits, and the text that is written of them.
 fn bytes(alloc: Global, text: &str) -> Result<(List<u8>, String), Fail> {
     let json = Value::from_str(alloc, text)?;
-    let bytes = HexForm::read(alloc, &Place::Top, &json)?;
+    let bytes = HexForm::read(alloc, &Location::Top, &json)?;
     HexForm::look(&bytes);
     let text = HexForm::write(alloc, &bytes)?.to_string(alloc)?;
     Ok((bytes, text))

@@ -1,8 +1,8 @@
 //! What reading says of a file, as the tests compare it.
 
 use fg_base::{Leg, Path};
-use fg_subfile::{SubReadEnd, read_program};
-use fg_subs::{Program, ShapeEnd, SubFault, shape};
+use fg_subfile::{ProgramReadError, read_program};
+use fg_subs::{Program, ProgramError, ProgramFault, validate_program};
 use std::alloc::{AllocError, Global};
 use std::process::Abort;
 use std::test::Fail;
@@ -14,8 +14,8 @@ pub type Row = (&'static str, &'static str, &'static str);
 pub fn judge_bytes(alloc: Global, bytes: &[u8]) -> Result<String, AllocError> {
     match read_program(alloc, bytes) {
         Ok(_) => String::from_str(alloc, "program"),
-        Err(SubReadEnd::NoMemory) => String::from_str(alloc, "no memory"),
-        Err(SubReadEnd::Refused(fault)) => told(alloc, &fault),
+        Err(ProgramReadError::NoMemory) => String::from_str(alloc, "no memory"),
+        Err(ProgramReadError::Refused(fault)) => told(alloc, &fault),
     }
 }
 
@@ -28,21 +28,21 @@ pub fn judge(alloc: Global, file: &str, piece: &str, other: &str) -> Result<Stri
 pub fn judge_shape(alloc: Global, bytes: &[u8]) -> Result<String, AllocError> {
     match read_program(alloc, bytes) {
         Ok(program) => judge_program(alloc, program),
-        Err(SubReadEnd::NoMemory) => String::from_str(alloc, "no memory"),
-        Err(SubReadEnd::Refused(fault)) => told(alloc, &fault),
+        Err(ProgramReadError::NoMemory) => String::from_str(alloc, "no memory"),
+        Err(ProgramReadError::Refused(fault)) => told(alloc, &fault),
     }
 }
 
 fn judge_program(alloc: Global, program: Program) -> Result<String, AllocError> {
-    match shape(alloc, program) {
+    match validate_program(alloc, program) {
         Ok(_) => String::from_str(alloc, "shaped"),
-        Err(ShapeEnd::NoMemory(_)) => String::from_str(alloc, "no memory"),
-        Err(ShapeEnd::Refused(fault, _)) => told(alloc, &fault),
+        Err(ProgramError::NoMemory(_)) => String::from_str(alloc, "no memory"),
+        Err(ProgramError::Refused(fault, _)) => told(alloc, &fault),
     }
 }
 
-fn told(alloc: Global, fault: &SubFault) -> Result<String, AllocError> {
-    let path = written(alloc, &fault.place)?;
+fn told(alloc: Global, fault: &ProgramFault) -> Result<String, AllocError> {
+    let path = written(alloc, &fault.location)?;
     format!(in alloc; "G{} {}", fault.number, path.as_str())
 }
 

@@ -3,7 +3,7 @@ ghost use Rattle.std.specs.Prelude.{◌≡◌, length};
 use crate::sketched::good;
 use fg_auto::{Choice, choose};
 use fg_base::NoMemory;
-use fg_frame::GoodFrame;
+use fg_frame::ValidFrame;
 use fg_gen::generate;
 use fg_meaning::{Exports, exports_of};
 use std::alloc::Global;
@@ -56,7 +56,7 @@ fn are_costs(choice: &Choice, costs: (u64, u64)) -> bool {
 }
 
 // Whether the passes are on these queues.
-fn are_on(frame: &GoodFrame, queues: &[u32]) -> bool {
+fn are_on(frame: &ValidFrame, queues: &[u32]) -> bool {
     if frame.pass_count() as usize != queues.len() {
         return false;
     }
@@ -70,7 +70,7 @@ fn are_on(frame: &GoodFrame, queues: &[u32]) -> bool {
 
 fn is_chosen(
     alloc: Global,
-    frame: &GoodFrame,
+    frame: &ValidFrame,
     costs: (u64, u64),
     queues: &[u32],
 ) -> Result<bool, NoMemory> {
@@ -106,7 +106,7 @@ fn are_same(one: &Exports, other: &Exports, count: u32) -> bool
 // Whether a frame has the exports of another one.
 fn has_exports(
     alloc: Global,
-    frame: &GoodFrame,
+    frame: &ValidFrame,
     wanted: &Exports,
     count: u32,
 ) -> Result<bool, NoMemory>
@@ -119,13 +119,13 @@ fn has_exports(
     Ok(are_same(&exports, wanted, count))
 }
 
-fn have_same_exports(alloc: Global, one: &GoodFrame, other: &GoodFrame) -> Result<bool, NoMemory> {
+fn have_same_exports(alloc: Global, one: &ValidFrame, other: &ValidFrame) -> Result<bool, NoMemory> {
     let exports = exports_of(alloc, one)?;
     has_exports(alloc, other, &exports, one.unit_count())
 }
 
 // Whether the frame becomes cheaper, and its exports stay the same bytes.
-fn is_cheaper(alloc: Global, frame: &GoodFrame) -> Result<bool, NoMemory> {
+fn is_cheaper(alloc: Global, frame: &ValidFrame) -> Result<bool, NoMemory> {
     let choice = choose(alloc, frame)?;
     Ok(choice.found < choice.given && have_same_exports(alloc, frame, &choice.frame)?)
 }

@@ -1,6 +1,6 @@
 use crate::sketched::good;
 use fg_base::Leg;
-use fg_frame::{Frame, FrameEnd, FrameFault, GoodFrame, well_formed};
+use fg_frame::{Frame, FrameError, FrameFault, ValidFrame, validate_frame};
 use fg_sketch::sketched_frame;
 use std::alloc::{AllocError, Global};
 use std::process::Abort;
@@ -28,7 +28,7 @@ fn rule(alloc: Global, fault: &FrameFault) -> Result<String, AllocError> {
 // The fault as it is printed.
 fn shown(alloc: Global, fault: &FrameFault) -> Result<Vec<u8>, AllocError> {
     let mut text = Vec::from_slice(alloc, rule(alloc, fault)?.as_bytes())?;
-    for leg in fault.place.as_slice() {
+    for leg in fault.location.as_slice() {
         add_leg(alloc, &mut text, leg)?;
     }
     Ok(text)
@@ -36,10 +36,10 @@ fn shown(alloc: Global, fault: &FrameFault) -> Result<Vec<u8>, AllocError> {
 
 // The first fault of a frame; nothing for a good one.
 fn fault_of(alloc: Global, frame: Frame) -> Result<Vec<u8>, AllocError> {
-    match well_formed(alloc, frame) {
+    match validate_frame(alloc, frame) {
         Ok(_) => Ok(Vec::new(alloc)),
-        Err(FrameEnd::Refused(fault, _)) => shown(alloc, &fault),
-        Err(FrameEnd::NoMemory(_)) => Vec::from_slice(alloc, b"no memory"),
+        Err(FrameError::Refused(fault, _)) => shown(alloc, &fault),
+        Err(FrameError::NoMemory(_)) => Vec::from_slice(alloc, b"no memory"),
     }
 }
 
@@ -195,7 +195,7 @@ fn faults(rt: HostRuntime) -> Result<(), Fail> {
 }
 
 // What the counts and exports of a good frame are.
-fn numbered(rt: &impl Abort, good: &GoodFrame) {
+fn numbered(rt: &impl Abort, good: &ValidFrame) {
     assert!(rt; good.queue_count() == 2 && good.pass_count() == 2);
     assert!(rt; good.unit_count() == 6);
     assert!(rt; good.exports() == [4u32, 2, 3].as_slice());

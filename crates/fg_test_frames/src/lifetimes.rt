@@ -1,5 +1,5 @@
 use crate::sketched::{good, groups};
-use fg_frame::GoodFrame;
+use fg_frame::ValidFrame;
 use fg_lifetimes::ordered;
 use fg_place::Pairs;
 use fg_sketch::SketchError;
@@ -24,7 +24,7 @@ const ROWS: [(&str, &[(u32, u32)]); 3] = [
     ),
 ];
 
-fn pairs(alloc: Global, frame: &GoodFrame) -> Result<Pairs, SketchError> {
+fn pairs(alloc: Global, frame: &ValidFrame) -> Result<Pairs, SketchError> {
     Ok(ordered(alloc, &groups(alloc, frame)?)?)
 }
 

@@ -1,5 +1,5 @@
 use crate::sketched::good;
-use fg_frame::GoodFrame;
+use fg_frame::ValidFrame;
 use fg_meaning::{exports_of, meaning};
 use std::alloc::Global;
 use std::process::Abort;
@@ -20,7 +20,7 @@ const WANTED: [Option<&[u8]>; 6] = [
     Some(&[7, 0, 0, 0]),
 ];
 
-fn compare(rt: &impl Abort, alloc: Global, good: &GoodFrame) -> Result<(), Fail> {
+fn compare(rt: &impl Abort, alloc: Global, good: &ValidFrame) -> Result<(), Fail> {
     let pictures = meaning(alloc, good)?;
     assert!(rt; good.unit_count() == 6);
     for unit in 0..6 {
@@ -39,7 +39,7 @@ const HELD: [&[u8]; 6] = [
     &[7, 0, 0, 0],
 ];
 
-fn compare_exports(rt: &impl Abort, alloc: Global, good: &GoodFrame) -> Result<(), Fail> {
+fn compare_exports(rt: &impl Abort, alloc: Global, good: &ValidFrame) -> Result<(), Fail> {
     let exports = exports_of(alloc, good)?;
     assert!(rt; good.unit_count() == 6);
     for unit in 0..6 {

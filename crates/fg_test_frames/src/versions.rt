@@ -1,6 +1,6 @@
 use crate::sketched::good;
 use fg_base::NoMemory;
-use fg_frame::GoodFrame;
+use fg_frame::ValidFrame;
 use fg_versions::{cull, versions_of};
 use std::alloc::Global;
 use std::test::Fail;
@@ -22,7 +22,7 @@ const ROWS: [(&str, usize); 7] = [
     ("x:in |g w:in fill:in:4 |g r:in w:+one clear:one", 1),
 ];
 
-fn kept(alloc: Global, frame: &GoodFrame) -> Result<usize, NoMemory> {
+fn kept(alloc: Global, frame: &ValidFrame) -> Result<usize, NoMemory> {
     let versions = versions_of(alloc, frame)?;
     Ok(cull(alloc, frame, &versions)?.count())
 }

@@ -65,7 +65,7 @@ fn lists(rt: &impl Abort, alloc: Global) -> Result<(), NoMemory> {
 }
 
 // What each read of four bytes gives, and the first bytes that are there after it.
-fn reads(rt: &impl Abort, source: &mut impl Source, wants: &[(Taken, &str)]) {
+fn reads(rt: &impl Abort, source: &mut impl Source, wants: &[(ReadResult, &str)]) {
     for (want, front) in wants {
         let mut into = [0u8; 4];
         let taken = source.read(&mut into);
@@ -118,22 +118,22 @@ impl Write for FailsFirst {
     }
 }
 
-const IN_MEMORY: [(Taken, &str); 6] = [
-    (Taken::Got(2), "he"),
-    (Taken::Failed, ""),
-    (Taken::Got(2), "ll"),
-    (Taken::Got(1), "o"),
-    (Taken::End, ""),
-    (Taken::End, ""),
+const IN_MEMORY: [(ReadResult, &str); 6] = [
+    (ReadResult::Got(2), "he"),
+    (ReadResult::Failed, ""),
+    (ReadResult::Got(2), "ll"),
+    (ReadResult::Got(1), "o"),
+    (ReadResult::End, ""),
+    (ReadResult::End, ""),
 ];
 
-const STEADY: [(Taken, &str); 3] = [
-    (Taken::Got(4), "hell"),
-    (Taken::Got(1), "o"),
-    (Taken::End, ""),
+const STEADY: [(ReadResult, &str); 3] = [
+    (ReadResult::Got(4), "hell"),
+    (ReadResult::Got(1), "o"),
+    (ReadResult::End, ""),
 ];
 
-const FAILING: [(Taken, &str); 3] = [(Taken::Failed, ""), (Taken::Got(1), "r"), (Taken::End, "")];
+const FAILING: [(ReadResult, &str); 3] = [(ReadResult::Failed, ""), (ReadResult::Got(1), "r"), (ReadResult::End, "")];
 
 fn sources(rt: &impl Abort, alloc: Global) -> Result<(), NoMemory> {
     let mut source = MemorySource::new(bytes(alloc, b"hello")?, 2, calls(alloc, &[2])?);

@@ -1,6 +1,6 @@
 ghost use Rattle.std.specs.Prelude.{◌≡◌, ◌<◌, ◌≤◌, ◌+◌, ◌*◌, ◌==◌, if◌then◌else◌, [], ◌∷◌, length, IfOk, OnOk};
 ghost use Rattle.fg_caches.specs.Tables.{size_of, junk_of, InMemory, Keeps};
-ghost use Rattle.fg_caches.specs.Code.Kept.{Knows};
+ghost use Rattle.fg_caches.specs.Internal.Kept.{Knows};
 
 use crate::caches_plain::{Byte, Plain};
 use crate::caches_step::{Call, Step};

@@ -1,7 +1,7 @@
 use crate::sketched::shaped;
-use fg_checker::{CheckEnd, Hazard, check, sound};
+use fg_checker::{CheckError, Hazard, check, sound};
 use fg_sketch::SketchError;
-use fg_subs::Shaped;
+use fg_subs::ValidProgram;
 use std::alloc::Global;
 use std::test::Fail;
 
@@ -38,9 +38,9 @@ fn is_sound(alloc: Global, line: &str) -> Result<bool, SketchError> {
 }
 
 // The hazard of a program, or that of none.
-fn hazard(alloc: Global, program: Shaped) -> Option<Hazard> {
+fn hazard(alloc: Global, program: ValidProgram) -> Option<Hazard> {
     match check(alloc, program) {
-        Err(CheckEnd::Refused(hazard, _)) => Some(hazard),
+        Err(CheckError::Refused(hazard, _)) => Some(hazard),
         _ => None,
     }
 }
@@ -57,7 +57,7 @@ fn hazards(rt: HostRuntime) -> Result<(), Fail> {
 }
 
 // How many nodes the order of a program has.
-fn order_length(alloc: Global, program: Shaped) -> Option<usize> {
+fn order_length(alloc: Global, program: ValidProgram) -> Option<usize> {
     match check(alloc, program) {
         Ok(checked) => Some(checked.order().len()),
         Err(_) => None,

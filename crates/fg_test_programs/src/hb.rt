@@ -4,7 +4,7 @@ ghost use Rattle.fg_hb.specs.Nodes.{program_nodes};
 use crate::sketched::shaped;
 use fg_base::{List, NoMemory};
 use fg_hb::*;
-use fg_subs::Shaped;
+use fg_subs::ValidProgram;
 use std::alloc::Global;
 use std::test::Fail;
 
@@ -14,7 +14,7 @@ const CROSSED_WAITS: &str = "; graphics wait:1:1 signal:1 ; graphics wait:0:1 si
 const RING: &str =
     "; graphics signal:1 batch wait:3:1 signal:2 ; graphics wait:0:1 signal:1 ; graphics wait:1:1 signal:1 ; graphics wait:2:1 signal:1";
 
-fn stuck(alloc: Global, shaped: &Shaped) -> Result<(u32, u32), NoMemory> {
+fn stuck(alloc: Global, shaped: &ValidProgram) -> Result<(u32, u32), NoMemory> {
     let edges = direct(alloc, shaped)?;
     match drain_of(alloc, shaped, &edges)? {
         Drain::Stuck { queue, node } => Ok((queue, node)),
@@ -23,7 +23,7 @@ fn stuck(alloc: Global, shaped: &Shaped) -> Result<(u32, u32), NoMemory> {
 }
 
 // The order of all nodes, and what comes before what.
-fn settled(alloc: Global, shaped: &Shaped) -> Result<(List<u32>, Before), NoMemory>
+fn settled(alloc: Global, shaped: &ValidProgram) -> Result<(List<u32>, Before), NoMemory>
     ensures { IfOk result (λ found. length found.1.places ≡ length (program_nodes shaped.now)) }
 {
     let edges = direct(alloc, shaped)?;
@@ -37,7 +37,7 @@ fn settled(alloc: Global, shaped: &Shaped) -> Result<(List<u32>, Before), NoMemo
 }
 
 // Whether a node comes before another, where both are there.
-fn comes(shaped: &Shaped, before: &Before, x: u32, y: u32) -> bool
+fn comes(shaped: &ValidProgram, before: &Before, x: u32, y: u32) -> bool
     requires { length before.now.places ≡ length (program_nodes shaped.now) }
 {
     let count = shaped.node_count();

@@ -13,7 +13,7 @@ mod sketched;
 #[cfg(test)]
 mod steps;
 #[cfg(test)]
-mod subs;
+mod validating;
 #[cfg(test)]
 mod ties;
 #[cfg(test)]

@@ -1,13 +1,13 @@
 //! Programs for these tests, each sketched by a line of words.
 
 use fg_sketch::{SketchError, sketched_program};
-use fg_subs::{Shaped, shape};
+use fg_subs::{ValidProgram, validate_program};
 use std::alloc::Global;
 use std::test::Fail;
 
 /// The shaped program of a line. One that is refused is no sketch.
-pub fn shaped(alloc: Global, line: &str) -> Result<Shaped, SketchError> {
-    match shape(alloc, sketched_program(alloc, line)?) {
+pub fn shaped(alloc: Global, line: &str) -> Result<ValidProgram, SketchError> {
+    match validate_program(alloc, sketched_program(alloc, line)?) {
         Ok(shaped) => Ok(shaped),
         Err(_) => Err(SketchError::Word),
     }

@@ -1,7 +1,7 @@
 use crate::sketched::shaped;
 use fg_base::NoMemory;
 use fg_hb::{Drain, before_of, drain_of};
-use fg_subs::Shaped;
+use fg_subs::ValidProgram;
 use fg_ties::*;
 use fg_view::{node_accesses_of, view_of};
 use std::alloc::Global;
@@ -31,7 +31,7 @@ const BETWEEN: [(&str, Option<Flaw>); 5] = [
     ),
 ];
 
-fn untied(alloc: Global, shaped: &Shaped) -> Result<Option<Untied>, NoMemory> {
+fn sync_hazard(alloc: Global, shaped: &ValidProgram) -> Result<Option<SyncHazard>, NoMemory> {
     let view = view_of(alloc, shaped)?;
     match drain_of(alloc, shaped, view.edges())? {
         Drain::Stuck { .. } => Err(NoMemory),
@@ -43,10 +43,10 @@ fn untied(alloc: Global, shaped: &Shaped) -> Result<Option<Untied>, NoMemory> {
     }
 }
 
-// The copy and the fill that a flaw leaves untied.
-fn after_fill(flaw: Option<Flaw>) -> Option<Untied> {
+// The copy and the fill that a flaw leaves sync_hazard.
+fn after_fill(flaw: Option<Flaw>) -> Option<SyncHazard> {
     match flaw {
-        Some(flaw) => Some(Untied {
+        Some(flaw) => Some(SyncHazard {
             first: 0,
             second: 2,
             flaw,
@@ -59,7 +59,7 @@ fn after_fill(flaw: Option<Flaw>) -> Option<Untied> {
 fn first_flaws(rt: HostRuntime) -> Result<(), Fail> {
     let alloc = rt.alloc();
     for (line, flaw) in &BETWEEN {
-        let found = untied(alloc, &shaped(alloc, line)?)?;
+        let found = sync_hazard(alloc, &shaped(alloc, line)?)?;
         assert!(&rt; found == after_fill(*flaw), "{line}");
     }
     Ok(())

@@ -1,9 +1,9 @@
 use crate::sketched::shaped;
 use fg_base::{List, NoMemory};
 use fg_bits::Stages;
-use fg_checker::{CheckEnd, Checked, check};
+use fg_checker::{CheckError, Checked, check};
 use fg_sketch::SketchError;
-use fg_subs::{Entry, Shaped};
+use fg_subs::{Entry, ValidProgram};
 use fg_tight::tighten;
 use std::alloc::Global;
 use std::test::Fail;
@@ -25,11 +25,11 @@ const TIGHTENED: [Option<Stages>; 8] = [
     None,
 ];
 
-fn checked(alloc: Global, program: Shaped) -> Result<Checked, SketchError> {
+fn checked(alloc: Global, program: ValidProgram) -> Result<Checked, SketchError> {
     match check(alloc, program) {
         Ok(checked) => Ok(checked),
-        Err(CheckEnd::Refused(_, _)) => Err(SketchError::Word),
-        Err(CheckEnd::NoMemory) => Err(SketchError::NoMemory),
+        Err(CheckError::Refused(_, _)) => Err(SketchError::Word),
+        Err(CheckError::NoMemory) => Err(SketchError::NoMemory),
     }
 }
 

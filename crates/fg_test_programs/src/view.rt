@@ -1,7 +1,7 @@
 use crate::sketched::shaped;
 use fg_base::{List, NoMemory};
 use fg_hb::{Drain, drain_of};
-use fg_subs::Shaped;
+use fg_subs::ValidProgram;
 use fg_view::*;
 use std::alloc::Global;
 use std::test::Fail;
@@ -9,7 +9,7 @@ use std::test::Fail;
 // A fill and a signal; the host reads what was filled.
 const FILLED: &str = "plain:16 buffer:16:0:0 read:0 ; graphics fill:0:16 signal:1";
 
-fn accesses(alloc: Global, shaped: &Shaped) -> Result<List<NodeAccess>, NoMemory> {
+fn accesses(alloc: Global, shaped: &ValidProgram) -> Result<List<NodeAccess>, NoMemory> {
     let view = view_of(alloc, shaped)?;
     match drain_of(alloc, shaped, view.edges())? {
         Drain::Whole(order) => node_accesses_of(alloc, &view, &order),

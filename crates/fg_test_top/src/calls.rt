@@ -1,6 +1,6 @@
 //! The worked rows of the top call, over sources and sinks in memory.
 
-use fg_base::{IdleGate, List, MemorySink, NoMemory, Source, SteadySource, Taken};
+use fg_base::{IdleGate, List, MemorySink, NoMemory, Source, SteadySource, ReadResult};
 use fg_calls::{Status, answer_from, at_rest, gives, words_of};
 use std::alloc::Global;
 use std::sync::Wait;
@@ -285,18 +285,18 @@ fn is_refused<R: Threads + Wait + Sync>(
     word: &str,
     source: &mut SteadySource,
     text: &str,
-    rest: Taken,
+    rest: ReadResult,
 ) -> Result<bool, NoMemory> {
     let answer = answer_from(rt, alloc, word, source, &IdleGate)?;
     Ok(answer.is(Status::Refused, text) && source.read(&mut [0u8; 8]) == rest)
 }
 
 // A word, how many spaces it reads, the text, and what is left.
-const LENGTHS: [(&str, usize, &str, Taken); 4] = [
-    ("run", 16_777_216, "fault F1 $\n", Taken::End),
-    ("run", 16_777_217, "fault F4 Input $\n", Taken::End),
-    ("run", 16_777_220, "fault F4 Input $\n", Taken::Got(3)),
-    ("check", 33_554_433, "fault G1 Input $\n", Taken::End),
+const LENGTHS: [(&str, usize, &str, ReadResult); 4] = [
+    ("run", 16_777_216, "fault F1 $\n", ReadResult::End),
+    ("run", 16_777_217, "fault F4 Input $\n", ReadResult::End),
+    ("run", 16_777_220, "fault F4 Input $\n", ReadResult::Got(3)),
+    ("check", 33_554_433, "fault G1 Input $\n", ReadResult::End),
 ];
 
 #[test]

@@ -5,7 +5,7 @@ ghost use Rattle.std.specs.Prelude.{◌<◌};
 use crate::calls::{FILL, FILL_TEXT};
 use fg_base::{
     IdleGate, List, MemorySink, MemorySource, NoMemory, Put, Sink, Source, SteadySink,
-    SteadySource, Taken,
+    SteadySource, ReadResult,
 };
 use fg_calls::{Status, status_of};
 use std::alloc::Global;
@@ -83,7 +83,7 @@ fn end_asked_once(rt: HostRuntime) -> Result<(), Fail> {
     let alloc = rt.alloc();
     let mut source = one_fill(alloc, (100, 5))?;
     assert!(&rt; ends(&rt, alloc, &mut source, (10, 99), Status::Done, FILL_TEXT)?);
-    assert!(&rt; source.read(&mut [0u8]) == Taken::Failed);
+    assert!(&rt; source.read(&mut [0u8]) == ReadResult::Failed);
     Ok(())
 }
 
@@ -91,7 +91,7 @@ fn end_asked_once(rt: HostRuntime) -> Result<(), Fail> {
 fn goes_on(source: &mut MemorySource, at: usize) -> bool {
     let mut byte = [0u8];
     let taken = source.read(&mut byte);
-    taken == Taken::Got(1) && FILL.as_bytes().get(at) == Some(&byte[0])
+    taken == ReadResult::Got(1) && FILL.as_bytes().get(at) == Some(&byte[0])
 }
 
 // Whether the call ends where the read with this number fails, from 0, and does not try it again.

@@ -1,7 +1,7 @@
 use fg_checker::{Checked, check};
 use fg_device::Device;
 use fg_sketch::{SketchError, sketched_program};
-use fg_subs::{Program, Shaped, shape};
+use fg_subs::{Program, ValidProgram, validate_program};
 use std::alloc::Global;
 
 // Two fills on two queues, which wait for nothing.
@@ -18,8 +18,8 @@ pub const BEHIND: &str =
 
 const WORDS: [u8; 16] = [7, 0, 0, 0, 7, 0, 0, 0, 7, 0, 0, 0, 7, 0, 0, 0];
 
-fn shaped(alloc: Global, program: Program) -> Result<Shaped, SketchError> {
-    shape(alloc, program).map_err(|_| SketchError::Word)
+fn shaped(alloc: Global, program: Program) -> Result<ValidProgram, SketchError> {
+    validate_program(alloc, program).map_err(|_| SketchError::Word)
 }
 
 pub fn checked(alloc: Global, line: &str) -> Result<Checked, SketchError> {

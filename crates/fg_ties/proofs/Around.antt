@@ -1,7 +1,7 @@
 -- Each number below a count is met on the way around.
 use Rattle.std.proofs.Common.{◌≡◌, ◌⊎◌, inl, inr, ℕ, ◌+◌, ◌-◌, ◌<◌, ◌≤◌, arith}
 use Rattle.std.proofs.lemmas.Bool.{cases_lt}
-use Rattle.fg_ties.specs.Code.Around.{up_from, down_from}
+use Rattle.fg_ties.specs.Internal.Around.{up_from, down_from}
 
 pub up_all : (start count x : ℕ) → start < count → x < count → (k : ℕ) × (k < count) × (up_from start count k ≡ x)
 up_all start count x below less = go (cases_lt x start)

@@ -6,7 +6,7 @@ use Rattle.std.proofs.lemmas.List.{get_or_past}
 use Rattle.std.proofs.lemmas.Option.{slice_get-map}
 use Rattle.fg_base.proofs.Lists.{got_front}
 use Rattle.fg_hb.specs.Orders.{Among, Distinct, before_in, Earlier}
-use Rattle.fg_view.specs.ShapedView.{ShapedView, AccessAt, Has, NodeAccessAt}
+use Rattle.fg_view.specs.ValidView.{ValidView, AccessAt, Has, NodeAccessAt}
 use Rattle.fg_view.specs.Effects.{no_effect}
 use Rattle.fg_view.specs.Views.{View, accesses_of, node_access, node_accesses_of}
 use Rattle.fg_view.specs.declared.access.Access.{Access}
@@ -53,7 +53,7 @@ accesses_of_node : (V : View) (n : ℕ) (a : NodeAccess) → In a (map (node_acc
 accesses_of_node V n a (i, h) = let t = of_node n (accesses_of V n) i a h in (t.0, (i, subst (λ m. AccessAt V m i a.access) (sym t.0) t.1))
 
 -- what has accesses is a node
-pub has_within : (V : View) (n : ℕ) (a : Access) → ShapedView V → Has V n a → n < length V.nodes
+pub has_within : (V : View) (n : ℕ) (a : Access) → ValidView V → Has V n a → n < length V.nodes
 has_within V n a S (i, h) = ⊎_elim
     (λ lt. subst (λ m. n < m) S.effects lt)
     (λ past. none a (subst (λ u. slice_get u.accesses i ≡ Some a) (get_or_past V.effects n no_effect past) h))

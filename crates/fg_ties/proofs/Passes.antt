@@ -7,10 +7,10 @@ use Rattle.fg_view.specs.declared.access.Access.{Access}
 use Rattle.fg_view.specs.declared.access.AccessKind.{AccessKind}
 use Rattle.fg_view.specs.declared.access.AccessKind.TheVariants.{Load, Store, Transition, Discard, Release, Acquire}
 use Rattle.fg_view.specs.declared.node_access.NodeAccess.{NodeAccess}
-use Rattle.fg_ties.specs.Code.Around.{up_from, down_from}
+use Rattle.fg_ties.specs.Internal.Around.{up_from, down_from}
 use Rattle.fg_ties.specs.Passing.{Before, UpTo, Reaches, AvailableBy, VisibleBy, MadeAvailableBy, MadeVisibleBy, Available, Passed}
-use Rattle.fg_ties.specs.Code.Places.{Known}
-use Rattle.fg_ties.specs.Code.Passings.{VisibleFrom, AvailableAt, InvisibleFrom, NotPassedUntil}
+use Rattle.fg_ties.specs.Internal.Places.{Known}
+use Rattle.fg_ties.specs.Internal.Passings.{VisibleFrom, AvailableAt, InvisibleFrom, NotPassedUntil}
 use Rattle.fg_ties.proofs.Around.{up_all, down_all}
 
 pub up_to_on : (V : View) (x y z : ℕ) → UpTo V x y → UpTo V y z → UpTo V x z

@@ -1,10 +1,10 @@
--- What is tied with a change that clashes with both is tied.
+-- What is synchronized with a change that clashes with both is synchronized.
 use Rattle.std.proofs.Common.{◌≡◌, ◌≢◌, ◌⊎◌, inl, inr, ℕ, ◌+◌, ◌<◌, ◌==◌, ◌&&◌, ◌||◌, true, false, length, refl, sym, ◌∙◌, subst, eq-eqb, arith}
 use Rattle.std.proofs.lemmas.Bool.{cases_eq, and_from, false≢true, or_left, lt-ltb}
 use Rattle.fg_base.specs.Shapes.{bytes_of}
 use Rattle.fg_reach.specs.Paths.{then_on}
 use Rattle.fg_view.specs.AccessKinds.{changes, transfers}
-use Rattle.fg_view.specs.ShapedView.{ShapedView}
+use Rattle.fg_view.specs.ValidView.{ValidView}
 use Rattle.fg_view.specs.Views as views
 use Rattle.fg_view.specs.Views.{View, overlap, piece_at, is_before_end}
 use Rattle.fg_view.specs.declared.access.Access.{Access}
@@ -12,7 +12,7 @@ use Rattle.fg_view.specs.declared.access.AccessKind.{AccessKind}
 use Rattle.fg_view.specs.declared.access.AccessKind.TheVariants.{Load, Store, Transition, Discard, Release, Acquire}
 use Rattle.fg_view.specs.declared.node_access.NodeAccess.{NodeAccess}
 use Rattle.fg_ties.specs.Passing.{Before, Passed}
-use Rattle.fg_ties.specs.Tied.{Clashing, PairTied}
+use Rattle.fg_ties.specs.Synchronized.{Clashing, PairSynchronized}
 use Rattle.fg_ties.proofs.Passes.{up_to_on, available_after, visible_before}
 
 pub passed_through : (V : View) (n m k : ℕ) (a c b : Access) → Passed V n a m c → Passed V m c k b → Passed V n a k b
@@ -27,7 +27,7 @@ change_plain (Release handover) h = absurd (false≢true h)
 change_plain (Acquire handover) h = absurd (false≢true h)
 
 -- a piece that has bytes overlaps itself
-pub itself : (V : View) (p : ℕ) → ShapedView V → p < length V.pieces → overlap V p p ≡ true
+pub itself : (V : View) (p : ℕ) → ValidView V → p < length V.pieces → overlap V p p ≡ true
 itself V p S h =
     let P = piece_at V p in
     let e : is_before_end P P ≡ true = lt-ltb P.offset (P.offset + bytes_of P.shape) (omega (arith, S.some p h)) in
@@ -36,7 +36,7 @@ itself V p S h =
 pub clash_change : (V : View) (a b : Access) → overlap V a.piece b.piece ≡ true → (changes a.kind || changes b.kind) ≡ true → views.clash V a b ≡ true
 clash_change V a b over change = or_left (overlap V a.piece b.piece && (changes a.kind || changes b.kind)) ((a.piece == b.piece) && (transfers a.kind || transfers b.kind)) (and_from (overlap V a.piece b.piece) (changes a.kind || changes b.kind) over change)
 
-module _ (V : View) (a c b : NodeAccess) (change : changes c.access.kind ≡ true) (T : PairTied V a c) (U : PairTied V c b) (ac : views.clash V a.access c.access ≡ true) (cb : views.clash V c.access b.access ≡ true) where
+module _ (V : View) (a c b : NodeAccess) (change : changes c.access.kind ≡ true) (T : PairSynchronized V a c) (U : PairSynchronized V c b) (ac : views.clash V a.access c.access ≡ true) (cb : views.clash V c.access b.access ≡ true) where
   on_left : a.node ≢ c.node → Clashing V a.node a.access c.node c.access
   on_left h = record { apart = h; clash = ac }
 
@@ -50,7 +50,7 @@ module _ (V : View) (a c b : NodeAccess) (change : changes c.access.kind ≡ tru
   ordered apart (inr g) (inr h) = then_on (T (on_left g)).0 (U (on_right h)).0
 
   -- after a node's change comes nothing of that node but its half of a transfer
-  pub through : (a.node ≡ c.node → changes a.access.kind ≡ true → transfers c.access.kind ≡ true) → (c.node ≡ b.node → transfers b.access.kind ≡ true) → PairTied V a b
+  pub through : (a.node ≡ c.node → changes a.access.kind ≡ true → transfers c.access.kind ≡ true) → (c.node ≡ b.node → transfers b.access.kind ≡ true) → PairSynchronized V a b
   through first last C = (
     ordered C.apart (cases_eq a.node c.node) (cases_eq c.node b.node),
     λ ha hb.

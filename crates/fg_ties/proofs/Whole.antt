@@ -1,4 +1,4 @@
--- A program whose pairs are tied is tied, and one with a flaw is not.
+-- A program whose pairs are synchronized is synchronized, and one with a flaw is not.
 use Rattle.std.specs.Prelude.{◌↔◌}
 use Rattle.std.proofs.Common.{◌≡◌, ◌⊎◌, inl, inr, ℕ, ◌<◌, true, List, length, slice_get, Option, Some, None, Result, Ok, Err, IfOk, sym, ap, subst, ◌∙◌, ⊎_elim, arith}
 use Rattle.std.proofs.lemmas.Bool.{cases_eq, cases_lt}
@@ -11,17 +11,17 @@ use Rattle.fg_hb.specs.Nodes.{program_nodes}
 use Rattle.fg_hb.specs.Orders.{Order}
 use Rattle.fg_hb.specs.declared.node.Node.{Node}
 use Rattle.fg_reach.specs.Paths.{Path, then_on}
-use Rattle.fg_view.specs.ShapedView.{ShapedView, Has, NodeAccessAt}
+use Rattle.fg_view.specs.ValidView.{ValidView, Has, NodeAccessAt}
 use Rattle.fg_view.specs.Views.{View, view_of, node_access, node_accesses_of}
 use Rattle.fg_view.specs.declared.access.Access.{Access}
 use Rattle.fg_view.specs.declared.node_access.NodeAccess.{NodeAccess}
-use Rattle.fg_ties.specs.First.{DecidesTied, FindsFirst, IsFirst}
+use Rattle.fg_ties.specs.First.{DecidesSynchronized, FindsFirst, IsFirst}
 use Rattle.fg_subs.specs.declared.program.Program.{Program}
 use Rattle.fg_ties.specs.Rows.{Rows}
-use Rattle.fg_ties.specs.Tied.{Clashing, Tied, PairTied, Flawed, TiedBelow, FirstFlaw}
-use Rattle.fg_ties.specs.declared.tie.Flaw.{Flaw}
-use Rattle.fg_ties.specs.declared.tie.Flaw.TheVariants.{Unordered, NotAvailable, NotVisible}
-use Rattle.fg_ties.specs.declared.tie.Untied.{Untied}
+use Rattle.fg_ties.specs.Synchronized.{Clashing, Synchronized, PairSynchronized, Flawed, SynchronizedBelow, FirstFlaw}
+use Rattle.fg_ties.specs.declared.sync_hazard.Flaw.{Flaw}
+use Rattle.fg_ties.specs.declared.sync_hazard.Flaw.TheVariants.{Unordered, NotAvailable, NotVisible}
+use Rattle.fg_ties.specs.declared.sync_hazard.SyncHazard.{SyncHazard}
 use Rattle.fg_ties.proofs.Clashes.{clash_turned}
 use Rattle.fg_ties.proofs.Ordered.{has_within, listed_in, listed_of, not_earlier}
 use Rattle.fg_ties.proofs.Passes.{up_to_on, visible_before}
@@ -33,7 +33,7 @@ same_node : (V : View) (order : List ℕ) (x y i j : ℕ) (a b : Access) → i �
 same_node V order x y i j a b e p q = ap (λ o. option_map_or (λ t. t.node) o 0) (sym p ∙ ap (λ k. slice_get (node_accesses_of V order) k) e ∙ q)
 
 -- one of two accesses of different nodes is listed before the other
-pair_of : (V : View) (order : List ℕ) → ShapedView V → Order V.nodes order → TiedBelow V (node_accesses_of V order) (length (node_accesses_of V order)) → (x y : ℕ) (a b : Access) → Has V x a → Has V y b → Clashing V x a y b → PairTied V (node_access x a) (node_access y b) ⊎ PairTied V (node_access y b) (node_access x a)
+pair_of : (V : View) (order : List ℕ) → ValidView V → Order V.nodes order → SynchronizedBelow V (node_accesses_of V order) (length (node_accesses_of V order)) → (x y : ℕ) (a b : Access) → Has V x a → Has V y b → Clashing V x a y b → PairSynchronized V (node_access x a) (node_access y b) ⊎ PairSynchronized V (node_access y b) (node_access x a)
 pair_of V order S O T x y a b hx hy C =
     let i = listed_in V order x a (O.all x (has_within V x a S hx)) hx in
     let j = listed_in V order y b (O.all y (has_within V y b S hy)) hy in
@@ -45,15 +45,15 @@ pair_of V order S O T x y a b hx hy C =
     (cases_lt i.0 j.0))
     (cases_eq i.0 j.0)
 
-pub tied_all : (V : View) (order : List ℕ) → IsIrreflexive V.nodes → ShapedView V → Order V.nodes order → TiedBelow V (node_accesses_of V order) (length (node_accesses_of V order)) → Tied V
-tied_all V order never S O T = record {
+pub synchronized_all : (V : View) (order : List ℕ) → IsIrreflexive V.nodes → ValidView V → Order V.nodes order → SynchronizedBelow V (node_accesses_of V order) (length (node_accesses_of V order)) → Synchronized V
+synchronized_all V order never S O T = record {
   ordered = λ x y a b hx hy C. ⊎_elim (λ t. inl (t C).0) (λ t. inr (t (turned V x y a b C)).0) (pair_of V order S O T x y a b hx hy C);
   passed = λ x y a b hx hy C p ha hb. ⊎_elim (λ t. (t C).1 ha hb) (λ t. absurd (never order O x (then_on p (t (turned V x y a b C)).0))) (pair_of V order S O T x y a b hx hy C);
 }
 
 module _ (V : View) (order : List ℕ) (forward : GoesForward V.nodes) (O : Order V.nodes order) where
   -- a flaw of any two listed accesses
-  flaw_against : (flaw : Flaw) (i j : ℕ) (a b : NodeAccess) → NodeAccessAt (node_accesses_of V order) i a → NodeAccessAt (node_accesses_of V order) j b → i < j → Clashing V a.node a.access b.node b.access → Flawed flaw V a b → Tied V → ⊥
+  flaw_against : (flaw : Flaw) (i j : ℕ) (a b : NodeAccess) → NodeAccessAt (node_accesses_of V order) i a → NodeAccessAt (node_accesses_of V order) j b → i < j → Clashing V a.node a.access b.node b.access → Flawed flaw V a b → Synchronized V → ⊥
   flaw_against Unordered i j a b ha hb lt C f T = ⊎_elim
       (λ p. f p)
       (λ p. not_earlier V order O.once i j a b ha hb lt (forward order O b.node a.node p))
@@ -63,15 +63,15 @@ module _ (V : View) (order : List ℕ) (forward : GoesForward V.nodes) (O : Orde
       f.3 (t.0, t.2, up_to_on V t.0 t.1 b.node t.3 (visible_before V b.node b.access t.1 t.4))
   flaw_against NotVisible i j a b ha hb lt C f T = f.4 (T.passed a.node b.node a.access b.access (listed_of V order i a ha).1 (listed_of V order j b hb).1 C f.0 f.1 f.2)
 
-  pub flaw_breaks : (i j : ℕ) (a b : NodeAccess) (flaw : Flaw) → FirstFlaw V (node_accesses_of V order) i j a b flaw → Tied V → ⊥
+  pub flaw_breaks : (i j : ℕ) (a b : NodeAccess) (flaw : Flaw) → FirstFlaw V (node_accesses_of V order) i j a b flaw → Synchronized V → ⊥
   flaw_breaks i j a b flaw F T = flaw_against flaw i j a b F.first F.second F.rising F.clashing F.flawed T
 
--- what is found decides whether all is tied
-decides : (V : View) (accesses : List NodeAccess) (found : Option Untied) → ((nodes : List Node) → GoesForward nodes) → ((nodes : List Node) → IsIrreflexive nodes) → ShapedView V → FindsFirst V accesses found → DecidesTied V accesses found
-decides V accesses None forward never S T order O is = tied_all V order (never V.nodes) S O (subst (λ l. TiedBelow V l (length l)) is T)
-decides V accesses (Some untied) forward never S F order O is = let first = subst (λ l. IsFirst V l untied.flaw untied.first untied.second) is F in flaw_breaks V order (forward V.nodes) O first.i first.j first.a first.b untied.flaw first.flawed
+-- what is found decides whether all is synchronized
+decides : (V : View) (accesses : List NodeAccess) (found : Option SyncHazard) → ((nodes : List Node) → GoesForward nodes) → ((nodes : List Node) → IsIrreflexive nodes) → ValidView V → FindsFirst V accesses found → DecidesSynchronized V accesses found
+decides V accesses None forward never S T order O is = synchronized_all V order (never V.nodes) S O (subst (λ l. SynchronizedBelow V l (length l)) is T)
+decides V accesses (Some sync_hazard) forward never S F order O is = let first = subst (λ l. IsFirst V l sync_hazard.flaw sync_hazard.first sync_hazard.second) is F in flaw_breaks V order (forward V.nodes) O first.i first.j first.a first.b sync_hazard.flaw first.flawed
 
-pub all_decided : {E : Type 0} (V : View) (accesses : List NodeAccess) (result : Result (Option Untied) E) → ((nodes : List Node) → GoesForward nodes) → ((nodes : List Node) → IsIrreflexive nodes) → ShapedView V → IfOk result (FindsFirst V accesses) → IfOk result (DecidesTied V accesses)
+pub all_decided : {E : Type 0} (V : View) (accesses : List NodeAccess) (result : Result (Option SyncHazard) E) → ((nodes : List Node) → GoesForward nodes) → ((nodes : List Node) → IsIrreflexive nodes) → ValidView V → IfOk result (FindsFirst V accesses) → IfOk result (DecidesSynchronized V accesses)
 all_decided V accesses (Ok found) forward never S F = decides V accesses found forward never S F
 all_decided V accesses (Err n) forward never S F = tt
 

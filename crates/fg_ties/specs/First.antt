@@ -1,11 +1,11 @@
--- The first two accesses that are not tied, told by their nodes.
+-- The first two accesses that are not synchronized, told by their nodes.
 use Rattle.std.specs.Prelude.{◌≡◌, ℕ, List, length, Option, MatchOption}
 use Rattle.fg_hb.specs.Orders.{Order}
 use Rattle.fg_view.specs.Views.{View, node_accesses_of}
 use Rattle.fg_view.specs.declared.node_access.NodeAccess.{NodeAccess}
-use Rattle.fg_ties.specs.Tied.{Tied, TiedBelow, FirstFlaw}
-use Rattle.fg_ties.specs.declared.tie.Flaw.{Flaw}
-use Rattle.fg_ties.specs.declared.tie.Untied.{Untied}
+use Rattle.fg_ties.specs.Synchronized.{Synchronized, SynchronizedBelow, FirstFlaw}
+use Rattle.fg_ties.specs.declared.sync_hazard.Flaw.{Flaw}
+use Rattle.fg_ties.specs.declared.sync_hazard.SyncHazard.{SyncHazard}
 
 -- of nodes n and m
 pub record IsFirst (V : View) (accesses : List NodeAccess) (flaw : Flaw) (n m : ℕ) : Type 0 where
@@ -17,10 +17,10 @@ pub record IsFirst (V : View) (accesses : List NodeAccess) (flaw : Flaw) (n m : 
   pub second : b.node ≡ m
   pub flawed : FirstFlaw V accesses i j a b flaw
 
--- none where each pair is tied, or else the first that is not
-abbrev pub FindsFirst : View → List NodeAccess → Option Untied → Type 0
-FindsFirst V accesses found = MatchOption found (TiedBelow V accesses (length accesses)) (λ untied. IsFirst V accesses untied.flaw untied.first untied.second)
+-- none where each pair is synchronized, or else the first that is not
+abbrev pub FindsFirst : View → List NodeAccess → Option SyncHazard → Type 0
+FindsFirst V accesses found = MatchOption found (SynchronizedBelow V accesses (length accesses)) (λ sync_hazard. IsFirst V accesses sync_hazard.flaw sync_hazard.first sync_hazard.second)
 
--- of all accesses, in an order of all nodes, none is found exactly where the program's accesses are tied
-abbrev pub DecidesTied : View → List NodeAccess → Option Untied → Type 0
-DecidesTied V accesses found = (order : List ℕ) → Order V.nodes order → accesses ≡ node_accesses_of V order → MatchOption found (Tied V) (λ untied. Tied V → ⊥)
+-- of all accesses, in an order of all nodes, none is found exactly where the program's accesses are synchronized
+abbrev pub DecidesSynchronized : View → List NodeAccess → Option SyncHazard → Type 0
+DecidesSynchronized V accesses found = (order : List ℕ) → Order V.nodes order → accesses ≡ node_accesses_of V order → MatchOption found (Synchronized V) (λ sync_hazard. Synchronized V → ⊥)

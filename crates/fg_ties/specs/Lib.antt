@@ -1,5 +1,5 @@
-pub mod Code
+pub mod Internal
 pub mod First
 pub mod Passing
 pub mod Rows
-pub mod Tied
+pub mod Synchronized

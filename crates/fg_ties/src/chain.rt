@@ -2,8 +2,8 @@
 
 ghost use Rattle.std.specs.Prelude.{◌≡◌, ◌<◌, ◌+◌, List, length, get_or, IfOk, OnOk};
 ghost use Rattle.fg_view.specs.declared.node_access.NodeAccess.{NodeAccess};
-ghost use Rattle.fg_ties.specs.Code.Chains.{Links, BothLinks};
-ghost use Rattle.fg_ties.specs.Code.Places.{node_access_at, clashes_with_loads};
+ghost use Rattle.fg_ties.specs.Internal.Chains.{Links, BothLinks};
+ghost use Rattle.fg_ties.specs.Internal.Places.{node_access_at, clashes_with_loads};
 
 use crate::listing::Listing;
 use fg_base::NoMemory;

@@ -5,7 +5,7 @@ mod chain;
 mod first;
 mod listing;
 mod pair;
-mod tie;
+mod sync_hazard;
 
 pub use first::first_flaw;
-pub use tie::{Flaw, Untied};
+pub use sync_hazard::{Flaw, SyncHazard};

@@ -1,9 +1,9 @@
 //! Accesses in an order, and what is known of their nodes.
 
 ghost use Rattle.std.specs.Prelude.{◌≡◌, ◌↔◌, ◌<◌, length, true};
-ghost use Rattle.fg_view.specs.ShapedView.{ShapedView, Listed};
-ghost use Rattle.fg_ties.specs.Code.Listings.{IsListing};
-ghost use Rattle.fg_ties.specs.Code.Places.{node_access_at, Known};
+ghost use Rattle.fg_view.specs.ValidView.{ValidView, Listed};
+ghost use Rattle.fg_ties.specs.Internal.Listings.{IsListing};
+ghost use Rattle.fg_ties.specs.Internal.Places.{node_access_at, Known};
 ghost use Rattle.fg_ties.specs.Passing.{Before as IsBefore};
 ghost use Rattle.fg_ties.specs.Rows.{Rows};
 
@@ -20,8 +20,8 @@ pub(crate) struct Listing<'a> {
 }
 
 impl<'a> Model for Listing<'a> {
-    ghost use Rattle.fg_ties.specs.Code.Listings.{InView};
-    ghost use Rattle.fg_ties.specs.Code.Inside.{in_view, IsKnown};
+    ghost use Rattle.fg_ties.specs.Internal.Listings.{InView};
+    ghost use Rattle.fg_ties.specs.Internal.Inside.{in_view, IsKnown};
 
     ghost Value = { InView };
 
@@ -32,7 +32,7 @@ impl<'a> Model for Listing<'a> {
 
 impl<'a> Listing<'a> {
     pub(crate) fn new(view: &'a View, before: &'a Before, accesses: &'a [NodeAccess]) -> Listing<'a>
-        requires shaped { ShapedView view.now }
+        requires shaped { ValidView view.now }
         requires rows { Rows view.now before.now }
         requires listed { Listed view.now accesses.now }
         ensures { result ≡ record { view = view.now; accesses = accesses.now } }

@@ -1,13 +1,13 @@
-//! Whether an earlier access and a later one are tied.
+//! Whether an earlier access and a later one are synchronized.
 
 ghost use Rattle.std.specs.Prelude.{◌≡◌, ◌↔◌, ◌<◌, ◌≤◌, ◌==◌, ◌||◌, length, true, false, IfSome, MatchOption};
 ghost use Rattle.fg_base.specs.Maxima.{max_nodes};
 ghost use Rattle.fg_view.specs.AccessKinds.{changes, transfers};
-ghost use Rattle.fg_ties.specs.Code.Around.{up_from, down_from};
-ghost use Rattle.fg_ties.specs.Code.Passings.{AvailableAt, VisibleFrom, InvisibleFrom, NotPassed};
-ghost use Rattle.fg_ties.specs.Code.Places.{Known, HasFlaw};
+ghost use Rattle.fg_ties.specs.Internal.Around.{up_from, down_from};
+ghost use Rattle.fg_ties.specs.Internal.Passings.{AvailableAt, VisibleFrom, InvisibleFrom, NotPassed};
+ghost use Rattle.fg_ties.specs.Internal.Places.{Known, HasFlaw};
 ghost use Rattle.fg_ties.specs.Passing.{MadeAvailableBy, MadeVisibleBy, UpTo, Reaches, Passed};
-ghost use Rattle.fg_ties.specs.Tied.{PairTied};
+ghost use Rattle.fg_ties.specs.Synchronized.{PairSynchronized};
 
 use crate::Flaw;
 use crate::listing::Listing;
@@ -167,11 +167,11 @@ impl<'a> Listing<'a> {
         }
     }
 
-    /// Why the earlier access and the later one are not tied, if they are not.
+    /// Why the earlier access and the later one are not synchronized, if they are not.
     pub(crate) fn flaw_between(&self, a: NodeAccess, b: NodeAccess) -> Option<Flaw>
         requires a { Known self.now.view a }
         requires b { Known self.now.view b }
-        ensures { MatchOption result (PairTied self.now.view a b) (λ flaw. HasFlaw flaw self.now.view a b) }
+        ensures { MatchOption result (PairSynchronized self.now.view a b) (λ flaw. HasFlaw flaw self.now.view a b) }
     {
         if a.node == b.node || !self.view.clash(a.access, b.access) {
             return None;

@@ -8,7 +8,7 @@ use Rattle.fg_subs.specs.declared.program.Batch.{Batch}
 use Rattle.fg_subs.specs.declared.program.Program.{Program}
 use Rattle.fg_subs.specs.declared.program.Queue.{Queue}
 use Rattle.fg_subs.specs.declared.program.WaitFor.{WaitFor}
-use Rattle.fg_tight.specs.Code.Rounds.{HasWait, Tried}
+use Rattle.fg_tight.specs.Internal.Rounds.{HasWait, Tried}
 use Rattle.fg_tight.specs.declared.trial.Trial.{Trial}
 use Rattle.fg_tight.specs.Edits.{program_with}
 use Rattle.fg_tight.specs.Tight.{Passes}
@@ -26,11 +26,11 @@ pub tried_as : (program judged now : Program) (passes changed : Bool) (q b k : �
     → (passes ≡ true → (changed ≡ true) × (now ≡ judged)) → (passes ≡ false → (changed ≡ false) × (now ≡ program_with q b old judged))
     → Tried program (program_with q b waits program) now changed
 tried_as program judged now true changed q b k waits old has is_old same passes kept back = record {
-  taken = λ e. ((kept refl).1 ∙ same, passes.0 refl);
+  proved_sound = λ e. ((kept refl).1 ∙ same, passes.0 refl);
   refused = λ e. absurd (clash (sym e ∙ (kept refl).0));
 }
 tried_as program judged now false changed q b k waits old has is_old same passes kept back = record {
-  taken = λ e. absurd (clash (sym (back refl).0 ∙ e));
+  proved_sound = λ e. absurd (clash (sym (back refl).0 ∙ e));
   refused = λ e. ((back refl).1 ∙ (ap (program_with q b old) same ∙ undone program q b has.queue has.batch waits old has.at.batch_at (is_old has.queue has.batch has.at.batch_at)), (λ p. clash (passes.1 p)));
 }
 

@@ -8,7 +8,7 @@ use Rattle.fg_subs.specs.declared.program.Batch.{Batch}
 use Rattle.fg_subs.specs.declared.program.Program.{Program}
 use Rattle.fg_subs.specs.declared.program.Queue.{Queue}
 use Rattle.fg_subs.specs.declared.program.WaitFor.{WaitFor}
-use Rattle.fg_tight.specs.Code.Rounds.{Tried, Came, WaitTried, StageTried, FitTried, StandsAt, HasWait}
+use Rattle.fg_tight.specs.Internal.Rounds.{Tried, Came, WaitTried, StageTried, FitTried, StandsAt, HasWait}
 use Rattle.fg_tight.specs.Edits.{program_with, without_at}
 use Rattle.fg_tight.specs.Own.{single_stages, own_stages, fitted, without_stage}
 use Rattle.fg_tight.specs.Tight.{WaitAt}

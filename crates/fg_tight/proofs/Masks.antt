@@ -12,7 +12,7 @@ use Rattle.fg_bits.specs.Sets.{has, union_over}
 use Rattle.fg_bits.specs.Stages.{expand, color_attachment_output, compute_shader, all_transfer, host, all_commands, copy, clear}
 use Rattle.fg_base.proofs.Booleans.{both}
 use Rattle.fg_tight.specs.Own.{single_stages, own_stages}
-use Rattle.fg_tight.specs.Code.Weights.{stage_count, mask_weight}
+use Rattle.fg_tight.specs.Internal.Weights.{stage_count, mask_weight}
 
 -- SETS INSIDE OTHERS
 

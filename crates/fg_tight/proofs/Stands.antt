@@ -95,7 +95,7 @@ stands_with given program q b queue batch waits at keeps s = record {
   readbacks = s.readbacks;
 }
 
--- what is taken stands as the program that it is taken from
+-- what is proved_sound stands as the program that it is proved_sound from
 pub stands_taken : {X E : Type 0} (program_of : X → Program) (given tight : Program) (r : Result X E) → StandsTo given tight → IfOk r (λ x. program_of x ≡ tight) → IfOk r (λ x. StandsTo given (program_of x))
 stands_taken program_of given tight (Ok x) s is = subst (StandsTo given) (sym is) s
 stands_taken program_of given tight (Err e) s is = tt

@@ -7,8 +7,8 @@ use Rattle.fg_subs.specs.declared.program.Batch.{Batch}
 use Rattle.fg_subs.specs.declared.program.Program.{Program}
 use Rattle.fg_subs.specs.declared.program.Queue.{Queue}
 use Rattle.fg_subs.specs.declared.program.WaitFor.{WaitFor}
-use Rattle.fg_tight.specs.Code.Rounds.{Tried, Came}
-use Rattle.fg_tight.specs.Code.Weights.{mask_weight, wait_weight, weight}
+use Rattle.fg_tight.specs.Internal.Rounds.{Tried, Came}
+use Rattle.fg_tight.specs.Internal.Weights.{mask_weight, wait_weight, weight}
 use Rattle.fg_tight.specs.Edits.{program_with, without_at}
 use Rattle.fg_tight.specs.Own.{single_stages, own_stages, fitted, with_stages, without_stage}
 use Rattle.fg_tight.specs.Standing.{StandsTo}
@@ -24,12 +24,12 @@ came_same program = record { passes = λ p. p; same = λ e. refl; lighter = λ e
 -- a lighter candidate that stands wherever the program does
 pub came_of : (program candidate now : Program) (changed : Bool) → weight candidate < weight program → ((given : Program) → StandsTo given program → StandsTo given candidate) → Tried program candidate now changed → Came program now changed
 came_of program candidate now true less stands tried =
-    let taken = tried.taken refl in
+    let proved_sound = tried.proved_sound refl in
     record {
-      passes = λ p. subst Passes (sym taken.0) taken.1;
+      passes = λ p. subst Passes (sym proved_sound.0) proved_sound.1;
       same = λ e. absurd (clash (sym e));
-      lighter = λ e. subst (λ n. weight n < weight program) (sym taken.0) less;
-      stands = λ given s. subst (StandsTo given) (sym taken.0) (stands given s);
+      lighter = λ e. subst (λ n. weight n < weight program) (sym proved_sound.0) less;
+      stands = λ given s. subst (StandsTo given) (sym proved_sound.0) (stands given s);
     }
 came_of program candidate now false less stands tried =
     let same = (tried.refused refl).0 in

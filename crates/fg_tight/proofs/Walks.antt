@@ -7,8 +7,8 @@ use Rattle.fg_subs.specs.Obeys.{BatchAt}
 use Rattle.fg_subs.specs.declared.program.Batch.{Batch}
 use Rattle.fg_subs.specs.declared.program.Program.{Program}
 use Rattle.fg_subs.specs.declared.program.Queue.{Queue}
-use Rattle.fg_tight.specs.Code.Rounds.{Came, Walked, WaitTried, StageNumberTried, FitTried, WaitDone, BatchDone, QueueDone}
-use Rattle.fg_tight.specs.Code.Weights.{weight}
+use Rattle.fg_tight.specs.Internal.Rounds.{Came, Walked, WaitTried, StageNumberTried, FitTried, WaitDone, BatchDone, QueueDone}
+use Rattle.fg_tight.specs.Internal.Weights.{weight}
 use Rattle.fg_tight.specs.Own.{single_stages}
 use Rattle.fg_tight.specs.Tight.{Passes, Tight}
 use Rattle.fg_tight.proofs.Trials.{came_same}

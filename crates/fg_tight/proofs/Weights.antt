@@ -5,7 +5,7 @@ use Rattle.fg_subs.specs.declared.program.Batch.{Batch}
 use Rattle.fg_subs.specs.declared.program.Program.{Program}
 use Rattle.fg_subs.specs.declared.program.Queue.{Queue}
 use Rattle.fg_subs.specs.declared.program.WaitFor.{WaitFor}
-use Rattle.fg_tight.specs.Code.Weights.{total, wait_weight, batch_weight, queue_weight, weight}
+use Rattle.fg_tight.specs.Internal.Weights.{total, wait_weight, batch_weight, queue_weight, weight}
 use Rattle.fg_tight.specs.Edits.{changed_at, batch_with, queue_with, program_with, without_at}
 
 less_first : (a b c : ℕ) → a < b → a + c < b + c

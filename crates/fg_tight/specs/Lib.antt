@@ -1,4 +1,4 @@
-pub mod Code
+pub mod Internal
 pub mod Edits
 pub mod Own
 pub mod Standing

@@ -1,7 +1,7 @@
 //! What is left out of one wait.
 
 ghost use Rattle.std.specs.Prelude.{◌≡◌, ℕ, ◌<◌, ◌≤◌, ◌+◌, false, IfOk, Some, slice_get};
-ghost use Rattle.fg_tight.specs.Code.Rounds.{Came, FitTried, StageNumberTried, StageTried, StandsAt, WaitDone, WaitTried, Walked};
+ghost use Rattle.fg_tight.specs.Internal.Rounds.{Came, FitTried, StageNumberTried, StageTried, StandsAt, WaitDone, WaitTried, Walked};
 ghost use Rattle.fg_tight.specs.Own.{single_stages};
 
 use crate::own::{SINGLE_STAGES, fitted, single_stage, without_stage};
@@ -111,28 +111,28 @@ fn fewer_stages(alloc: Global, program: Program, place: Place) -> Result<Trial, 
 
 /// What a program came to, and the number of the wait that comes next.
 #[derive(Drop)]
-pub struct Turned {
+pub struct Attempt {
     pub trial: Trial,
     pub next: usize,
 }
 
 /// Leaves out a wait, or else what stages of it can be left out.
-pub fn turn(alloc: Global, program: Program, place: Place) -> Result<Turned, NoMemory>
+pub fn attempt_wait(alloc: Global, program: Program, place: Place) -> Result<Attempt, NoMemory>
     requires { place.at < usize.MAX }
-    ensures came { IfOk result (λ turned. Came program turned.trial.program turned.trial.changed) }
-    ensures done { IfOk result (λ turned. turned.trial.changed ≡ false → WaitDone place.queue place.batch program place.at) }
-    ensures next { IfOk result (λ turned. turned.next ≤ place.at + 1) }
-    ensures last { IfOk result (λ turned. turned.trial.changed ≡ false → turned.next ≡ place.at + 1) }
+    ensures came { IfOk result (λ attempt. Came program attempt.trial.program attempt.trial.changed) }
+    ensures done { IfOk result (λ attempt. attempt.trial.changed ≡ false → WaitDone place.queue place.batch program place.at) }
+    ensures next { IfOk result (λ attempt. attempt.next ≤ place.at + 1) }
+    ensures last { IfOk result (λ attempt. attempt.trial.changed ≡ false → attempt.next ≡ place.at + 1) }
 {
     let left = leave_wait(alloc, program, place)?;
     if left.changed {
-        return Ok(Turned {
+        return Ok(Attempt {
             trial: left,
             next: place.at,
         });
     }
     let trial = fewer_stages(alloc, left.program, place)?;
-    Ok(Turned {
+    Ok(Attempt {
         trial,
         next: place.at + 1,
     })

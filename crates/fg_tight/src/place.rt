@@ -2,7 +2,7 @@
 
 ghost use Rattle.std.specs.Prelude.{◌≡◌, ◌==◌, IfOk, MatchOption, length, slice_get, Some};
 ghost use Rattle.fg_bits.specs.Sets.{has};
-ghost use Rattle.fg_tight.specs.Code.Rounds.{HasWait, StandsAt};
+ghost use Rattle.fg_tight.specs.Internal.Rounds.{HasWait, StandsAt};
 ghost use Rattle.fg_tight.specs.Own.{own_stages};
 ghost use Rattle.fg_subs.specs.Obeys.{BatchAt};
 ghost use Rattle.fg_subs.specs.declared.program.Batch.{Batch};

@@ -1,12 +1,12 @@
 //! Rounds over all waits of a program.
 
 ghost use Rattle.std.specs.Prelude.{◌≡◌, ℕ, false, IfOk};
-ghost use Rattle.fg_tight.specs.Code.Rounds.{BatchDone, Came, QueueDone};
+ghost use Rattle.fg_tight.specs.Internal.Rounds.{BatchDone, Came, QueueDone};
 ghost use Rattle.fg_tight.specs.Tight.{Passes, Tight};
 ghost use Rattle.fg_tight.specs.Standing.{StandsTo};
 ghost use Rattle.fg_subs.specs.declared.program.Program as programs;
 
-use crate::leaving::turn;
+use crate::leaving::attempt_wait;
 use crate::place::{Place, batch_count, wait_count};
 use crate::trial::Trial;
 use fg_base::NoMemory;
@@ -29,9 +29,9 @@ fn batch_round(
     for step in 0..count {
         let Trial { program, changed } = now;
         let place = Place { queue, batch, at };
-        let turned = turn(alloc, program, place)?;
-        at = turned.next;
-        now = turned.trial.after(changed);
+        let attempt = attempt_wait(alloc, program, place)?;
+        at = attempt.next;
+        now = attempt.trial.after(changed);
     }
     Ok(now)
 }

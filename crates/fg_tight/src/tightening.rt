@@ -6,7 +6,7 @@ ghost use Rattle.fg_tight.specs.Tight.{Passes, Tight};
 
 use crate::rounds::settled;
 use fg_base::NoMemory;
-use fg_checker::{Checked, taken};
+use fg_checker::{Checked, proved_sound};
 use fg_subs::Program;
 use std::alloc::Global;
 
@@ -27,5 +27,5 @@ pub fn tighten(alloc: Global, program: Checked) -> Result<Checked, NoMemory>
 {
     let copy = copied(alloc, &program)?;
     let tight = settled(alloc, copy)?;
-    taken(alloc, tight)
+    proved_sound(alloc, tight)
 }

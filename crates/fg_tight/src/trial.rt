@@ -2,7 +2,7 @@
 
 ghost use Rattle.std.specs.Prelude.{◌≡◌, ◌↔◌, ◌||◌, true, false, IfOk, slice_set, None};
 ghost use Rattle.fg_subs.specs.FirstFault.{first_fault};
-ghost use Rattle.fg_tight.specs.Code.Rounds.{HasWait, Tried};
+ghost use Rattle.fg_tight.specs.Internal.Rounds.{HasWait, Tried};
 ghost use Rattle.fg_tight.specs.Edits.{program_with, without_at};
 ghost use Rattle.fg_tight.specs.Tight.{Passes};
 ghost use Rattle.fg_subs.specs.Obeys.{BatchAt};
@@ -13,7 +13,7 @@ use crate::edit::{program_with, without_wait};
 use crate::place::{Place, waits_at};
 use fg_base::{List, NoMemory};
 use fg_checker::sound;
-use fg_subs::{Program, ShapeEnd, Shaped, WaitFor, shape};
+use fg_subs::{Program, ProgramError, ValidProgram, WaitFor, validate_program};
 use std::alloc::Global;
 
 // A program, and whether it passes: it breaks no rule, and is sound.
@@ -53,7 +53,7 @@ impl Trial {
     }
 }
 
-fn judge_shaped(alloc: Global, shaped: Shaped) -> Result<Judged, NoMemory>
+fn judge_shaped(alloc: Global, shaped: ValidProgram) -> Result<Judged, NoMemory>
     requires { first_fault shaped ≡ None }
     ensures { IfOk result (λ judged. (judged.program ≡ shaped) × ((judged.passes ≡ true) ↔ Passes shaped)) }
 {
@@ -68,13 +68,13 @@ fn judge_shaped(alloc: Global, shaped: Shaped) -> Result<Judged, NoMemory>
 fn judge(alloc: Global, program: Program) -> Result<Judged, NoMemory>
     ensures { IfOk result (λ judged. (judged.program ≡ program) × ((judged.passes ≡ true) ↔ Passes program)) }
 {
-    match shape(alloc, program) {
+    match validate_program(alloc, program) {
         Ok(shaped) => judge_shaped(alloc, shaped),
-        Err(ShapeEnd::Refused(_, program)) => Ok(Judged {
+        Err(ProgramError::Refused(_, program)) => Ok(Judged {
             program,
             passes: false,
         }),
-        Err(ShapeEnd::NoMemory(_)) => Err(NoMemory),
+        Err(ProgramError::NoMemory(_)) => Err(NoMemory),
     }
 }
 

@@ -6,11 +6,11 @@ use Rattle.std.proofs.Math.ListN.{length-set}
 use Rattle.std.proofs.lemmas.Bool.{cases_Bool, cases_eq, and_parts, ne_eqb}
 use Rattle.std.proofs.lemmas.List.{get_or-set_same, get_or-set_other}
 use Rattle.std.proofs.lemmas.Option.{slice_get-get_or}
-use Rattle.fg_subs.specs.declared.program.Item as subs
+use Rattle.fg_subs.specs.declared.program.Item as programs
 use Rattle.fg_timeline.proofs.Below.{count_few}
 use Rattle.fg_timeline.proofs.Latest.{has_there, item_queue}
 use Rattle.fg_timeline.specs.Below.{count_below}
-use Rattle.fg_timeline.specs.Code.Counts.{HasLasts, HasCounts}
+use Rattle.fg_timeline.specs.Internal.Counts.{HasLasts, HasCounts}
 use Rattle.fg_timeline.specs.Signals.{is_awaited, is_last, has_signal, value_at}
 use Rattle.fg_timeline.specs.Steps.{queue_of, queue_at, is_item, has_item, IsScript}
 use Rattle.fg_timeline.specs.Waits.{last_item}
@@ -31,7 +31,7 @@ queue_known script count i K lt = go (slice_get script i) refl
 
 -- LAST ITEMS
 
-pub last_item_here : (script : List Step) (count i q : ℕ) (item : subs.Item) (old new : List ℕ) → HasLasts script count i old → slice_get script i ≡ Some (Item q item) → new ≡ set old q (i + 1) → HasLasts script count (i + 1) new
+pub last_item_here : (script : List Step) (count i q : ℕ) (item : programs.Item) (old new : List ℕ) → HasLasts script count i old → slice_get script i ≡ Some (Item q item) → new ≡ set old q (i + 1) → HasLasts script count (i + 1) new
 last_item_here script count i q item old new L e is = rw add-one (record { size = ap length is ∙ length-set old q (i + 1) ∙ L.size; is = λ r lt. at r lt (cases_eq r q) })
   where
     step : (r : ℕ) → last_item script r (suc i) ≡ (if q == r then suc i else last_item script r i)
@@ -56,7 +56,7 @@ last_need_here script count i q j old L e = rw add-one (record { size = L.size; 
 
 -- SIGNALS
 
-pub signalled_item : (script : List Step) (count i q : ℕ) (item : subs.Item) (lasts : List ℕ) (awaited : Bool) → IsScript script count → HasLasts script count (length script) lasts → slice_get script i ≡ Some (Item q item) → awaited ≡ is_awaited script count i → (awaited || (get_or lasts q 0 == i + 1)) ≡ has_signal script count (queue_at script i) i
+pub signalled_item : (script : List Step) (count i q : ℕ) (item : programs.Item) (lasts : List ℕ) (awaited : Bool) → IsScript script count → HasLasts script count (length script) lasts → slice_get script i ≡ Some (Item q item) → awaited ≡ is_awaited script count i → (awaited || (get_or lasts q 0 == i + 1)) ≡ has_signal script count (queue_at script i) i
 signalled_item script count i q item lasts awaited K L e a =
     let h = has_there script q i item e in
     let same = item_queue script q i h in

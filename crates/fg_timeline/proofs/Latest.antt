@@ -5,7 +5,7 @@ use Rattle.std.specs.Prelude.{slice_get}
 use Rattle.std.proofs.Math.Nat.{le-max_left, le-max_right, max-eq_left, max-eq_right}
 use Rattle.std.proofs.lemmas.Bool.{cases_Bool, cases_eq, and_from, and_parts, false≢true, lt-ltb}
 use Rattle.std.proofs.lemmas.Option.{slice_get_within}
-use Rattle.fg_subs.specs.declared.program.Item as subs
+use Rattle.fg_subs.specs.declared.program.Item as programs
 use Rattle.fg_timeline.specs.Steps.{queue_of, queue_at, is_item, has_item, IsScript}
 use Rattle.fg_timeline.specs.Waits.{wanted, latest, last_item, waits}
 use Rattle.fg_timeline.specs.declared.step.Step.{Step}
@@ -14,15 +14,15 @@ use Rattle.fg_timeline.proofs.Below.{side}
 
 -- STEPS
 
-pub item_there : (script : List Step) (q i : ℕ) → has_item script q i ≡ true → (item : subs.Item) × (slice_get script i ≡ Some (Item q item))
+pub item_there : (script : List Step) (q i : ℕ) → has_item script q i ≡ true → (item : programs.Item) × (slice_get script i ≡ Some (Item q item))
 item_there script q i h = go (slice_get script i) refl h
   where
-    go : (o : Option Step) → slice_get script i ≡ o → option_map_or (is_item q) o false ≡ true → (item : subs.Item) × (slice_get script i ≡ Some (Item q item))
+    go : (o : Option Step) → slice_get script i ≡ o → option_map_or (is_item q) o false ≡ true → (item : programs.Item) × (slice_get script i ≡ Some (Item q item))
     go None e t = absurd (false≢true t)
     go (Some (Item r item)) e t = (item, e ∙ ap (λ z. Some (Item z item)) (eqb-true r q t))
     go (Some (Need r j)) e t = absurd (false≢true t)
 
-pub has_there : (script : List Step) (q i : ℕ) (item : subs.Item) → slice_get script i ≡ Some (Item q item) → has_item script q i ≡ true
+pub has_there : (script : List Step) (q i : ℕ) (item : programs.Item) → slice_get script i ≡ Some (Item q item) → has_item script q i ≡ true
 has_there script q i item e = ap (λ o. option_map_or (is_item q) o false) e ∙ eq-eqb q q refl
 
 pub item_within : (script : List Step) (q i : ℕ) → has_item script q i ≡ true → i < length script

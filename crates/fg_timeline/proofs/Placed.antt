@@ -6,7 +6,7 @@ use Rattle.std.proofs.lemmas.Bool.{cases_Bool, and_from, and_parts, false≢true
 use Rattle.std.proofs.lemmas.List.{length-map}
 use Rattle.std.proofs.lemmas.Option.{slice_get-map, slice_get_within}
 use Rattle.fg_base.proofs.Lists.{got_front, got_back}
-use Rattle.fg_subs.specs.declared.program.Item as subs
+use Rattle.fg_subs.specs.declared.program.Item as programs
 use Rattle.fg_timeline.proofs.Below.{side, InTwo, in_left, in_right, in_two, in_map, begins_before, there_below, InBelow, in_below, any_there, count_up}
 use Rattle.fg_timeline.proofs.Latest.{item_there, item_within, item_queue, latest_need, latest_from, LastAt, last_cases, last_after, risen}
 use Rattle.fg_timeline.specs.Below.{all_below, any_below, count_below}
@@ -24,10 +24,10 @@ use Rattle.fg_timeline.specs.declared.step.Step.TheVariants.{Item, Need}
 abbrev wait_at : List Step → ℕ → ℕ → ℕ → ℕ → List Part
 wait_at script count q i p = when (waits script q i p) (Waits (wait_for script count q i p))
 
-abbrev after_waits : List Step → ℕ → ℕ → ℕ → subs.Item → List Part
+abbrev after_waits : List Step → ℕ → ℕ → ℕ → programs.Item → List Part
 after_waits script count q i item = Does item ∷ when (has_signal script count q i) (Signals (signal_after script count i))
 
-pub item_parts_at : (script : List Step) (count q i : ℕ) (item : subs.Item) → slice_get script i ≡ Some (Item q item) → parts_at script count q i ≡ waits_at script count q i ++ after_waits script count q i item
+pub item_parts_at : (script : List Step) (count q i : ℕ) (item : programs.Item) → slice_get script i ≡ Some (Item q item) → parts_at script count q i ≡ waits_at script count q i ++ after_waits script count q i item
 item_parts_at script count q i item e = ap (λ o. option_map_or (step_parts script count q i) o []) e ∙ ap (λ z. if z then waits_at script count q i ++ after_waits script count q i item else []) (eq-eqb q q refl)
 
 -- a step that is no item of the queue has none
@@ -70,7 +70,7 @@ is_part script count n at e =
     of : (q i j : ℕ) (part : Part) → q < count → slice_get (parts_at script count q i) j ≡ Some part → n ≡ number script count q i j → at ≡ place q i part → IsPart script count n at
     of q i j part lq there is same = subst (λ z. IsPart script count n z) (sym same) (record { inside = j; queue = lq; there = there; is = is })
 
-sorted : (script : List Step) (count n : ℕ) (at : Place) (j : ℕ) (item : subs.Item) → slice_get script at.step ≡ Some (Item at.queue item) → n ≡ number script count at.queue at.step j → InTwo (waits_at script count at.queue at.step) (after_waits script count at.queue at.step item) j at.part → Stands script count n at
+sorted : (script : List Step) (count n : ℕ) (at : Place) (j : ℕ) (item : programs.Item) → slice_get script at.step ≡ Some (Item at.queue item) → n ≡ number script count at.queue at.step j → InTwo (waits_at script count at.queue at.step) (after_waits script count at.queue at.step item) j at.part → Stands script count n at
 sorted script count n at j item e is (in_left h) = go (in_below (wait_at script count at.queue at.step) count j at.part h)
   where
     go : InBelow (wait_at script count at.queue at.step) count j at.part → Stands script count n at
@@ -110,7 +110,7 @@ are_numbered script count n at e = go (cases_Bool (has_item script at.queue at.s
 plain : (n : ℕ) → n ≡ n + 0
 plain n = omega arith
 
-at_parts : (script : List Step) (count q i j : ℕ) (item : subs.Item) (part : Part) → q < count → slice_get script i ≡ Some (Item q item) → slice_get (waits_at script count q i ++ after_waits script count q i item) j ≡ Some part → slice_get (places script count) (number script count q i j) ≡ Some (place q i part)
+at_parts : (script : List Step) (count q i j : ℕ) (item : programs.Item) (part : Part) → q < count → slice_get script i ≡ Some (Item q item) → slice_get (waits_at script count q i ++ after_waits script count q i item) j ≡ Some part → slice_get (places script count) (number script count q i j) ≡ Some (place q i part)
 at_parts script count q i j item part lq e h = numbered_there script count q i j part lq (slice_get_within script i (Item q item) e) (ap (λ ps. slice_get ps j) (item_parts_at script count q i item e) ∙ h)
 
 wait_there : (script : List Step) (count q i p : ℕ) → q < count → p < count → has_item script q i ≡ true → waits script q i p ≡ true → slice_get (places script count) (wait_number script count q i p) ≡ Some (place q i (Waits (wait_for script count q i p)))
@@ -121,7 +121,7 @@ wait_there script count q i p lq lp h w =
     let three : slice_get (waits_at script count q i) (length (all_below (wait_at script count q i) p)) ≡ Some (Waits (wait_for script count q i p)) = ap (slice_get (waits_at script count q i)) (plain (length (all_below (wait_at script count q i) p))) ∙ two in
     at_parts script count q i (length (all_below (wait_at script count q i) p)) T.0 (Waits (wait_for script count q i p)) lq T.1 (got_front (waits_at script count q i) (after_waits script count q i T.0) (length (all_below (wait_at script count q i) p)) (Waits (wait_for script count q i p)) three)
 
-item_at : (script : List Step) (count q i : ℕ) (item : subs.Item) → q < count → slice_get script i ≡ Some (Item q item) → slice_get (places script count) (item_number script count q i) ≡ Some (place q i (Does item))
+item_at : (script : List Step) (count q i : ℕ) (item : programs.Item) → q < count → slice_get script i ≡ Some (Item q item) → slice_get (places script count) (item_number script count q i) ≡ Some (place q i (Does item))
 item_at script count q i item lq e = at_parts script count q i (length (waits_at script count q i)) item (Does item) lq e (ap (slice_get (waits_at script count q i ++ after_waits script count q i item)) (plain (length (waits_at script count q i))) ∙ got_back (waits_at script count q i) (after_waits script count q i item) 0)
 
 signal_there : (script : List Step) (count q i : ℕ) → q < count → has_signal script count q i ≡ true → slice_get (places script count) (signal_number script count q i) ≡ Some (place q i (Signals (signal_after script count i)))

@@ -5,7 +5,7 @@ use Rattle.std.specs.Prelude.{slice_get}
 use Rattle.std.proofs.lemmas.Bool.{and_from, and_parts, eq-eqb, eqb-false, false≢true, lt-ltb, ltb-true, ne_eqb, not-true}
 use Rattle.std.proofs.lemmas.Option.{slice_get_within}
 use Rattle.fg_timeline.proofs.Latest.{item_there, has_there, item_within}
-use Rattle.fg_timeline.specs.Code.Scripts.{is_other_item, has_other_item, may_stand, is_fit}
+use Rattle.fg_timeline.specs.Internal.Scripts.{is_other_item, has_other_item, may_stand, is_fit}
 use Rattle.fg_timeline.specs.Steps.{queue_of, queue_at, is_item, has_item, IsScript}
 use Rattle.fg_timeline.specs.declared.step.Step.{Step}
 use Rattle.fg_timeline.specs.declared.step.Step.TheVariants.{Item, Need}

@@ -7,15 +7,15 @@ use Rattle.std.proofs.lemmas.List.FromFn.{length-range_with_len, get_or-map-rang
 use Rattle.std.proofs.lemmas.List.{length-map}
 use Rattle.std.proofs.lemmas.Option.{slice_get_within}
 use Rattle.fg_bits.specs.Stages.{all_commands}
-use Rattle.fg_subs.specs.declared.program.Item as subs
+use Rattle.fg_subs.specs.declared.program.Item as programs
 use Rattle.fg_timeline.proofs.Below.{same_below}
 use Rattle.fg_timeline.proofs.Latest.{has_there, item_within, item_queue, latest_low, LastAt, last_cases, last_after}
 use Rattle.fg_timeline.proofs.Placed.{item_parts_at, no_parts, ends}
 use Rattle.fg_timeline.proofs.Writing.{closed_batches}
 use Rattle.fg_timeline.specs.Batches.{cut}
-use Rattle.fg_timeline.specs.Code.Counts.{signals_of}
-use Rattle.fg_timeline.specs.Code.Submissions.{nothing, with_rest, Adds, IsClosed, ClosedAt, needed_wait, needed_waits, signal_at, item_parts}
-use Rattle.fg_timeline.specs.Code.Walks.{is_new, Knows}
+use Rattle.fg_timeline.specs.Internal.Counts.{signals_of}
+use Rattle.fg_timeline.specs.Internal.Submissions.{nothing, with_rest, Adds, IsClosed, ClosedAt, needed_wait, needed_waits, signal_at, item_parts}
+use Rattle.fg_timeline.specs.Internal.Walks.{is_new, Knows}
 use Rattle.fg_timeline.specs.Parts.{Waits, Does, Signals, when, wait_for, waits_at, parts_at, parts}
 use Rattle.fg_timeline.specs.Signals.{has_signal, value_at}
 use Rattle.fg_timeline.specs.Steps.{queue_at, has_item}
@@ -54,7 +54,7 @@ same_waits script q i count needs K size li = same_below (λ p. when (is_new nee
         ap (λ b. when b (Waits (needed_wait needs values p))) (new p lt)
         ∙ ap (λ v. when (waits script q i p) (Waits (record { queue = p; value = v; stages = record { 0 = all_commands } }))) value
 
-pub same_parts : (script : List Step) (q i count : ℕ) (needs : Needs) (signals : noted.Signals) (item : subs.Item) → Knows script q i needs → count ≡ length needs.latest → signals ≡ signals_of script count → slice_get script i ≡ Some (Item q item) → item_parts needs signals i item ≡ parts_at script count q i
+pub same_parts : (script : List Step) (q i count : ℕ) (needs : Needs) (signals : noted.Signals) (item : programs.Item) → Knows script q i needs → count ≡ length needs.latest → signals ≡ signals_of script count → slice_get script i ≡ Some (Item q item) → item_parts needs signals i item ≡ parts_at script count q i
 same_parts script q i count needs signals item K size is e =
     let li = slice_get_within script i (Item q item) e in
     let here = item_queue script q i (has_there script q i item e) in
@@ -66,7 +66,7 @@ same_parts script q i count needs signals item K size is e =
     ∙ sym (item_parts_at script count q i item e)
 
 -- an item is added
-pub added_item : (script : List Step) (q i count : ℕ) (needs : Needs) (signals : noted.Signals) (item : subs.Item) (old new : Submission) → Knows script q i needs → count ≡ length needs.latest → signals ≡ signals_of script count → slice_get script i ≡ Some (Item q item) → Adds old new (item_parts needs signals i item) → Adds old new (parts_at script count q i)
+pub added_item : (script : List Step) (q i count : ℕ) (needs : Needs) (signals : noted.Signals) (item : programs.Item) (old new : Submission) → Knows script q i needs → count ≡ length needs.latest → signals ≡ signals_of script count → slice_get script i ≡ Some (Item q item) → Adds old new (item_parts needs signals i item) → Adds old new (parts_at script count q i)
 added_item script q i count needs signals item old new K size is e added = subst (λ ps. Adds old new ps) (same_parts script q i count needs signals item K size is e) added
 
 -- nothing is added
@@ -75,7 +75,7 @@ added_none script q i count old f rest = sym (ap (λ ps. with_rest old (ps ++ re
 
 -- OPEN BATCHES
 
-pub closed_item : (script : List Step) (q i count : ℕ) (signals : noted.Signals) (item : subs.Item) (new : Submission) → signals ≡ signals_of script count → slice_get script i ≡ Some (Item q item) → (get_or signals.signalled i false ≡ true → IsClosed new) → ClosedAt script count q (i + 1) new
+pub closed_item : (script : List Step) (q i count : ℕ) (signals : noted.Signals) (item : programs.Item) (new : Submission) → signals ≡ signals_of script count → slice_get script i ≡ Some (Item q item) → (get_or signals.signalled i false ≡ true → IsClosed new) → ClosedAt script count q (i + 1) new
 closed_item script q i count signals item new is e closed = rw add-one (record {
   empty = λ z. absurd (no z);
   signalled = λ j same s. closed (let here : i ≡ j = omega (arith, same, last) in noted_here ∙ ap (has_signal script count q) here ∙ s);

@@ -10,7 +10,7 @@ use Rattle.std.proofs.lemmas.Option.{slice_get_read}
 use Rattle.fg_timeline.proofs.Below.{same_any}
 use Rattle.fg_timeline.proofs.Latest.{item_within, latest_same, latest_low}
 use Rattle.fg_timeline.specs.Below.{any_below}
-use Rattle.fg_timeline.specs.Code.Walks.{is_for, Knows, NeedsBelow}
+use Rattle.fg_timeline.specs.Internal.Walks.{is_for, Knows, NeedsBelow}
 use Rattle.fg_timeline.specs.Signals.{awaited_by}
 use Rattle.fg_timeline.specs.Steps.{queue_of, queue_at, is_item, has_item, IsScript}
 use Rattle.fg_timeline.specs.Waits.{wanted, latest, last_item, waits_for}

@@ -1,18 +1,18 @@
 -- Parts that are added to batches, one by one.
 use Rattle.std.proofs.Common.{◌≡◌, ◌<◌, List, [], ◌∷◌, ◌++◌, length, map, Option, Some, None, refl, sym, ap, ◌∙◌, append_assoc, append-nil, arith}
 use Rattle.fg_subs.specs.declared.program.Batch.{Batch}
-use Rattle.fg_subs.specs.declared.program.Item as subs
+use Rattle.fg_subs.specs.declared.program.Item as programs
 use Rattle.fg_subs.specs.declared.program.Signal.{Signal}
 use Rattle.fg_subs.specs.declared.program.WaitFor.{WaitFor}
 use Rattle.fg_timeline.specs.Batches.{batch, before, cut}
-use Rattle.fg_timeline.specs.Code.Submissions.{ended, with_rest, Adds, SameBeforeWaits, IsClosed}
+use Rattle.fg_timeline.specs.Internal.Submissions.{ended, with_rest, Adds, SameBeforeWaits, IsClosed}
 use Rattle.fg_timeline.specs.Parts.{Part, Waits, Does, Signals}
 use Rattle.fg_timeline.specs.declared.submission.Submission.{Submission}
 
 -- WHERE A BATCH ENDS
 
 -- items before a batch that waits
-wait_begins : (wait : WaitFor) (rest : List Part) (item : subs.Item) (items : List subs.Item) → cut (map Does (item ∷ items) ++ Waits wait ∷ rest) ≡ batch [] (item ∷ items) None ∷ cut (Waits wait ∷ rest)
+wait_begins : (wait : WaitFor) (rest : List Part) (item : programs.Item) (items : List programs.Item) → cut (map Does (item ∷ items) ++ Waits wait ∷ rest) ≡ batch [] (item ∷ items) None ∷ cut (Waits wait ∷ rest)
 wait_begins wait rest item [] = go (cut rest)
   where
     go : (batches : List Batch) → before (Does item) (before (Waits wait) batches) ≡ batch [] (item ∷ []) None ∷ before (Waits wait) batches
@@ -21,12 +21,12 @@ wait_begins wait rest item [] = go (cut rest)
 wait_begins wait rest item (other ∷ items) = ap (before (Does item)) (wait_begins wait rest other items)
 
 -- items before a signal
-signal_ends : (signal : Signal) (rest : List Part) (items : List subs.Item) → cut (map Does items ++ Signals signal ∷ rest) ≡ batch [] items (Some signal) ∷ cut rest
+signal_ends : (signal : Signal) (rest : List Part) (items : List programs.Item) → cut (map Does items ++ Signals signal ∷ rest) ≡ batch [] items (Some signal) ∷ cut rest
 signal_ends signal rest [] = refl
 signal_ends signal rest (item ∷ items) = ap (before (Does item)) (signal_ends signal rest items)
 
 -- waits before a batch
-waits_join : (parts : List Part) (items : List subs.Item) (signal : Option Signal) (batches : List Batch) → cut parts ≡ batch [] items signal ∷ batches → (waits : List WaitFor) → cut (map Waits waits ++ parts) ≡ batch waits items signal ∷ batches
+waits_join : (parts : List Part) (items : List programs.Item) (signal : Option Signal) (batches : List Batch) → cut parts ≡ batch [] items signal ∷ batches → (waits : List WaitFor) → cut (map Waits waits ++ parts) ≡ batch waits items signal ∷ batches
 waits_join parts items signal batches e [] = e
 waits_join parts items signal batches e (wait ∷ waits) = ap (before (Waits wait)) (waits_join parts items signal batches e waits)
 
@@ -40,7 +40,7 @@ ends_before old new some is wait rest =
     ∙ ap (λ bs. old.batches ++ bs) (sym (first old.items some))
     ∙ ap (λ ps. old.batches ++ cut ps) (sym (append_assoc (map Waits old.waits) (map Does old.items) (Waits wait ∷ rest)))
   where
-    first : (items : List subs.Item) → 0 < length items → cut (map Waits old.waits ++ (map Does items ++ Waits wait ∷ rest)) ≡ batch old.waits items None ∷ cut (Waits wait ∷ rest)
+    first : (items : List programs.Item) → 0 < length items → cut (map Waits old.waits ++ (map Does items ++ Waits wait ∷ rest)) ≡ batch old.waits items None ∷ cut (Waits wait ∷ rest)
     first [] lt = absurd (no lt)
       where
         no : 0 < 0 → ⊥

@@ -2,7 +2,7 @@
 use Rattle.std.specs.Prelude.{◌≡◌, ℕ, suc, ◌<◌, ◌≤◌, List, ◌++◌, map, length, slice_get, true, false, Some}
 use Rattle.fg_base.specs.declared.shape.Family.{Family}
 use Rattle.fg_subs.specs.Entries.{OfHost, entries_of}
-use Rattle.fg_subs.specs.declared.program.Item as subs
+use Rattle.fg_subs.specs.declared.program.Item as programs
 use Rattle.fg_subs.specs.declared.program.Program.{Program}
 use Rattle.fg_timeline.specs.Batches.{queues}
 use Rattle.fg_timeline.specs.Parts.{Waits, Does, Signals, wait_for, signal_after}
@@ -27,7 +27,7 @@ pub record AreOfFamilies (script : List Step) (families : List Family) : Type 0 
 -- the part with a number: a wait before an item of its queue, that item, or the signal after it
 pub data Stands (script : List Step) (count n : ℕ) (at : Place) : Type 0 where
   a_wait : (p : ℕ) → p < count → waits script at.queue at.step p ≡ true → at.part ≡ Waits (wait_for script count at.queue at.step p) → n ≡ wait_number script count at.queue at.step p → Stands script count n at
-  an_item : (item : subs.Item) → slice_get script at.step ≡ Some (Item at.queue item) → at.part ≡ Does item → n ≡ item_number script count at.queue at.step → Stands script count n at
+  an_item : (item : programs.Item) → slice_get script at.step ≡ Some (Item at.queue item) → at.part ≡ Does item → n ≡ item_number script count at.queue at.step → Stands script count n at
   a_signal : has_signal script count at.queue at.step ≡ true → at.part ≡ Signals (signal_after script count at.step) → n ≡ signal_number script count at.queue at.step → Stands script count n at
 
 pub record IsNumbered (script : List Step) (count n : ℕ) (at : Place) : Type 0 where
@@ -42,7 +42,7 @@ AreNumbered script count = (n : ℕ) (at : Place) → slice_get (places script c
 -- each wait, item and signal is there
 pub record AllThere (script : List Step) (count : ℕ) : Type 0 where
   pub wait : (q i p : ℕ) → q < count → p < count → has_item script q i ≡ true → waits script q i p ≡ true → slice_get (places script count) (wait_number script count q i p) ≡ Some (place q i (Waits (wait_for script count q i p)))
-  pub item : (q i : ℕ) (item : subs.Item) → q < count → slice_get script i ≡ Some (Item q item) → slice_get (places script count) (item_number script count q i) ≡ Some (place q i (Does item))
+  pub item : (q i : ℕ) (item : programs.Item) → q < count → slice_get script i ≡ Some (Item q item) → slice_get (places script count) (item_number script count q i) ≡ Some (place q i (Does item))
   pub signal : (q i : ℕ) → q < count → has_signal script count q i ≡ true → slice_get (places script count) (signal_number script count q i) ≡ Some (place q i (Signals (signal_after script count i)))
 
 -- on a queue the parts of an earlier step come first, and of one step a wait before the item, by queues

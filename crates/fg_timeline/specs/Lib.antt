@@ -1,6 +1,6 @@
 pub mod Batches
 pub mod Below
-pub mod Code
+pub mod Internal
 pub mod Laws
 pub mod Parts
 pub mod Places

@@ -2,7 +2,7 @@
 use Rattle.std.specs.Prelude.{ℕ, ◌-◌, ◌==◌, List, [], ◌∷◌, ◌++◌, length, slice_get, Bool, if◌then◌else◌}
 use Rattle.std.specs.Option.{option_map_or}
 use Rattle.fg_bits.specs.Stages.{all_commands}
-use Rattle.fg_subs.specs.declared.program.Item as subs
+use Rattle.fg_subs.specs.declared.program.Item as programs
 use Rattle.fg_subs.specs.declared.program.Signal.{Signal}
 use Rattle.fg_subs.specs.declared.program.WaitFor.{WaitFor}
 use Rattle.fg_timeline.specs.Below.{all_below}
@@ -14,7 +14,7 @@ use Rattle.fg_timeline.specs.declared.step.Step.TheVariants.{Item, Need}
 -- what is submitted to a queue, one after another
 pub data Part : Type 0 where
   Waits : WaitFor → Part
-  Does : subs.Item → Part
+  Does : programs.Item → Part
   Signals : Signal → Part
 
 abbrev pub when : {X : Type 0} → Bool → X → List X

@@ -2,7 +2,7 @@
 
 ghost use Rattle.std.specs.Prelude.{◌≡◌, ℕ, ◌+◌, ◌<◌, ◌||◌, max, false, length, get_or, slice_set, replicate, IfOk};
 ghost use Rattle.fg_timeline.specs.Below.{any_below};
-ghost use Rattle.fg_timeline.specs.Code.Walks.{fresh, is_for, Knows, NeedsBelow};
+ghost use Rattle.fg_timeline.specs.Internal.Walks.{fresh, is_for, Knows, NeedsBelow};
 ghost use Rattle.fg_timeline.specs.Steps.{IsScript};
 
 use crate::Step;

@@ -3,9 +3,9 @@
 ghost use Rattle.std.specs.Prelude.{◌≡◌, ◌+◌, ◌<◌, ◌≤◌, length, IfOk, OnOk};
 ghost use Rattle.fg_base.specs.Maxima.{max_queues};
 ghost use Rattle.fg_timeline.specs.Batches.{cut, queues};
-ghost use Rattle.fg_timeline.specs.Code.Counts.{signals_of};
-ghost use Rattle.fg_timeline.specs.Code.Submissions.{Adds, ClosedAt};
-ghost use Rattle.fg_timeline.specs.Code.Walks.{Knows};
+ghost use Rattle.fg_timeline.specs.Internal.Counts.{signals_of};
+ghost use Rattle.fg_timeline.specs.Internal.Submissions.{Adds, ClosedAt};
+ghost use Rattle.fg_timeline.specs.Internal.Walks.{Knows};
 ghost use Rattle.fg_timeline.specs.Parts.{parts_at, parts};
 ghost use Rattle.fg_timeline.specs.Steps.{IsScript};
 

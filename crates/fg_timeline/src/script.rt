@@ -1,7 +1,7 @@
 //! Which lists of steps can be cut into queues.
 
 ghost use Rattle.std.specs.Prelude.{◌≡◌, ◌<◌, ◌≤◌, ◌&&◌, ◌↔◌, nat_lt, true, length};
-ghost use Rattle.fg_timeline.specs.Code.Scripts.{has_other_item, is_fit};
+ghost use Rattle.fg_timeline.specs.Internal.Scripts.{has_other_item, is_fit};
 ghost use Rattle.fg_timeline.specs.Steps.{IsScript};
 
 use crate::Step;

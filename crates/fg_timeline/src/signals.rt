@@ -1,7 +1,7 @@
 //! Which steps a signal follows.
 
 ghost use Rattle.std.specs.Prelude.{◌≡◌, ℕ, ◌+◌, ◌<◌, ◌||◌, false, length, get_or, IfOk, OnOk};
-ghost use Rattle.fg_timeline.specs.Code.Counts.{signals_of, HasLasts, HasCounts};
+ghost use Rattle.fg_timeline.specs.Internal.Counts.{signals_of, HasLasts, HasCounts};
 ghost use Rattle.fg_timeline.specs.Signals.{awaited_by, is_awaited, has_signal, value_at};
 ghost use Rattle.fg_timeline.specs.Steps.{IsScript, queue_at};
 

@@ -1,7 +1,7 @@
 //! One step of what is recorded.
 
 ghost use Rattle.std.specs.Prelude.{◌≡◌};
-ghost use Rattle.fg_timeline.specs.Code.Scripts.{is_other_item};
+ghost use Rattle.fg_timeline.specs.Internal.Scripts.{is_other_item};
 ghost use Rattle.fg_timeline.specs.Steps.{queue_of, is_item};
 
 use fg_subs::Item;

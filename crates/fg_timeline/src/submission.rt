@@ -1,8 +1,8 @@
 //! The batches of a queue while they are written.
 
 ghost use Rattle.std.specs.Prelude.{◌≡◌, ◌<◌, ◌≤◌, ℕ, [], ◌∷◌, true, false, length, get_or, IfOk, OnOk, Some};
-ghost use Rattle.fg_timeline.specs.Code.Submissions.{nothing, ended, Adds, SameBeforeWaits, IsClosed, needed_waits, item_parts};
-ghost use Rattle.fg_timeline.specs.Code.Walks.{NeedsBelow};
+ghost use Rattle.fg_timeline.specs.Internal.Submissions.{nothing, ended, Adds, SameBeforeWaits, IsClosed, needed_waits, item_parts};
+ghost use Rattle.fg_timeline.specs.Internal.Walks.{NeedsBelow};
 ghost use Rattle.fg_timeline.specs.Parts as part;
 
 use crate::needs::Needs;

@@ -15,7 +15,7 @@ use Rattle.fg_answer.specs.declared.status.Status.{Status}
 use Rattle.fg_answer.specs.declared.status.Status.TheVariants.{Done, Rejected, Refused, Words, ReadFault, WriteFault, NoMemory}
 use Rattle.fg_base.specs.declared.event.Event.{Event}
 use Rattle.fg_top.specs.Answers.{AnswersBytes, AnswersLeft, IsAnswered}
-use Rattle.fg_top.specs.Code.Intakes.{IsGiven, IsRead}
+use Rattle.fg_top.specs.Internal.Intakes.{IsGiven, IsRead}
 use Rattle.fg_top.specs.Outcomes.{EndsAs, IsUnanswered}
 use Rattle.fg_top.specs.Replies.{still}
 use Rattle.fg_top.specs.declared.input.Input.{Input}

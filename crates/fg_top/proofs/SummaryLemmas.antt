@@ -9,13 +9,13 @@ use Rattle.fg_base.specs.Shapes.{bytes_of, shape_at}
 use Rattle.fg_base.specs.declared.shape.Shape.TheVariants.{Buffer}
 use Rattle.fg_bits.specs.declared.sharing.Sharing.TheVariants.{Exclusive}
 use Rattle.fg_faithful.specs.Laws.{AreAsLong}
-use Rattle.fg_frame.specs.Good.{IsGood, shapes_in}
+use Rattle.fg_frame.specs.Valid.{IsValid, shapes_in}
 use Rattle.fg_frame.specs.Numbered.{NumberedFrame}
 use Rattle.fg_frame.specs.Units.{Unit as FrameUnit}
 use Rattle.fg_meaning.specs.Meaning.{AreMeant, all_bytes, has_picture}
 use Rattle.fg_place.specs.Placing.{Places}
 use Rattle.fg_subs.specs.declared.program.Program.{Program}
-use Rattle.fg_top.specs.Code.Totals.{IsTotal}
+use Rattle.fg_top.specs.Internal.Totals.{IsTotal}
 use Rattle.fg_top.specs.Summaries.{summary_of, summary_with}
 use Rattle.fg_top.specs.declared.totals.Total.{Total}
 
@@ -23,7 +23,7 @@ no_unit : FrameUnit
 no_unit = record { shape = Buffer 0; sharing = Exclusive; imported = None }
 
 -- a unit has at most 16 MiB
-unit_small : (frame : NumberedFrame) → IsGood frame → (unit : ℕ) → unit < length frame.units → bytes_of (shape_at (shapes_in frame) unit) ≤ 16777216
+unit_small : (frame : NumberedFrame) → IsValid frame → (unit : ℕ) → unit < length frame.units → bytes_of (shape_at (shapes_in frame) unit) ≤ 16777216
 unit_small frame good unit lt =
     let shape : shape_at (shapes_in frame) unit ≡ (get_or frame.units unit no_unit).shape = get_or-map (λ (u : FrameUnit). u.shape) frame.units unit no_unit (Buffer 0) lt in
     let size : ℕ = bytes_of (get_or frame.units unit no_unit).shape in
@@ -31,7 +31,7 @@ unit_small frame good unit lt =
     subst (λ n. n ≤ 16777216) (sym (ap bytes_of shape)) small
 
 -- so has an export
-pub export_short : (frame : NumberedFrame) → IsGood frame → AreAsLong frame → (bytes : ℕ → List ℕ) → AreMeant frame bytes → (k : ℕ) → k < length frame.exports → length (bytes k) ≤ 16777216
+pub export_short : (frame : NumberedFrame) → IsValid frame → AreAsLong frame → (bytes : ℕ → List ℕ) → AreMeant frame bytes → (k : ℕ) → k < length frame.exports → length (bytes k) ≤ 16777216
 export_short frame good long bytes meant k lt =
     let small = unit_small frame good unit within in
     let same = ap length held in

@@ -3,7 +3,7 @@ use Rattle.std.proofs.Common.{◌≡◌, ◌+◌, ◌++◌, ℕ, suc, List, leng
 use Rattle.std.specs.List.{sum}
 use Rattle.std.proofs.lemmas.List.Sums.{sum_by-append}
 pub use Rattle.fg_report.proofs.Sums.{sum_more}
-use Rattle.fg_top.specs.Code.Totals.{IsTotal}
+use Rattle.fg_top.specs.Internal.Totals.{IsTotal}
 use Rattle.fg_stages.specs.Exports.{in_turn}
 use Rattle.fg_top.specs.declared.totals.Total.{Total}
 

@@ -12,7 +12,7 @@ use Rattle.fg_frame.specs.declared.fault.FrameFault.{FrameFault}
 use Rattle.fg_frame.specs.declared.frame.Frame.{Frame}
 use Rattle.fg_gen.specs.Generated.{generated}
 use Rattle.fg_base.specs.declared.event.Event.{Event}
-use Rattle.fg_subs.specs.declared.fault.SubFault.{SubFault}
+use Rattle.fg_subs.specs.declared.fault.ProgramFault.{ProgramFault}
 use Rattle.fg_subs.specs.declared.program.Program.{Program}
 use Rattle.fg_top.specs.Audits.{AuditsFile}
 use Rattle.fg_top.specs.Flights.{FliesBytes}
@@ -28,7 +28,7 @@ abbrev pub RunsFile : RunOptions → Bool → Bool → Result Frame FrameFault �
 RunsFile options trace tight (Ok frame) reply = RunsFrame options trace tight frame reply
 RunsFile options trace tight (Err fault) reply = reply ≡ still (refusal fault)
 
-abbrev pub ExecutesFile : RunOptions → Bool → Result Program SubFault → Reply → Type 0
+abbrev pub ExecutesFile : RunOptions → Bool → Result Program ProgramFault → Reply → Type 0
 ExecutesFile options trace (Ok program) reply = Executes options trace program reply ⊎ IsStill (Rejects program) reply
 ExecutesFile options trace (Err fault) reply = reply ≡ still (program_refusal fault)
 

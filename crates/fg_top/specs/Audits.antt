@@ -4,8 +4,8 @@ use Rattle.fg_audit.specs.Recordings.{submission_in, trace_in}
 use Rattle.fg_audit.specs.Runs.{IsRun}
 use Rattle.fg_audit.specs.Trace.{trace_of}
 use Rattle.fg_audit.specs.Verdicts.{AllReadApart, IfRun, Says}
-use Rattle.fg_audit.specs.declared.trace.TraceEnd.{TraceEnd}
-use Rattle.fg_audit.specs.declared.trace.TraceEnd.TheVariants as ends
+use Rattle.fg_audit.specs.declared.trace.TraceError.{TraceError}
+use Rattle.fg_audit.specs.declared.trace.TraceError.TheVariants as ends
 use Rattle.fg_audit.specs.declared.verdict.Verdict.{Verdict}
 use Rattle.fg_audit.specs.declared.verdict.Verdict.TheVariants as verdicts
 use Rattle.fg_base.specs.declared.event.Event.{Event}
@@ -13,7 +13,7 @@ use Rattle.fg_checker.specs.Sound.{IsSound}
 use Rattle.fg_report.specs.Audits.{audit_text}
 use Rattle.fg_report.specs.declared.audit.AuditLine.{AuditLine}
 use Rattle.fg_report.specs.declared.audit.AuditLine.TheVariants as lines
-use Rattle.fg_subs.specs.declared.fault.SubFault.{SubFault}
+use Rattle.fg_subs.specs.declared.fault.ProgramFault.{ProgramFault}
 use Rattle.fg_subs.specs.declared.program.Program.{Program}
 use Rattle.fg_stages.specs.Files.{program_file}
 use Rattle.fg_answer.specs.Plain.{Rejects, done, program_refusal}
@@ -27,7 +27,7 @@ abbrev pub line_answer : Status → AuditLine → Answer
 line_answer status line = record { status = status; text = audit_text line }
 
 -- the text is no trace: its first line that does not fit, or more events than are read
-abbrev pub RefusesTrace : TraceEnd → Answer → Type 0
+abbrev pub RefusesTrace : TraceError → Answer → Type 0
 RefusesTrace (ends.Text line) answer = answer ≡ line_answer Refused (lines.Text line)
 RefusesTrace (ends.Limit events) answer = answer ≡ line_answer Refused (lines.Limit events)
 RefusesTrace ends.NoMemory answer = ⊥
@@ -50,7 +50,7 @@ pub record Judges (program : Program) (events : List Event) (answer : Answer) : 
   pub run : (answer.status ≡ Done) ↔ IsRun program events
 
 -- a fault of the submission comes before one of the trace, and that before a hazard
-abbrev pub AuditsTrace : Result Program SubFault → Result (List Event) TraceEnd → Answer → Type 0
+abbrev pub AuditsTrace : Result Program ProgramFault → Result (List Event) TraceError → Answer → Type 0
 AuditsTrace (Err fault) trace answer = answer ≡ program_refusal fault
 AuditsTrace (Ok program) (Err end) answer = RefusesTrace end answer
 AuditsTrace (Ok program) (Ok events) answer = Judges program events answer ⊎ Rejects program answer

@@ -3,7 +3,7 @@ pub mod AtRest
 pub mod Audits
 pub mod Calls
 pub mod Causes
-pub mod Code
+pub mod Internal
 pub mod Complete
 pub mod Ends
 pub mod Flights

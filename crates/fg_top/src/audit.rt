@@ -15,14 +15,14 @@ ghost use Rattle.fg_top.specs.Texts.{readbacks_text};
 
 use crate::readbacks::add_readbacks;
 use fg_answer::{Answer, Status, checked, done, program_refusal};
-use fg_audit::{TraceEnd, Verdict, audit, read_trace, recording_in};
+use fg_audit::{TraceError, Verdict, audit, read_trace, recording_in};
 use fg_base::{Event, NoMemory};
 use fg_checker::Checked;
 use fg_device::Device;
 use fg_report::{AuditLine, audit_text};
 use fg_stages::valid_program;
-use fg_subfile::SubReadEnd;
-use fg_subs::Shaped;
+use fg_subfile::ProgramReadError;
+use fg_subs::ValidProgram;
 use std::alloc::Global;
 use std::thread::Threads;
 
@@ -88,7 +88,7 @@ fn judge<R: Threads + Sync>(
 fn audit_events<R: Threads + Sync>(
     rt: &R,
     alloc: Global,
-    program: Shaped,
+    program: ValidProgram,
     events: &[Event],
 ) -> Result<Answer, NoMemory>
     requires { length events.now ≤ 65536 }
@@ -104,7 +104,7 @@ fn audit_events<R: Threads + Sync>(
 fn audit_trace<R: Threads + Sync>(
     rt: &R,
     alloc: Global,
-    program: Shaped,
+    program: ValidProgram,
     trace: &[u8],
 ) -> Result<Answer, NoMemory>
     ensures trace { IfOk result (AuditsTrace (Ok program) (trace_of trace.now)) }
@@ -112,13 +112,13 @@ fn audit_trace<R: Threads + Sync>(
 {
     match read_trace(alloc, trace) {
         Ok(events) => audit_events(rt, alloc, program, events.as_slice()),
-        Err(TraceEnd::Text { line }) => {
+        Err(TraceError::Text { line }) => {
             line_answer(alloc, Status::Refused, &AuditLine::Text { line })
         }
-        Err(TraceEnd::Limit { events }) => {
+        Err(TraceError::Limit { events }) => {
             line_answer(alloc, Status::Refused, &AuditLine::Limit { events })
         }
-        Err(TraceEnd::NoMemory) => Err(NoMemory),
+        Err(TraceError::NoMemory) => Err(NoMemory),
     }
 }
 
@@ -134,7 +134,7 @@ pub fn audit_file<R: Threads + Sync>(
     let recording = recording_in(bytes);
     match valid_program(alloc, recording.submission) {
         Ok(program) => audit_trace(rt, alloc, program, recording.trace),
-        Err(SubReadEnd::Refused(fault)) => program_refusal(alloc, &fault),
-        Err(SubReadEnd::NoMemory) => Err(NoMemory),
+        Err(ProgramReadError::Refused(fault)) => program_refusal(alloc, &fault),
+        Err(ProgramReadError::NoMemory) => Err(NoMemory),
     }
 }

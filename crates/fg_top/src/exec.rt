@@ -16,8 +16,8 @@ use fg_base::{Gate, NoMemory, RunOptions};
 use fg_checker::Checked;
 use fg_run::run_program;
 use fg_stages::valid_program;
-use fg_subfile::SubReadEnd;
-use fg_subs::Shaped;
+use fg_subfile::ProgramReadError;
+use fg_subs::ValidProgram;
 use std::alloc::Global;
 use std::sync::Wait;
 use std::thread::Threads;
@@ -45,7 +45,7 @@ fn execute_program<R: Threads + Wait + Sync, G: Gate + Sync>(
     alloc: Global,
     options: RunOptions,
     trace: bool,
-    program: Shaped,
+    program: ValidProgram,
     gate: &G,
 ) -> Result<Reply, NoMemory>
     ensures program { IfOk result (λ reply. Executes options trace program reply ⊎ IsStill (Rejects program) reply) }
@@ -71,7 +71,7 @@ pub fn execute_file<R: Threads + Wait + Sync, G: Gate + Sync>(
 {
     match valid_program(alloc, bytes) {
         Ok(program) => execute_program(rt, alloc, options, trace, program, gate),
-        Err(SubReadEnd::Refused(fault)) => Ok(still(program_refusal(alloc, &fault)?)),
-        Err(SubReadEnd::NoMemory) => Err(NoMemory),
+        Err(ProgramReadError::Refused(fault)) => Ok(still(program_refusal(alloc, &fault)?)),
+        Err(ProgramReadError::NoMemory) => Err(NoMemory),
     }
 }

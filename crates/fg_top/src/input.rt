@@ -1,8 +1,8 @@
 //! The input of a command.
 
 ghost use Rattle.std.specs.Prelude.{◌≡◌, ◌⊎◌, IfOk, IfErr, None};
-ghost use Rattle.fg_top.specs.Code.Intakes.{IsGiven};
-ghost use Rattle.fg_top.specs.Code.Steps.{ReadsAnswer};
+ghost use Rattle.fg_top.specs.Internal.Intakes.{IsGiven};
+ghost use Rattle.fg_top.specs.Internal.Steps.{ReadsAnswer};
 ghost use Rattle.fg_top.specs.Takes.{TakesAll, TakesFew};
 
 use crate::Status;

@@ -1,10 +1,10 @@
 //! Input is read to its end, or to one byte over a limit.
 
 ghost use Rattle.std.specs.Prelude.{◌≡◌, ◌<◌, ◌+◌, ◌^◌, length, vec_len, IfOk};
-ghost use Rattle.fg_top.specs.Code.Intakes.{IsIntake, IsStep};
+ghost use Rattle.fg_top.specs.Internal.Intakes.{IsIntake, IsStep};
 ghost use Rattle.fg_top.specs.Outcomes.{TakesAtMost};
 
-use fg_base::{NoMemory, Source, Taken};
+use fg_base::{NoMemory, Source, ReadResult};
 use std::alloc::Global;
 
 // How many bytes are asked for at once.
@@ -25,7 +25,7 @@ pub enum Intake {
 
 // How one read ended.
 #[derive(Clone, Copy)]
-enum Step {
+enum ReadStep {
     More,
     End,
     Fault,
@@ -45,29 +45,29 @@ pub fn read_input<I: Source>(alloc: Global, input: &mut I, limit: usize) -> Inta
     while bytes.len() <= limit {
         let want = BUFFER.min(limit + 1 - bytes.len());
         match read_some(input, &mut buffer[..want], &mut bytes) {
-            Step::More => {}
-            Step::End => return Intake::Whole(bytes),
-            Step::Fault => return Intake::Fault,
-            Step::NoMemory => return Intake::NoMemory,
+            ReadStep::More => {}
+            ReadStep::End => return Intake::Whole(bytes),
+            ReadStep::Fault => return Intake::Fault,
+            ReadStep::NoMemory => return Intake::NoMemory,
         }
     }
     Intake::Over
 }
 
-fn read_some<I: Source>(input: &mut I, buffer: &mut [u8], bytes: &mut Vec<u8>) -> Step
+fn read_some<I: Source>(input: &mut I, buffer: &mut [u8], bytes: &mut Vec<u8>) -> ReadStep
     requires { 0 < length buffer.old }
     ensures step { IsStep (length buffer.old) (I.left input.old) (I.left input.new) (I.faults input.old) (I.faults input.new) bytes.old.items bytes.new.items result }
     ensures taken { TakesAtMost (length buffer.old) (I.left input.old) (I.left input.new) }
 {
     match input.read(buffer) {
-        Taken::Got(count) => {
+        ReadResult::Got(count) => {
             if bytes.extend_from_slice(&buffer[..count]).is_err() {
-                return Step::NoMemory;
+                return ReadStep::NoMemory;
             }
-            Step::More
+            ReadStep::More
         }
-        Taken::End => Step::End,
-        Taken::Failed => Step::Fault,
+        ReadResult::End => ReadStep::End,
+        ReadResult::Failed => ReadStep::Fault,
     }
 }
 

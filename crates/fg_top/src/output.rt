@@ -2,7 +2,7 @@
 
 ghost use Rattle.std.specs.Prelude.{◌≡◌, ◌<◌, ◌⊎◌};
 ghost use Rattle.fg_top.specs.Causes.{WriteCause};
-ghost use Rattle.fg_top.specs.Code.Steps.{IsWritten};
+ghost use Rattle.fg_top.specs.Internal.Steps.{IsWritten};
 ghost use Rattle.fg_answer.specs.Statuses.{HasText};
 ghost use Rattle.fg_top.specs.Outcomes.{EndsAs};
 

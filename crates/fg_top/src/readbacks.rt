@@ -10,7 +10,7 @@ ghost use Rattle.fg_top.specs.Texts.{readbacks_text, traced};
 
 use fg_base::{List, NoMemory, Text};
 use fg_device::Device;
-use fg_frame::GoodFrame;
+use fg_frame::ValidFrame;
 use fg_report::{export_text, readback_text, run_text, trace_text};
 use fg_run::bytes_of;
 use fg_versions::Kept;
@@ -28,7 +28,7 @@ pub fn add_readbacks(text: &mut Text, device: &Device) -> Result<(), NoMemory>
     Ok(())
 }
 
-fn add_exports(text: &mut Text, good: &GoodFrame, device: &Device) -> Result<(), NoMemory>
+fn add_exports(text: &mut Text, good: &ValidFrame, device: &Device) -> Result<(), NoMemory>
     requires complete { IsComplete device.now }
     requires one_each { length device.now.program.readbacks ≡ length (numbered good.now).exports }
     ensures { OnOk result (text.new ≡ text.old ++ exports_text good.now (read_by device.now)) }
@@ -64,7 +64,7 @@ pub fn exec_text(alloc: Global, device: &Device, trace: bool) -> Result<Text, No
 /// The culled passes of a frame, its exports with the read-backs of such a device, and its history where it is asked for.
 pub fn frame_text(
     alloc: Global,
-    good: &GoodFrame,
+    good: &ValidFrame,
     kept: &Kept,
     device: &Device,
     trace: bool,

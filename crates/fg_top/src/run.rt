@@ -15,8 +15,8 @@ use crate::reply::{Reply, ran, still};
 use fg_answer::refusal;
 use fg_base::{Gate, NoMemory, RunOptions};
 use fg_compile::Compiled;
-use fg_frame::GoodFrame;
-use fg_framefile::FrameReadEnd;
+use fg_frame::ValidFrame;
+use fg_framefile::FrameReadError;
 use fg_run::run_program;
 use fg_stages::{compiled, valid_frame};
 use std::alloc::Global;
@@ -29,7 +29,7 @@ fn run_compiled<R: Threads + Wait + Sync, G: Gate + Sync>(
     alloc: Global,
     options: RunOptions,
     trace: bool,
-    good: &GoodFrame,
+    good: &ValidFrame,
     made: &Compiled,
     gate: &G,
 ) -> Result<Reply, NoMemory>
@@ -50,7 +50,7 @@ fn run_frame<R: Threads + Wait + Sync, G: Gate + Sync>(
     options: RunOptions,
     trace: bool,
     tight: bool,
-    good: &GoodFrame,
+    good: &ValidFrame,
     gate: &G,
 ) -> Result<Reply, NoMemory>
     ensures frame { IfOk result (RunsFrame options trace tight good.now) }
@@ -75,7 +75,7 @@ pub fn run_file<R: Threads + Wait + Sync, G: Gate + Sync>(
 {
     match valid_frame(alloc, bytes) {
         Ok(good) => run_frame(rt, alloc, options, trace, tight, &good, gate),
-        Err(FrameReadEnd::Refused(fault)) => Ok(still(refusal(alloc, &fault)?)),
-        Err(FrameReadEnd::NoMemory) => Err(NoMemory),
+        Err(FrameReadError::Refused(fault)) => Ok(still(refusal(alloc, &fault)?)),
+        Err(FrameReadError::NoMemory) => Err(NoMemory),
     }
 }

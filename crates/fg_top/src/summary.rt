@@ -6,7 +6,7 @@ ghost use Rattle.fg_frame.specs.Numbered.{numbered};
 ghost use Rattle.fg_gen.specs.Generated.{generated};
 ghost use Rattle.fg_groups.specs.Groups.{grouping};
 ghost use Rattle.fg_groups.specs.Placed.{sizes};
-ghost use Rattle.fg_top.specs.Code.Totals.{IsTotal};
+ghost use Rattle.fg_top.specs.Internal.Totals.{IsTotal};
 ghost use Rattle.fg_stages.specs.Compiles.{Compiles};
 ghost use Rattle.fg_top.specs.Headline.{SummarizesFrame};
 ghost use Rattle.fg_run.specs.Runs.{HasRun, read_by};
@@ -20,7 +20,7 @@ use fg_base::{Gate, NoMemory, RunOptions, Text};
 use fg_compile::Compiled;
 use fg_device::Device;
 use fg_faithful::meaning_laws;
-use fg_frame::GoodFrame;
+use fg_frame::ValidFrame;
 use fg_gen::generate;
 use fg_groups::groups_of;
 use fg_report::{sum_of_sizes, summary_text};
@@ -32,7 +32,7 @@ use std::sync::Wait;
 use std::thread::Threads;
 
 // How many bytes the placed units would take one by one.
-fn separate(alloc: Global, good: &GoodFrame, kept: &Kept) -> Result<u32, NoMemory>
+fn separate(alloc: Global, good: &ValidFrame, kept: &Kept) -> Result<u32, NoMemory>
     requires { AreKept (numbered good.now) kept.now }
     ensures { IfOk result (λ bytes. bytes ≡ sum (sizes (grouping (numbered good.now) kept.now))) }
 {
@@ -42,7 +42,7 @@ fn separate(alloc: Global, good: &GoodFrame, kept: &Kept) -> Result<u32, NoMemor
 }
 
 // How many passes are kept.
-fn kept_count(good: &GoodFrame, kept: &Kept) -> u32
+fn kept_count(good: &ValidFrame, kept: &Kept) -> u32
     requires { AreKept (numbered good.now) kept.now }
     ensures count { result ≡ count_by (λ k. k) kept.now }
     ensures few { result ≤ length (numbered good.now).passes }
@@ -52,7 +52,7 @@ fn kept_count(good: &GoodFrame, kept: &Kept) -> u32
 }
 
 // The bytes of all exports of a frame whose program a device has run.
-fn exported(good: &GoodFrame, made: &Compiled, device: &Device, options: RunOptions) -> Total
+fn exported(good: &ValidFrame, made: &Compiled, device: &Device, options: RunOptions) -> Total
     requires compiles { Compiles false (numbered good.now) made.now.kept made.now.placement made.now.program.program }
     requires has_run { HasRun made.now.program.program options.tend device.now }
     ensures { IsTotal (read_by device.now) (length (numbered good.now).exports) result }
@@ -62,7 +62,7 @@ fn exported(good: &GoodFrame, made: &Compiled, device: &Device, options: RunOpti
     total_of(device, good.exports().len() as u32)
 }
 
-fn text_of(alloc: Global, good: &GoodFrame, made: &Compiled, total: Total) -> Result<Text, NoMemory>
+fn text_of(alloc: Global, good: &ValidFrame, made: &Compiled, total: Total) -> Result<Text, NoMemory>
     requires kept { AreKept (numbered good.now) made.now.kept }
     ensures { IfOk result (λ text. text ≡ summary_with (numbered good.now) made.now.kept made.now.placement made.now.program.program total.bytes total.sum) }
 {
@@ -85,7 +85,7 @@ fn summarize_compiled<R: Threads + Wait + Sync, G: Gate + Sync>(
     rt: &R,
     alloc: Global,
     options: RunOptions,
-    good: &GoodFrame,
+    good: &ValidFrame,
     made: &Compiled,
     gate: &G,
 ) -> Result<Reply, NoMemory>
@@ -103,7 +103,7 @@ fn summarize_frame<R: Threads + Wait + Sync, G: Gate + Sync>(
     rt: &R,
     alloc: Global,
     options: RunOptions,
-    good: &GoodFrame,
+    good: &ValidFrame,
     gate: &G,
 ) -> Result<Reply, NoMemory>
     ensures frame { IfOk result (SummarizesFrame options good.now) }

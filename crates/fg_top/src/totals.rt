@@ -3,7 +3,7 @@
 ghost use Rattle.std.specs.Prelude.{◌≡◌, ◌<◌, ◌≤◌, ◌*◌, ℕ, length};
 ghost use Rattle.std.specs.List.{sum};
 ghost use Rattle.fg_steps.specs.Devices.{IsComplete};
-ghost use Rattle.fg_top.specs.Code.Totals.{IsTotal};
+ghost use Rattle.fg_top.specs.Internal.Totals.{IsTotal};
 ghost use Rattle.fg_run.specs.Runs.{read_by};
 
 use fg_device::Device;

@@ -9,9 +9,9 @@ use Rattle.fg_groups.specs.Uses.{no_use}
 use Rattle.fg_groups.specs.declared.grouping.Grouping.{Grouping}
 use Rattle.fg_groups.specs.declared.unit_use.Use.{Use}
 use Rattle.fg_turns.proofs.Members.{some_use, is_used, imported, no_import}
-use Rattle.fg_turns.specs.Turns.{first, has_uses, earlier, first_kind, kind_of, turn_between, turn_of}
+use Rattle.fg_turns.specs.Prologues.{first, has_uses, earlier, first_kind, kind_of, prologue_between, prologue_of}
 use Rattle.fg_turns.specs.Under.{Heap, place_of, uses_under}
-use Rattle.fg_turns.specs.declared.turn.TurnKind.TheVariants.{Nothing}
+use Rattle.fg_turns.specs.declared.prologue.PrologueKind.TheVariants.{Nothing}
 
 pub empty : (uses : List Use) → (length uses == 0) ≡ true → [] ≡ uses
 empty [] e = refl
@@ -24,17 +24,17 @@ module _ (G : Grouping) (heap : Heap) (g : ℕ) (alone : [] ≡ earlier G g) whe
   abbrev L : List Use
   L = uses_under G heap (place_of G (first (group_at G g)).unit)
 
-  without : turn_between (kind_of G [] L B) g [] L B ≡ turn_of G heap g
-  without = ap (λ A. turn_between (kind_of G A L B) g A L B) alone
+  without : prologue_between (kind_of G [] L B) g [] L B ≡ prologue_of G heap g
+  without = ap (λ A. prologue_between (kind_of G A L B) g A L B) alone
 
   -- an import
-  pub import_turn : IsGrouped G → IsKnown G → g < length G.groups → place_of G (first (group_at G g)).unit ≡ length (placed G) → turn_between Nothing g [] [] (group_at G g) ≡ turn_of G heap g
-  import_turn K N lt none =
-      sym (ap (λ b. turn_between (if b then Nothing else first_kind (has_uses L) (is_some (first B).layout)) g [] L B) (imported G (first B).unit (N.members g [] lt 0 no_use (some_use G g K lt)).0 (is_used G g K lt) none))
+  pub import_prologue : IsGrouped G → IsKnown G → g < length G.groups → place_of G (first (group_at G g)).unit ≡ length (placed G) → prologue_between Nothing g [] [] (group_at G g) ≡ prologue_of G heap g
+  import_prologue K N lt none =
+      sym (ap (λ b. prologue_between (if b then Nothing else first_kind (has_uses L) (is_some (first B).layout)) g [] L B) (imported G (first B).unit (N.members g [] lt 0 no_use (some_use G g K lt)).0 (is_used G g K lt) none))
       ∙ without
 
   -- a unit that has a place
-  pub placed_turn : place_of G (first (group_at G g)).unit < length (placed G) → turn_between (first_kind (has_uses L) (is_some (first (group_at G g)).layout)) g [] L (group_at G g) ≡ turn_of G heap g
-  placed_turn lt =
-      sym (ap (λ b. turn_between (if b then Nothing else first_kind (has_uses L) (is_some (first B).layout)) g [] L B) (no_import G (first B).unit lt))
+  pub placed_prologue : place_of G (first (group_at G g)).unit < length (placed G) → prologue_between (first_kind (has_uses L) (is_some (first (group_at G g)).layout)) g [] L (group_at G g) ≡ prologue_of G heap g
+  placed_prologue lt =
+      sym (ap (λ b. prologue_between (if b then Nothing else first_kind (has_uses L) (is_some (first B).layout)) g [] L B) (no_import G (first B).unit lt))
       ∙ without

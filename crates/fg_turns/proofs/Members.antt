@@ -18,8 +18,8 @@ use Rattle.fg_groups.specs.Placed.{placed, is_import}
 use Rattle.fg_groups.specs.Uses.{no_use}
 use Rattle.fg_groups.specs.declared.grouping.Grouping.{Grouping}
 use Rattle.fg_groups.specs.declared.unit_use.Use.{Use}
-use Rattle.fg_turns.specs.Code.Lasts.{AreLasts, group_from}
-use Rattle.fg_turns.specs.Turns.{first, earlier}
+use Rattle.fg_turns.specs.Internal.Lasts.{AreLasts, group_from}
+use Rattle.fg_turns.specs.Prologues.{first, earlier}
 use Rattle.fg_turns.specs.Under.{place_of, last_below}
 
 -- EACH GROUP

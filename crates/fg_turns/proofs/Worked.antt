@@ -17,10 +17,10 @@ use Rattle.fg_frame.specs.declared.numbered.NumberedPass.{NumberedPass}
 use Rattle.fg_groups.specs.Groups.{grouping}
 use Rattle.fg_groups.specs.declared.grouping.Grouping.{Grouping}
 use Rattle.fg_turns.specs.Masks.{masks, no_masks}
-use Rattle.fg_turns.specs.Turns.{turn_of, turns}
+use Rattle.fg_turns.specs.Prologues.{prologue_of, prologues}
 use Rattle.fg_turns.specs.Under.{Heap}
-use Rattle.fg_turns.specs.declared.turn.TurnKind.{TurnKind}
-use Rattle.fg_turns.specs.declared.turn.TurnKind.TheVariants.{Nothing, Barrier, Transfer, Alias, Init}
+use Rattle.fg_turns.specs.declared.prologue.PrologueKind.{PrologueKind}
+use Rattle.fg_turns.specs.declared.prologue.PrologueKind.TheVariants.{Nothing, Barrier, Transfer, Alias, Init}
 
 -- FRAMES
 
@@ -46,8 +46,8 @@ copied queue src dst = pass queue (src ∷ []) (fresh dst ∷ []) (CopyBuffer sr
 abbrev apart : Heap
 apart = record { ordered = λ a b. false; offsets = 0 ∷ 256 ∷ 512 ∷ 768 ∷ [] }
 
-abbrev kinds : Grouping → Heap → List TurnKind
-kinds G heap = map (λ turn. turn.kind) (turns G heap)
+abbrev kinds : Grouping → Heap → List PrologueKind
+kinds G heap = map (λ prologue. prologue.kind) (prologues G heap)
 
 -- AN IMAGE IS HANDED FROM COMPUTE TO GRAPHICS
 
@@ -63,7 +63,7 @@ ramped_kinds : kinds ramped apart ≡ Init ∷ Transfer ∷ Init ∷ Barrier ∷
 ramped_kinds = refl
 
 -- an acquire on graphics, and a release on compute
-handed_on : turn_of ramped apart 1 ≡ record { queue = 0; group = 1; kind = Transfer; masks = masks compute_shader 0 compute_shader shader_sampled_read; release = Some (masks compute_shader shader_storage_write compute_shader 0); release_queue = Some 1 }
+handed_on : prologue_of ramped apart 1 ≡ record { queue = 0; group = 1; kind = Transfer; masks = masks compute_shader 0 compute_shader shader_sampled_read; release = Some (masks compute_shader shader_storage_write compute_shader 0); release_queue = Some 1 }
 handed_on = refl
 
 -- A BUFFER IS READ BY TWO FAMILIES
@@ -77,7 +77,7 @@ read_twice sharing = grouping (record {
 }) (true ∷ true ∷ true ∷ [])
 
 -- one barrier, on the queue of the first reader. It has the stages after it on both sides, since it waits for the fill.
-shared : turn_of (read_twice Concurrent) apart 1 ≡ record { queue = 1; group = 1; kind = Barrier; masks = masks copy 0 copy transfer_read; release = None; release_queue = None }
+shared : prologue_of (read_twice Concurrent) apart 1 ≡ record { queue = 1; group = 1; kind = Barrier; masks = masks copy 0 copy transfer_read; release = None; release_queue = None }
 shared = refl
 
 -- an exclusive one is handed on twice
@@ -95,7 +95,7 @@ released = grouping (record {
 }) (true ∷ true ∷ true ∷ true ∷ [])
 
 -- it is on the queue of the last reader
-released_after : (turn_of released apart 2).release_queue ≡ Some 1
+released_after : (prologue_of released apart 2).release_queue ≡ Some 1
 released_after = refl
 
 -- A BUFFER LIES WHERE ANOTHER ONE LAY
@@ -112,8 +112,8 @@ abbrev on_top : Heap
 on_top = record { ordered = λ a b. a == 0 && b == 2; offsets = 0 ∷ 256 ∷ 0 ∷ [] }
 
 -- after the copy out of the first one, which writes nothing there
-reused_turn : turn_of reused on_top 3 ≡ record { queue = 0; group = 3; kind = Alias; masks = masks copy 0 clear transfer_write; release = None; release_queue = None }
-reused_turn = refl
+reused_prologue : prologue_of reused on_top 3 ≡ record { queue = 0; group = 3; kind = Alias; masks = masks copy 0 clear transfer_write; release = None; release_queue = None }
+reused_prologue = refl
 
 -- AN IMPORT
 
@@ -125,5 +125,5 @@ imported = grouping (record {
   exports = 0 ∷ [];
 }) []
 
-imported_turn : turn_of imported apart 0 ≡ record { queue = 0; group = 0; kind = Nothing; masks = no_masks; release = None; release_queue = None }
-imported_turn = refl
+imported_prologue : prologue_of imported apart 0 ≡ record { queue = 0; group = 0; kind = Nothing; masks = no_masks; release = None; release_queue = None }
+imported_prologue = refl

@@ -1,5 +1,5 @@
-pub mod Code
+pub mod Internal
 pub mod Masks
-pub mod Turns
+pub mod Prologues
 pub mod Under
 pub mod Unions

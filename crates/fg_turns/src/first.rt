@@ -2,22 +2,22 @@
 
 ghost use Rattle.std.specs.Prelude.{◌≡◌, ◌<◌, [], length, is_some};
 ghost use Rattle.fg_turns.specs.Masks.{no_masks};
-ghost use Rattle.fg_turns.specs.Turns.{first, has_uses, first_kind, turn_between};
-ghost use Rattle.fg_turns.specs.declared.turn.TurnKind.TheVariants as kinds;
+ghost use Rattle.fg_turns.specs.Prologues.{first, has_uses, first_kind, prologue_between};
+ghost use Rattle.fg_turns.specs.declared.prologue.PrologueKind.TheVariants as kinds;
 
 use crate::masks::{barrier_masks, entry_masks};
-use crate::{Turn, TurnKind};
+use crate::{Prologue, PrologueKind};
 use fg_bits::{Accesses, Masks, Stages};
 use fg_groups::Use;
 
-fn first_kind(is_reused: bool, is_image: bool) -> TurnKind
+fn first_kind(is_reused: bool, is_image: bool) -> PrologueKind
     ensures { result ≡ first_kind is_reused is_image }
 {
     match (is_reused, is_image) {
-        (false, false) => TurnKind::Nothing,
-        (false, true) => TurnKind::Init,
-        (true, false) => TurnKind::Alias,
-        (true, true) => TurnKind::AliasInit,
+        (false, false) => PrologueKind::Nothing,
+        (false, true) => PrologueKind::Init,
+        (true, false) => PrologueKind::Alias,
+        (true, true) => PrologueKind::AliasInit,
     }
 }
 
@@ -33,9 +33,9 @@ fn no_masks() -> Masks
 }
 
 /// Before the first uses of a placed unit, where these are the last ones that its bytes had before.
-pub(crate) fn first_turn(g: u32, last: &[Use], after: &[Use]) -> Turn
+pub(crate) fn first_prologue(g: u32, last: &[Use], after: &[Use]) -> Prologue
     requires { 0 < length after.now }
-    ensures { result ≡ turn_between (first_kind (has_uses last.now) (is_some (first after.now).layout)) g [] last.now after.now }
+    ensures { result ≡ prologue_between (first_kind (has_uses last.now) (is_some (first after.now).layout)) g [] last.now after.now }
 {
     let queue = after[0].queue;
     let is_reused = !last.is_empty();
@@ -45,7 +45,7 @@ pub(crate) fn first_turn(g: u32, last: &[Use], after: &[Use]) -> Turn
         (false, true) => entry_masks(after, queue),
         (false, false) => no_masks(),
     };
-    Turn {
+    Prologue {
         queue,
         group: g,
         kind: first_kind(is_reused, is_image),
@@ -56,14 +56,14 @@ pub(crate) fn first_turn(g: u32, last: &[Use], after: &[Use]) -> Turn
 }
 
 /// Before the first uses of an import.
-pub(crate) fn no_turn(g: u32, after: &[Use]) -> Turn
+pub(crate) fn no_prologue(g: u32, after: &[Use]) -> Prologue
     requires { 0 < length after.now }
-    ensures { result ≡ turn_between kinds.Nothing g [] [] after.now }
+    ensures { result ≡ prologue_between kinds.Nothing g [] [] after.now }
 {
-    Turn {
+    Prologue {
         queue: after[0].queue,
         group: g,
-        kind: TurnKind::Nothing,
+        kind: PrologueKind::Nothing,
         masks: no_masks(),
         release: None,
         release_queue: None,

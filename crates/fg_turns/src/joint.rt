@@ -1,7 +1,7 @@
 //! What uses on one queue do together.
 
 ghost use Rattle.std.specs.Prelude.{◌≡◌, if◌then◌else◌, ◌==◌};
-ghost use Rattle.fg_turns.specs.Code.Joints.{joined};
+ghost use Rattle.fg_turns.specs.Internal.Joints.{joined};
 ghost use Rattle.fg_turns.specs.Unions.{joint_on, is_elsewhere};
 
 use fg_bits::{Accesses, Stages};

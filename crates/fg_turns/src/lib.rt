@@ -7,8 +7,8 @@ mod masks;
 mod member;
 mod next;
 mod of_groups;
-mod turn;
+mod prologue;
 mod under;
 
-pub use of_groups::turns;
-pub use turn::{Turn, TurnKind};
+pub use of_groups::prologues;
+pub use prologue::{Prologue, PrologueKind};

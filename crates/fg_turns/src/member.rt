@@ -1,7 +1,7 @@
 //! Of which unit uses are.
 
 ghost use Rattle.std.specs.Prelude.{◌≡◌, ◌<◌, length};
-ghost use Rattle.fg_turns.specs.Turns.{first};
+ghost use Rattle.fg_turns.specs.Prologues.{first};
 
 use fg_groups::Use;
 

@@ -2,10 +2,10 @@
 
 ghost use Rattle.std.specs.Prelude.{◌≡◌, ◌<◌, [], length};
 ghost use Rattle.fg_groups.specs.Groups.{shares};
-ghost use Rattle.fg_turns.specs.Turns.{first, next_kind, turn_between};
+ghost use Rattle.fg_turns.specs.Prologues.{first, next_kind, prologue_between};
 
 use crate::masks::{barrier_masks, entry_masks, release_masks};
-use crate::{Turn, TurnKind};
+use crate::{Prologue, PrologueKind};
 use fg_bits::family_number;
 use fg_groups::{Groups, Use};
 
@@ -21,30 +21,30 @@ fn shares(groups: &Groups, unit: u32, p: u32, q: u32) -> bool
 }
 
 /// Between the uses of a group and those of the next one of the same unit.
-pub(crate) fn next_turn(groups: &Groups, g: u32, before: &[Use], after: &[Use]) -> Turn
+pub(crate) fn next_prologue(groups: &Groups, g: u32, before: &[Use], after: &[Use]) -> Prologue
     requires before { 0 < length before.now }
     requires after { 0 < length after.now }
     requires unit { (first after.now).unit < length groups.now.sharings }
     requires p { (first before.now).queue < length groups.now.families }
     requires q { (first after.now).queue < length groups.now.families }
-    ensures { result ≡ turn_between (next_kind groups.now before.now after.now) g before.now [] after.now }
+    ensures { result ≡ prologue_between (next_kind groups.now before.now after.now) g before.now [] after.now }
 {
     let queue = after[0].queue;
     if shares(groups, after[0].unit, before[0].queue, queue) {
-        return Turn {
+        return Prologue {
             queue,
             group: g,
-            kind: TurnKind::Barrier,
+            kind: PrologueKind::Barrier,
             masks: barrier_masks(before, after, queue),
             release: None,
             release_queue: None,
         };
     }
     let from = before[before.len() - 1].queue;
-    Turn {
+    Prologue {
         queue,
         group: g,
-        kind: TurnKind::Transfer,
+        kind: PrologueKind::Transfer,
         masks: entry_masks(after, queue),
         release: Some(release_masks(before, from)),
         release_queue: Some(from),

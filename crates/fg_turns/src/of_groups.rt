@@ -2,14 +2,14 @@
 
 ghost use Rattle.std.specs.Prelude.{◌≡◌, ◌<◌, length, IfOk};
 ghost use Rattle.fg_groups.specs.Placed.{placed};
-ghost use Rattle.fg_turns.specs.Code.Lasts.{AreLasts};
-ghost use Rattle.fg_turns.specs.Turns.{earlier, turn_of, turns};
+ghost use Rattle.fg_turns.specs.Internal.Lasts.{AreLasts};
+ghost use Rattle.fg_turns.specs.Prologues.{earlier, prologue_of, prologues};
 ghost use Rattle.fg_turns.specs.Under.{heap_of};
 
-use crate::Turn;
-use crate::first::{first_turn, no_turn};
+use crate::Prologue;
+use crate::first::{first_prologue, no_prologue};
 use crate::member::unit_of;
-use crate::next::next_turn;
+use crate::next::next_prologue;
 use crate::under::{last_groups, place_of, uses_under};
 use fg_base::{List, NoMemory};
 use fg_groups::{Groups, Use};
@@ -32,30 +32,30 @@ fn earlier(groups: &Groups, g: u32) -> &[Use]
     }
 }
 
-fn turn_of(
+fn prologue_of(
     alloc: Global,
     groups: &Groups,
     ordered: &Pairs,
     placement: &Placement,
     lasts: &[u32],
     g: u32,
-) -> Result<Turn, NoMemory>
+) -> Result<Prologue, NoMemory>
     requires ordered { ordered.now.count ≡ length (placed groups.now) }
     requires placement { length placement.now.offsets ≡ length (placed groups.now) }
     requires lasts { AreLasts groups.now (length groups.now.groups) lasts.now }
     requires g { g < length groups.now.groups }
-    ensures { IfOk result (λ turn. turn ≡ turn_of groups.now (heap_of ordered.now placement.now) g) }
+    ensures { IfOk result (λ prologue. prologue ≡ prologue_of groups.now (heap_of ordered.now placement.now) g) }
 {
     let before = earlier(groups, g);
     let members = groups.members(g);
     if !before.is_empty() {
-        return Ok(next_turn(groups, g, before, members));
+        return Ok(next_prologue(groups, g, before, members));
     }
     match place_of(groups, unit_of(members)) {
-        None => Ok(no_turn(g, members)),
+        None => Ok(no_prologue(g, members)),
         Some(b) => {
             let last = uses_under(alloc, groups, ordered, placement, lasts, b)?;
-            Ok(first_turn(g, &last, members))
+            Ok(first_prologue(g, &last, members))
         }
     }
 }
@@ -63,20 +63,20 @@ fn turn_of(
 /// For each group what stands before it, and the release after the group before it. `ordered` and `placement` are of the
 /// placed units, by their places in `placed`.
 #[tactic(auto, using(fg_base::proofs::Lists::one_more))]
-pub fn turns(
+pub fn prologues(
     alloc: Global,
     groups: &Groups,
     ordered: &Pairs,
     placement: &Placement,
-) -> Result<List<Turn>, NoMemory>
+) -> Result<List<Prologue>, NoMemory>
     requires ordered { ordered.now.count ≡ length (placed groups.now) }
     requires placement { length placement.now.offsets ≡ length (placed groups.now) }
-    ensures { IfOk result (λ list. list ≡ turns groups.now (heap_of ordered.now placement.now)) }
+    ensures { IfOk result (λ list. list ≡ prologues groups.now (heap_of ordered.now placement.now)) }
 {
     let lasts = last_groups(alloc, groups)?;
     let mut list = List::new(alloc);
     for g in 0..groups.group_count() {
-        list.push(turn_of(alloc, groups, ordered, placement, &lasts, g)?)?;
+        list.push(prologue_of(alloc, groups, ordered, placement, &lasts, g)?)?;
     }
     Ok(list)
 }

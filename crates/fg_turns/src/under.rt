@@ -3,7 +3,7 @@
 ghost use Rattle.std.specs.Prelude.{◌≡◌, ◌<◌, ◌+◌, length, IfOk, IfSome, IfNone};
 ghost use Rattle.fg_groups.specs.Placed.{placed, sizes};
 ghost use Rattle.fg_place.specs.Placing.{number_at, overlap};
-ghost use Rattle.fg_turns.specs.Code.Lasts.{AreLasts};
+ghost use Rattle.fg_turns.specs.Internal.Lasts.{AreLasts};
 ghost use Rattle.fg_turns.specs.Under.{heap_of, place_of, is_under, last_uses, uses_under};
 
 use crate::member::unit_of;

@@ -5,7 +5,7 @@ use Rattle.std.proofs.lemmas.Bool.{lt-leb}
 use Rattle.std.proofs.lemmas.List.Sums.{sum_by-cons, sum_by-append}
 use Rattle.fg_base.specs.Shapes.{shape_at, bytes_of}
 use Rattle.fg_base.specs.declared.shape.Shape.TheVariants.{Buffer}
-use Rattle.fg_frame.specs.Good.{IsGood, shapes_in}
+use Rattle.fg_frame.specs.Valid.{IsValid, shapes_in}
 use Rattle.fg_frame.specs.Numbered.{NumberedFrame}
 use Rattle.fg_frame.specs.Units.{Unit}
 use Rattle.fg_groups.specs.Commands.{readback_shape}
@@ -30,7 +30,7 @@ from_zero : (f : ℕ → ℕ) (n : ℕ) → sum_below (λ k. f (0 + k)) n ≡ su
 from_zero f zero = refl
 from_zero f (suc n) = let e : f (0 + n) ≡ f n = (let z : 0 + n ≡ n = omega arith in ap f z) in omega (arith, e, from_zero f n)
 
-module _ (frame : NumberedFrame) (kept : List Bool) (good : IsGood frame) where
+module _ (frame : NumberedFrame) (kept : List Bool) (good : IsValid frame) where
   abbrev G : Grouping
   G = grouping frame kept
 

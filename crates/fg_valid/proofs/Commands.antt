@@ -18,7 +18,7 @@ use Rattle.fg_base.specs.declared.shape.Family.{Family}
 use Rattle.fg_base.specs.declared.shape.Family.TheVariants.{Graphics}
 use Rattle.fg_base.specs.declared.shape.Shape.{Shape}
 use Rattle.fg_base.specs.declared.shape.Shape.TheVariants.{Buffer, Image}
-use Rattle.fg_frame.specs.Good.{IsGood, IsGoodOp, shapes_in}
+use Rattle.fg_frame.specs.Valid.{IsValid, IsValidOp, shapes_in}
 use Rattle.fg_frame.specs.Numbered.{NumberedFrame}
 use Rattle.fg_frame.specs.Units.{Unit}
 use Rattle.fg_frame.specs.declared.numbered.NumberedPass.{NumberedPass}
@@ -51,7 +51,7 @@ exports_each P frame k (unit ∷ units) each =
     (one P (export_command frame k unit) (subst (λ n. P (export_command frame n unit)) z (each 0 unit (omega arith))))
     (exports_each P frame (suc k) units (λ j d lt. let next : k + suc j ≡ suc k + j = omega arith in subst (λ n. P (export_command frame n (get_or units j d))) next (each (suc j) d (omega (arith, lt)))))
 
-module _ (frame : NumberedFrame) (kept : List Bool) (good : IsGood frame) where
+module _ (frame : NumberedFrame) (kept : List Bool) (good : IsValid frame) where
   abbrev G : Grouping
   G = grouping frame kept
 
@@ -74,7 +74,7 @@ module _ (frame : NumberedFrame) (kept : List Bool) (good : IsGood frame) where
 
   -- what holds of the operations of passes and of the copies of exports holds of all commands
   each_command : (P : Command → Type 0)
-      → ((pass : NumberedPass) (op : Op ℕ) → pass.queue < length frame.queues → All (λ unit. unit < length frame.units) (operands_of op) → IsGoodOp frame pass op → P (on_queue pass.queue op))
+      → ((pass : NumberedPass) (op : Op ℕ) → pass.queue < length frame.queues → All (λ unit. unit < length frame.units) (operands_of op) → IsValidOp frame pass op → P (on_queue pass.queue op))
       → ((k unit : ℕ) → k < length frame.exports → unit < length frame.units → readback_shape frame unit ≡ shape_at G.shapes (length frame.units + k) → P (export_command frame k unit))
       → All P G.commands
   each_command P of-pass of-export =

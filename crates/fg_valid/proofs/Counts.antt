@@ -18,15 +18,15 @@ use Rattle.fg_groups.specs.declared.command.Command.{Command}
 use Rattle.fg_groups.specs.declared.grouping.Grouping.{Grouping}
 use Rattle.fg_groups.specs.declared.unit_use.Use.{Use}
 use Rattle.fg_groups.specs.declared.unit_use.UseAt.{UseAt}
-use Rattle.fg_recorder.specs.Items.{both, barrier, layouts_between, transfer, init, items_of, turn_items, release_item}
+use Rattle.fg_recorder.specs.Items.{both, barrier, layouts_between, transfer, init, items_of, prologue_items, release_item}
 use Rattle.fg_recorder.specs.Marks.{unmarked, steps_of}
 use Rattle.fg_recorder.specs.Pieces.{piece_of}
-use Rattle.fg_recorder.specs.Script.{is_command, use_needs, use_turns, is_released, use_releases, host_barrier, groups_used, does_command, block, blocks, script}
+use Rattle.fg_recorder.specs.Script.{is_command, use_needs, use_prologues, is_released, use_releases, host_barrier, groups_used, does_command, block, blocks, script}
 use Rattle.fg_recorder.specs.Wanted.{wanted_release}
 use Rattle.fg_recorder.specs.declared.mark.Mark.{Mark}
 use Rattle.fg_recorder.specs.declared.mark.Marked.{Marked}
 use Rattle.fg_recorder.specs.declared.mark.Marked.TheVariants.{Does, Needs}
-use Rattle.fg_subs.specs.declared.program.Item as subs
+use Rattle.fg_subs.specs.declared.program.Item as programs
 use Rattle.fg_subs.specs.declared.program.Item.TheVariants as item
 use Rattle.fg_subs.specs.declared.program.Transfer as transfers
 use Rattle.fg_timeline.specs.Parts.{Part, Waits, Does as Has, Signals, when, wait_for, signal_after, waits_at, step_parts, parts_at}
@@ -37,17 +37,17 @@ use Rattle.fg_timeline.specs.Waits.{wanted, latest, last_item, waits}
 use Rattle.fg_timeline.specs.declared.step.Step.{Step}
 use Rattle.fg_timeline.specs.declared.step.Step.TheVariants.{Item, Need}
 use Rattle.fg_turns.specs.Masks.{entry_masks, release_masks, host_masks}
-use Rattle.fg_turns.specs.Turns.{first, last, earlier, turn_of}
+use Rattle.fg_turns.specs.Prologues.{first, last, earlier, prologue_of}
 use Rattle.fg_turns.specs.Under.{Heap}
-use Rattle.fg_turns.specs.declared.turn.Turn.{Turn}
-use Rattle.fg_turns.specs.declared.turn.TurnKind.{TurnKind}
-use Rattle.fg_turns.specs.declared.turn.TurnKind.TheVariants as kinds
+use Rattle.fg_turns.specs.declared.prologue.Prologue.{Prologue}
+use Rattle.fg_turns.specs.declared.prologue.PrologueKind.{PrologueKind}
+use Rattle.fg_turns.specs.declared.prologue.PrologueKind.TheVariants as kinds
 use Rattle.fg_valid.proofs.Sums.{sum_below, below_le, but_one, others, spread, at_one, length_all, sum_mapped, sum_range, sum_got, counted_once}
 
 -- WHAT IS RECORDED
 
 -- no barrier weighs more
-pub record AreLight (w : subs.Item → ℕ) (most : ℕ) : Type 0 where
+pub record AreLight (w : programs.Item → ℕ) (most : ℕ) : Type 0 where
   pub global : (masks : Masks) → w (item.Global masks) ≤ most
   pub buffer : (piece : ℕ) (masks : Masks) → w (item.BufferBarrier piece masks) ≤ most
   pub image : (piece : ℕ) (layouts : Layouts) (masks : Masks) → w (item.ImageBarrier piece layouts masks) ≤ most
@@ -58,15 +58,15 @@ abbrev pub is_host : Command → ℕ
 is_host command = if is_some command.export then 1 else 0
 
 -- what a command weighs itself
-abbrev pub own : (subs.Item → ℕ) → Grouping → Command → ℕ
+abbrev pub own : (programs.Item → ℕ) → Grouping → Command → ℕ
 own w G command = w (item.Command (mapped (piece_of G) command.op))
 
 -- what is recorded
-abbrev pub weight : (subs.Item → ℕ) → Marked → ℕ
+abbrev pub weight : (programs.Item → ℕ) → Marked → ℕ
 weight w (Does q mark it) = w it
 weight w (Needs q mark) = 0
 
-module _ (w : subs.Item → ℕ) (most : ℕ) (light : AreLight w most) where
+module _ (w : programs.Item → ℕ) (most : ℕ) (light : AreLight w most) where
   barrier_light : (piece : ℕ) (layouts : Option Layouts) (masks : Masks) → w (barrier piece layouts masks) ≤ most
   barrier_light piece (Some layouts) masks = light.image piece layouts masks
   barrier_light piece None masks = light.buffer piece masks
@@ -87,16 +87,16 @@ module _ (w : subs.Item → ℕ) (most : ℕ) (light : AreLight w most) where
     init_light : (B : List Use) → w (init G B) ≤ most
     init_light B = barrier_light (piece_of G (first B).unit) (both (Some Undefined) (first B).layout) (entry_masks B (first B).queue)
 
-    items_few : (kind : TurnKind) (turn : Turn) (A B : List Use) → sum_by (weight w) (items_of kind G turn A B) ≤ 2 * most
-    items_few kinds.Nothing turn A B = omega arith
-    items_few kinds.Barrier turn A B = omega (arith, barrier_light (piece_of G (first B).unit) (layouts_between A B) turn.masks)
-    items_few kinds.Transfer turn A B = omega (arith, light.acquire (transfer G A B turn.masks))
-    items_few kinds.Alias turn A B = omega (arith, light.global turn.masks)
-    items_few kinds.Init turn A B = omega (arith, init_light B)
-    items_few kinds.AliasInit turn A B = omega (arith, light.global turn.masks, init_light B)
+    items_few : (kind : PrologueKind) (prologue : Prologue) (A B : List Use) → sum_by (weight w) (items_of kind G prologue A B) ≤ 2 * most
+    items_few kinds.Nothing prologue A B = omega arith
+    items_few kinds.Barrier prologue A B = omega (arith, barrier_light (piece_of G (first B).unit) (layouts_between A B) prologue.masks)
+    items_few kinds.Transfer prologue A B = omega (arith, light.acquire (transfer G A B prologue.masks))
+    items_few kinds.Alias prologue A B = omega (arith, light.global prologue.masks)
+    items_few kinds.Init prologue A B = omega (arith, init_light B)
+    items_few kinds.AliasInit prologue A B = omega (arith, light.global prologue.masks, init_light B)
 
-    turns_few : (c g : ℕ) → sum_by (weight w) (use_turns G heap c g) ≤ 2 * most
-    turns_few c g = either_few (is_command c (first (group_at G g))) (turn_items G (turn_of G heap g) (earlier G g) (group_at G g)) (2 * most) (items_few (turn_of G heap g).kind (turn_of G heap g) (earlier G g) (group_at G g))
+    prologues_few : (c g : ℕ) → sum_by (weight w) (use_prologues G heap c g) ≤ 2 * most
+    prologues_few c g = either_few (is_command c (first (group_at G g))) (prologue_items G (prologue_of G heap g) (earlier G g) (group_at G g)) (2 * most) (items_few (prologue_of G heap g).kind (prologue_of G heap g) (earlier G g) (group_at G g))
 
     releases_few : (q c g : ℕ) → sum_by (weight w) (use_releases G heap q c g) ≤ most
     releases_few q c g =
@@ -122,13 +122,13 @@ module _ (w : subs.Item → ℕ) (most : ℕ) (light : AreLight w most) where
         let q : ℕ = command.queue in
         let gs : List ℕ = groups_used G c in
         let needs : List Marked = map (Needs q) (flat_map (use_needs G heap q c) gs) in
-        let turns : List Marked = flat_map (use_turns G heap c) gs in
+        let prologues : List Marked = flat_map (use_prologues G heap c) gs in
         let releases : List Marked = flat_map (use_releases G heap q c) gs in
         let host : List Marked = host_barrier G command command.export in
         let count = groups_count c in
-        let a = each_few (use_turns G heap c) (2 * most) gs (turns_few c) in
+        let a = each_few (use_prologues G heap c) (2 * most) gs (prologues_few c) in
         let b = each_few (use_releases G heap q c) most gs (releases_few q c) in
-        let a' : sum_by (weight w) turns ≤ 2 * most * used c = subst (λ n. sum_by (weight w) turns ≤ 2 * most * n) count a in
+        let a' : sum_by (weight w) prologues ≤ 2 * most * used c = subst (λ n. sum_by (weight w) prologues ≤ 2 * most * n) count a in
         let b' : sum_by (weight w) releases ≤ most * used c = subst (λ n. sum_by (weight w) releases ≤ most * n) count b in
         omega (
           arith,
@@ -136,9 +136,9 @@ module _ (w : subs.Item → ℕ) (most : ℕ) (light : AreLight w most) where
           a',
           b',
           host_few command command.export,
-          sum_by-append (weight w) ((needs ++ turns) ++ (does_command G c command ∷ releases)) host,
-          sum_by-append (weight w) (needs ++ turns) (does_command G c command ∷ releases),
-          sum_by-append (weight w) needs turns,
+          sum_by-append (weight w) ((needs ++ prologues) ++ (does_command G c command ∷ releases)) host,
+          sum_by-append (weight w) (needs ++ prologues) (does_command G c command ∷ releases),
+          sum_by-append (weight w) needs prologues,
           sum_by-cons (weight w) (does_command G c command) releases,
         )
 
@@ -180,15 +180,15 @@ module _ (w : subs.Item → ℕ) (most : ℕ) (light : AreLight w most) where
 
 -- STEPS
 
-abbrev pub step_weight : (subs.Item → ℕ) → Step → ℕ
+abbrev pub step_weight : (programs.Item → ℕ) → Step → ℕ
 step_weight w (Item q it) = w it
 step_weight w (Need q step) = 0
 
 -- at a place of the list
-abbrev pub weight_at : (subs.Item → ℕ) → List Step → ℕ → ℕ
+abbrev pub weight_at : (programs.Item → ℕ) → List Step → ℕ → ℕ
 weight_at w script i = option_map_or (step_weight w) (slice_get script i) 0
 
-pub steps_weigh : (w : subs.Item → ℕ) (marked : List Marked) → sum_below (weight_at w (steps_of marked)) (length (steps_of marked)) ≡ sum_by (weight w) marked
+pub steps_weigh : (w : programs.Item → ℕ) (marked : List Marked) → sum_below (weight_at w (steps_of marked)) (length (steps_of marked)) ≡ sum_by (weight w) marked
 steps_weigh w marked = sum_got (step_weight w) (steps_of marked) ∙ sum_mapped (step_weight w) (unmarked marked) marked ∙ same marked
   where
     same : (xs : List Marked) → sum_by (λ x. step_weight w (unmarked marked x)) xs ≡ sum_by (weight w) xs
@@ -197,8 +197,8 @@ steps_weigh w marked = sum_got (step_weight w) (steps_of marked) ∙ sum_mapped 
     same (Needs q mark ∷ xs) = omega (arith, same xs, sum_by-cons (λ x. step_weight w (unmarked marked x)) (Needs q mark) xs, sum_by-cons (weight w) (Needs q mark) xs)
 
 -- what parts weigh that are of one step
-pub of_one : (script : List Step) (count : ℕ) (w : subs.Item → ℕ) (size : List Part → ℕ) → size [] ≡ 0
-    → ((q i : ℕ) (it : subs.Item) → q < count → size (waits_at script count q i ++ Has it ∷ when (has_signal script count q i) (Signals (signal_after script count i))) ≤ w it)
+pub of_one : (script : List Step) (count : ℕ) (w : programs.Item → ℕ) (size : List Part → ℕ) → size [] ≡ 0
+    → ((q i : ℕ) (it : programs.Item) → q < count → size (waits_at script count q i ++ Has it ∷ when (has_signal script count q i) (Signals (signal_after script count i))) ≤ w it)
     → (q i : ℕ) → q < count → size (parts_at script count q i) ≤ at_one (queue_at script i) (λ k. weight_at w script i) q
 of_one script count w size none some q i lt = by_step (slice_get script i) refl
   where
@@ -258,7 +258,7 @@ module _ (script : List Step) (count : ℕ) (S : IsScript script count) (few : c
           omega (arith, one, when_few (waits script q i p) (Waits (wait_for script count q i p)))
 
   -- waits for other queues, an item, and a signal
-  parts_few : (q i : ℕ) (it : subs.Item) → q < count → length (waits_at script count q i ++ Has it ∷ when (has_signal script count q i) (Signals (signal_after script count i))) ≤ 5
+  parts_few : (q i : ℕ) (it : programs.Item) → q < count → length (waits_at script count q i ++ Has it ∷ when (has_signal script count q i) (Signals (signal_after script count i))) ≤ 5
   parts_few q i it lt = omega (
     arith,
     few,

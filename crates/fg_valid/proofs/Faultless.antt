@@ -43,10 +43,10 @@ use Rattle.fg_subs.specs.Entries.{entries_of}
 use Rattle.fg_subs.specs.FirstFault.{rule_broken, form_broken, use_broken, rules_broken, first_broken, first_fault}
 use Rattle.fg_subs.specs.Limits.{over, memory_bytes, rects_over, count_broken, size_broken, limit_broken}
 use Rattle.fg_subs.specs.Obeys.{BatchObeys, Obeys, IsSmall}
-use Rattle.fg_subs.specs.Paths.{told}
+use Rattle.fg_subs.specs.Paths.{fault_of}
 use Rattle.fg_subs.specs.Rules.{piece_obeys, wait_obeys, item_obeys, signal_obeys, readback_obeys, signal_place, batch_place, next_place, queue_place, broken_at, shapes_of}
 use Rattle.fg_subs.specs.Timelines.{highest}
-use Rattle.fg_subs.specs.declared.place.Place.TheVariants as at
+use Rattle.fg_subs.specs.declared.location.Location.TheVariants as at
 use Rattle.fg_subs.specs.declared.program.Batch.{Batch}
 use Rattle.fg_subs.specs.declared.program.Piece.{Piece}
 use Rattle.fg_subs.specs.declared.program.Program.{Program}
@@ -151,7 +151,7 @@ faultless program small rects obeys =
     let shapes = shapes_of program in
     let by = λ (rule : Rule). rule_broken rule program shapes in
     let none = λ (rule : Rule). rule_none rule program (obeys rule) in
-    mapped_none told (first_broken program)
+    mapped_none fault_of (first_broken program)
     (both_none (limit_broken program) (rules_broken program shapes)
     (limits_none program small rects)
     (both_none (form_broken program shapes) (use_broken program shapes)

@@ -15,6 +15,6 @@ pub mod Recorded
 pub mod Sums
 pub mod Timelines
 pub mod Touched
-pub mod Turns
+pub mod Prologues
 pub mod Uses
 pub mod Whole

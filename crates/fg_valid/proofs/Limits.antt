@@ -12,7 +12,7 @@ use Rattle.fg_base.specs.declared.op.Op.{Op}
 use Rattle.fg_base.specs.declared.shape.Family.{Family}
 use Rattle.fg_base.specs.declared.shape.Shape.{Shape}
 use Rattle.fg_base.specs.declared.shape.Shape.TheVariants.{Buffer, Image}
-use Rattle.fg_frame.specs.Good.{IsGood, shapes_in}
+use Rattle.fg_frame.specs.Valid.{IsValid, shapes_in}
 use Rattle.fg_frame.specs.Numbered.{NumberedFrame}
 use Rattle.fg_frame.specs.declared.numbered.NumberedPass.{NumberedPass}
 use Rattle.fg_groups.specs.Commands.{on_queue, pass_commands, kept_commands, copy_out, export_command, export_commands}
@@ -24,9 +24,9 @@ use Rattle.fg_recorder.specs.Marks.{steps_of}
 use Rattle.fg_recorder.specs.Pieces.{piece_of}
 use Rattle.fg_recorder.specs.Script.{script}
 use Rattle.fg_subs.specs.Limits.{rects_of, spend_item, spend_batch, spend_queue, rects_over}
-use Rattle.fg_subs.specs.declared.place.Place.TheVariants as at
+use Rattle.fg_subs.specs.declared.location.Location.TheVariants as at
 use Rattle.fg_subs.specs.declared.program.Batch.{Batch}
-use Rattle.fg_subs.specs.declared.program.Item as subs
+use Rattle.fg_subs.specs.declared.program.Item as programs
 use Rattle.fg_subs.specs.declared.program.Queue.{Queue}
 use Rattle.fg_subs.specs.declared.program.Signal.{Signal}
 use Rattle.fg_subs.specs.declared.program.WaitFor.{WaitFor}
@@ -61,7 +61,7 @@ batch_rects b = sum_by rects_of b.items
 abbrev queue_rects : Queue → ℕ
 queue_rects queue = sum_by batch_rects queue.batches
 
-spend_items : (q b room k : ℕ) (it : subs.Item) → rects_of it ≤ room → spend_item q b room k it ≡ Ok (room - rects_of it)
+spend_items : (q b room k : ℕ) (it : programs.Item) → rects_of it ≤ room → spend_item q b room k it ≡ Ok (room - rects_of it)
 spend_items q b room k it le = ap (λ t. if t then Err (at.Item q b k) else Ok (room - rects_of it)) (le-ltb room (rects_of it) le)
 
 spend_batches : (q room b : ℕ) (x : Batch) → batch_rects x ≤ room → spend_batch q room b x ≡ Ok (room - batch_rects x)
@@ -78,7 +78,7 @@ part_rects (Waits wait) = 0
 part_rects (Does it) = rects_of it
 part_rects (Signals signal) = 0
 
-before_item_rects : (it : subs.Item) (ws : List WaitFor) (its : List subs.Item) (signal : Option Signal) (batches : List Batch) → sum_by batch_rects (item_before it ws its signal batches) ≡ rects_of it + sum_by batch_rects (batch ws its signal ∷ batches)
+before_item_rects : (it : programs.Item) (ws : List WaitFor) (its : List programs.Item) (signal : Option Signal) (batches : List Batch) → sum_by batch_rects (item_before it ws its signal batches) ≡ rects_of it + sum_by batch_rects (batch ws its signal ∷ batches)
 before_item_rects it [] its signal batches = omega (
   arith,
   sum_by-cons batch_rects (batch [] (it ∷ its) signal) batches,
@@ -119,7 +119,7 @@ module _ (script : List Step) (count : ℕ) where
         sum_by-cons own_rects a (range_with_len (a + 1) (length families)),
       )
 
-  quiet : (ps : List Part) → sum_by part_rects ps ≡ 0 → (it : subs.Item) (s : Bool) (signal : Signal) → sum_by part_rects (ps ++ Does it ∷ when s (Signals signal)) ≤ rects_of it
+  quiet : (ps : List Part) → sum_by part_rects ps ≡ 0 → (it : programs.Item) (s : Bool) (signal : Signal) → sum_by part_rects (ps ++ Does it ∷ when s (Signals signal)) ≤ rects_of it
   quiet ps none it s signal = omega (arith, none, sum_by-append part_rects ps (Does it ∷ when s (Signals signal)), sum_by-cons part_rects (Does it) (when s (Signals signal)), silent s)
     where
       silent : (b : Bool) → sum_by part_rects (when b (Signals signal)) ≡ 0
@@ -216,7 +216,7 @@ export_hosts : (frame : NumberedFrame) (k : ℕ) (units : List ℕ) → sum_by i
 export_hosts frame k [] = omega arith
 export_hosts frame k (unit ∷ units) = omega (arith, export_hosts frame (suc k) units, sum_by-cons is_host (export_command frame k unit) (export_commands frame (suc k) units))
 
-module _ (frame : NumberedFrame) (kept : List Bool) (good : IsGood frame) where
+module _ (frame : NumberedFrame) (kept : List Bool) (good : IsValid frame) where
   abbrev G : Grouping
   G = grouping frame kept
 

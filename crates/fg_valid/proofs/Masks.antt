@@ -14,7 +14,7 @@ use Rattle.fg_groups.specs.declared.grouping.Grouping.{Grouping}
 use Rattle.fg_groups.specs.declared.unit_use.Use.{Use}
 use Rattle.fg_subs.specs.Barriers.{has_stages, both_have_stages, both_supported, both_on_family}
 use Rattle.fg_turns.specs.Masks.{barrier_masks, release_masks, entry_masks, host_masks}
-use Rattle.fg_turns.specs.Turns.{first, last}
+use Rattle.fg_turns.specs.Prologues.{first, last}
 use Rattle.fg_turns.specs.Unions.{stages_on, accesses_on, writes_on, is_elsewhere}
 use Rattle.fg_valid.proofs.Bits.{Inside, empty_inside, inside_left, inside_right, inside_self, supports_none, on_family_union}
 use Rattle.fg_valid.proofs.Members.{some_stage, supports_writes, supports_accesses, stages_family, none_elsewhere}

@@ -19,7 +19,7 @@ use Rattle.fg_groups.specs.Uses.{no_use}
 use Rattle.fg_groups.specs.declared.grouping.Grouping.{Grouping}
 use Rattle.fg_groups.specs.declared.unit_use.Use.{Use}
 use Rattle.fg_subs.specs.Barriers.{has_stages}
-use Rattle.fg_turns.specs.Turns.{first, last}
+use Rattle.fg_turns.specs.Prologues.{first, last}
 use Rattle.fg_turns.specs.Under.{Heap, under, last_below, last_uses, uses_under}
 use Rattle.fg_turns.specs.Unions.{on, stages_on, accesses_on, writes_on, is_elsewhere}
 use Rattle.fg_valid.proofs.Bits.{Inside, empty_inside, over_inside, over_each, supports_inside, supports_from, on_family_over}

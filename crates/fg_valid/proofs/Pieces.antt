@@ -13,7 +13,7 @@ use Rattle.fg_base.specs.Bounds.{sides_allowed, size_allowed}
 use Rattle.fg_base.specs.Shapes.{shape_at, bytes_of, is_buffer}
 use Rattle.fg_base.specs.declared.shape.Shape.{Shape}
 use Rattle.fg_base.specs.declared.shape.Shape.TheVariants.{Buffer}
-use Rattle.fg_frame.specs.Good.{IsGood, shapes_in}
+use Rattle.fg_frame.specs.Valid.{IsValid, shapes_in}
 use Rattle.fg_frame.specs.Numbered.{NumberedFrame}
 use Rattle.fg_frame.specs.Units.{Unit}
 use Rattle.fg_frame.specs.Uses.{import_fits}
@@ -72,7 +72,7 @@ module _ (p : ℕ → Bool) (n r : ℕ) (lt : r < n) (passes : p r ≡ true) whe
   at_place : get_or list place 0 ≡ r
   at_place = eqb-true (get_or list place 0) r (passes_at_first (λ u. u == r) list 0 place_within)
 
-module _ (frame : NumberedFrame) (kept : List Bool) (good : IsGood frame) where
+module _ (frame : NumberedFrame) (kept : List Bool) (good : IsValid frame) where
   abbrev G : Grouping
   G = grouping frame kept
 

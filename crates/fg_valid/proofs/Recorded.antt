@@ -18,7 +18,7 @@ use Rattle.fg_base.specs.Shapes.{shape_at}
 use Rattle.fg_base.specs.declared.shape.Shape.{Shape}
 use Rattle.fg_base.specs.declared.shape.Shape.TheVariants.{Buffer}
 use Rattle.fg_bits.specs.Sharings.{is_shared}
-use Rattle.fg_frame.specs.Good.{IsGood}
+use Rattle.fg_frame.specs.Valid.{IsValid}
 use Rattle.fg_frame.specs.Numbered.{NumberedFrame}
 use Rattle.fg_groups.specs.Groups.{family_of, sharing_of, shares, grouping}
 use Rattle.fg_groups.specs.Laws.{IsGrouped, IsKnown}
@@ -29,9 +29,9 @@ use Rattle.fg_groups.specs.declared.command.Command.{Command}
 use Rattle.fg_groups.specs.declared.grouping.Grouping.{Grouping}
 use Rattle.fg_groups.specs.declared.unit_use.Use.{Use}
 use Rattle.fg_groups.specs.declared.unit_use.UseAt.{UseAt}
-use Rattle.fg_recorder.specs.Items.{turn_items, release_item}
+use Rattle.fg_recorder.specs.Items.{prologue_items, release_item}
 use Rattle.fg_recorder.specs.Pieces.{has_piece, is_readback, piece_of}
-use Rattle.fg_recorder.specs.Script.{is_command, use_needs, use_turns, is_released, use_releases, host_barrier, groups_used, does_command, block, blocks, script}
+use Rattle.fg_recorder.specs.Script.{is_command, use_needs, use_prologues, is_released, use_releases, host_barrier, groups_used, does_command, block, blocks, script}
 use Rattle.fg_recorder.specs.Wanted.{wanted_release}
 use Rattle.fg_recorder.specs.declared.mark.Mark.{Mark}
 use Rattle.fg_recorder.specs.declared.mark.Marked.{Marked}
@@ -39,10 +39,10 @@ use Rattle.fg_recorder.specs.declared.mark.Marked.TheVariants.{Does, Needs}
 use Rattle.fg_subs.specs.Ranges.{has_operands, op_in_range}
 use Rattle.fg_subs.specs.declared.program.Item.TheVariants as item
 use Rattle.fg_turns.specs.Masks.{host_masks}
-use Rattle.fg_turns.specs.Turns.{first, last, has_uses, earlier, first_kind, turn_of, is_transfer}
+use Rattle.fg_turns.specs.Prologues.{first, last, has_uses, earlier, first_kind, prologue_of, is_transfer}
 use Rattle.fg_turns.specs.Under.{Heap, place_of, uses_under}
-use Rattle.fg_turns.specs.declared.turn.TurnKind.{TurnKind}
-use Rattle.fg_turns.specs.declared.turn.TurnKind.TheVariants.{Nothing, Barrier, Transfer, Alias, Init, AliasInit}
+use Rattle.fg_turns.specs.declared.prologue.PrologueKind.{PrologueKind}
+use Rattle.fg_turns.specs.declared.prologue.PrologueKind.TheVariants.{Nothing, Barrier, Transfer, Alias, Init, AliasInit}
 use Rattle.fg_valid.proofs.Commands.{all_run, all_fit, none_in_place, exports_into}
 use Rattle.fg_valid.proofs.Items.{HasShape, buffer_obeys, command_obeys}
 use Rattle.fg_valid.proofs.Masks.{host_good}
@@ -51,7 +51,7 @@ use Rattle.fg_valid.proofs.Numbers.{apart}
 use Rattle.fg_valid.proofs.Ops.{not_in_place}
 use Rattle.fg_valid.proofs.Pieces.{piece_shapes, shaped, buffers_read, imports_count}
 use Rattle.fg_valid.proofs.Touched.{operand_piece, member_piece}
-use Rattle.fg_valid.proofs.Turns.{MarkedObeys, AreAfter, release_right, turn_right}
+use Rattle.fg_valid.proofs.Prologues.{MarkedObeys, AreAfter, release_right, prologue_right}
 use Rattle.fg_valid.proofs.Uses.{FitsIn}
 
 either : {X : Type 0} (P : X → Type 0) (b : Bool) (xs : List X) → (b ≡ true → All P xs) → All P (if b then xs else [])
@@ -68,7 +68,7 @@ transfer_at false s false false true e = absurd cc
 transfer_at false s false true false e = absurd cc
 transfer_at false s false true true e = absurd cc
 
-pub is_transfer_kind : (kind : TurnKind) → is_transfer kind ≡ true → kind ≡ Transfer
+pub is_transfer_kind : (kind : PrologueKind) → is_transfer kind ≡ true → kind ≡ Transfer
 is_transfer_kind Nothing e = absurd cc
 is_transfer_kind Barrier e = absurd cc
 is_transfer_kind Transfer e = refl
@@ -76,7 +76,7 @@ is_transfer_kind Alias e = absurd cc
 is_transfer_kind Init e = absurd cc
 is_transfer_kind AliasInit e = absurd cc
 
-module _ (frame : NumberedFrame) (kept : List Bool) (good : IsGood frame) (L : IsGrouped (grouping frame kept)) (K : IsKnown (grouping frame kept)) (heap : Heap) (offsets : List ℕ) where
+module _ (frame : NumberedFrame) (kept : List Bool) (good : IsValid frame) (L : IsGrouped (grouping frame kept)) (K : IsKnown (grouping frame kept)) (heap : Heap) (offsets : List ℕ) where
   abbrev G : Grouping
   G = grouping frame kept
 
@@ -135,9 +135,9 @@ module _ (frame : NumberedFrame) (kept : List Bool) (good : IsGood frame) (L : I
       go true e = after_group g e
       go false e = after_none (suc g) lt
 
-  turns_right : (c g : ℕ) → g < length G.groups → All Right (use_turns G heap c g)
-  turns_right c g lt = either Right (is_command c (first (group_at G g))) (turn_items G (turn_of G heap g) (earlier G g) (group_at G g))
-      (λ own. turn_right G shapes (earlier G g) (group_at G g) (after_earlier g lt) (uses_under G heap (place_of G (first (group_at G g)).unit)) (under_fit G L run heap (place_of G (first (group_at G g)).unit)) g)
+  prologues_right : (c g : ℕ) → g < length G.groups → All Right (use_prologues G heap c g)
+  prologues_right c g lt = either Right (is_command c (first (group_at G g))) (prologue_items G (prologue_of G heap g) (earlier G g) (group_at G g))
+      (λ own. prologue_right G shapes (earlier G g) (group_at G g) (after_earlier g lt) (uses_under G heap (place_of G (first (group_at G g)).unit)) (under_fit G L run heap (place_of G (first (group_at G g)).unit)) g)
 
   needs_right : (q : ℕ) (marks : List Mark) → All Right (map (Needs q) marks)
   needs_right q marks = All-map Right (Needs q) marks (λ k d lt. tt)
@@ -150,15 +150,15 @@ module _ (frame : NumberedFrame) (kept : List Bool) (good : IsGood frame) (L : I
     where
       released : is_released G heap g ≡ true → Right (release_item G g (group_at G g) (group_at G (suc g)))
       released e =
-          let parts = and_parts (goes_on G g) (is_transfer (turn_of G heap (suc g)).kind) e in
+          let parts = and_parts (goes_on G g) (is_transfer (prologue_of G heap (suc g)).kind) e in
           let before : earlier G (suc g) ≡ group_at G g = ap (λ b. if b then group_at G g else []) parts.0 in
-          let kind = is_transfer_kind (turn_of G heap (suc g)).kind parts.1 in
+          let kind = is_transfer_kind (prologue_of G heap (suc g)).kind parts.1 in
           let apart : shares G.families G.sharings (first (group_at G (suc g))).unit (first (earlier G (suc g))).queue (first (group_at G (suc g))).queue ≡ false = not_shared (suc g) kind in
           let within : suc g < length G.groups = next_within G L run g parts.0 in
           release_right G shapes (group_at G g) (group_at G (suc g)) (after_group g parts.0) (some_use G L run g (omega (arith, within)))
           (subst (λ X. shares G.families G.sharings (first (group_at G (suc g))).unit (first X).queue (first (group_at G (suc g))).queue ≡ false) before apart)
         where
-          not_shared : (h : ℕ) → (turn_of G heap h).kind ≡ Transfer → shares G.families G.sharings (first (group_at G h)).unit (first (earlier G h)).queue (first (group_at G h)).queue ≡ false
+          not_shared : (h : ℕ) → (prologue_of G heap h).kind ≡ Transfer → shares G.families G.sharings (first (group_at G h)).unit (first (earlier G h)).queue (first (group_at G h)).queue ≡ false
           not_shared h kind = transfer_at (has_uses (earlier G h)) (shares G.families G.sharings (first (group_at G h)).unit (first (earlier G h)).queue (first (group_at G h)).queue) (is_import G (first (group_at G h)).unit) (has_uses (uses_under G heap (place_of G (first (group_at G h)).unit))) (is_some (first (group_at G h)).layout) kind
 
   -- the groups that a command uses are there
@@ -236,13 +236,13 @@ module _ (frame : NumberedFrame) (kept : List Bool) (good : IsGood frame) (L : I
         let q : ℕ = command.queue in
         let gs : List ℕ = groups_used G c in
         let needs : List Marked = map (Needs q) (flat_map (use_needs G heap q c) gs) in
-        let turns : List Marked = flat_map (use_turns G heap c) gs in
+        let prologues : List Marked = flat_map (use_prologues G heap c) gs in
         let releases : List Marked = flat_map (use_releases G heap q c) gs in
-        All-append Right ((needs ++ turns) ++ (does_command G c command ∷ releases)) (host_barrier G command command.export)
-        (All-append Right (needs ++ turns) (does_command G c command ∷ releases)
-        (All-append Right needs turns
+        All-append Right ((needs ++ prologues) ++ (does_command G c command ∷ releases)) (host_barrier G command command.export)
+        (All-append Right (needs ++ prologues) (does_command G c command ∷ releases)
+        (All-append Right needs prologues
         (needs_right q (flat_map (use_needs G heap q c) gs))
-        (each_of Right (use_turns G heap c) gs (λ k e l. turns_right c (get_or gs k e) (used_within c k e l))))
+        (each_of Right (use_prologues G heap c) gs (λ k e l. prologues_right c (get_or gs k e) (used_within c k e l))))
         (All-append Right (does_command G c command ∷ []) releases
         (one Right (does_command G c command) command_right)
         (each_of Right (use_releases G heap q c) gs (λ k e l. releases_right q c (get_or gs k e)))))

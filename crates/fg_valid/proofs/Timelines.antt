@@ -14,7 +14,7 @@ use Rattle.fg_subs.specs.Barriers.{on_queue}
 use Rattle.fg_subs.specs.Rules.{wait_obeys, item_obeys, signal_obeys}
 use Rattle.fg_subs.specs.Timelines.{value_of, highest}
 use Rattle.fg_subs.specs.declared.program.Batch.{Batch}
-use Rattle.fg_subs.specs.declared.program.Item as subs
+use Rattle.fg_subs.specs.declared.program.Item as programs
 use Rattle.fg_subs.specs.declared.program.Queue.{Queue}
 use Rattle.fg_subs.specs.declared.program.Signal.{Signal}
 use Rattle.fg_subs.specs.declared.program.WaitFor.{WaitFor}
@@ -75,14 +75,14 @@ module _ (shapes : List Shape) (count : ℕ) (family : Family) where
   abbrev pub WaitRight : WaitFor → Type 0
   WaitRight wait = (rule : Rule) → wait_obeys rule count family wait ≡ true
 
-  abbrev pub ItemRight : subs.Item → Type 0
+  abbrev pub ItemRight : programs.Item → Type 0
   ItemRight it = (rule : Rule) → item_obeys rule shapes family it ≡ true
 
   pub record BatchRight (b : Batch) : Type 0 where
     pub waits : All WaitRight b.waits
     pub items : All ItemRight b.items
 
-  before_item : (it : subs.Item) (ws : List WaitFor) (its : List subs.Item) (signal : Option Signal) (batches : List Batch) → ItemRight it → All WaitRight ws → All ItemRight its → All BatchRight batches → All BatchRight (item_before it ws its signal batches)
+  before_item : (it : programs.Item) (ws : List WaitFor) (its : List programs.Item) (signal : Option Signal) (batches : List Batch) → ItemRight it → All WaitRight ws → All ItemRight its → All BatchRight batches → All BatchRight (item_before it ws its signal batches)
   before_item it [] its signal batches right waits items rest =
       All-cons BatchRight (batch [] (it ∷ its) signal) batches (record { waits = All-nil WaitRight; items = All-cons ItemRight it its right items }) rest
   before_item it (w ∷ ws) its signal batches right waits items rest =
@@ -135,7 +135,7 @@ abbrev BatchesRise : ℕ → List Batch → Type 0
 BatchesRise reached [] = Unit {0}
 BatchesRise reached (b ∷ batches) = IfSome b.signal (Rises reached) × BatchesRise (max reached (value_of b.signal)) batches
 
-before_item_rises : (reached : ℕ) (it : subs.Item) (ws : List WaitFor) (its : List subs.Item) (signal : Option Signal) (batches : List Batch) → BatchesRise reached (batch ws its signal ∷ batches) → BatchesRise reached (item_before it ws its signal batches)
+before_item_rises : (reached : ℕ) (it : programs.Item) (ws : List WaitFor) (its : List programs.Item) (signal : Option Signal) (batches : List Batch) → BatchesRise reached (batch ws its signal ∷ batches) → BatchesRise reached (item_before it ws its signal batches)
 before_item_rises reached it [] its signal batches h = h
 before_item_rises reached it (w ∷ ws) its signal batches h =
     let same : reached ≡ max reached 0 = omega arith in
@@ -205,7 +205,7 @@ module _ (script : List Step) (count q : ℕ) where
   abbrev RisesTo : ℕ → ℕ → List Part → Type 0
   RisesTo from to ps = Rising from ps × (reach from ps ≡ to)
 
-  signalled : (n : ℕ) (it : subs.Item) (s : Bool) → hs n ≡ s → queue_at script n ≡ q → RisesTo (count_below hs n) (count_below hs (suc n)) (waits_at script count q n ++ Does it ∷ when s (Signals (signal_after script count n)))
+  signalled : (n : ℕ) (it : programs.Item) (s : Bool) → hs n ≡ s → queue_at script n ≡ q → RisesTo (count_below hs n) (count_below hs (suc n)) (waits_at script count q n ++ Does it ∷ when s (Signals (signal_after script count n)))
   signalled n it s e own =
       let quiet = quiet_rising (count_below hs n) (waits_at script count q n) (waits_quiet n) in
       let rest = ends s e in (
@@ -245,7 +245,7 @@ module _ (script : List Step) (count q : ℕ) where
 
   -- WAITS AND ITEMS OF A QUEUE
 
-  module _ (shapes : List Shape) (family : Family) (low : q < count) (for : AreFor script count) (rising : AreRising script count) (each : (i : ℕ) (it : subs.Item) → slice_get script i ≡ Some (Item q it) → (rule : Rule) → item_obeys rule shapes family it ≡ true) where
+  module _ (shapes : List Shape) (family : Family) (low : q < count) (for : AreFor script count) (rising : AreRising script count) (each : (i : ℕ) (it : programs.Item) → slice_get script i ≡ Some (Item q it) → (rule : Rule) → item_obeys rule shapes family it ≡ true) where
     abbrev Right : Part → Type 0
     Right = PartRight shapes count family
 

@@ -10,7 +10,7 @@ use Rattle.fg_base.specs.Shapes.{shape_at}
 use Rattle.fg_base.specs.declared.shape.Family.TheVariants.{Graphics}
 use Rattle.fg_base.specs.declared.shape.Shape.{Shape}
 use Rattle.fg_base.specs.declared.shape.Shape.TheVariants.{Buffer}
-use Rattle.fg_frame.specs.Good.{IsGood}
+use Rattle.fg_frame.specs.Valid.{IsValid}
 use Rattle.fg_frame.specs.Numbered.{NumberedFrame}
 use Rattle.fg_groups.specs.Groups.{family_of, grouping}
 use Rattle.fg_groups.specs.Laws as groups
@@ -30,7 +30,7 @@ use Rattle.fg_subs.specs.Obeys.{BatchObeys, BatchAt, Obeys, IsSmall}
 use Rattle.fg_subs.specs.Rules.{item_obeys, wait_obeys, signal_obeys}
 use Rattle.fg_subs.specs.Timelines.{highest}
 use Rattle.fg_subs.specs.declared.program.Batch.{Batch}
-use Rattle.fg_subs.specs.declared.program.Item as subs
+use Rattle.fg_subs.specs.declared.program.Item as programs
 use Rattle.fg_subs.specs.declared.program.Piece.{Piece}
 use Rattle.fg_subs.specs.declared.program.Program.{Program}
 use Rattle.fg_subs.specs.declared.program.Queue.{Queue}
@@ -51,22 +51,22 @@ use Rattle.fg_valid.proofs.Numbers.{kept_numbers, kept_few, kept_late}
 use Rattle.fg_valid.proofs.Pieces.{piece_shapes, all_sizes, all_sides, imports_count, pieces_obey, readbacks_obey}
 use Rattle.fg_valid.proofs.Recorded.{script_right}
 use Rattle.fg_valid.proofs.Timelines.{IsCut, cut_queue, batch_right}
-use Rattle.fg_valid.proofs.Turns.{MarkedObeys}
+use Rattle.fg_valid.proofs.Prologues.{MarkedObeys}
 
 -- an item of the steps is one that is recorded
-recorded_item : (marked all : List Marked) (i q : ℕ) (it : subs.Item) (P : ℕ → subs.Item → Type 0) → ((mark : Marked) → slice_get marked i ≡ Some mark → unmarked all mark ≡ steps.Item q it → P q it) → slice_get (map (unmarked all) marked) i ≡ Some (steps.Item q it) → P q it
+recorded_item : (marked all : List Marked) (i q : ℕ) (it : programs.Item) (P : ℕ → programs.Item → Type 0) → ((mark : Marked) → slice_get marked i ≡ Some mark → unmarked all mark ≡ steps.Item q it → P q it) → slice_get (map (unmarked all) marked) i ≡ Some (steps.Item q it) → P q it
 recorded_item [] all i q it P h e = absurd cc
 recorded_item (m ∷ marked) all zero q it P h e = h m refl cc
 recorded_item (m ∷ marked) all (suc i) q it P h e = recorded_item marked all i q it P (λ mark. h mark) e
 
-same_item : (G : Grouping) (shapes : List Shape) (all : List Marked) (q : ℕ) (it : subs.Item) (mark : Marked) → MarkedObeys G shapes mark → unmarked all mark ≡ steps.Item q it → (rule : Rule) → item_obeys rule shapes (family_of G.families q) it ≡ true
+same_item : (G : Grouping) (shapes : List Shape) (all : List Marked) (q : ℕ) (it : programs.Item) (mark : Marked) → MarkedObeys G shapes mark → unmarked all mark ≡ steps.Item q it → (rule : Rule) → item_obeys rule shapes (family_of G.families q) it ≡ true
 same_item G shapes all q it (Does p mark x) h e rule =
     let queue : p ≡ q = cc in
     let same : x ≡ it = cc in
     subst (λ n. item_obeys rule shapes (family_of G.families n) it ≡ true) queue (subst (λ y. item_obeys rule shapes (family_of G.families p) y ≡ true) same (h rule))
 same_item G shapes all q it (Needs p mark) h e rule = absurd cc
 
-module _ (frame : NumberedFrame) (kept : List Bool) (good : IsGood frame) (L : groups.IsGrouped (grouping frame kept)) (K : groups.IsKnown (grouping frame kept)) (ordered : ℕ → ℕ → Bool) (places : Places) (least : IsLeast (sizes (grouping frame kept)) ordered places) where
+module _ (frame : NumberedFrame) (kept : List Bool) (good : IsValid frame) (L : groups.IsGrouped (grouping frame kept)) (K : groups.IsKnown (grouping frame kept)) (ordered : ℕ → ℕ → Bool) (places : Places) (least : IsLeast (sizes (grouping frame kept)) ordered places) where
   abbrev G : Grouping
   G = grouping frame kept
 
@@ -82,7 +82,7 @@ module _ (frame : NumberedFrame) (kept : List Bool) (good : IsGood frame) (L : g
   abbrev program : Program
   program = program_of frame G ordered places
 
-  items_right : (i q : ℕ) (it : subs.Item) → slice_get list i ≡ Some (steps.Item q it) → (rule : Rule) → item_obeys rule (piece_shapes G places.offsets) (family_of G.families q) it ≡ true
+  items_right : (i q : ℕ) (it : programs.Item) → slice_get list i ≡ Some (steps.Item q it) → (rule : Rule) → item_obeys rule (piece_shapes G places.offsets) (family_of G.families q) it ≡ true
   items_right i q it = recorded_item marked marked i q it (λ p x. (rule : Rule) → item_obeys rule (piece_shapes G places.offsets) (family_of G.families p) x ≡ true)
       (λ mark at is. same_item G (piece_shapes G places.offsets) marked q it mark (entry_of (MarkedObeys G (piece_shapes G places.offsets)) marked i mark (script_right frame kept good L K heap places.offsets) at) is)
 

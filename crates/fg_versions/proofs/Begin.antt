@@ -5,7 +5,7 @@ use Rattle.std.proofs.lemmas.Bool.Decides.{eqb_tells}
 use Rattle.std.proofs.lemmas.List.Sums.{sum_by-cons}
 use Rattle.std.proofs.lemmas.List.{length-map, length-set, get_or-set_same, get_or-set_other}
 use Rattle.std.proofs.lemmas.List.Elements.{All-cons}
-use Rattle.fg_versions.specs.Code.Counts.{IsForward, times, count_of, State, kept, waits, root_count, root_counts, raised, counted, idle_from, Counts}
+use Rattle.fg_versions.specs.Internal.Counts.{IsForward, times, count_of, State, kept, waits, root_count, root_counts, raised, counted, idle_from, Counts}
 use Rattle.fg_versions.specs.Versions.{row_at}
 use Rattle.fg_versions.proofs.Steps.{bit, is_zero, positive, eqb_self, times_cons, head_within, tail_within}
 

@@ -10,7 +10,7 @@ use Rattle.fg_base.proofs.Lists.{map_same}
 use Rattle.fg_frame.specs.Numbered.{NumberedFrame}
 use Rattle.fg_frame.specs.declared.frame.Write.{Write}
 use Rattle.fg_frame.specs.declared.numbered.NumberedPass.{NumberedPass}
-use Rattle.fg_versions.specs.Code.Rows.{grown, added, added_numbers}
+use Rattle.fg_versions.specs.Internal.Rows.{grown, added, added_numbers}
 use Rattle.fg_versions.specs.Versions.{row_of, made_by, made, imported, versions, latest, latest_maker, no_pass, pass_at, read_by, numbers_after, written_by, changes, used, sources, Numbers, numbers_until}
 
 -- LISTS

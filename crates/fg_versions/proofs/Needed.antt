@@ -3,7 +3,7 @@ use Rattle.std.proofs.Common.{◌≡◌, ◌==◌, ℕ, zero, suc, ◌+◌, ◌<
 use Rattle.std.specs.List.{sum_by, Contains}
 use Rattle.std.proofs.lemmas.Bool.Decides.{eqb_tells}
 use Rattle.std.proofs.lemmas.List.Sums.{sum_by-cons}
-use Rattle.fg_versions.specs.Code.Counts.{is_root, RowLeads, RowReaches, stays, goes, IsNeeded, IsForward, times, count_of, State, kept, waits, out, root_count, Counts}
+use Rattle.fg_versions.specs.Internal.Counts.{is_root, RowLeads, RowReaches, stays, goes, IsNeeded, IsForward, times, count_of, State, kept, waits, out, root_count, Counts}
 use Rattle.fg_versions.specs.Versions.{row_at}
 use Rattle.fg_versions.proofs.Steps.{bit, eqb_self, times_cons, at_most_sum}
 

@@ -1,7 +1,7 @@
 -- One pass is taken from the stack.
 use Rattle.std.proofs.Common.{◌≡◌, ℕ, zero, suc, ◌+◌, ◌<◌, ◌≤◌, List, [], ◌∷◌, ◌++◌, length, get_or, Bool, Option, None, Some, option_to_list, IfNone, refl, sym, ap, subst, ◌∙◌, arith, length-append, ◌↔◌}
 use Rattle.std.specs.List.{All, sum_by}
-use Rattle.fg_versions.specs.Code.Counts.{IsForward, IsNeeded, times, count_of, refs_after, stack_after, Counts}
+use Rattle.fg_versions.specs.Internal.Counts.{IsForward, IsNeeded, times, count_of, refs_after, stack_after, Counts}
 use Rattle.fg_versions.specs.Versions.{row_at}
 use Rattle.fg_versions.proofs.Steps.{popped, step, total_after}
 use Rattle.fg_versions.proofs.Needed.{needed_is}

@@ -7,13 +7,13 @@ use Rattle.std.proofs.lemmas.List.{map_more, length-map, length-set, length-take
 use Rattle.std.proofs.lemmas.List.Elements.{All-cons, All-append, All-nil}
 use Rattle.std.proofs.lemmas.List.FromFn.{length-map-range_with_len, get_or-map-range_with_len}
 use Rattle.std.proofs.lemmas.Option.{same_Some, slice_get-get_or}
-use Rattle.fg_frame.specs.Good.{is_import}
+use Rattle.fg_frame.specs.Valid.{is_import}
 use Rattle.fg_frame.specs.Numbered.{NumberedFrame}
 use Rattle.fg_frame.specs.declared.frame.Write.{Write}
 use Rattle.fg_frame.specs.declared.numbered.NumberedPass.{NumberedPass}
 use Rattle.fg_versions.proofs.Grow.{row_is}
-use Rattle.fg_versions.specs.Code.Counts.{is_root, count_of, RowLeads, RowReaches, stays, goes, IsNeeded, IsForward}
-use Rattle.fg_versions.specs.Code.Roots.{effects, marked, rooted, AreRoots}
+use Rattle.fg_versions.specs.Internal.Counts.{is_root, count_of, RowLeads, RowReaches, stays, goes, IsNeeded, IsForward}
+use Rattle.fg_versions.specs.Internal.Roots.{effects, marked, rooted, AreRoots}
 use Rattle.fg_versions.specs.Culled.{Leads, Reaches, here, on, Matters, has_effect, makes_export, Culled, AreKept}
 use Rattle.fg_versions.specs.Versions.{row_of, made_by, made, imported, versions, all_versions, latest, latest_maker, no_pass, pass_at, used, sources, Numbers, numbers_of}
 

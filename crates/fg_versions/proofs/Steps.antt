@@ -7,7 +7,7 @@ use Rattle.std.proofs.lemmas.List.Elements.{All-push}
 use Rattle.std.proofs.lemmas.Bool.Decides.{eqb_tells}
 use Rattle.std.proofs.Math.Seq.{get_or-append_seam}
 use Rattle.std.proofs.lemmas.Bool.{ltb-true, ltb-false}
-use Rattle.fg_versions.specs.Code.Counts.{IsForward, times, count_of, lowered, refs_after, stack_after, State, kept, waits, out, root_count, Counts}
+use Rattle.fg_versions.specs.Internal.Counts.{IsForward, times, count_of, lowered, refs_after, stack_after, State, kept, waits, out, root_count, Counts}
 use Rattle.fg_versions.specs.Versions.{row_at}
 
 abbrev pub bit : Bool → ℕ

@@ -1,7 +1,7 @@
 -- The versions of units.
 use Rattle.std.specs.Prelude.{ℕ, suc, List, [], ◌∷◌, ◌++◌, ◌-◌, ◌==◌, map, take, length, not, false, Option, Some, None, slice_index_or, if◌then◌else◌}
 use Rattle.std.specs.List.{filter, filter_map, range_with_len}
-use Rattle.fg_frame.specs.Good.{is_import}
+use Rattle.fg_frame.specs.Valid.{is_import}
 use Rattle.fg_frame.specs.Numbered.{NumberedFrame}
 use Rattle.fg_frame.specs.declared.frame.Write.{Write}
 use Rattle.fg_frame.specs.declared.numbered.NumberedPass.{NumberedPass}

@@ -2,7 +2,7 @@
 
 ghost use Rattle.std.specs.Prelude.{◌≡◌, ◌<◌, ◌≤◌, ◌^◌, ◌↔◌, ℕ, List, map, nat_lt, length, slice_index_or, OnOk, IfOk};
 ghost use Rattle.std.specs.List.{All};
-ghost use Rattle.fg_versions.specs.Code.Counts.{IsNeeded, IsForward, times, count_of, refs_after, stack_after, root_counts, raised, counted, idle_from};
+ghost use Rattle.fg_versions.specs.Internal.Counts.{IsNeeded, IsForward, times, count_of, refs_after, stack_after, root_counts, raised, counted, idle_from};
 
 use fg_base::{List, NoMemory};
 use std::alloc::Global;

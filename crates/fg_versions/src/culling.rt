@@ -3,18 +3,18 @@
 ghost use Rattle.std.specs.Prelude.{◌≡◌, ◌<◌, ◌^◌, ℕ, length, IfOk, Some};
 ghost use Rattle.std.specs.List.{All};
 ghost use Rattle.fg_frame.specs.Numbered.{numbered};
-ghost use Rattle.fg_versions.specs.Code.Roots.{effects, rooted, AreRoots};
+ghost use Rattle.fg_versions.specs.Internal.Roots.{effects, rooted, AreRoots};
 ghost use Rattle.fg_versions.specs.Culled.{AreKept};
 ghost use Rattle.fg_versions.specs.Versions.{row_of, latest_maker, numbers_of};
 
 use crate::counts::{needed, positive};
 use crate::{Kept, Versions};
 use fg_base::{List, NoMemory};
-use fg_frame::GoodFrame;
+use fg_frame::ValidFrame;
 use std::alloc::Global;
 
 // Which passes have a side effect.
-fn effects(alloc: Global, frame: &GoodFrame) -> Result<List<bool>, NoMemory>
+fn effects(alloc: Global, frame: &ValidFrame) -> Result<List<bool>, NoMemory>
     ensures effects { IfOk result (λ roots. roots ≡ effects (numbered frame.now)) }
     ensures few { IfOk result (λ roots. length roots < 2 ^ 32) }
 {
@@ -39,7 +39,7 @@ fn root(roots: &mut List<bool>, versions: &Versions, units: &[u32])
 }
 
 // Which passes matter by themselves: they have a side effect, or write what is exported.
-fn roots(alloc: Global, frame: &GoodFrame, versions: &Versions) -> Result<List<bool>, NoMemory>
+fn roots(alloc: Global, frame: &ValidFrame, versions: &Versions) -> Result<List<bool>, NoMemory>
     requires { versions.now ≡ numbers_of (numbered frame.now) }
     ensures few { IfOk result (λ roots. length roots < 2 ^ 32) }
     ensures roots { IfOk result (λ roots. AreRoots (numbered frame.now) roots) }
@@ -51,7 +51,7 @@ fn roots(alloc: Global, frame: &GoodFrame, versions: &Versions) -> Result<List<b
 
 /// The passes that count: those with a side effect, those that make what is exported, and all whose work, from pass to
 /// pass, goes into one of these. The work grows with the number of reads and writes.
-pub fn cull(alloc: Global, frame: &GoodFrame, versions: &Versions) -> Result<Kept, NoMemory>
+pub fn cull(alloc: Global, frame: &ValidFrame, versions: &Versions) -> Result<Kept, NoMemory>
     requires { versions.now ≡ numbers_of (numbered frame.now) }
     ensures { IfOk result (λ kept. AreKept (numbered frame.now) kept) }
 {

@@ -3,11 +3,11 @@
 ghost use Rattle.std.specs.Prelude.{◌≡◌, ◌==◌, ◌<◌, ◌≤◌, ◌++◌, map, length, Some, None, IfOk, OnOk, slice_get};
 ghost use Rattle.std.specs.List.{All, filter_map, range_with_len};
 ghost use Rattle.fg_frame.specs.Numbered.{numbered};
-ghost use Rattle.fg_versions.specs.Code.Rows.{grown, added, added_numbers};
+ghost use Rattle.fg_versions.specs.Internal.Rows.{grown, added, added_numbers};
 ghost use Rattle.fg_versions.specs.Versions.{row_of, imported, versions, latest, latest_maker, changes};
 
 use fg_base::{List, NoMemory};
-use fg_frame::{GoodFrame, Write};
+use fg_frame::{ValidFrame, Write};
 use std::alloc::Global;
 use std::marker::Model;
 
@@ -29,7 +29,7 @@ impl Model for Makers {
 }
 
 // The versions of a unit before the first pass.
-fn imported(alloc: Global, frame: &GoodFrame, unit: u32) -> Result<List<Option<u32>>, NoMemory>
+fn imported(alloc: Global, frame: &ValidFrame, unit: u32) -> Result<List<Option<u32>>, NoMemory>
     requires { unit < length (numbered frame.now).units }
     ensures row { IfOk result (λ row. row ≡ imported (numbered frame.now) unit) }
     ensures small { IfOk result (λ row. length row ≤ 1) }
@@ -43,7 +43,7 @@ fn imported(alloc: Global, frame: &GoodFrame, unit: u32) -> Result<List<Option<u
 
 impl Makers {
     /// The versions before the first pass.
-    pub fn new(alloc: Global, frame: &GoodFrame) -> Result<Makers, NoMemory>
+    pub fn new(alloc: Global, frame: &ValidFrame) -> Result<Makers, NoMemory>
         ensures { IfOk result (λ makers. makers ≡ map (versions (numbered frame.now) 0) (range_with_len 0 (length (numbered frame.now).units))) }
     {
         let mut rows = Vec::new(alloc);

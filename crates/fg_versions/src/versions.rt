@@ -6,7 +6,7 @@ ghost use Rattle.fg_versions.specs.Versions.{row_of, last_number, latest_maker, 
 
 use crate::makers::Makers;
 use fg_base::{List, NoMemory};
-use fg_frame::GoodFrame;
+use fg_frame::ValidFrame;
 use std::alloc::Global;
 use std::marker::Model;
 
@@ -29,7 +29,7 @@ impl Model for Versions {
 }
 
 /// The versions of a frame's units.
-pub fn versions_of(alloc: Global, frame: &GoodFrame) -> Result<Versions, NoMemory>
+pub fn versions_of(alloc: Global, frame: &ValidFrame) -> Result<Versions, NoMemory>
     ensures { IfOk result (λ versions. versions ≡ numbers_of (numbered frame.now)) }
 {
     let mut versions = Versions::new(alloc, frame)?;
@@ -41,7 +41,7 @@ pub fn versions_of(alloc: Global, frame: &GoodFrame) -> Result<Versions, NoMemor
 
 impl Versions {
     // Those before the first pass.
-    fn new(alloc: Global, frame: &GoodFrame) -> Result<Versions, NoMemory>
+    fn new(alloc: Global, frame: &ValidFrame) -> Result<Versions, NoMemory>
         ensures { IfOk result (λ versions. versions ≡ numbers_until (numbered frame.now) 0) }
     {
         Ok(Versions {
@@ -53,7 +53,7 @@ impl Versions {
     }
 
     // One pass more.
-    fn add_pass(&mut self, alloc: Global, frame: &GoodFrame, pass: u32) -> Result<(), NoMemory>
+    fn add_pass(&mut self, alloc: Global, frame: &ValidFrame, pass: u32) -> Result<(), NoMemory>
         requires pass { pass < length (numbered frame.now).passes }
         requires before { self.old ≡ numbers_until (numbered frame.now) pass }
         ensures { OnOk result (self.new ≡ numbers_until (numbered frame.now) (pass + 1)) }

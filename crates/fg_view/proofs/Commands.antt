@@ -18,7 +18,7 @@ use Rattle.fg_subs.specs.Ranges.{has_operands}
 use Rattle.fg_base.proofs.Lists.{each_of, entry_of, one}
 use Rattle.fg_view.proofs.Endings.{if_some, Ends, Quiet, alone, quiet_first}
 use Rattle.fg_bits.specs.Roles.{load_access, store_access, layout_wanted}
-use Rattle.fg_view.specs.ShapedView.{IsByQueue}
+use Rattle.fg_view.specs.ValidView.{IsByQueue}
 use Rattle.fg_view.specs.Effects.{access, role_agent, touch_load, touch_store, touch_accesses, command_accesses}
 use Rattle.fg_view.specs.declared.access.Access.{Access}
 use Rattle.fg_view.specs.declared.access.AccessKind.TheVariants.{Load, Store}

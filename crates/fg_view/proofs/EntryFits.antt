@@ -14,7 +14,7 @@ use Rattle.fg_subs.specs.declared.program.Program.{Program}
 use Rattle.fg_subs.specs.declared.program.Queue.{Queue}
 use Rattle.fg_subs.specs.declared.rule.Rule.TheVariants as rules
 use Rattle.fg_view.proofs.Fitting.{FitsNode, item_fits, wait_fits, signal_fits, host_fits}
-use Rattle.fg_view.specs.Code.KnownEntries.{IsKnown}
+use Rattle.fg_view.specs.Internal.KnownEntries.{IsKnown}
 use Rattle.fg_view.specs.Effects.{entry_effect}
 
 pub entry_known : (program : Program) (entry : Entry) → EntryObeys rules.Known program entry → IsKnown (shapes_of program) entry

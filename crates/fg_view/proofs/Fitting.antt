@@ -22,7 +22,7 @@ use Rattle.fg_view.proofs.Commands.{by_own_agents, to_known_pieces, store_last}
 use Rattle.fg_base.proofs.Lists.{one}
 use Rattle.fg_view.proofs.Endings.{if_some, Ends, alone}
 use Rattle.fg_view.specs.AccessKinds.{transfers}
-use Rattle.fg_view.specs.ShapedView.{IsByQueue, IsByBarrier}
+use Rattle.fg_view.specs.ValidView.{IsByQueue, IsByBarrier}
 use Rattle.fg_view.specs.Effects.{access, same_layout, transition_through, layout_change, handover_of, acquire_accesses, no_effect, item_effect, wait_effect, signal_effect, host_effect}
 use Rattle.fg_view.specs.declared.access.Access.{Access}
 use Rattle.fg_view.specs.declared.access.Agent.TheVariants as agent

@@ -6,7 +6,7 @@ use Rattle.std.proofs.lemmas.List.Elements.{All-nil, All-cons, All-map}
 use Rattle.std.proofs.lemmas.Option.{slice_get-map, slice_get-get_or, slice_get_within}
 use Rattle.fg_hb.specs.Orders.{Among, Distinct, Order}
 use Rattle.fg_base.proofs.Lists.{each_of, entry_of}
-use Rattle.fg_view.specs.ShapedView.{ShapedView, Has, NodeAccessAt, Listed, Precedes}
+use Rattle.fg_view.specs.ValidView.{ValidView, Has, NodeAccessAt, Listed, Precedes}
 use Rattle.fg_view.specs.Views.{View, accesses_of, node_access, node_accesses_of}
 use Rattle.fg_view.specs.declared.access.Access.{Access}
 use Rattle.fg_view.specs.declared.node_access.NodeAccess.{NodeAccess}
@@ -77,7 +77,7 @@ module _ (V : View) where
       (in_one_part own others j b f))
       (in_one_part own others i a e)
 
-  pub listed : (order : List ℕ) → ShapedView V → Order V.nodes order → Listed V (node_accesses_of V order)
+  pub listed : (order : List ℕ) → ValidView V → Order V.nodes order → Listed V (node_accesses_of V order)
   listed order S O = record {
     node = λ i a e. O.only a.node (of_order V order i a e);
     has = λ i a e. entry_of (λ b. Has V b.node b.access) (node_accesses_of V order) i a

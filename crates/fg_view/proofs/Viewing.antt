@@ -24,7 +24,7 @@ use Rattle.fg_view.proofs.Endings.{after_change, after_owner}
 use Rattle.fg_view.proofs.Fitting.{Does, FitsNode, no_node_fits}
 use Rattle.fg_view.proofs.EntryFits.{entry_fits, entry_family}
 use Rattle.fg_view.specs.AccessKinds.{sets_owner}
-use Rattle.fg_view.specs.ShapedView.{IsByQueue, IsByBarrier, AccessAt, ShapedView}
+use Rattle.fg_view.specs.ValidView.{IsByQueue, IsByBarrier, AccessAt, ValidView}
 use Rattle.fg_view.specs.Effects.{no_effect, entry_effect}
 use Rattle.fg_view.specs.Views.{View, view_of, piece_imported, effect_at, accesses_of, queue_at, family_at, has_agent, is_on, no_piece, piece_at}
 use Rattle.fg_view.specs.declared.access.Access.{Access}
@@ -130,7 +130,7 @@ module _ (program : Program) (small : IsSmall program) (obeys : (rule : Rule) �
       let below : n < length (entries_of program) = subst (λ m. n < m) count lt in
       subst (λ x. is_host x.kind ≡ false → (f : Family) × (slice_get V.families x.queue ≡ Some f)) (sym (node_is n below)) (entry_family program (entry n) (known_entry n below)) queued
 
-  pub shaped : ShapedView V
+  pub shaped : ValidView V
   shaped = record {
     few_nodes = subst (λ m. m ≤ max_nodes) (sym count) small.entries;
     few_pieces = small.pieces;

@@ -1,5 +1,5 @@
 pub mod AccessKinds
-pub mod Code
+pub mod Internal
 pub mod Effects
-pub mod ShapedView
+pub mod ValidView
 pub mod Views

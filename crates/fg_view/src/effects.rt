@@ -4,7 +4,7 @@ ghost use Rattle.std.specs.Prelude.{◌≡◌, map, true, option_to_list, IfOk};
 ghost use Rattle.fg_subs.specs.Entries.{entries_of, seen};
 ghost use Rattle.fg_subs.specs.Numbers.{item_known};
 ghost use Rattle.fg_subs.specs.Rules.{shapes_of};
-ghost use Rattle.fg_view.specs.Code.KnownEntries.{IsKnown};
+ghost use Rattle.fg_view.specs.Internal.KnownEntries.{IsKnown};
 ghost use Rattle.fg_view.specs.Effects.{plain_effect, barrier_effect, item_effect, all_agents, wait_effect, signal_effect, host_effect, entry_effect};
 
 use crate::barrier::{acquire_accesses, layout_change, released};
@@ -13,7 +13,7 @@ use crate::{Access, AccessKind, Agent, Effect, Scope};
 use bitflags::Flags;
 use fg_base::{List, NoMemory, Shape};
 use fg_bits::{Accesses, Masks, Stages, agents};
-use fg_subs::{Entry, Item, Shaped, Signal, WaitFor};
+use fg_subs::{Entry, Item, ValidProgram, Signal, WaitFor};
 use std::alloc::Global;
 
 fn plain_effect(accesses: List<Access>) -> Effect
@@ -133,7 +133,7 @@ fn entry_effect(alloc: Global, shapes: &[Shape], entry: Entry<'_>) -> Result<Eff
 }
 
 /// What each node does, in the order of their numbers.
-pub(crate) fn effects_of(alloc: Global, shaped: &Shaped) -> Result<List<Effect>, NoMemory>
+pub(crate) fn effects_of(alloc: Global, shaped: &ValidProgram) -> Result<List<Effect>, NoMemory>
     ensures { IfOk result (λ effects. effects ≡ map (entry_effect (shapes_of shaped.now)) (entries_of shaped.now)) }
 {
     let shapes = shaped.program().shapes(alloc)?;

@@ -2,7 +2,7 @@
 
 ghost use Rattle.std.specs.Prelude.{◌≡◌, ◌<◌, ℕ, length, IfOk};
 ghost use Rattle.fg_hb.specs.Orders.{Among, Order};
-ghost use Rattle.fg_view.specs.ShapedView.{Listed, ShapedView};
+ghost use Rattle.fg_view.specs.ValidView.{Listed, ValidView};
 ghost use Rattle.fg_view.specs.Views.{node_accesses_of};
 
 use crate::{Access, View};
@@ -23,7 +23,7 @@ pub fn node_accesses_of(
     order: &[u32],
 ) -> Result<List<NodeAccess>, NoMemory>
     requires { (n : ℕ) → Among n order.now → n < length view.now.effects }
-    ensures listed { IfOk result (λ node_accesses. ShapedView view.now → Order view.now.nodes order.now → Listed view.now node_accesses) }
+    ensures listed { IfOk result (λ node_accesses. ValidView view.now → Order view.now.nodes order.now → Listed view.now node_accesses) }
     ensures accesses { IfOk result (λ node_accesses. node_accesses ≡ node_accesses_of view.now order.now) }
 {
     let mut node_accesses = List::new(alloc);

@@ -4,7 +4,7 @@ ghost use Rattle.std.specs.Prelude.{◌≡◌, ◌<◌, ◌≤◌, length, map, 
 ghost use Rattle.std.specs.Option.{option_map_or};
 ghost use Rattle.fg_base.specs.Maxima.{max_nodes};
 ghost use Rattle.fg_hb.specs.Edges.{node_at};
-ghost use Rattle.fg_view.specs.ShapedView.{ShapedView};
+ghost use Rattle.fg_view.specs.ValidView.{ValidView};
 ghost use Rattle.fg_view.specs.Views.{view_of, is_import, piece_imported, effect_at, piece_at, has_agent, is_on, makes_available, makes_visible, clash, overlap, overlapping, imported_at, shared_at, family_at};
 
 use crate::effects::effects_of;
@@ -13,7 +13,7 @@ use crate::{Access, Agent, Effect, Scope};
 use fg_base::{Family, List, NoMemory};
 use fg_bits::HOST_AGENT;
 use fg_hb::{Edges, Node, direct};
-use fg_subs::{Memory, Piece, Program, Queue, Shaped};
+use fg_subs::{Memory, Piece, Program, Queue, ValidProgram};
 use std::alloc::Global;
 use std::marker::Model;
 
@@ -31,7 +31,7 @@ pub struct View {
 
 impl Model for View {
     ghost use Rattle.fg_view.specs.Views.{View};
-    ghost use Rattle.fg_view.specs.Code.Inside.{view_in, KnowsOverlaps};
+    ghost use Rattle.fg_view.specs.Internal.Inside.{view_in, KnowsOverlaps};
 
     ghost Value = { View };
 
@@ -219,9 +219,9 @@ fn families_of(alloc: Global, queues: &[Queue]) -> Result<List<Family>, NoMemory
 
 /// A program as it is checked.
 #[tactic(auto, using(crate::proofs::Viewing::shaped))]
-pub fn view_of(alloc: Global, program: &Shaped) -> Result<View, NoMemory>
+pub fn view_of(alloc: Global, program: &ValidProgram) -> Result<View, NoMemory>
     ensures view { IfOk result (λ view. view ≡ view_of program.now) }
-    ensures shaped { IfOk result (λ view. ShapedView view) }
+    ensures shaped { IfOk result (λ view. ValidView view) }
 {
     let edges = direct(alloc, program)?;
     let effects = effects_of(alloc, program)?;

@@ -6,7 +6,7 @@ use Rattle.std.proofs.lemmas.Bool.{or_left, or_right}
 use Rattle.fg_base.specs.Shapes.{bytes_of, shape_at}
 use Rattle.fg_base.specs.declared.shape.Shape.{Shape}
 use Rattle.fg_base.specs.declared.shape.Shape.TheVariants.{Buffer}
-use Rattle.fg_frame.specs.Good.{is_import, shapes_in}
+use Rattle.fg_frame.specs.Valid.{is_import, shapes_in}
 use Rattle.fg_frame.specs.Numbered.{NumberedFrame}
 use Rattle.fg_frame.specs.Units.{Unit}
 use Rattle.fg_frame.specs.declared.numbered.NumberedPass.{NumberedPass}
@@ -56,28 +56,28 @@ all_placed P Q (None ∷ places) so all = all_placed P Q places so all
 all_placed P Q (Some x ∷ places) so all = (so x all.0, all_placed P Q places so all.1)
 
 -- a persisting buffer is an import of the window, or is copied to
-abbrev pub IsFed : ℕ → List Unit → List Carry → ℕ → Type 0
-IsFed n us all y = (is_import us y ≡ true) ⊎ (carried (n + y) all ≡ true)
+abbrev pub IsInitialized : ℕ → List Unit → List Carry → ℕ → Type 0
+IsInitialized n us all y = (is_import us y ≡ true) ⊎ (carried (n + y) all ≡ true)
 
-pub placed_fed : (W : NumberedFrame) (earlier : List NumberedPass) (n : ℕ) (shapes : List Shape) (sizes : List ℕ) (places : List (Option ℕ)) (sources : List Source) (us : List Unit) → length us ≡ length shapes → ArePlaced sizes places shapes → AreLeft W earlier n sizes sources → AllPlaced (IsFed n (with_imports places (map import_from sources) us) (carries n shapes places sources)) places
-placed_fed W earlier n shapes [] [] sources us is placed left = tt
-placed_fed W earlier n shapes [] (place ∷ places) sources us is placed left = absurd placed
-placed_fed W earlier n shapes (size ∷ sizes) [] sources us is placed left = absurd placed
-placed_fed W earlier n shapes (size ∷ sizes) (place ∷ places) [] us is placed left = absurd left
-placed_fed W earlier n shapes (size ∷ sizes) (None ∷ places) (Given b ∷ sources) us is placed left = placed_fed W earlier n shapes sizes places sources us is placed left.1
-placed_fed W earlier n shapes (size ∷ sizes) (None ∷ places) (Left unit ∷ sources) us is placed left = placed_fed W earlier n shapes sizes places sources us is placed left.3
-placed_fed W earlier n shapes (size ∷ sizes) (Some x ∷ places) (Given b ∷ sources) us is placed left =
+pub placed_initialized : (W : NumberedFrame) (earlier : List NumberedPass) (n : ℕ) (shapes : List Shape) (sizes : List ℕ) (places : List (Option ℕ)) (sources : List Source) (us : List Unit) → length us ≡ length shapes → ArePlaced sizes places shapes → AreLeft W earlier n sizes sources → AllPlaced (IsInitialized n (with_imports places (map import_from sources) us) (carries n shapes places sources)) places
+placed_initialized W earlier n shapes [] [] sources us is placed left = tt
+placed_initialized W earlier n shapes [] (place ∷ places) sources us is placed left = absurd placed
+placed_initialized W earlier n shapes (size ∷ sizes) [] sources us is placed left = absurd placed
+placed_initialized W earlier n shapes (size ∷ sizes) (place ∷ places) [] us is placed left = absurd left
+placed_initialized W earlier n shapes (size ∷ sizes) (None ∷ places) (Given b ∷ sources) us is placed left = placed_initialized W earlier n shapes sizes places sources us is placed left.1
+placed_initialized W earlier n shapes (size ∷ sizes) (None ∷ places) (Left unit ∷ sources) us is placed left = placed_initialized W earlier n shapes sizes places sources us is placed left.3
+placed_initialized W earlier n shapes (size ∷ sizes) (Some x ∷ places) (Given b ∷ sources) us is placed left =
     let all = with_imports places (map import_from sources) us in
     let count : length all ≡ length shapes = all_length places (map import_from sources) us ∙ is in (
       inl (ap (λ v. is_import v x) (import_last places (map import_from sources) us x (Some b) placed.2) ∙ is_imported all x b (subst (λ k. x < k) (sym count) placed.0)),
-      placed_fed W earlier n shapes sizes places sources (with_import us x (Some b)) (same_length us x (Some b) ∙ is) placed.3 left.1,
+      placed_initialized W earlier n shapes sizes places sources (with_import us x (Some b)) (same_length us x (Some b) ∙ is) placed.3 left.1,
     )
-placed_fed W earlier n shapes (size ∷ sizes) (Some x ∷ places) (Left unit ∷ sources) us is placed left =
+placed_initialized W earlier n shapes (size ∷ sizes) (Some x ∷ places) (Left unit ∷ sources) us is placed left =
     let rest = carries n shapes places sources in
     let all = with_imports places (map import_from sources) (with_import us x None) in (
       inr (or_left (n + x == n + x) (carried (n + x) rest) (eq-eqb (n + x) (n + x) refl)),
-      all_placed (IsFed n all rest) (IsFed n all (record { from = unit; to = n + x; size = bytes_of (shape_at shapes x) } ∷ rest)) places (λ y fed. ⊎_elim (λ i. inl i) (λ c. inr (or_right (n + x == n + y) (carried (n + y) rest) c)) fed)
-          (placed_fed W earlier n shapes sizes places sources (with_import us x None) (same_length us x None ∙ is) placed.3 left.3),
+      all_placed (IsInitialized n all rest) (IsInitialized n all (record { from = unit; to = n + x; size = bytes_of (shape_at shapes x) } ∷ rest)) places (λ y initialized. ⊎_elim (λ i. inl i) (λ c. inr (or_right (n + x == n + y) (carried (n + y) rest) c)) initialized)
+          (placed_initialized W earlier n shapes sizes places sources (with_import us x None) (same_length us x None ∙ is) placed.3 left.3),
     )
 
 -- THE COPIES ARE THOSE OF A JOIN PASS

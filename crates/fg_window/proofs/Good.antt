@@ -10,12 +10,12 @@ use Rattle.fg_base.specs.Shapes.{bytes_of, shape_at}
 use Rattle.fg_base.specs.declared.shape.Family.{Family}
 use Rattle.fg_base.specs.declared.shape.Shape.{Shape}
 use Rattle.fg_base.specs.declared.shape.Shape.TheVariants.{Buffer}
-use Rattle.fg_frame.specs.Good.{has_contents, is_import, renews, shapes_in}
+use Rattle.fg_frame.specs.Valid.{has_contents, is_import, renews, shapes_in}
 use Rattle.fg_frame.specs.Numbered.{IsWithin, NumberedFrame}
 use Rattle.fg_frame.specs.Units.{Unit}
 use Rattle.fg_frame.specs.declared.numbered.NumberedPass.{NumberedPass}
 use Rattle.fg_base.proofs.Operands.{operands_mapped}
-use Rattle.fg_window.proofs.Contents.{IsFed, all_carries, carries_differ, import_after, import_first, import_inside, import_or_copy, placed_fed}
+use Rattle.fg_window.proofs.Contents.{IsInitialized, all_carries, carries_differ, import_after, import_first, import_inside, import_or_copy, placed_initialized}
 use Rattle.fg_window.proofs.GoodJoin.{Different, IsCarry, good_join, joins_renew}
 use Rattle.fg_window.proofs.GoodMoved.{all_moved, there}
 use Rattle.fg_window.proofs.Imports.{all_length, all_shapes}
@@ -134,12 +134,12 @@ module _ (W : NumberedFrame) (queues : List Family) (sizes : List ℕ) (flown : 
       by_case (carry ∷ cs) ok apart = (good_join W earlier n (carry ∷ cs) ok apart, tt)
 
   -- an import or a copy gives contents
-  fed_there : (x : ℕ) → x < length us → IsFed n (units_in sources flown) all x → has_contents W.units (earlier ++ joins all) (n + x) ≡ true
-  fed_there x lt (inl e) = ap (λ b. b || list_any (renews (n + x)) (earlier ++ joins all)) (ap (λ v. is_import v (n + x)) U ∙ import_after before (units_in sources flown ++ after) x ∙ import_first (units_in sources flown) after x (subst (λ k. x < k) (sym begun_count) lt) ∙ e)
-  fed_there x lt (inr e) = contents_renewed W earlier (joins all) (n + x) (joins_renew (n + x) all ∙ e)
+  initialized_there : (x : ℕ) → x < length us → IsInitialized n (units_in sources flown) all x → has_contents W.units (earlier ++ joins all) (n + x) ≡ true
+  initialized_there x lt (inl e) = ap (λ b. b || list_any (renews (n + x)) (earlier ++ joins all)) (ap (λ v. is_import v (n + x)) U ∙ import_after before (units_in sources flown ++ after) x ∙ import_first (units_in sources flown) after x (subst (λ k. x < k) (sym begun_count) lt) ∙ e)
+  initialized_there x lt (inr e) = contents_renewed W earlier (joins all) (n + x) (joins_renew (n + x) all ∙ e)
 
   imports_there : (x : ℕ) → is_import us x ≡ true → has_contents W.units (earlier ++ joins all) (n + x) ≡ true
-  imports_there x e = fed_there x (import_inside us x e) (import_or_copy n shapes flown.places sources us x e)
+  imports_there x e = initialized_there x (import_inside us x e) (import_or_copy n shapes flown.places sources us x e)
 
   same_queues : W.queues ≡ flown.frame.queues
   same_queues = Q ∙ sym F.same
@@ -154,7 +154,7 @@ module _ (W : NumberedFrame) (queues : List Family) (sizes : List ℕ) (flown : 
   good_part = good_on W earlier (joins all) own good_joins good_own
 
   pub left_on : AreLeft W (earlier ++ passes_in n sources flown) (n + length us) sizes (sources_after n flown.places sources)
-  left_on = left_after W earlier (passes_in n sources flown) n (n + length us) shapes (omega (arith, count)) at sizes flown.places sources F.placed left (placed_all (IsFed n (units_in sources flown) all) (λ x. has_contents W.units (earlier ++ passes_in n sources flown) (n + x) ≡ true) sizes flown.places shapes F.placed (λ x lt fed. ap (λ b. has_contents W.units b (n + x)) (sym (append_assoc earlier (joins all) own)) ∙ contents_stay W (earlier ++ joins all) own (n + x) (fed_there x (subst (λ k. x < k) count lt) fed)) (placed_fed W earlier n shapes sizes flown.places sources us (sym count) F.placed left))
+  left_on = left_after W earlier (passes_in n sources flown) n (n + length us) shapes (omega (arith, count)) at sizes flown.places sources F.placed left (placed_all (IsInitialized n (units_in sources flown) all) (λ x. has_contents W.units (earlier ++ passes_in n sources flown) (n + x) ≡ true) sizes flown.places shapes F.placed (λ x lt initialized. ap (λ b. has_contents W.units b (n + x)) (sym (append_assoc earlier (joins all) own)) ∙ contents_stay W (earlier ++ joins all) own (n + x) (initialized_there x (subst (λ k. x < k) count lt) initialized)) (placed_initialized W earlier n shapes sizes flown.places sources us (sym count) F.placed left))
 
   pub own_there : All (λ x. has_contents W.units (earlier ++ passes_in n sources flown) x ≡ true) (map (λ unit. n + unit) flown.frame.exports)
   own_there = All-map (λ x. has_contents W.units (earlier ++ passes_in n sources flown) x ≡ true) (λ unit. n + unit) flown.frame.exports (λ k d lt.

@@ -11,7 +11,7 @@ use Rattle.fg_base.specs.Operands.{mapped, touches}
 use Rattle.fg_base.specs.Shapes.{bytes_of, has_bytes, shape_at}
 use Rattle.fg_base.specs.declared.shape.Shape.{Shape}
 use Rattle.fg_base.specs.declared.shape.Shape.TheVariants.{Buffer}
-use Rattle.fg_frame.specs.Good.{IsGoodOp, IsGoodPass, has_contents, renews, shapes_in}
+use Rattle.fg_frame.specs.Valid.{IsValidOp, IsValidPass, has_contents, renews, shapes_in}
 use Rattle.fg_frame.specs.Numbered.{NumberedFrame}
 use Rattle.fg_frame.specs.Uses.{reads_it, starts_whole, stores_whole, writes_it}
 use Rattle.fg_frame.specs.declared.numbered.NumberedPass.{NumberedPass}
@@ -96,7 +96,7 @@ module _ (W : NumberedFrame) (earlier : List NumberedPass) (n : ℕ) where
         let to : has_bytes (shape_at shapes carry.to) 0 carry.size ≡ true = ap (λ s. has_bytes s 0 carry.size) C.to_shape ∙ whole in
         ap₂ (λ a b. nat_le 1 carry.size && a && b) from to ∙ ap (λ b. b && true && true) (le-leb 1 carry.size C.some)
 
-    good_copy : (k : ℕ) (d : Carry) → k < length all → IsGoodOp W (join_of all) (copy_of (get_or all k d))
+    good_copy : (k : ℕ) (d : Carry) → k < length all → IsValidOp W (join_of all) (copy_of (get_or all k d))
     good_copy k d lt =
         let carry = get_or all k d in
         let C = every k d lt in
@@ -109,13 +109,13 @@ module _ (W : NumberedFrame) (earlier : List NumberedPass) (n : ℕ) where
           not_in_place = ap (λ b. b || false) (ne_eqb carry.from carry.to (λ e. absurd (omega (arith, e, C.low, C.high))));
         }
 
-    pub good_join : IsGoodPass W earlier (join_of all)
+    pub good_join : IsValidPass W earlier (join_of all)
     good_join = record {
       reads_there = All-map (λ x. has_contents W.units earlier x ≡ true) (λ carry. carry.from) all (λ k d lt. (every k d lt).there);
       changes_there = All-map (λ w. w.fresh ≡ false → has_contents W.units earlier w.what ≡ true) renewal all (λ k d lt old. absurd (no_old old));
       new_whole = All-map (λ w. w.fresh ≡ true → starts_whole shapes (map copy_of all) w.what ≡ true) renewal all (λ k d lt new. all_of (λ c. starts_whole shapes (map copy_of all) c.to ≡ true) all (all_start all each apart) k d lt);
       new_unread = All-map (λ w. w.fresh ≡ true → reads_it (join_of all) w.what ≡ false) renewal all (λ k d lt new. unread k d lt);
-      ops_good = All-map (IsGoodOp W (join_of all)) copy_of all good_copy;
+      ops_good = All-map (IsValidOp W (join_of all)) copy_of all good_copy;
     }
       where
         no_old : true ≡ false → ⊥

@@ -8,7 +8,7 @@ use Rattle.fg_base.specs.Operands.{sources_of, destination_of, operands_of, mapp
 use Rattle.fg_base.specs.Shapes.{shape_at}
 use Rattle.fg_base.specs.declared.op.Op.{Op}
 use Rattle.fg_base.specs.declared.shape.Shape.{Shape}
-use Rattle.fg_frame.specs.Good.{IsGood, IsGoodOp, IsGoodPass, has_contents, is_import, renews, shapes_in}
+use Rattle.fg_frame.specs.Valid.{IsValid, IsValidOp, IsValidPass, has_contents, is_import, renews, shapes_in}
 use Rattle.fg_frame.specs.Numbered.{NumberedFrame}
 use Rattle.fg_frame.specs.Uses.{reads_it, starts_whole, writes_it}
 use Rattle.fg_frame.specs.declared.numbered.NumberedPass.{NumberedPass}
@@ -36,7 +36,7 @@ module _ (frame W : NumberedFrame) (shapes-before shapes-after : List Shape) (E 
       by_import true is e = contents_stay W start (map (moved n) before) (move x) (contents x is)
       by_import false is e = contents_renewed W start (map (moved n) before) (move x) (renewed_moved n before x ∙ e)
 
-  good_op : (pass : NumberedPass) (op : Op ℕ) → Inside op → IsGoodOp frame pass op → IsGoodOp W (moved n pass) (mapped move op)
+  good_op : (pass : NumberedPass) (op : Op ℕ) → Inside op → IsValidOp frame pass op → IsValidOp W (moved n pass) (mapped move op)
   good_op pass op inside G = record {
     on_queue = λ family is. runs_mapped move family op ∙ G.on_queue family (subst (λ q. slice_get q pass.queue ≡ Some family) Q is);
     declared_sources = subst (All (λ x. (writes_it (moved n pass) x || reads_it (moved n pass) x) ≡ true)) (sym (sources_mapped move op)) (All-map (λ x. (writes_it (moved n pass) x || reads_it (moved n pass) x) ≡ true) move (sources_of op) (λ k d lt. ap₂ (λ a b. a || b) (writes_moved n pass (get_or (sources_of op) k d)) (reads_moved n pass (get_or (sources_of op) k d)) ∙ G.declared_sources k d lt));
@@ -45,7 +45,7 @@ module _ (frame W : NumberedFrame) (shapes-before shapes-after : List Shape) (E 
     not_in_place = in_place_moved n op ∙ G.not_in_place;
   }
 
-  good_pass : (before : List NumberedPass) (pass : NumberedPass) → All Inside pass.ops → IsGoodPass frame before pass → IsGoodPass W (start ++ map (moved n) before) (moved n pass)
+  good_pass : (before : List NumberedPass) (pass : NumberedPass) → All Inside pass.ops → IsValidPass frame before pass → IsValidPass W (start ++ map (moved n) before) (moved n pass)
   good_pass before pass inside G =
       let so_far = start ++ map (moved n) before in
       record {
@@ -53,7 +53,7 @@ module _ (frame W : NumberedFrame) (shapes-before shapes-after : List Shape) (E 
         changes_there = All-map (λ w. w.fresh ≡ false → has_contents W.units so_far w.what ≡ true) (moved_write n) pass.writes (λ k d lt old. there before (get_or pass.writes k d).what (G.changes_there k d lt old));
         new_whole = All-map (λ w. w.fresh ≡ true → starts_whole (shapes_in W) (map (mapped move) pass.ops) w.what ≡ true) (moved_write n) pass.writes (λ k d lt new. ap (λ s. starts_whole s (map (mapped move) pass.ops) (move (get_or pass.writes k d).what)) E ∙ starts_moved shapes-before (shapes_in frame) shapes-after pass.ops (get_or pass.writes k d).what inside ∙ G.new_whole k d lt new);
         new_unread = All-map (λ w. w.fresh ≡ true → reads_it (moved n pass) w.what ≡ false) (moved_write n) pass.writes (λ k d lt new. reads_moved n pass (get_or pass.writes k d).what ∙ G.new_unread k d lt new);
-        ops_good = All-map (IsGoodOp W (moved n pass)) (mapped move) pass.ops (λ k d lt. good_op pass (get_or pass.ops k d) (inside k d lt) (G.ops_good k d lt));
+        ops_good = All-map (IsValidOp W (moved n pass)) (mapped move) pass.ops (λ k d lt. good_op pass (get_or pass.ops k d) (inside k d lt) (G.ops_good k d lt));
       }
 
   good_passes : (before passes : List NumberedPass) → All (λ pass. All Inside pass.ops) passes → AllGood frame before passes → AllGood W (start ++ map (moved n) before) (map (moved n) passes)
@@ -63,5 +63,5 @@ module _ (frame W : NumberedFrame) (shapes-before shapes-after : List Shape) (E 
     subst (λ b. AllGood W b (map (moved n) passes)) (ap (λ b. start ++ b) (map-append (moved n) before (pass ∷ [])) ∙ sym (append_assoc start (map (moved n) before) (moved n pass ∷ []))) (good_passes (before ++ pass ∷ []) passes (All-tail (λ p. All Inside p.ops) pass passes inside) G.1),
   )
 
-  pub all_moved : IsGood frame → All (λ pass. All Inside pass.ops) frame.passes → AllGood W start (map (moved n) frame.passes)
+  pub all_moved : IsValid frame → All (λ pass. All Inside pass.ops) frame.passes → AllGood W start (map (moved n) frame.passes)
   all_moved G inside = subst (λ b. AllGood W b (map (moved n) frame.passes)) (append-nil start) (good_passes [] frame.passes inside (one_by_one frame [] frame.passes G.passes_good))

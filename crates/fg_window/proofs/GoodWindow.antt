@@ -6,7 +6,7 @@ use Rattle.std.proofs.lemmas.List.Elements.{All-append, All-filter, All-nil}
 use Rattle.fg_base.specs.Bounds.{sides_allowed, size_allowed}
 use Rattle.fg_base.specs.declared.shape.Family.{Family}
 use Rattle.fg_base.specs.declared.shape.Shape.{Shape}
-use Rattle.fg_frame.specs.Good.{IsGood, has_contents}
+use Rattle.fg_frame.specs.Valid.{IsValid, has_contents}
 use Rattle.fg_frame.specs.Numbered.{NumberedFrame}
 use Rattle.fg_frame.specs.Units.{Unit}
 use Rattle.fg_frame.specs.declared.numbered.NumberedPass.{NumberedPass}
@@ -58,17 +58,17 @@ fitting : (queues : List Family) (sizes : List ℕ) (frames : List Flown) (n : �
 fitting queues sizes [] n sources fly sized = All-nil Fit
 fitting queues sizes (flown ∷ frames) n sources fly sized = All-append Fit (units_in sources flown) (all_units (next n flown) (sources_after n flown.places sources) frames) (all_of Fit (units_in sources flown) (imports_fit sizes flown.places sources flown.frame.units fly.0.placed sized (each Fit flown.frame.units fly.0.good.imports_fit))) (fitting queues sizes frames (next n flown) (sources_after n flown.places sources) fly.1 (given_after n sizes flown.places sources sized))
 
-start_given : (held : List (List ℕ)) (sizes : List ℕ) → map length held ≡ sizes → AreGiven sizes (given held)
+start_given : (persisted : List (List ℕ)) (sizes : List ℕ) → map length persisted ≡ sizes → AreGiven sizes (given persisted)
 start_given [] [] is = tt
 start_given [] (size ∷ sizes) is = absurd cc
-start_given (bytes ∷ held) [] is = absurd cc
-start_given (bytes ∷ held) (size ∷ sizes) is = (cc, start_given held sizes cc)
+start_given (bytes ∷ persisted) [] is = absurd cc
+start_given (bytes ∷ persisted) (size ∷ sizes) is = (cc, start_given persisted sizes cc)
 
-start_left : (W : NumberedFrame) (held : List (List ℕ)) (sizes : List ℕ) → map length held ≡ sizes → AreLeft W [] 0 sizes (given held)
+start_left : (W : NumberedFrame) (persisted : List (List ℕ)) (sizes : List ℕ) → map length persisted ≡ sizes → AreLeft W [] 0 sizes (given persisted)
 start_left W [] [] is = tt
 start_left W [] (size ∷ sizes) is = absurd cc
-start_left W (bytes ∷ held) [] is = absurd cc
-start_left W (bytes ∷ held) (size ∷ sizes) is = (cc, start_left W held sizes cc)
+start_left W (bytes ∷ persisted) [] is = absurd cc
+start_left W (bytes ∷ persisted) (size ∷ sizes) is = (cc, start_left W persisted sizes cc)
 
 -- THE WINDOW
 
@@ -86,15 +86,15 @@ left_full W earlier n (size ∷ sizes) [] left = absurd left
 left_full W earlier n (size ∷ sizes) (Given bytes ∷ sources) left = left_full W earlier n sizes sources left.1
 left_full W earlier n (size ∷ sizes) (Left unit ∷ sources) left = (left.2, left_full W earlier n sizes sources left.3)
 
-module _ (queues : List Family) (sizes : List ℕ) (frames : List Flown) (held : List (List ℕ)) (fly : AllByRecursion (Flies queues sizes) frames) (is : map length held ≡ sizes) (some : 0 < length queues) where
+module _ (queues : List Family) (sizes : List ℕ) (frames : List Flown) (persisted : List (List ℕ)) (fly : AllByRecursion (Flies queues sizes) frames) (is : map length persisted ≡ sizes) (some : 0 < length queues) where
   abbrev W : NumberedFrame
-  W = window queues frames held
+  W = window queues frames persisted
 
   abbrev last : List Source
-  last = last_sources 0 (given held) frames
+  last = last_sources 0 (given persisted) frames
 
-  pub whole : Whole W [] 0 sizes (given held) frames
-  whole = all_frames W queues sizes frames fly refl some [] [] (given held) refl (start_left W held sizes is)
+  pub whole : Whole W [] 0 sizes (given persisted) frames
+  whole = all_frames W queues sizes frames fly refl some [] [] (given persisted) refl (start_left W persisted sizes is)
 
   -- what holds of the exports of all frames, and of what is left, holds of what the window exports
   exported : (P : ℕ → Type 0) → All P (own_exports 0 frames) → AllByRecursion P (left_units last) → All P W.exports
@@ -102,7 +102,7 @@ module _ (queues : List Family) (sizes : List ℕ) (frames : List Flown) (held :
       All-append P (own_exports 0 frames) (others (own_exports 0 frames) (left_units last)) own
       (All-filter (λ unit. not (list_any (λ x. x == unit) (own_exports 0 frames))) P (left_units last) (all_of P (left_units last) left))
 
-  pub good_window : length queues ≤ 4 → IsSmall W → IsGood W
+  pub good_window : length queues ≤ 4 → IsSmall W → IsValid W
   good_window few small = record {
     some_queue = some;
     few_queues = few;
@@ -112,12 +112,12 @@ module _ (queues : List Family) (sizes : List ℕ) (frames : List Flown) (held :
     few_ops = small.ops;
     few_rects = small.rects;
     few_bytes = small.bytes;
-    sides = all_shaped (λ shape. sides_allowed shape ≡ true) queues sizes (λ flown F. F.good.sides) frames 0 (given held) fly;
-    sized = all_shaped (λ shape. size_allowed shape ≡ true) queues sizes (λ flown F. F.good.sized) frames 0 (given held) fly;
-    imports_fit = fitting queues sizes frames 0 (given held) fly (start_given held sizes is);
+    sides = all_shaped (λ shape. sides_allowed shape ≡ true) queues sizes (λ flown F. F.good.sides) frames 0 (given persisted) fly;
+    sized = all_shaped (λ shape. size_allowed shape ≡ true) queues sizes (λ flown F. F.good.sized) frames 0 (given persisted) fly;
+    imports_fit = fitting queues sizes frames 0 (given persisted) fly (start_given persisted sizes is);
     within = whole.within;
-    passes_good = at_once W [] (all_passes 0 (given held) frames) whole.good;
-    exports_within = exported (λ x. x < length W.units) whole.inside (left_inside W (all_passes 0 (given held) frames) (length W.units) sizes last whole.left);
-    exports_there = exported (λ x. has_contents W.units W.passes x ≡ true) whole.full (left_full W (all_passes 0 (given held) frames) (length W.units) sizes last whole.left);
-    exports_once = window_once queues sizes frames held fly;
+    passes_good = at_once W [] (all_passes 0 (given persisted) frames) whole.good;
+    exports_within = exported (λ x. x < length W.units) whole.inside (left_inside W (all_passes 0 (given persisted) frames) (length W.units) sizes last whole.left);
+    exports_there = exported (λ x. has_contents W.units W.passes x ≡ true) whole.full (left_full W (all_passes 0 (given persisted) frames) (length W.units) sizes last whole.left);
+    exports_once = window_once queues sizes frames persisted fly;
   }

@@ -5,7 +5,7 @@ use Rattle.std.proofs.lemmas.Bool.{eqb-true}
 use Rattle.std.proofs.lemmas.List.{length-replicate}
 use Rattle.fg_base.specs.Applied.{bytes_at}
 use Rattle.fg_base.specs.Shapes.{bytes_of, is_buffer, shape_at}
-use Rattle.fg_frame.specs.Good.{is_import}
+use Rattle.fg_frame.specs.Valid.{is_import}
 use Rattle.fg_frame.specs.Units.{Unit}
 use Rattle.fg_frame.specs.Uses.{import_fits}
 use Rattle.fg_meaning.specs.Meaning.{first_bytes}

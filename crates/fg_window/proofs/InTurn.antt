@@ -9,9 +9,9 @@ use Rattle.fg_window.proofs.Each.{each}
 use Rattle.fg_window.proofs.Frames.{held_sized}
 use Rattle.fg_window.proofs.Together.{together_means}
 use Rattle.fg_window.specs.Flown.{Flown, holding}
-use Rattle.fg_window.specs.Held.{held_after, held_by}
-use Rattle.fg_window.specs.InTurn.{MeansInTurn, frames_in, held_before}
-use Rattle.fg_window.specs.Means.{AreHeld, IsExport, IsLeft}
+use Rattle.fg_window.specs.Persisted.{persisted_after, persisted_by}
+use Rattle.fg_window.specs.InTurn.{MeansInTurn, frames_in, persisted_before}
+use Rattle.fg_window.specs.Means.{ArePersisted, IsExport, IsLeft}
 use Rattle.fg_window.specs.Small.{IsSmall}
 use Rattle.fg_window.specs.Sources.{given, last_sources}
 use Rattle.fg_window.specs.Together.{Flies, FlyTogether}
@@ -42,38 +42,38 @@ got_dropped (suc n) m (x ∷ xs) = let e : suc (n + m) ≡ suc n + m = omega ari
 
 -- FRAMES AFTER FRAMES
 
-held_on : (n m : ℕ) (frames : List Flown) (held : List (List ℕ)) → held_after (take (n + m) frames) held ≡ held_after (take m (drop n frames)) (held_after (take n frames) held)
-held_on zero m frames held = let z : 0 + m ≡ m = omega arith in ap (λ k. held_after (take k frames) held) z
-held_on (suc n) m [] held = ap (λ xs. held_after xs held) (take_none (suc n + m) ∙ sym (take_none m))
-held_on (suc n) m (flown ∷ frames) held = let e : suc n + m ≡ suc (n + m) = omega arith in ap (λ k. held_after (take k (flown ∷ frames)) held) e ∙ held_on n m frames (held_by flown held)
+held_on : (n m : ℕ) (frames : List Flown) (persisted : List (List ℕ)) → persisted_after (take (n + m) frames) persisted ≡ persisted_after (take m (drop n frames)) (persisted_after (take n frames) persisted)
+held_on zero m frames persisted = let z : 0 + m ≡ m = omega arith in ap (λ k. persisted_after (take k frames) persisted) z
+held_on (suc n) m [] persisted = ap (λ xs. persisted_after xs persisted) (take_none (suc n + m) ∙ sym (take_none m))
+held_on (suc n) m (flown ∷ frames) persisted = let e : suc n + m ≡ suc (n + m) = omega arith in ap (λ k. persisted_after (take k (flown ∷ frames)) persisted) e ∙ held_on n m frames (persisted_by flown persisted)
 
-pub still_sized : (queues : List Family) (sizes : List ℕ) (frames : List Flown) → AllByRecursion (Flies queues sizes) frames → (held : List (List ℕ)) → map length held ≡ sizes → map length (held_after frames held) ≡ sizes
-still_sized queues sizes [] fly held is = is
-still_sized queues sizes (flown ∷ frames) fly held is = still_sized queues sizes frames fly.1 (held_by flown held) (held_sized queues sizes flown fly.0 held is)
+pub still_sized : (queues : List Family) (sizes : List ℕ) (frames : List Flown) → AllByRecursion (Flies queues sizes) frames → (persisted : List (List ℕ)) → map length persisted ≡ sizes → map length (persisted_after frames persisted) ≡ sizes
+still_sized queues sizes [] fly persisted is = is
+still_sized queues sizes (flown ∷ frames) fly persisted is = still_sized queues sizes frames fly.1 (persisted_by flown persisted) (held_sized queues sizes flown fly.0 persisted is)
 
 -- ONE WINDOW OF SEVERAL
 
-module _ (queues : List Family) (sizes : List ℕ) (frames : List Flown) (held : List (List ℕ)) (T : FlyTogether queues sizes frames held) (depth w : ℕ) (deep : 0 < depth) (there : w * depth < length frames) where
-  pub each_together : FlyTogether queues sizes (frames_in depth frames w) (held_before depth frames held w)
+module _ (queues : List Family) (sizes : List ℕ) (frames : List Flown) (persisted : List (List ℕ)) (T : FlyTogether queues sizes frames persisted) (depth w : ℕ) (deep : 0 < depth) (there : w * depth < length frames) where
+  pub each_together : FlyTogether queues sizes (frames_in depth frames w) (persisted_before depth frames persisted w)
   each_together = record {
     some =
         let taken : length (take depth (drop (w * depth) frames)) ≡ min depth (length (drop (w * depth) frames)) = length-take depth (drop (w * depth) frames) in
         let dropped : length (drop (w * depth) frames) ≡ length frames - w * depth = length-drop (w * depth) frames in
         omega (arith, taken, dropped, deep, there);
     each = All-take (Flies queues sizes) depth (drop (w * depth) frames) (All-drop (Flies queues sizes) (w * depth) frames T.each);
-    sized = still_sized queues sizes (take (w * depth) frames) (each (Flies queues sizes) (take (w * depth) frames) (All-take (Flies queues sizes) (w * depth) frames T.each)) held T.sized;
+    sized = still_sized queues sizes (take (w * depth) frames) (each (Flies queues sizes) (take (w * depth) frames) (All-take (Flies queues sizes) (w * depth) frames T.each)) persisted T.sized;
   }
 
-  pub means_in_turn : IsSmall (window queues (frames_in depth frames w) (held_before depth frames held w)) → MeansInTurn queues depth frames held w
+  pub means_in_turn : IsSmall (window queues (frames_in depth frames w) (persisted_before depth frames persisted w)) → MeansInTurn queues depth frames persisted w
   means_in_turn small =
       let part = frames_in depth frames w in
-      let begun = held_before depth frames held w in
+      let begun = persisted_before depth frames persisted w in
       let M = together_means queues sizes part begun each_together small in
       let next : w * depth + depth ≡ suc w * depth = grind arith in
       record {
         exports = λ j k flown unit lt at is.
             let here : slice_get part j ≡ Some flown = got_taken j depth (drop (w * depth) frames) lt ∙ got_dropped (w * depth) j frames ∙ at in
-            let same : held_after (take j part) begun ≡ held_after (take (w * depth + j) frames) held = ap (λ xs. held_after xs begun) (take_take j depth (drop (w * depth) frames) (omega (arith, lt))) ∙ sym (held_on (w * depth) j frames held) in
+            let same : persisted_after (take j part) begun ≡ persisted_after (take (w * depth + j) frames) persisted = ap (λ xs. persisted_after xs begun) (take_take j depth (drop (w * depth) frames) (omega (arith, lt))) ∙ sym (held_on (w * depth) j frames persisted) in
             subst (λ h. IsExport queues part begun j k unit (meaning (holding h flown) unit)) same (M.exports j k flown unit here is);
-        left = subst (AreHeld (IsLeft queues part begun) (last_sources 0 (given begun) part)) (sym (held_on (w * depth) depth frames held) ∙ ap (λ n. held_after (take n frames) held) next) M.left;
+        left = subst (ArePersisted (IsLeft queues part begun) (last_sources 0 (given begun) part)) (sym (held_on (w * depth) depth frames persisted) ∙ ap (λ n. persisted_after (take n frames) persisted) next) M.left;
       }

@@ -1,4 +1,4 @@
--- What the join pass of a frame leaves: the held bytes in all persisting buffers.
+-- What the join pass of a frame leaves: the persisted bytes in all persisting buffers.
 use Rattle.std.proofs.Common.{◌≡◌, ℕ, ◌+◌, ◌-◌, ◌<◌, ◌++◌, List, [], ◌∷◌, length, map, take, drop, slice_set, true, Option, Some, None, refl, sym, ap, ap₂, subst, ◌∙◌, arith}
 use Rattle.std.specs.List.{AllByRecursion}
 use Rattle.std.proofs.lemmas.Bool.{eq-eqb}

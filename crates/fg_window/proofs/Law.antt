@@ -6,12 +6,12 @@ use Rattle.fg_base.specs.Operands.{operands_of}
 use Rattle.fg_base.specs.Shapes.{bytes_of, shape_at}
 use Rattle.fg_base.specs.declared.shape.Family.{Family}
 use Rattle.fg_base.specs.declared.shape.Shape.{Shape}
-use Rattle.fg_frame.specs.Good.{IsGood, is_import, shapes_in}
+use Rattle.fg_frame.specs.Valid.{IsValid, is_import, shapes_in}
 use Rattle.fg_frame.specs.Numbered.{NumberedFrame}
 use Rattle.fg_frame.specs.Units.{Unit}
 use Rattle.fg_frame.specs.declared.numbered.NumberedPass.{NumberedPass}
 use Rattle.fg_meaning.specs.Meaning.{after_ops, after_passes, all_bytes, first_bytes}
-use Rattle.fg_meaning.specs.Code.Sizes.{AreSized, IsRunnable}
+use Rattle.fg_meaning.specs.Internal.Sizes.{AreSized, IsRunnable}
 use Rattle.fg_window.proofs.Imports.{Fit, all_length, all_long, all_shapes, import_last, is_imported, same_shapes}
 use Rattle.fg_window.proofs.Joined.{imports_fit, joined}
 use Rattle.fg_window.proofs.Moves.{moved_passes}
@@ -20,7 +20,7 @@ use Rattle.fg_window.proofs.Sized.{passes_sized}
 use Rattle.fg_window.proofs.Sources.{AllPlaced, AreFrom, as_given, bytes_from, given_from, given_imports, start_from, start_held}
 use Rattle.fg_window.proofs.Steps.{from_after, kept_is}
 use Rattle.fg_window.specs.Flown.{Flown, holding, with_import, with_imports}
-use Rattle.fg_window.specs.Held.{flown_bytes, held_by}
+use Rattle.fg_window.specs.Persisted.{flown_bytes, persisted_by}
 use Rattle.fg_window.specs.Joins.{Carry, carries, copy_of, joins}
 use Rattle.fg_window.specs.Moved.{moved}
 use Rattle.fg_window.specs.Sources.{given, Given, Left, Source, import_from, next, sources_after}
@@ -39,7 +39,7 @@ joins_run shapes bytes (carry ∷ all) = refl
 
 -- ONE FRAME
 
-pub runnable : (frame : NumberedFrame) → IsGood frame → All (λ pass. All (IsRunnable (shapes_in frame)) pass.ops) frame.passes
+pub runnable : (frame : NumberedFrame) → IsValid frame → All (λ pass. All (IsRunnable (shapes_in frame)) pass.ops) frame.passes
 runnable frame G = λ p d lt. λ k e less.
     let good = (G.passes_good p d lt).ops_good k e less in
     record {
@@ -48,10 +48,10 @@ runnable frame G = λ p d lt. λ k e less.
       not_in_place = good.not_in_place;
     }
 
-pub operands_inside : (frame : NumberedFrame) → IsGood frame → All (λ pass. All (λ op. All (λ x. x < length (shapes_in frame)) (operands_of op)) pass.ops) frame.passes
+pub operands_inside : (frame : NumberedFrame) → IsValid frame → All (λ pass. All (λ op. All (λ x. x < length (shapes_in frame)) (operands_of op)) pass.ops) frame.passes
 operands_inside frame G = λ p d lt. λ k e less. (runnable frame G p d lt k e less).operands
 
--- the held bytes are imports
+-- the persisted bytes are imports
 pub held_imported : (before : List (List ℕ)) (shapes : List Shape) (sizes : List ℕ) (places : List (Option ℕ)) (sources : List Source) (us : List Unit) → map (λ u. u.shape) us ≡ shapes → ArePlaced sizes places shapes → AreFrom before sizes sources → AllPlaced (λ x. is_import (with_imports places (map (λ bytes. Some bytes) (map (bytes_from before) sources)) us) x ≡ true) places
 held_imported before shapes [] [] sources us is placed from = tt
 held_imported before shapes [] (place ∷ places) sources us is placed from = absurd placed
@@ -76,28 +76,28 @@ module _ (queues : List Family) (sizes : List ℕ) (flown : Flown) (F : Flies qu
   abbrev shapes : List Shape
   shapes = shapes_in flown.frame
 
-  abbrev held : List (List ℕ)
-  held = map (bytes_from before) sources
+  abbrev persisted : List (List ℕ)
+  persisted = map (bytes_from before) sources
 
   abbrev ran : NumberedFrame
-  ran = holding held flown
+  ran = holding persisted flown
 
   abbrev begun : List (List ℕ)
   begun = map first_bytes ran.units
 
   pub ran_shapes : shapes_in ran ≡ shapes
-  ran_shapes = all_shapes flown.places (map (λ b. Some b) held) flown.frame.units
+  ran_shapes = all_shapes flown.places (map (λ b. Some b) persisted) flown.frame.units
 
   pub ran_fits : AllByRecursion Fit ran.units
   ran_fits = subst (λ i. AllByRecursion Fit (with_imports flown.places i flown.frame.units)) (given_imports before sources) (imports_fit sizes flown.places (map (as_given before) sources) flown.frame.units F.placed (given_from before sizes sources from) (each Fit flown.frame.units F.good.imports_fit))
 
   begun_count : length begun ≡ length shapes
-  begun_count = length-map ran.units first_bytes ∙ all_length flown.places (map (λ b. Some b) held) flown.frame.units ∙ sym (length-map flown.frame.units (λ u. u.shape))
+  begun_count = length-map ran.units first_bytes ∙ all_length flown.places (map (λ b. Some b) persisted) flown.frame.units ∙ sym (length-map flown.frame.units (λ u. u.shape))
 
   begun_sized : AreSized shapes begun
   begun_sized = record {
     count = begun_count;
-    sized = λ unit lt. subst (λ s. length (get_or begun unit []) ≡ bytes_of (shape_at s unit)) ran_shapes (all_long ran.units ran_fits unit (subst (λ n. unit < n) (sym (all_length flown.places (map (λ b. Some b) held) flown.frame.units ∙ sym (length-map flown.frame.units (λ u. u.shape)))) lt));
+    sized = λ unit lt. subst (λ s. length (get_or begun unit []) ≡ bytes_of (shape_at s unit)) ran_shapes (all_long ran.units ran_fits unit (subst (λ n. unit < n) (sym (all_length flown.places (map (λ b. Some b) persisted) flown.frame.units ∙ sym (length-map flown.frame.units (λ u. u.shape)))) lt));
   }
 
   pub bytes_are : after_passes shapes begun flown.frame.passes ≡ all_bytes ran
@@ -124,8 +124,8 @@ law : (queues : List Family) (sizes : List ℕ) (frames : List Flown) → AllByR
 law queues sizes [] fly shapes-before before sources same from = refl
 law queues sizes (flown ∷ frames) fly shapes-before before sources same from =
     let n = length before in
-    let held = map (bytes_from before) sources in
-    let bytes = all_bytes (holding held flown) in
+    let persisted = map (bytes_from before) sources in
+    let bytes = all_bytes (holding persisted flown) in
     let shapes = shapes_in flown.frame in
     let after = sources_after n flown.places sources in
     let rest = all_units (next n flown) after frames in
@@ -139,7 +139,7 @@ law queues sizes (flown ∷ frames) fly shapes-before before sources same from =
     let so_far = law queues sizes frames fly.1 (shapes-before ++ shapes) (before ++ bytes) after shapes-sum (from_after before bytes shapes sizes flown.places sources fly.0.placed from S) in
     let moved_on : after_passes ((shapes-before ++ shapes) ++ map (λ u. u.shape) rest) ((before ++ bytes) ++ map first_bytes rest) qs ≡ (before ++ bytes) ++ flown_bytes frames (map (bytes_from (before ++ bytes)) after) =
     subst (λ m. after_passes ((shapes-before ++ shapes) ++ map (λ u. u.shape) (all_units m after frames)) ((before ++ bytes) ++ map first_bytes (all_units m after frames)) (all_passes m after frames) ≡ (before ++ bytes) ++ flown_bytes frames (map (bytes_from (before ++ bytes)) after)) sum so_far in
-    let next_held : map (bytes_from (before ++ bytes)) after ≡ held_by flown held = sym (kept_is before bytes (holding held flown) refl shapes sizes flown.places sources fly.0.placed from (held_imported before shapes sizes flown.places sources flown.frame.units refl fly.0.placed from)) in
+    let next_held : map (bytes_from (before ++ bytes)) after ≡ persisted_by flown persisted = sym (kept_is before bytes (holding persisted flown) refl shapes sizes flown.places sources fly.0.placed from (held_imported before shapes sizes flown.places sources flown.frame.units refl fly.0.placed from)) in
     ap₂ (λ s b. after_passes (shapes-before ++ s) (before ++ b) (all_passes n sources (flown ∷ frames))) every (map-append first_bytes begins rest)
     ∙ one_frame queues sizes flown fly.0 before sources from shapes-before (map (λ u. u.shape) rest) (map first_bytes rest) qs same
     ∙ ap₂ (λ s b. after_passes s b qs) (sym (append_assoc shapes-before shapes (map (λ u. u.shape) rest))) (sym (append_assoc before bytes (map first_bytes rest)))
@@ -147,5 +147,5 @@ law queues sizes (flown ∷ frames) fly shapes-before before sources same from =
     ∙ append_assoc before bytes (flown_bytes frames (map (bytes_from (before ++ bytes)) after))
     ∙ ap (λ h. before ++ (bytes ++ flown_bytes frames h)) next_held
 
-pub window_bytes : (queues : List Family) (sizes : List ℕ) (frames : List Flown) (held : List (List ℕ)) → AllByRecursion (Flies queues sizes) frames → map length held ≡ sizes → all_bytes (window queues frames held) ≡ flown_bytes frames held
-window_bytes queues sizes frames held fly is = law queues sizes frames fly [] [] (given held) refl (start_from held sizes is) ∙ ap (flown_bytes frames) (start_held held)
+pub window_bytes : (queues : List Family) (sizes : List ℕ) (frames : List Flown) (persisted : List (List ℕ)) → AllByRecursion (Flies queues sizes) frames → map length persisted ≡ sizes → all_bytes (window queues frames persisted) ≡ flown_bytes frames persisted
+window_bytes queues sizes frames persisted fly is = law queues sizes frames fly [] [] (given persisted) refl (start_from persisted sizes is) ∙ ap (flown_bytes frames) (start_held persisted)

@@ -10,7 +10,7 @@ use Rattle.fg_base.proofs.Booleans.{or_true}
 use Rattle.fg_base.proofs.Lists.{entry_of, got_front, got_back}
 use Rattle.fg_base.specs.Applied.{bytes_at}
 use Rattle.fg_base.specs.declared.shape.Family.{Family}
-use Rattle.fg_frame.specs.Good.{IsGood, is_import}
+use Rattle.fg_frame.specs.Valid.{IsValid, is_import}
 use Rattle.fg_frame.specs.Numbered.{NumberedFrame}
 use Rattle.fg_frame.specs.Units.{Unit}
 use Rattle.fg_meaning.specs.Meaning.{all_bytes, has_picture, meaning, stores_to}
@@ -21,8 +21,8 @@ use Rattle.fg_window.proofs.Frames.{at_frame, held_at_end}
 use Rattle.fg_window.proofs.Law.{window_bytes}
 use Rattle.fg_window.proofs.Sources.{bytes_from}
 use Rattle.fg_window.specs.Flown.{Flown, holding, with_import, with_imports}
-use Rattle.fg_window.specs.Held.{flown_bytes, held_after}
-use Rattle.fg_window.specs.Means.{AreHeld, IsLeft, MeansTheSame, exports_before, units_before}
+use Rattle.fg_window.specs.Persisted.{flown_bytes, persisted_after}
+use Rattle.fg_window.specs.Means.{ArePersisted, IsLeft, MeansTheSame, exports_before, units_before}
 use Rattle.fg_window.specs.Sources.{Source, Given, Left, given, last_sources, left_units, next}
 use Rattle.fg_window.specs.Together.{Flies}
 use Rattle.fg_window.specs.Window.{others, own_exports, window}
@@ -33,7 +33,7 @@ some_if : {X : Type 0} (b : Bool) (x : X) → is_some (if b then Some x else Non
 some_if true x e = refl
 some_if false x e = absurd cc
 
-pictured : (frame : NumberedFrame) → IsGood frame → (unit : ℕ) → list_any (λ x. x == unit) frame.exports ≡ true → has_picture frame unit ≡ true
+pictured : (frame : NumberedFrame) → IsValid frame → (unit : ℕ) → list_any (λ x. x == unit) frame.exports ≡ true → has_picture frame unit ≡ true
 pictured frame good unit e =
     let at = Any-from_list_any (λ x. x == unit) frame.exports e in
     let same : get_or frame.exports at.0 at.1 ≡ unit = at.3 ∙ eqb-true at.1 unit at.4 in
@@ -46,20 +46,20 @@ shown frame unit e = ap (λ b. if b then Some (bytes_at (all_bytes frame) unit) 
 got_there : (xs : List ℕ) (p x : ℕ) → slice_get xs p ≡ Some x → list_any (λ y. y == x) xs ≡ true
 got_there xs p x at = list_any_at (λ y. y == x) xs p x (slice_get_within xs p x at) (eq-eqb (get_or xs p x) x (get_or_from_slice_get xs p x x at))
 
-import_stays : (places : List (Option ℕ)) (held : List (List ℕ)) (us : List Unit) (y : ℕ) → is_import us y ≡ true → is_import (with_imports places (map (λ bytes. Some bytes) held) us) y ≡ true
-import_stays [] held us y e = e
+import_stays : (places : List (Option ℕ)) (persisted : List (List ℕ)) (us : List Unit) (y : ℕ) → is_import us y ≡ true → is_import (with_imports places (map (λ bytes. Some bytes) persisted) us) y ≡ true
+import_stays [] persisted us y e = e
 import_stays (place ∷ places) [] us y e = e
-import_stays (None ∷ places) (bytes ∷ held) us y e = import_stays places held us y e
-import_stays (Some x ∷ places) (bytes ∷ held) us y e = import_stays places held (with_import us x (Some bytes)) y (import_kept us x y bytes e)
+import_stays (None ∷ places) (bytes ∷ persisted) us y e = import_stays places persisted us y e
+import_stays (Some x ∷ places) (bytes ∷ persisted) us y e = import_stays places persisted (with_import us x (Some bytes)) y (import_kept us x y bytes e)
 
 or_more : (a b c : Bool) → (a ≡ true → c ≡ true) → (a || b) ≡ true → (c || b) ≡ true
 or_more true b c so e = ap (λ x. x || b) (so refl)
 or_more false b true so e = refl
 or_more false b false so e = e
 
--- what has a picture has one when bytes are held
-picture_held : (flown : Flown) (held : List (List ℕ)) (unit : ℕ) → has_picture flown.frame unit ≡ true → has_picture (holding held flown) unit ≡ true
-picture_held flown held unit e = or_more (is_import flown.frame.units unit) (list_any (stores_to unit) flown.frame.passes) (is_import (with_imports flown.places (map (λ bytes. Some bytes) held) flown.frame.units) unit) (import_stays flown.places held flown.frame.units unit) e
+-- what has a picture has one when bytes are persisted
+picture_held : (flown : Flown) (persisted : List (List ℕ)) (unit : ℕ) → has_picture flown.frame unit ≡ true → has_picture (holding persisted flown) unit ≡ true
+picture_held flown persisted unit e = or_more (is_import flown.frame.units unit) (list_any (stores_to unit) flown.frame.passes) (is_import (with_imports flown.places (map (λ bytes. Some bytes) persisted) flown.frame.units) unit) (import_stays flown.places persisted flown.frame.units unit) e
 
 -- THE EXPORTS OF EACH FRAME
 
@@ -106,7 +106,7 @@ among own more u there = list_any-append (λ x. x == u) own (others own more) �
     by_test true is = refl
     by_test false is = kept_there own more u is there
 
-left_held : (P : ℕ → List ℕ → Type 0) (bytes : List (List ℕ)) (sources : List Source) → ((unit : ℕ) → list_any (λ x. x == unit) (left_units sources) ≡ true → P unit (bytes_at bytes unit)) → AreHeld P sources (map (bytes_from bytes) sources)
+left_held : (P : ℕ → List ℕ → Type 0) (bytes : List (List ℕ)) (sources : List Source) → ((unit : ℕ) → list_any (λ x. x == unit) (left_units sources) ≡ true → P unit (bytes_at bytes unit)) → ArePersisted P sources (map (bytes_from bytes) sources)
 left_held P bytes [] means = tt
 left_held P bytes (Given b ∷ sources) means = (refl, left_held P bytes sources means)
 left_held P bytes (Left unit ∷ sources) means = (
@@ -116,14 +116,14 @@ left_held P bytes (Left unit ∷ sources) means = (
 
 -- BOTH
 
-pub means_the_same : (queues : List Family) (sizes : List ℕ) (frames : List Flown) (held : List (List ℕ)) → All (Flies queues sizes) frames → map length held ≡ sizes → IsGood (window queues frames held) → MeansTheSame queues frames held
-means_the_same queues sizes frames held all is good =
-    let W = window queues frames held in
+pub means_the_same : (queues : List Family) (sizes : List ℕ) (frames : List Flown) (persisted : List (List ℕ)) → All (Flies queues sizes) frames → map length persisted ≡ sizes → IsValid (window queues frames persisted) → MeansTheSame queues frames persisted
+means_the_same queues sizes frames persisted all is good =
+    let W = window queues frames persisted in
     let own = own_exports 0 frames in
-    let last = last_sources 0 (given held) frames in
+    let last = last_sources 0 (given persisted) frames in
     let fly = each (Flies queues sizes) frames all in
-    let bytes : all_bytes W ≡ flown_bytes frames held = window_bytes queues sizes frames held fly is in
-    let means : (unit : ℕ) → list_any (λ x. x == unit) W.exports ≡ true → meaning W unit ≡ Some (bytes_at (flown_bytes frames held) unit) = λ unit e. shown W unit (pictured W good unit e) ∙ ap (λ b. Some (bytes_at b unit)) bytes in
+    let bytes : all_bytes W ≡ flown_bytes frames persisted = window_bytes queues sizes frames persisted fly is in
+    let means : (unit : ℕ) → list_any (λ x. x == unit) W.exports ≡ true → meaning W unit ≡ Some (bytes_at (flown_bytes frames persisted) unit) = λ unit e. shown W unit (pictured W good unit e) ∙ ap (λ b. Some (bytes_at b unit)) bytes in
     record {
       exports = λ i k flown unit at here.
           let F = entry_of (Flies queues sizes) frames i flown all at in
@@ -134,11 +134,11 @@ means_the_same queues sizes frames held all is good =
             place = place;
             means =
                 means (units_before frames i + unit) (got_there W.exports (exports_before frames i + k) (units_before frames i + unit) place)
-                ∙ ap (λ b. Some b) (at_frame queues sizes frames fly held is i flown unit at inside)
-                ∙ sym (shown (holding (held_after (take i frames) held) flown) unit (picture_held flown (held_after (take i frames) held) unit (pictured flown.frame F.good unit (got_there flown.frame.exports k unit here))));
+                ∙ ap (λ b. Some b) (at_frame queues sizes frames fly persisted is i flown unit at inside)
+                ∙ sym (shown (holding (persisted_after (take i frames) persisted) flown) unit (picture_held flown (persisted_after (take i frames) persisted) unit (pictured flown.frame F.good unit (got_there flown.frame.exports k unit here))));
           };
-      left = subst (AreHeld (IsLeft queues frames held) last) (sym (held_at_end queues sizes frames held fly is))
-          (left_held (IsLeft queues frames held) (flown_bytes frames held) last (λ unit e.
+      left = subst (ArePersisted (IsLeft queues frames persisted) last) (sym (held_at_end queues sizes frames persisted fly is))
+          (left_held (IsLeft queues frames persisted) (flown_bytes frames persisted) last (λ unit e.
           let there = among own (left_units last) unit e in
           record { exported = there; means = means unit there }));
     }

@@ -9,7 +9,7 @@ use Rattle.std.proofs.lemmas.Bool.{not-true}
 use Rattle.fg_base.specs.declared.shape.Family.{Family}
 use Rattle.fg_base.specs.declared.shape.Shape.{Shape}
 use Rattle.fg_frame.proofs.Once.{Apart, Differ, differ_both}
-use Rattle.fg_frame.specs.Good.{shapes_in}
+use Rattle.fg_frame.specs.Valid.{shapes_in}
 use Rattle.fg_window.proofs.Each.{all_of}
 use Rattle.fg_window.specs.Flown.{Flown}
 use Rattle.fg_window.specs.Sources.{Source, Given, Left, given, last_sources, left_units, next, sources_after}
@@ -118,13 +118,13 @@ all_new queues sizes (flown ∷ frames) fly n sources before new =
     (subst (λ k. Before k after) count (before_after n shapes sizes flown.places sources fly.0.placed before))
     (new_after n shapes sizes flown.places sources fly.0.placed before new)
 
-start_new : (held : List (List ℕ)) → AllNew (left_units (given held))
+start_new : (persisted : List (List ℕ)) → AllNew (left_units (given persisted))
 start_new [] = tt
-start_new (bytes ∷ held) = start_new held
+start_new (bytes ∷ persisted) = start_new persisted
 
-start_before : (n : ℕ) (held : List (List ℕ)) → Before n (given held)
+start_before : (n : ℕ) (persisted : List (List ℕ)) → Before n (given persisted)
 start_before n [] = tt
-start_before n (bytes ∷ held) = start_before n held
+start_before n (bytes ∷ persisted) = start_before n persisted
 
 -- BOTH
 
@@ -138,10 +138,10 @@ others_apart own more = λ k d lt. λ j e less. λ same.
     let none : list_any (λ z. z == y) own ≡ false = not-true (list_any (λ z. z == y) own) (filter_passes (λ unit. not (list_any (λ z. z == unit) own)) more j e less) in
     no_clash (sym (list_any_at (λ z. z == y) own k d lt (eq-eqb x y same)) ∙ none)
 
-pub window_once : (queues : List Family) (sizes : List ℕ) (frames : List Flown) (held : List (List ℕ)) → AllByRecursion (Flies queues sizes) frames → Differ (own_exports 0 frames ++ others (own_exports 0 frames) (left_units (last_sources 0 (given held) frames)))
-window_once queues sizes frames held fly =
+pub window_once : (queues : List Family) (sizes : List ℕ) (frames : List Flown) (persisted : List (List ℕ)) → AllByRecursion (Flies queues sizes) frames → Differ (own_exports 0 frames ++ others (own_exports 0 frames) (left_units (last_sources 0 (given persisted) frames)))
+window_once queues sizes frames persisted fly =
     let own = own_exports 0 frames in
-    let more = left_units (last_sources 0 (given held) frames) in
+    let more = left_units (last_sources 0 (given persisted) frames) in
     differ_both own (others own more) (own_differ queues sizes frames fly 0)
-    (AllPairs-filter (λ x y. x ≢ y) (λ unit. not (list_any (λ z. z == unit) own)) more (new_differ more (all_new queues sizes frames fly 0 (given held) (start_before 0 held) (start_new held))))
+    (AllPairs-filter (λ x y. x ≢ y) (λ unit. not (list_any (λ z. z == unit) own)) more (new_differ more (all_new queues sizes frames fly 0 (given persisted) (start_before 0 persisted) (start_new persisted))))
     (others_apart own more)

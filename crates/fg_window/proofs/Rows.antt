@@ -8,7 +8,7 @@ use Rattle.fg_base.specs.declared.shape.Family.TheVariants.{Graphics}
 use Rattle.fg_base.specs.declared.shape.Shape.TheVariants.{Buffer}
 use Rattle.fg_bits.specs.declared.sharing.Sharing.TheVariants.{Exclusive}
 use Rattle.fg_frame.proofs.Necessary.{good}
-use Rattle.fg_frame.specs.Good.{IsGood}
+use Rattle.fg_frame.specs.Valid.{IsValid}
 use Rattle.fg_frame.specs.Numbered.{NumberedFrame, numbered}
 use Rattle.fg_frame.specs.declared.frame.Frame.{Frame}
 use Rattle.fg_frame.specs.declared.frame.Spot.{Spot}
@@ -16,8 +16,8 @@ use Rattle.fg_meaning.specs.Meaning.{meaning}
 use Rattle.fg_window.proofs.Each.{all_of}
 use Rattle.fg_window.proofs.Together.{together_good, together_means}
 use Rattle.fg_window.specs.Flown.{Flown}
-use Rattle.fg_window.specs.Held.{first_held, held_after}
-use Rattle.fg_window.specs.InTurn.{frames_in, held_before}
+use Rattle.fg_window.specs.Persisted.{first_persisted, persisted_after}
+use Rattle.fg_window.specs.InTurn.{frames_in, persisted_before}
 use Rattle.fg_window.specs.Means.{MeansTheSame}
 use Rattle.fg_window.specs.Small.{IsSmall}
 use Rattle.fg_window.specs.Together.{Flies, FlyTogether}
@@ -43,14 +43,14 @@ abbrev families : List Family
 families = Graphics ∷ []
 
 -- the import of the first frame that has the name; no frame has the other
-abbrev held : List (List ℕ)
-held = (1 ∷ 0 ∷ 0 ∷ 0 ∷ []) ∷ [] ∷ []
+abbrev persisted : List (List ℕ)
+persisted = (1 ∷ 0 ∷ 0 ∷ 0 ∷ []) ∷ [] ∷ []
 
-first : first_held (flown ∷ flown ∷ []) ([] ∷ [] ∷ []) ≡ held
+first : first_persisted (flown ∷ flown ∷ []) ([] ∷ [] ∷ []) ≡ persisted
 first = refl
 
 abbrev two : NumberedFrame
-two = window families (flown ∷ flown ∷ []) held
+two = window families (flown ∷ flown ∷ []) persisted
 
 -- the second frame's b is no import: a join pass fills it from the first one's
 two_is : two ≡ record {
@@ -71,16 +71,16 @@ exported_second : meaning two 3 ≡ Some (3 ∷ 0 ∷ 0 ∷ 0 ∷ [])
 unfolding band low_bytes texel_at
 exported_second = refl
 
-held_then : held_after (flown ∷ flown ∷ []) held ≡ (3 ∷ 0 ∷ 0 ∷ 0 ∷ []) ∷ [] ∷ []
+held_then : persisted_after (flown ∷ flown ∷ []) persisted ≡ (3 ∷ 0 ∷ 0 ∷ 0 ∷ []) ∷ [] ∷ []
 unfolding band low_bytes texel_at
 held_then = refl
 
 -- the same frames one by one: the second begins with what the first left, and no frame has a join pass
-alone : window families (frames_in 1 (flown ∷ flown ∷ []) 1) (held_before 1 (flown ∷ flown ∷ []) held 1) ≡ record (numbered frame) { units = record { shape = Buffer 4; sharing = Exclusive; imported = Some (2 ∷ 0 ∷ 0 ∷ 0 ∷ []) } ∷ record { shape = Buffer 4; sharing = Exclusive; imported = None } ∷ []; exports = 1 ∷ 0 ∷ [] }
+alone : window families (frames_in 1 (flown ∷ flown ∷ []) 1) (persisted_before 1 (flown ∷ flown ∷ []) persisted 1) ≡ record (numbered frame) { units = record { shape = Buffer 4; sharing = Exclusive; imported = Some (2 ∷ 0 ∷ 0 ∷ 0 ∷ []) } ∷ record { shape = Buffer 4; sharing = Exclusive; imported = None } ∷ []; exports = 1 ∷ 0 ∷ [] }
 unfolding band low_bytes texel_at
 alone = refl
 
-exported_alone : meaning (window families (frames_in 1 (flown ∷ flown ∷ []) 1) (held_before 1 (flown ∷ flown ∷ []) held 1)) 1 ≡ Some (3 ∷ 0 ∷ 0 ∷ 0 ∷ [])
+exported_alone : meaning (window families (frames_in 1 (flown ∷ flown ∷ []) 1) (persisted_before 1 (flown ∷ flown ∷ []) persisted 1)) 1 ≡ Some (3 ∷ 0 ∷ 0 ∷ 0 ∷ [])
 unfolding band low_bytes texel_at
 exported_alone = refl
 
@@ -88,14 +88,14 @@ exported_alone = refl
 flies : Flies families (4 ∷ 0 ∷ []) flown
 flies = record { good = good frame refl; same = refl; placed = (omega arith, refl, tt, tt) }
 
-together : FlyTogether families (4 ∷ 0 ∷ []) (flown ∷ flown ∷ []) held
+together : FlyTogether families (4 ∷ 0 ∷ []) (flown ∷ flown ∷ []) persisted
 together = record { some = omega arith; each = all_of (Flies families (4 ∷ 0 ∷ [])) (flown ∷ flown ∷ []) (flies, (flies, tt)); sized = refl }
 
 small : IsSmall two
 small = record { units = omega arith; bytes = omega arith; passes = omega arith; ops = omega arith; rects = omega arith; exports = omega arith }
 
-is_good : IsGood two
-is_good = together_good families (4 ∷ 0 ∷ []) (flown ∷ flown ∷ []) held together small
+is_good : IsValid two
+is_good = together_good families (4 ∷ 0 ∷ []) (flown ∷ flown ∷ []) persisted together small
 
-means : MeansTheSame families (flown ∷ flown ∷ []) held
-means = together_means families (4 ∷ 0 ∷ []) (flown ∷ flown ∷ []) held together small
+means : MeansTheSame families (flown ∷ flown ∷ []) persisted
+means = together_means families (4 ∷ 0 ∷ []) (flown ∷ flown ∷ []) persisted together small

@@ -12,7 +12,7 @@ use Rattle.fg_base.specs.declared.shape.Shape.{Shape}
 use Rattle.fg_frame.specs.declared.numbered.NumberedPass.{NumberedPass}
 use Rattle.fg_meaning.specs.Meaning.{after_ops, after_passes}
 use Rattle.fg_base.proofs.EffectLengths.{applied_long}
-use Rattle.fg_meaning.specs.Code.Sizes.{AreSized, IsRunnable}
+use Rattle.fg_meaning.specs.Internal.Sizes.{AreSized, IsRunnable}
 use Rattle.fg_window.proofs.Moves.{at_destination}
 
 abbrev IsLong : List Shape → List (List ℕ) → ℕ → Type 0

@@ -3,7 +3,7 @@ use Rattle.std.proofs.Common.{◌≡◌, ℕ, ◌<◌, List, [], ◌∷◌, leng
 use Rattle.fg_base.specs.Applied.{bytes_at}
 use Rattle.fg_base.specs.Shapes.{shape_at}
 use Rattle.fg_base.specs.declared.shape.Shape.TheVariants.{Buffer}
-use Rattle.fg_frame.specs.Good.{has_contents, shapes_in}
+use Rattle.fg_frame.specs.Valid.{has_contents, shapes_in}
 use Rattle.fg_frame.specs.Numbered.{NumberedFrame}
 use Rattle.fg_frame.specs.declared.numbered.NumberedPass.{NumberedPass}
 use Rattle.fg_window.specs.Sources.{given, Given, Left, Source, import_from}
@@ -29,7 +29,7 @@ AreLeft W earlier n (size ∷ sizes) [] = ⊥
 AreLeft W earlier n (size ∷ sizes) (Given bytes ∷ sources) = (length bytes ≡ size) × AreLeft W earlier n sizes sources
 AreLeft W earlier n (size ∷ sizes) (Left unit ∷ sources) = (unit < n) × (shape_at (shapes_in W) unit ≡ Buffer size) × (has_contents W.units earlier unit ≡ true) × AreLeft W earlier n sizes sources
 
--- the bytes that are held are as many as the names have
+-- the bytes that are persisted are as many as the names have
 abbrev pub AreGiven : List ℕ → List Source → Type 0
 AreGiven [] [] = Unit {0}
 AreGiven [] (source ∷ sources) = ⊥
@@ -66,12 +66,12 @@ given_imports before [] = refl
 given_imports before (source ∷ sources) = ap (λ s. Some (bytes_from before source) ∷ s) (given_imports before sources)
 
 -- before the first frame of a window
-pub start_from : (held : List (List ℕ)) (sizes : List ℕ) → map length held ≡ sizes → AreFrom [] sizes (given held)
+pub start_from : (persisted : List (List ℕ)) (sizes : List ℕ) → map length persisted ≡ sizes → AreFrom [] sizes (given persisted)
 start_from [] [] is = tt
 start_from [] (size ∷ sizes) is = absurd cc
-start_from (bytes ∷ held) [] is = absurd cc
-start_from (bytes ∷ held) (size ∷ sizes) is = (cc, start_from held sizes cc)
+start_from (bytes ∷ persisted) [] is = absurd cc
+start_from (bytes ∷ persisted) (size ∷ sizes) is = (cc, start_from persisted sizes cc)
 
-pub start_held : (held : List (List ℕ)) → map (bytes_from []) (given held) ≡ held
+pub start_held : (persisted : List (List ℕ)) → map (bytes_from []) (given persisted) ≡ persisted
 start_held [] = refl
-start_held (bytes ∷ held) = ap (λ s. bytes ∷ s) (start_held held)
+start_held (bytes ∷ persisted) = ap (λ s. bytes ∷ s) (start_held persisted)

@@ -5,12 +5,12 @@ use Rattle.std.proofs.lemmas.List.{get_or-append-add, get_or_append_left, length
 use Rattle.fg_base.specs.Applied.{bytes_at}
 use Rattle.fg_base.specs.Shapes.{bytes_of}
 use Rattle.fg_base.specs.declared.shape.Shape.{Shape}
-use Rattle.fg_frame.specs.Good.{is_import}
+use Rattle.fg_frame.specs.Valid.{is_import}
 use Rattle.fg_frame.specs.Numbered.{NumberedFrame}
 use Rattle.fg_meaning.specs.Meaning.{all_bytes, stores_to}
-use Rattle.fg_meaning.specs.Code.Sizes.{AreSized}
+use Rattle.fg_meaning.specs.Internal.Sizes.{AreSized}
 use Rattle.fg_window.proofs.Sources.{AllPlaced, AreFrom, bytes_from}
-use Rattle.fg_window.specs.Held.{kept}
+use Rattle.fg_window.specs.Persisted.{kept}
 use Rattle.fg_window.specs.Sources.{Given, Left, Source, sources_after}
 use Rattle.fg_window.specs.Together.{ArePlaced}
 
@@ -23,7 +23,7 @@ module _ (before bytes : List (List ℕ)) where
   rest_from (Given given) size sources sizes from = from.1
   rest_from (Left unit) size sources sizes from = from.2
 
-  -- the held bytes are where the sources are after the frame
+  -- the persisted bytes are where the sources are after the frame
   pub kept_is : (ran : NumberedFrame) → bytes ≡ all_bytes ran → (shapes : List Shape) (sizes : List ℕ) (places : List (Option ℕ)) (sources : List Source) → ArePlaced sizes places shapes → AreFrom before sizes sources → AllPlaced (λ x. is_import ran.units x ≡ true) places → kept ran places (map (bytes_from before) sources) ≡ map (bytes_from (before ++ bytes)) (sources_after (length before) places sources)
   kept_is ran is shapes [] [] [] placed from imported = refl
   kept_is ran is shapes [] [] (source ∷ sources) placed from imported = absurd from

@@ -11,7 +11,7 @@ use Rattle.fg_base.specs.Wholes.{is_whole}
 use Rattle.fg_base.specs.declared.op.Op.{Op}
 use Rattle.fg_base.specs.declared.shape.Shape.{Shape}
 use Rattle.fg_base.specs.declared.shape.Shape.TheVariants.{Buffer}
-use Rattle.fg_frame.specs.Good.{renews}
+use Rattle.fg_frame.specs.Valid.{renews}
 use Rattle.fg_frame.specs.Uses.{reads_it, starts_whole, stores_whole, writes_it}
 use Rattle.fg_frame.specs.declared.numbered.NumberedPass.{NumberedPass}
 use Rattle.fg_base.proofs.Operands.{destination_mapped, mapped_twice, operands_mapped, mapped_same, sources_mapped}

@@ -2,14 +2,14 @@
 use Rattle.std.proofs.Common.{◌≡◌, ◌<◌, ◌≤◌, ℕ, List, [], ◌∷◌, length, subst, arith}
 use Rattle.std.specs.List.{AllByRecursion}
 use Rattle.fg_base.specs.declared.shape.Family.{Family}
-use Rattle.fg_frame.specs.Good.{IsGood}
+use Rattle.fg_frame.specs.Valid.{IsValid}
 use Rattle.fg_meaning.specs.Meaning.{all_bytes}
 use Rattle.fg_window.proofs.Each.{each}
 use Rattle.fg_window.proofs.GoodWindow.{good_window}
 use Rattle.fg_window.proofs.Law.{window_bytes}
 use Rattle.fg_window.proofs.Means.{means_the_same}
 use Rattle.fg_window.specs.Flown.{Flown}
-use Rattle.fg_window.specs.Held.{flown_bytes}
+use Rattle.fg_window.specs.Persisted.{flown_bytes}
 use Rattle.fg_window.specs.Means.{MeansTheSame}
 use Rattle.fg_window.specs.Small.{IsSmall}
 use Rattle.fg_window.specs.Together.{Flies, FlyTogether}
@@ -24,13 +24,13 @@ module _ (queues : List Family) (sizes : List ℕ) where
   few_queues [] some fly = absurd (omega (arith, some))
   few_queues (flown ∷ frames) some fly = subst (λ q. length q ≤ 4) fly.0.same fly.0.good.few_queues
 
-pub together_bytes : (queues : List Family) (sizes : List ℕ) (frames : List Flown) (held : List (List ℕ)) → FlyTogether queues sizes frames held → all_bytes (window queues frames held) ≡ flown_bytes frames held
-together_bytes queues sizes frames held T = window_bytes queues sizes frames held (each (Flies queues sizes) frames T.each) T.sized
+pub together_bytes : (queues : List Family) (sizes : List ℕ) (frames : List Flown) (persisted : List (List ℕ)) → FlyTogether queues sizes frames persisted → all_bytes (window queues frames persisted) ≡ flown_bytes frames persisted
+together_bytes queues sizes frames persisted T = window_bytes queues sizes frames persisted (each (Flies queues sizes) frames T.each) T.sized
 
-pub together_good : (queues : List Family) (sizes : List ℕ) (frames : List Flown) (held : List (List ℕ)) → FlyTogether queues sizes frames held → IsSmall (window queues frames held) → IsGood (window queues frames held)
-together_good queues sizes frames held T small =
+pub together_good : (queues : List Family) (sizes : List ℕ) (frames : List Flown) (persisted : List (List ℕ)) → FlyTogether queues sizes frames persisted → IsSmall (window queues frames persisted) → IsValid (window queues frames persisted)
+together_good queues sizes frames persisted T small =
     let fly = each (Flies queues sizes) frames T.each in
-    good_window queues sizes frames held fly T.sized (some_queue queues sizes frames T.some fly) (few_queues queues sizes frames T.some fly) small
+    good_window queues sizes frames persisted fly T.sized (some_queue queues sizes frames T.some fly) (few_queues queues sizes frames T.some fly) small
 
-pub together_means : (queues : List Family) (sizes : List ℕ) (frames : List Flown) (held : List (List ℕ)) → FlyTogether queues sizes frames held → IsSmall (window queues frames held) → MeansTheSame queues frames held
-together_means queues sizes frames held T small = means_the_same queues sizes frames held T.each T.sized (together_good queues sizes frames held T small)
+pub together_means : (queues : List Family) (sizes : List ℕ) (frames : List Flown) (persisted : List (List ℕ)) → FlyTogether queues sizes frames persisted → IsSmall (window queues frames persisted) → MeansTheSame queues frames persisted
+together_means queues sizes frames persisted T small = means_the_same queues sizes frames persisted T.each T.sized (together_good queues sizes frames persisted T small)

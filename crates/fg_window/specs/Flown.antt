@@ -21,6 +21,6 @@ with_imports (place ∷ places) [] units = units
 with_imports (None ∷ places) (import ∷ imports) units = with_imports places imports units
 with_imports (Some x ∷ places) (import ∷ imports) units = with_imports places imports (with_import units x import)
 
--- the frame that begins with held bytes in its persisting buffers
+-- the frame that begins with persisted bytes in its persisting buffers
 abbrev pub holding : List (List ℕ) → Flown → NumberedFrame
-holding held flown = record flown.frame { units = with_imports flown.places (map (λ bytes. Some bytes) held) flown.frame.units }
+holding persisted flown = record flown.frame { units = with_imports flown.places (map (λ bytes. Some bytes) persisted) flown.frame.units }

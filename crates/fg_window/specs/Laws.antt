@@ -1,8 +1,8 @@
--- What the laws of windows say of queues, frames and the bytes that are held before them.
+-- What the laws of windows say of queues, frames and the bytes that are persisted before them.
 use Rattle.std.specs.Prelude.{◌<◌, ◌*◌, ℕ, List, length}
 use Rattle.fg_base.specs.declared.shape.Family.{Family}
 use Rattle.fg_window.specs.Flown.{Flown}
-use Rattle.fg_window.specs.InTurn.{MeansInTurn, frames_in, held_before}
+use Rattle.fg_window.specs.InTurn.{MeansInTurn, frames_in, persisted_before}
 use Rattle.fg_window.specs.Small.{IsSmall}
 use Rattle.fg_window.specs.Together.{FlyTogether}
 use Rattle.fg_window.specs.Window.{window}
@@ -10,18 +10,18 @@ use Rattle.fg_window.specs.Window.{window}
 -- so it is of all frames that can be compiled together
 abbrev pub OfWindows : (List Family → List ℕ → List Flown → List (List ℕ) → Type 0) → Type 0
 OfWindows Law =
-    (queues : List Family) (sizes : List ℕ) (frames : List Flown) (held : List (List ℕ)) → FlyTogether queues sizes frames held
-    → Law queues sizes frames held
+    (queues : List Family) (sizes : List ℕ) (frames : List Flown) (persisted : List (List ℕ)) → FlyTogether queues sizes frames persisted
+    → Law queues sizes frames persisted
 
 -- the frames of each window of one depth can be compiled together
 abbrev pub EachTogether : List Family → List ℕ → List Flown → List (List ℕ) → Type 0
-EachTogether queues sizes frames held =
+EachTogether queues sizes frames persisted =
     (depth w : ℕ) → 0 < depth → w * depth < length frames
-    → FlyTogether queues sizes (frames_in depth frames w) (held_before depth frames held w)
+    → FlyTogether queues sizes (frames_in depth frames w) (persisted_before depth frames persisted w)
 
 -- and each such window that is small means what its frames mean one after another
 abbrev pub EachMeansInTurn : List Family → List ℕ → List Flown → List (List ℕ) → Type 0
-EachMeansInTurn queues sizes frames held =
+EachMeansInTurn queues sizes frames persisted =
     (depth w : ℕ) → 0 < depth → w * depth < length frames
-    → IsSmall (window queues (frames_in depth frames w) (held_before depth frames held w))
-    → MeansInTurn queues depth frames held w
+    → IsSmall (window queues (frames_in depth frames w) (persisted_before depth frames persisted w))
+    → MeansInTurn queues depth frames persisted w

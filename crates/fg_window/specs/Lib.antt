@@ -1,5 +1,5 @@
 pub mod Flown
-pub mod Held
+pub mod Persisted
 pub mod InTurn
 pub mod Joins
 pub mod Laws

@@ -2,18 +2,18 @@
 use Rattle.std.specs.Prelude.{ℕ, List, [], ◌∷◌, ◌+◌, map, length, Option, Some, None}
 use Rattle.fg_window.specs.Flown.{Flown}
 
--- held from before the window, or left in a unit by an earlier frame of it
+-- persisted from before the window, or left in a unit by an earlier frame of it
 pub data Source : Type 0 where
   Given : List ℕ → Source
   Left : ℕ → Source
 
--- a buffer whose bytes were held is an import; one whose bytes were left in a unit gets them by a copy
+-- a buffer whose bytes were persisted is an import; one whose bytes were left in a unit gets them by a copy
 abbrev pub import_from : Source → Option (List ℕ)
 import_from (Given bytes) = Some bytes
 import_from (Left unit) = None
 
 abbrev pub given : List (List ℕ) → List Source
-given held = map (λ bytes. Given bytes) held
+given persisted = map (λ bytes. Given bytes) persisted
 
 -- after a frame whose units begin at n
 abbrev pub sources_after : ℕ → List (Option ℕ) → List Source → List Source

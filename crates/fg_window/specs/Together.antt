@@ -5,7 +5,7 @@ use Rattle.fg_base.specs.Shapes.{shape_at}
 use Rattle.fg_base.specs.declared.shape.Family.{Family}
 use Rattle.fg_base.specs.declared.shape.Shape.{Shape}
 use Rattle.fg_base.specs.declared.shape.Shape.TheVariants.{Buffer}
-use Rattle.fg_frame.specs.Good.{IsGood, shapes_in}
+use Rattle.fg_frame.specs.Valid.{IsValid, shapes_in}
 use Rattle.fg_window.specs.Flown.{Flown}
 
 abbrev pub Absent : ℕ → List (Option ℕ) → Type 0
@@ -23,12 +23,12 @@ ArePlaced (size ∷ sizes) (Some x ∷ places) shapes = (x < length shapes) × (
 
 -- a good frame over these queues, whose persisting buffers have these sizes
 pub record Flies (queues : List Family) (sizes : List ℕ) (flown : Flown) : Type 0 where
-  pub good : IsGood flown.frame
+  pub good : IsValid flown.frame
   pub same : flown.frame.queues ≡ queues
   pub placed : ArePlaced sizes flown.places (shapes_in flown.frame)
 
--- a frame at least, and for each name held bytes of its size
-pub record FlyTogether (queues : List Family) (sizes : List ℕ) (frames : List Flown) (held : List (List ℕ)) : Type 0 where
+-- a frame at least, and for each name persisted bytes of its size
+pub record FlyTogether (queues : List Family) (sizes : List ℕ) (frames : List Flown) (persisted : List (List ℕ)) : Type 0 where
   pub some : 0 < length frames
   pub each : All (Flies queues sizes) frames
-  pub sized : map length held ≡ sizes
+  pub sized : map length persisted ≡ sizes

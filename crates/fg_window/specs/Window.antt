@@ -2,7 +2,7 @@
 use Rattle.std.specs.Prelude.{ℕ, List, [], ◌∷◌, ◌++◌, ◌+◌, ◌==◌, map, not}
 use Rattle.std.specs.List.{list_any, filter}
 use Rattle.fg_base.specs.declared.shape.Family.{Family}
-use Rattle.fg_frame.specs.Good.{shapes_in}
+use Rattle.fg_frame.specs.Valid.{shapes_in}
 use Rattle.fg_frame.specs.Numbered.{NumberedFrame}
 use Rattle.fg_frame.specs.Units.{Unit}
 use Rattle.fg_frame.specs.declared.numbered.NumberedPass.{NumberedPass}
@@ -39,14 +39,14 @@ own_exports n (flown ∷ frames) = map (λ unit. n + unit) flown.frame.exports +
 abbrev pub others : List ℕ → List ℕ → List ℕ
 others units more = filter (λ unit. not (list_any (λ x. x == unit) units)) more
 
--- the window of frames over these queues, of which the first begins with the held bytes. After the exports of its frames
+-- the window of frames over these queues, of which the first begins with the persisted bytes. After the exports of its frames
 -- it exports the last unit of each persisting name
 abbrev pub window : List Family → List Flown → List (List ℕ) → NumberedFrame
-window queues frames held =
+window queues frames persisted =
     let own = own_exports 0 frames in
     record {
-      units = all_units 0 (given held) frames;
+      units = all_units 0 (given persisted) frames;
       queues = queues;
-      passes = all_passes 0 (given held) frames;
-      exports = own ++ others own (left_units (last_sources 0 (given held) frames));
+      passes = all_passes 0 (given persisted) frames;
+      exports = own ++ others own (left_units (last_sources 0 (given persisted) frames));
     }

@@ -8,7 +8,7 @@ use Rattle.clap.specs.Words.{Kinds, Row, Text, fault_of, first_of, matches_of}
 use Rattle.fg_frame.specs.Repeats.{first_repeat}
 use Rattle.fg_words.specs.CommandWords.{word_of}
 use Rattle.fg_words.specs.Commands.{HasDepth, HasNames, HasPasses, HasWorkers, IsBounded, command_in, command_of_word, command_with, flying, generating, unless_more, without_options}
-use Rattle.fg_words.specs.Given.{given_in, is_none, number_in}
+use Rattle.fg_words.specs.LineOptions.{line_options_in, is_none, number_in}
 use Rattle.fg_words.specs.Lines.{framec, unless_refused, command_of}
 use Rattle.fg_words.specs.Numbers.{is_number}
 use Rattle.fg_words.specs.Persist.{all_named, are_different, if_different, persist_in}
@@ -17,7 +17,7 @@ use Rattle.fg_words.specs.declared.command.Command.{Command}
 use Rattle.fg_words.specs.declared.command.Command.TheVariants as commands
 use Rattle.fg_words.specs.declared.command.FrameCommand.TheVariants as frames
 use Rattle.fg_words.specs.declared.command.SubmissionCommand.TheVariants as submissions
-use Rattle.fg_words.specs.declared.given.Given.{Given}
+use Rattle.fg_words.specs.declared.line_options.LineOptions.{LineOptions}
 use Rattle.fg_words.specs.declared.word.Word.{Word}
 use Rattle.fg_words.specs.declared.word.Word.TheVariants.{Cull, Place, Bound, Compile, Auto, Meaning, Migrate, Check, Gen, Run, Exec, Flight, Audit}
 
@@ -41,7 +41,7 @@ number_is least most (Some word) =
     wrapped (Within least most) (if is_number word && (nat_le least n && nat_le n most) then Some n else None) (within_if least most n (is_number word) (nat_le least n) (nat_le n most) (λ e. leb-true least n e) (λ e. leb-true n most e))
 
 -- what is said of the numbers of a line
-abbrev AreWithin : Given → Type 0
+abbrev AreWithin : LineOptions → Type 0
 AreWithin given = IfSome given.workers (Within 1 16) × IfSome given.passes (Within 1 256) × IfSome given.depth (Within 1 8)
 
 -- ONE AFTER ANOTHER
@@ -58,7 +58,7 @@ mapped : {X Y : Type 0} (P : X → Type 0) (Q : Y → Type 0) (o : Option X) (f 
 mapped P Q None f is goes = tt
 mapped P Q (Some x) f is goes = goes x is
 
-given_is : (rows : List Row) → IfSome (given_in rows) AreWithin
+given_is : (rows : List Row) → IfSome (line_options_in rows) AreWithin
 given_is rows =
     next (λ found. IfSome found (Within 1 16)) AreWithin (number_in 1 16 (first_of (codes "workers") rows)) _ (number_is 1 16 (first_of (codes "workers") rows)) (λ workers few.
     next_any AreWithin (number_in 0 4294967295 (first_of (codes "tend") rows)) _ (λ tend.
@@ -70,26 +70,26 @@ or_some : (least most otherwise : ℕ) (o : Option ℕ) → IfSome o (Within lea
 or_some least most otherwise None is instead = instead
 or_some least most otherwise (Some n) is instead = is
 
-has_workers : (given : Given) → AreWithin given → HasWorkers (options_in given)
+has_workers : (given : LineOptions) → AreWithin given → HasWorkers (options_in given)
 has_workers given is = or_some 1 16 2 given.workers is.0 (omega arith, omega arith)
 
-has_passes : (given : Given) → AreWithin given → HasPasses (unwrap_or given.passes 64)
+has_passes : (given : LineOptions) → AreWithin given → HasPasses (unwrap_or given.passes 64)
 has_passes given is = or_some 1 256 64 given.passes is.1 (omega arith, omega arith)
 
-unless : (rest : Given) (command : Command) → IsBounded command → IfSome (unless_more rest command) IsBounded
+unless : (rest : LineOptions) (command : Command) → IsBounded command → IfSome (unless_more rest command) IsBounded
 unless rest command is = by (is_none rest)
   where
     by : (none : Bool) → IfSome (if none then Some command else None) IsBounded
     by true = is
     by false = tt
 
-generated : (given : Given) (number : ℕ) → AreWithin given → IfSome (generating given number) IsBounded
+generated : (given : LineOptions) (number : ℕ) → AreWithin given → IfSome (generating given number) IsBounded
 generated given number is = by given.summary
   where
     passes : ℕ
     passes = unwrap_or given.passes 64
 
-    rest : Given
+    rest : LineOptions
     rest = record given { number = None; passes = None; summary = false }
 
     by : (summary : Bool) → IfSome (if summary then unless_more (without_options rest) (commands.Summary number passes (options_in given)) else unless_more rest (commands.Gen number passes)) IsBounded
@@ -98,8 +98,8 @@ generated given number is = by given.summary
 
 names_are : (names : List (List ℕ)) → are_different names ≡ true → HasNames names
 names_are names is =
-    let parts = and_parts (nat_le (length names) 16) (not (is_some (first_repeat names))) is in
-    (leb-true (length names) 16 parts.0, none_there (first_repeat names) parts.1)
+    let entries = and_parts (nat_le (length names) 16) (not (is_some (first_repeat names))) is in
+    (leb-true (length names) 16 entries.0, none_there (first_repeat names) entries.1)
   where
     none_there : (found : Option ℕ) → not (is_some found) ≡ true → found ≡ None
     none_there None e = refl
@@ -117,14 +117,14 @@ persist_is : (word : Option (List ℕ)) → IfSome (persist_in word) HasNames
 persist_is None = (omega arith, refl)
 persist_is (Some text) = different_are (all_named (slice_split (λ b. b == 44) text))
 
-has_depth : (given : Given) → AreWithin given → HasDepth (unwrap_or given.depth 2)
+has_depth : (given : LineOptions) → AreWithin given → HasDepth (unwrap_or given.depth 2)
 has_depth given is = or_some 1 8 2 given.depth is.2 (omega arith, omega arith)
 
-flying_is : (given : Given) (persist : Option (List (List ℕ))) → AreWithin given → IfSome persist HasNames → IfSome (flying given persist) IsBounded
+flying_is : (given : LineOptions) (persist : Option (List (List ℕ))) → AreWithin given → IfSome persist HasNames → IfSome (flying given persist) IsBounded
 flying_is given persist is names =
     next HasNames IsBounded persist _ names (λ found are. unless (record (without_options given) { depth = None; persist = false }) (commands.Flight (options_in given) found (unwrap_or given.depth 2)) (has_workers given is, are, has_depth given is))
 
-word_is : (word : Word) (given : Given) (persist : Option (List (List ℕ))) → AreWithin given → IfSome persist HasNames → IfSome (command_of_word word given persist) IsBounded
+word_is : (word : Word) (given : LineOptions) (persist : Option (List (List ℕ))) → AreWithin given → IfSome persist HasNames → IfSome (command_of_word word given persist) IsBounded
 word_is Cull given persist is are = unless given (commands.Frame frames.Cull) tt
 word_is Place given persist is are = unless given (commands.Frame frames.Place) tt
 word_is Bound given persist is are = unless given (commands.Frame frames.Bound) tt
@@ -140,7 +140,7 @@ word_is Flight given persist is are = flying_is given persist is are
 word_is Audit given persist is are = unless given commands.Audit tt
 
 with_is : (rows : List Row) (text : List ℕ) → IfSome (command_with rows text) IsBounded
-with_is rows text = next_any IsBounded (word_of text) _ (λ word. next AreWithin IsBounded (given_in rows) _ (given_is rows) (λ given is. word_is word given (persist_in (first_of (codes "persist") rows)) is (persist_is (first_of (codes "persist") rows))))
+with_is rows text = next_any IsBounded (word_of text) _ (λ word. next AreWithin IsBounded (line_options_in rows) _ (given_is rows) (λ given is. word_is word given (persist_in (first_of (codes "persist") rows)) is (persist_is (first_of (codes "persist") rows))))
 
 kept : (faults : Kinds) (command : Option Command) → IfSome command IsBounded → IfSome (unless_refused faults command) IsBounded
 kept [] command is = is

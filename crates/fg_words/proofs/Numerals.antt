@@ -12,15 +12,15 @@ use Rattle.fg_words.specs.Numbers.{is_number, number_within}
 
 digit : (c : ℕ) → is_ascii_digit c ≡ true → (48 ≤ c) × (digit_value c < 10)
 digit c is =
-    let parts = both (nat_le 48 c) (nat_le c 57) is in
-    let low : 48 ≤ c = leb-true 48 c parts.0 in
-    let high : c ≤ 57 = leb-true c 57 parts.1 in
+    let entries = both (nat_le 48 c) (nat_le c 57) is in
+    let low : 48 ≤ c = leb-true 48 c entries.0 in
+    let high : c ≤ 57 = leb-true c 57 entries.1 in
     let value : digit_value c + 48 ≡ c = digit_value_digit c (low, high) in
     (low, omega (arith, value, high))
 
 digits : (word : List ℕ) → list_all is_ascii_digit word ≡ true → AllDigits 10 word
 digits [] all = tt
-digits (c ∷ cs) all = let parts = both (is_ascii_digit c) (list_all is_ascii_digit cs) all in ((digit c parts.0).1, digits cs parts.1)
+digits (c ∷ cs) all = let entries = both (is_ascii_digit c) (list_all is_ascii_digit cs) all in ((digit c entries.0).1, digits cs entries.1)
 
 no_plus : (word : List ℕ) → list_all is_ascii_digit word ≡ true → get_or word 0 0 ≡ 43 → ⊥
 no_plus [] all e = absurd (omega (arith, e))
@@ -38,15 +38,15 @@ unread least most word is none few = none_if (is_number word) (nat_le least valu
     value : ℕ
     value = digits_value 10 word
 
-    parts : ((nat_le 1 (length word) && nat_le (length word) 10) ≡ true) × (list_all is_ascii_digit word ≡ true)
-    parts = both (nat_le 1 (length word) && nat_le (length word) 10) (list_all is_ascii_digit word) is
+    entries : ((nat_le 1 (length word) && nat_le (length word) 10) ≡ true) × (list_all is_ascii_digit word ≡ true)
+    entries = both (nat_le 1 (length word) && nat_le (length word) 10) (list_all is_ascii_digit word) is
 
     all : list_all is_ascii_digit word ≡ true
-    all = parts.1
+    all = entries.1
 
     over : (nat_le least value && nat_le value most) ≡ true → ⊥
     over e =
         let within : value ≤ most = leb-true value most (both (nat_le least value) (nat_le value most) e).1 in
-        let some : 0 < length word = leb-true 1 (length word) (both (nat_le 1 (length word)) (nat_le (length word) 10) parts.0).0 in
+        let some : 0 < length word = leb-true 1 (length word) (both (nat_le 1 (length word)) (nat_le (length word) 10) entries.0).0 in
         let less : value < 2 ^ 32 = omega (arith, within, few) in
         none (subst (λ (ds : List ℕ). IsNumeral 10 ds × (digits_value 10 ds < 2 ^ 32)) (sym (without_leading_plus_none word (no_plus word all))) ((some, digits word all), less))

@@ -3,39 +3,39 @@ use Rattle.std.specs.Prelude.{◌≡◌, ℕ, ◌≤◌, List, length, false, Op
 use Rattle.clap.specs.Words.{Row, first_of}
 use Rattle.fg_frame.specs.Repeats.{first_repeat}
 use Rattle.fg_words.specs.CommandWords.{word_of}
-use Rattle.fg_words.specs.Given.{given_in, is_none}
+use Rattle.fg_words.specs.LineOptions.{line_options_in, is_none}
 use Rattle.fg_words.specs.Options.{options_in}
 use Rattle.fg_words.specs.Persist.{persist_in}
 use Rattle.fg_words.specs.declared.command.Command.{Command}
 use Rattle.fg_words.specs.declared.command.Command.TheVariants as commands
 use Rattle.fg_words.specs.declared.command.FrameCommand.TheVariants as frames
 use Rattle.fg_words.specs.declared.command.SubmissionCommand.TheVariants as submissions
-use Rattle.fg_words.specs.declared.given.Given.{Given}
+use Rattle.fg_words.specs.declared.line_options.LineOptions.{LineOptions}
 use Rattle.fg_base.specs.declared.run_options.RunOptions.{RunOptions}
 use Rattle.fg_words.specs.declared.word.Word.{Word}
 use Rattle.fg_words.specs.declared.word.Word.TheVariants.{Cull, Place, Bound, Compile, Auto, Meaning, Migrate, Check, Gen, Run, Exec, Flight, Audit}
 
 -- a command, where no option is left that it does not take
-abbrev pub unless_more : Given → Command → Option Command
+abbrev pub unless_more : LineOptions → Command → Option Command
 unless_more rest command = if is_none rest then Some command else None
 
-abbrev pub without_options : Given → Given
+abbrev pub without_options : LineOptions → LineOptions
 without_options given = record given { workers = None; tend = None }
 
 -- the frame of a number, or its summary; 64 passes where none are asked for
-abbrev pub generating : Given → ℕ → Option Command
+abbrev pub generating : LineOptions → ℕ → Option Command
 generating given number =
     let passes : ℕ = unwrap_or given.passes 64 in
-    let rest : Given = record given { number = None; passes = None; summary = false } in
+    let rest : LineOptions = record given { number = None; passes = None; summary = false } in
     if given.summary then unless_more (without_options rest) (commands.Summary number passes (options_in given)) else unless_more rest (commands.Gen number passes)
 
 -- frames with these persisting names, two of them together where no depth is asked for
-abbrev pub flying : Given → Option (List (List ℕ)) → Option Command
+abbrev pub flying : LineOptions → Option (List (List ℕ)) → Option Command
 flying given persist =
-    let rest : Given = record (without_options given) { depth = None; persist = false } in
+    let rest : LineOptions = record (without_options given) { depth = None; persist = false } in
     option_and_then (λ names. unless_more rest (commands.Flight (options_in given) names (unwrap_or given.depth 2))) persist
 
-abbrev pub command_of_word : Word → Given → Option (List (List ℕ)) → Option Command
+abbrev pub command_of_word : Word → LineOptions → Option (List (List ℕ)) → Option Command
 command_of_word Cull given persist = unless_more given (commands.Frame frames.Cull)
 command_of_word Place given persist = unless_more given (commands.Frame frames.Place)
 command_of_word Bound given persist = unless_more given (commands.Frame frames.Bound)
@@ -52,7 +52,7 @@ command_of_word Audit given persist = unless_more given commands.Audit
 
 -- a command's word, with the options of a line
 abbrev pub command_with : List Row → List ℕ → Option Command
-command_with rows text = option_and_then (λ word. option_and_then (λ given. command_of_word word given (persist_in (first_of (codes "persist") rows))) (given_in rows)) (word_of text)
+command_with rows text = option_and_then (λ word. option_and_then (λ given. command_of_word word given (persist_in (first_of (codes "persist") rows))) (line_options_in rows)) (word_of text)
 
 -- by what `clap` found on a line
 abbrev pub command_in : List Row → Option Command

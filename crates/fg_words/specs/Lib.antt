@@ -1,6 +1,6 @@
 pub mod CommandWords
 pub mod Commands
-pub mod Given
+pub mod LineOptions
 pub mod Lines
 pub mod Numbers
 pub mod Options

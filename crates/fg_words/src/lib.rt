@@ -2,7 +2,7 @@
 #![tactic(auto)]
 
 mod command;
-mod given;
+mod line_options;
 mod line;
 mod matching;
 mod number;

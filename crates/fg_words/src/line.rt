@@ -7,7 +7,7 @@ ghost use Rattle.fg_words.specs.Lines.{command_of};
 ghost use Rattle.fg_words.specs.Persist.{persist_in};
 ghost use Rattle.fg_words.specs.declared.command.Command.TheVariants as commands;
 
-use crate::given::{Given, given_in, text_in};
+use crate::line_options::{LineOptions, line_options_in, text_in};
 use crate::matching::{Unmatched, matches};
 use crate::options::run_options;
 use crate::persist::persist_in;
@@ -49,7 +49,7 @@ fn command_with(matches: &ArgMatches<'_>, persist: Option<List<Name>>) -> Option
     ensures { result ≡ command_in (rows_of (found_of matches.now)) }
 {
     let word = word_of(text_in(matches, "command")?)?;
-    command_of_word(word, given_in(matches)?, persist)
+    command_of_word(word, line_options_in(matches)?, persist)
 }
 
 fn command_in(alloc: Global, matches: &ArgMatches<'_>) -> Result<Option<Command>, NoMemory>
@@ -60,55 +60,55 @@ fn command_in(alloc: Global, matches: &ArgMatches<'_>) -> Result<Option<Command>
 }
 
 // The command, where no option is left that it does not take.
-fn unless_more(rest: Given, command: Command) -> Option<Command>
+fn unless_more(rest: LineOptions, command: Command) -> Option<Command>
     ensures { result ≡ unless_more rest command }
 {
     if rest.is_none() { Some(command) } else { None }
 }
 
-fn without_options(given: Given) -> Given
+fn without_options(given: LineOptions) -> LineOptions
     ensures { result ≡ without_options given }
 {
-    Given {
+    LineOptions {
         workers: None,
         tend: None,
         ..given
     }
 }
 
-fn without_trace(given: Given) -> Given
+fn without_trace(given: LineOptions) -> LineOptions
     ensures { result ≡ record (without_options given) { trace = Rattle.std.specs.Prelude.false } }
 {
-    Given {
+    LineOptions {
         trace: false,
         ..without_options(given)
     }
 }
 
-fn without_tight(given: Given) -> Given
+fn without_tight(given: LineOptions) -> LineOptions
     ensures { result ≡ record given { tight = Rattle.std.specs.Prelude.false } }
 {
-    Given {
+    LineOptions {
         tight: false,
         ..given
     }
 }
 
-fn without_cost(given: Given) -> Given
+fn without_cost(given: LineOptions) -> LineOptions
     ensures { result ≡ record given { cost = Rattle.std.specs.Prelude.false } }
 {
-    Given {
+    LineOptions {
         cost: false,
         ..given
     }
 }
 
 // The frame of a number, or its summary.
-fn generating(given: Given, number: u32) -> Option<Command>
+fn generating(given: LineOptions, number: u32) -> Option<Command>
     ensures { result ≡ generating given number }
 {
     let passes = given.passes.unwrap_or(64);
-    let rest = Given {
+    let rest = LineOptions {
         number: None,
         passes: None,
         summary: false,
@@ -130,10 +130,10 @@ fn generating(given: Given, number: u32) -> Option<Command>
 }
 
 // Frames with these persisting names.
-fn flying(given: Given, persist: Option<List<Name>>) -> Option<Command>
+fn flying(given: LineOptions, persist: Option<List<Name>>) -> Option<Command>
     ensures { result ≡ flying given persist }
 {
-    let rest = Given {
+    let rest = LineOptions {
         depth: None,
         persist: false,
         ..without_options(given)
@@ -148,13 +148,13 @@ fn flying(given: Given, persist: Option<List<Name>>) -> Option<Command>
     )
 }
 
-fn of_frame(rest: Given, asked: FrameCommand) -> Option<Command>
+fn of_frame(rest: LineOptions, asked: FrameCommand) -> Option<Command>
     ensures { result ≡ unless_more rest (commands.Frame asked) }
 {
     unless_more(rest, Command::Frame(asked))
 }
 
-fn command_of_word(word: Word, given: Given, persist: Option<List<Name>>) -> Option<Command>
+fn command_of_word(word: Word, given: LineOptions, persist: Option<List<Name>>) -> Option<Command>
     ensures { result ≡ command_of_word word given persist }
 {
     let options = run_options(given);

@@ -3,11 +3,11 @@
 ghost use Rattle.std.specs.Prelude.{◌≡◌};
 ghost use Rattle.fg_words.specs.Options.{options_in};
 
-use crate::given::Given;
+use crate::line_options::LineOptions;
 use fg_base::RunOptions;
 
 /// How the program is to be run; by two workers where the line asks for none.
-pub(crate) fn run_options(given: Given) -> RunOptions
+pub(crate) fn run_options(given: LineOptions) -> RunOptions
     ensures { result ≡ options_in given }
 {
     RunOptions {

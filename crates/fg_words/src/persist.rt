@@ -8,18 +8,18 @@ ghost use Rattle.fg_words.specs.Persist.{all_named, are_different, if_different,
 use fg_base::{List, Name, NoMemory};
 use std::alloc::{AllocError, Global};
 
-fn parts_of<'a>(alloc: Global, text: &'a str) -> Result<Vec<&'a str>, AllocError>
-    ensures { IfOk result (λ parts. map (λ part. part.now) parts.items ≡ slice_split (λ b. b == 44) text.entry.now) }
+fn split_at_commas<'a>(alloc: Global, text: &'a str) -> Result<Vec<&'a str>, AllocError>
+    ensures { IfOk result (λ entries. map (λ part. part.now) entries.items ≡ slice_split (λ b. b == 44) text.entry.now) }
 {
     text.split(',').collect(alloc)
 }
 
 // The names that these are; none at all where one is none.
-fn all_named(alloc: Global, parts: &[&str]) -> Result<Option<List<Name>>, NoMemory>
-    ensures { IfOk result (λ names. names ≡ all_named (map (λ part. part.now) parts.now)) }
+fn all_named(alloc: Global, entries: &[&str]) -> Result<Option<List<Name>>, NoMemory>
+    ensures { IfOk result (λ names. names ≡ all_named (map (λ part. part.now) entries.now)) }
 {
     let mut names = List::new(alloc);
-    for part in parts {
+    for part in entries {
         match Name::read(part.as_bytes()) {
             Some(name) => names.push(name)?,
             None => return Ok(None),
@@ -72,8 +72,8 @@ fn if_different(names: Option<List<Name>>) -> Option<List<Name>>
 fn names_of(alloc: Global, text: &str) -> Result<Option<List<Name>>, NoMemory>
     ensures { IfOk result (λ names. names ≡ names_of text.now) }
 {
-    let parts = parts_of(alloc, text)?;
-    let names = all_named(alloc, parts.as_slice())?;
+    let entries = split_at_commas(alloc, text)?;
+    let names = all_named(alloc, entries.as_slice())?;
     Ok(if_different(names))
 }
 

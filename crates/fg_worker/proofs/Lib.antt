@@ -1,4 +1,4 @@
 pub mod Holding
 pub mod Moving
-pub mod Turning
+pub mod Stepping
 pub mod Working

@@ -9,7 +9,7 @@ use Rattle.fg_caches.specs.Draws.{IsMove, may_draw, drawn, after_five, seeded, m
 use Rattle.fg_drive.specs.Tended.{agents_of, sizes_of}
 use Rattle.fg_steps.specs.Devices.{Device}
 use Rattle.fg_steps.specs.Histories.{is_move, moved, Went, GoesNowhere, GoesOnByMove}
-use Rattle.fg_worker.specs.Code.Loops.{Tending, TendsOn}
+use Rattle.fg_worker.specs.Internal.Loops.{Tending, TendsOn}
 use Rattle.fg_worker.proofs.Holding.{both, both_so, both_then}
 use Rattle.fg_worker.specs.Holds.{Both, MayMake, Tends, TendsTo, TendsAll}
 

@@ -7,8 +7,8 @@ use Rattle.fg_drive.specs.Tended.{agents_of, sizes_of}
 use Rattle.fg_steps.specs.Devices.{Device, state_of, did, IsComplete, NoneBegun}
 use Rattle.fg_steps.specs.Histories.{moved, Went}
 use Rattle.fg_steps.specs.States.{is_begun}
-use Rattle.fg_worker.specs.Turns.{Turns}
-use Rattle.fg_worker.specs.declared.turn.Turn.{Turn}
+use Rattle.fg_worker.specs.WorkerSteps.{WorkerSteps}
+use Rattle.fg_worker.specs.declared.step.WorkerStep.{WorkerStep}
 
 -- of a holder that told a device: it tells one again, and this holds of both
 abbrev pub Both : Option Device → Option Device → (Device → Device → Type 0) → Type 0
@@ -16,8 +16,8 @@ Both None new P = Unit {0}
 Both (Some d) None P = ⊥
 Both (Some d) (Some e) P = P d e
 
-abbrev pub TurnsTo : Option Device → Option Device → ℕ → Turn → Type 0
-TurnsTo old new own turn = Both old new (λ d e. Turns d e own turn)
+abbrev pub StepsTo : Option Device → Option Device → ℕ → WorkerStep → Type 0
+StepsTo old new own step = Both old new (λ d e. WorkerSteps d e own step)
 
 -- a begun command ends; else nothing changes
 abbrev pub Lands : Device → Device → ℕ → Type 0
@@ -41,7 +41,7 @@ TendsTo old new event made = Both old new (λ d e. Tends d e event made)
 -- holds of the worker of a queue, one after another, and no others
 pub data Works (own : ℕ) : Device → Device → Type 0 where
   here : {d : Device} → Works own d d
-  by_turn : {d e f : Device} (turn : Turn) → Works own d e → Turns e f own turn → Works own d f
+  by_step : {d e f : Device} (step : WorkerStep) → Works own d e → WorkerSteps e f own step → Works own d f
   by_end : {d e f : Device} (n : ℕ) → Works own d e → Lands e f n → Works own d f
 
 abbrev pub WorksTo : Option Device → Option Device → ℕ → Type 0

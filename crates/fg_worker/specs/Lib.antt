@@ -1,3 +1,3 @@
-pub mod Code
+pub mod Internal
 pub mod Holds
-pub mod Turns
+pub mod WorkerSteps

@@ -1,27 +1,27 @@
 //! Who holds a device, for one event at a time.
 
 ghost use Rattle.std.specs.Prelude.{◌≡◌, IfOk, OnErr, Option, Some, None};
-ghost use Rattle.fg_worker.specs.Holds.{TurnsTo, LandsTo, TendsTo};
+ghost use Rattle.fg_worker.specs.Holds.{StepsTo, LandsTo, TendsTo};
 
 use crate::tending::tend_once;
-use crate::turn::{Turn, take_turn};
+use crate::step::{WorkerStep, take_step};
 use fg_base::{Event, NoMemory};
 use fg_device::{Device, Finished};
 use std::alloc::Global;
 use std::sync::{Condvar, Mutex, Wait};
 
 /// A holder of a device. Each call is one hold. A holder that tells which device it has is told what each hold does to it.
-pub trait Hold {
+pub trait Holder {
     ghost use Rattle.fg_steps.specs.Devices.{Device};
 
     ghost told: { Self → Option Device };
 
     /// A hold of the worker of a queue. Where no node is ready and not all are done, one on a shared device waits in the same hold.
-    fn turn(&mut self, alloc: Global, own_queue: u32) -> Result<Turn, NoMemory>
-        ensures ok { IfOk result (TurnsTo (told self.old) (told self.new) own_queue) }
+    fn step(&mut self, alloc: Global, own_queue: u32) -> Result<WorkerStep, NoMemory>
+        ensures ok { IfOk result (StepsTo (told self.old) (told self.new) own_queue) }
         ensures err { OnErr result (told self.new ≡ told self.old) };
 
-    /// A hold in which a command ends. It calls nobody: the worker takes its next turn at once, and calls others then where it has to.
+    /// A hold in which a command ends. It calls nobody: the worker takes its next step at once, and calls others then where it has to.
     fn land(&mut self, done: Finished)
         ensures { LandsTo (told self.old) (told self.new) done.node };
 
@@ -33,7 +33,7 @@ pub trait Hold {
 
 /// A device under a lock that others share, with a bell at which workers wait. It tells nothing.
 ///
-/// A worker that made an event takes the next turn itself, so it rings only where it cannot: for one other where it goes to compute,
+/// A worker that made an event takes the next step itself, so it rings only where it cannot: for one other where it goes to compute,
 /// since more may be ready, and for all where every node is done or it found no memory.
 #[derive(Drop)]
 pub struct Shared<'a, R: Wait> {
@@ -42,22 +42,22 @@ pub struct Shared<'a, R: Wait> {
     pub bell: &'a Condvar,
 }
 
-impl<'a, R: Wait> Hold for Shared<'a, R> {
+impl<'a, R: Wait> Holder for Shared<'a, R> {
     ghost told = { λ _. None };
 
-    fn turn(&mut self, alloc: Global, own_queue: u32) -> Result<Turn, NoMemory> {
+    fn step(&mut self, alloc: Global, own_queue: u32) -> Result<WorkerStep, NoMemory> {
         let mut held = self.device.lock(self.rt);
-        let turn = take_turn(&mut held, alloc, own_queue);
-        match &turn {
-            Ok(Turn::Stepped) => {}
-            Ok(Turn::Compute(_)) => {
+        let step = take_step(&mut held, alloc, own_queue);
+        match &step {
+            Ok(WorkerStep::Stepped) => {}
+            Ok(WorkerStep::Compute(_)) => {
                 drop(held);
                 self.bell.notify_one();
             }
-            Ok(Turn::Wait) => drop(self.bell.wait(self.rt, held)),
-            Ok(Turn::Complete) | Err(_) => self.bell.notify_all(),
+            Ok(WorkerStep::Wait) => drop(self.bell.wait(self.rt, held)),
+            Ok(WorkerStep::Complete) | Err(_) => self.bell.notify_all(),
         }
-        turn
+        step
     }
 
     fn land(&mut self, done: Finished) {
@@ -76,11 +76,11 @@ pub struct Alone {
     pub device: Device,
 }
 
-impl Hold for Alone {
+impl Holder for Alone {
     ghost told = { λ alone. Some alone.device };
 
-    fn turn(&mut self, alloc: Global, own_queue: u32) -> Result<Turn, NoMemory> {
-        take_turn(&mut self.device, alloc, own_queue)
+    fn step(&mut self, alloc: Global, own_queue: u32) -> Result<WorkerStep, NoMemory> {
+        take_step(&mut self.device, alloc, own_queue)
     }
 
     fn land(&mut self, done: Finished) {

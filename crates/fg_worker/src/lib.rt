@@ -4,11 +4,11 @@
 mod hold;
 mod run;
 mod tending;
-mod turn;
+mod step;
 mod worker;
 
-pub use hold::{Alone, Hold, Shared};
+pub use hold::{Alone, Holder, Shared};
 pub use run::run_workers;
 pub use tending::{moves_of, tend_once, tend_through};
-pub use turn::{Turn, take_turn};
+pub use step::{WorkerStep, take_step};
 pub use worker::{work, work_through};

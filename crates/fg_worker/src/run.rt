@@ -75,7 +75,7 @@ impl Run {
 /// A device of the program, opened with zeros, after so many workers have run it. Worker i is of queue i modulo the number of
 /// queues. With a seed a tender beside them makes the first `MOVES` cache moves of the seed, also after all nodes are done.
 /// What the commands of all workers start beside them are fewer threads than there are processors. Where no thread can be made
-/// its part is run in its turn by the one that calls: a worker by itself takes every queue, and the tender comes last. Memory
+/// its part is run in order by the one that calls: a worker by itself takes every queue, and the tender comes last. Memory
 /// has run out where the device could not be made, or the list of sizes or of how the parts ended, or where the device is not
 /// complete and a part found none.
 pub fn run_workers<R: Threads + Wait + Sync, G: Gate + Sync>(

@@ -3,7 +3,7 @@
 ghost use Rattle.std.specs.Prelude.{◌≡◌, ◌<◌, ◌^◌, ℕ, Some, None, length};
 ghost use Rattle.fg_worker.specs.Holds.{Tends, TendsAll};
 
-use crate::hold::Hold;
+use crate::hold::Holder;
 use fg_base::Event;
 use fg_caches::{MOVES, Tender};
 use fg_device::Device;
@@ -34,7 +34,7 @@ pub fn moves_of(tend: Option<u64>) -> u32
 
 /// Makes the first `MOVES` moves of the seed's tender, one in each hold, or none where it gives none. It stops at the first move
 /// that the hold does not make.
-pub fn tend_through<H: Hold>(hold: &mut H, seed: u64, agents: u32, sizes: &[u32])
+pub fn tend_through<H: Holder>(hold: &mut H, seed: u64, agents: u32, sizes: &[u32])
     requires few { length sizes.now < 2 ^ 32 }
     ensures { TendsAll (H.told hold.old) (H.told hold.new) seed agents sizes.now }
 {

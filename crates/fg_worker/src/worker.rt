@@ -3,8 +3,8 @@
 ghost use Rattle.std.specs.Prelude.{OnOk};
 ghost use Rattle.fg_worker.specs.Holds.{EndsComplete, LeavesNone, WorksTo};
 
-use crate::hold::{Hold, Shared};
-use crate::turn::Turn;
+use crate::hold::{Holder, Shared};
+use crate::step::WorkerStep;
 use fg_base::{Gate, NoMemory};
 use fg_device::Device;
 use fg_steps::round_laws;
@@ -14,7 +14,7 @@ use std::thread::Threads;
 
 /// Works until a hold finds the device complete, or memory runs out. A command is computed between two holds, in which it begins
 /// and ends.
-pub fn work_through<R: Threads + Wait + Sync, H: Hold, G: Gate>(
+pub fn work_through<R: Threads + Wait + Sync, H: Holder, G: Gate>(
     rt: &R,
     alloc: Global,
     hold: &mut H,
@@ -27,22 +27,22 @@ pub fn work_through<R: Threads + Wait + Sync, H: Hold, G: Gate>(
 {
     round_laws();
     for _ in rt.forever() {
-        match hold.turn(alloc, own_queue)? {
-            Turn::Compute(job) => {
+        match hold.step(alloc, own_queue)? {
+            WorkerStep::Compute(job) => {
                 let node = job.command().node;
                 gate.enter(node);
                 let done = job.compute(rt);
                 gate.leave(node);
                 hold.land(done);
             }
-            Turn::Complete => return Ok(()),
-            Turn::Stepped | Turn::Wait => {}
+            WorkerStep::Complete => return Ok(()),
+            WorkerStep::Stepped | WorkerStep::Wait => {}
         }
     }
     unreachable!()
 }
 
-/// The worker of a queue, on a device that others share. A hold of the lock ends the command that it computed, or is a turn: the
+/// The worker of a queue, on a device that others share. A hold of the lock ends the command that it computed, or is a step: the
 /// event of the least ready node of its own queue, else of the other queues in rising order, else a host read. It waits at the
 /// bell only where in this hold no node was ready and not all were done, and answers Ok only where in its last hold all were
 /// done. It leaves with nothing begun of its own, and rings the bell before it does.

@@ -8,7 +8,7 @@ use Rattle.std.proofs.lemmas.List.FromFn.{fill_by_all, get_or-map-range_with_len
 use Rattle.law_runs.proofs.Absence.{some_same}
 use Rattle.law_runs.proofs.Formed.{stores_changes, store_changes, command_change, sync_no_store, reads_no_command, none_later}
 use Rattle.law_runs.specs.Formed.{Formed}
-use Rattle.law_runs.specs.Found.{Feeds, Starts}
+use Rattle.law_runs.specs.Found.{Initializes, Starts}
 use Rattle.law_runs.proofs.Holds.{LoadsFound, Agrees}
 use Rattle.law_runs.proofs.Invariant.{Values}
 use Rattle.law_runs.proofs.Listing.{among_right, after_in, earlier_among, before_split, list_split, after_not, not_both, before_forward}
@@ -16,7 +16,7 @@ use Rattle.law_runs.proofs.Shared.{covers_place, covers_at, overlap_self}
 use Rattle.law_runs.proofs.Steps.{find_access}
 use Rattle.law_runs.specs.Apart.{Among, before_in, Earlier, Order, Contents, store_place, loads_in, after_node, after_nodes, first_bytes, apart, bytes_before}
 use Rattle.fg_caches.specs.Lines.{Bytes}
-use Rattle.law_runs.specs.Orders.{Before, Tied}
+use Rattle.law_runs.specs.Orders.{Before, Synchronized}
 use Rattle.law_runs.specs.Runs.{reads}
 use Rattle.law_runs.specs.States.{bytes_in}
 use Rattle.law_runs.specs.Systems.{Doing, Store, Access, System, At, Has, covers, overlap, is_load, is_store, loads, changes}
@@ -104,7 +104,7 @@ module _ (S : System) where
   nodes_sized F [] bytes z = z
   nodes_sized F (n ∷ rest) bytes z = nodes_sized F rest (after_node S bytes n) (node_sized F bytes n z)
 
-module _ (S : System) (F : Formed S) (T : Tied S) (order : List ℕ) (O : Order S order) (main : Bytes) where
+module _ (S : System) (F : Formed S) (T : Synchronized S) (order : List ℕ) (O : Order S order) (main : Bytes) where
   abbrev before : ℕ → Contents
   before n = bytes_before S main order n
 
@@ -146,8 +146,8 @@ module _ (S : System) (F : Formed S) (T : Tied S) (order : List ℕ) (O : Order 
   over_self : (n : ℕ) (a c : Access) → Has S n a → c.piece ≡ a.piece → overlap S c.piece a.piece ≡ true
   over_self n a c ha e = subst (λ p. overlap S p a.piece ≡ true) (sym e) (overlap_self S a.piece (F.some n a ha))
 
-  -- no store to the piece stands between what feeds a load and the load
-  between : (n w : ℕ) (a c : Access) → Has S n a → Feeds S n a w c → (v : ℕ) → Among v (before_in (after_in order w) n) → Elsewhere S v a.piece
+  -- no store to the piece stands between what initializes a load and the load
+  between : (n w : ℕ) (a c : Access) → Has S n a → Initializes S n a w c → (v : ℕ) → Among v (before_in (after_in order w) n) → Elsewhere S v a.piece
   between n w a c ha D v h k d at s e = go (D.last v d (k, at) q.0 (store_changes d.doing s) (over_self n a d ha e) q.1)
     where
       w_ahead : Earlier order w n
@@ -197,24 +197,24 @@ module _ (S : System) (F : Formed S) (T : Tied S) (order : List ℕ) (O : Order 
   abbrev pub values : Values
   values = record { byte = byte_of; start = main }
 
-  feeds_held : (n w : ℕ) (a c : Access) → Has S n a → Feeds S n a w c → before n a.piece ≡ after_node S (before w) w c.piece
-  feeds_held n w a c ha D =
+  initializes_held : (n w : ℕ) (a c : Access) → Has S n a → Initializes S n a w c → before n a.piece ≡ after_node S (before w) w c.piece
+  initializes_held n w a c ha D =
       held_after w n a.piece (before_forward S F order O w n c a D.apart D.before) (between n w a c ha D)
       ∙ ap (λ p. after_node S (before w) w p) (sym D.piece)
 
-  feeds_byte : (n w m i : ℕ) (a c : Access) → Has S n a → covers S a.piece m i ≡ true → Feeds S n a w c → slice_index (before n a.piece) (i - (S.range a.piece).start) ≡ byte_of w m i
-  feeds_byte n w m i a c ha cv D =
-      ap (λ l. slice_index l (i - (S.range a.piece).start)) (feeds_held n w a c ha D)
+  initializes_byte : (n w m i : ℕ) (a c : Access) → Has S n a → covers S a.piece m i ≡ true → Initializes S n a w c → slice_index (before n a.piece) (i - (S.range a.piece).start) ≡ byte_of w m i
+  initializes_byte n w m i a c ha cv D =
+      ap (λ l. slice_index l (i - (S.range a.piece).start)) (initializes_held n w a c ha D)
       ∙ ap (λ p. slice_index (after_node S (before w) w c.piece) (i - (S.range p).start)) (sym D.piece)
       ∙ sym (byte_is w m i c D.has (stores_changes c.doing D.leaves) (subst (λ p. covers S p m i ≡ true) (sym D.piece) cv))
 
-  fed : (n w : ℕ) (a c : Access) → Has S n a → Feeds S n a w c → bytes_in S (byte_of w) a.piece ≡ before n a.piece
-  fed n w a c ha D = sym (fill_by_all (λ j. byte_of w (S.range a.piece).memory ((S.range a.piece).start + j)) (before n a.piece) (S.range a.piece).len 0 (held_sized n a.piece) (λ j lt. at j lt))
+  initialized : (n w : ℕ) (a c : Access) → Has S n a → Initializes S n a w c → bytes_in S (byte_of w) a.piece ≡ before n a.piece
+  initialized n w a c ha D = sym (fill_by_all (λ j. byte_of w (S.range a.piece).memory ((S.range a.piece).start + j)) (before n a.piece) (S.range a.piece).len 0 (held_sized n a.piece) (λ j lt. at j lt))
     where
       at : (j : ℕ) → j < (S.range a.piece).len → get_or (before n a.piece) j 0 ≡ byte_of w (S.range a.piece).memory ((S.range a.piece).start + j)
       at j lt =
           let e : (S.range a.piece).start + j - (S.range a.piece).start ≡ j = omega arith in
-          ap (λ z. get_or (before n a.piece) z 0) (sym e) ∙ feeds_byte n w (S.range a.piece).memory ((S.range a.piece).start + j) a c ha (covers_at S a.piece j lt) D
+          ap (λ z. get_or (before n a.piece) z 0) (sym e) ∙ initializes_byte n w (S.range a.piece).memory ((S.range a.piece).start + j) a c ha (covers_at S a.piece j lt) D
 
   from_main : (n : ℕ) (a : Access) → Has S n a → Starts S n a → bytes_in S main a.piece ≡ before n a.piece
   from_main n a ha I = sym (nodes_same S (before_in order n) (first_bytes S main) a.piece none ∙ ap (λ z. if z then bytes_in S main a.piece else replicate (S.range a.piece).len 0) I.contents)
@@ -243,9 +243,9 @@ module _ (S : System) (F : Formed S) (T : Tied S) (order : List ℕ) (O : Order 
   pub agrees : Agrees S values found_in
   agrees = record {
     makes = makes;
-    keeps = λ n m i w a c ha al ac cv D. sym (feeds_byte n w m i a c ha cv D) ∙ sym (keeps_found n m i a ha al ac cv);
+    keeps = λ n m i w a c ha al ac cv D. sym (initializes_byte n w m i a c ha cv D) ∙ sym (keeps_found n m i a ha al ac cv);
     keeps_start = λ n m i a ha al ac cv I. start n m i a ha cv I ∙ sym (keeps_found n m i a ha al ac cv);
-    fed = λ n w a c ha al D. fed n w a c ha D;
+    initialized = λ n w a c ha al D. initialized n w a c ha D;
     starts = λ n a ha al I. from_main n a ha I;
   }
     where

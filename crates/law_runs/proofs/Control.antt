@@ -6,7 +6,7 @@ use Rattle.law_runs.proofs.Formed.{change_no_load, long_no_load}
 use Rattle.law_runs.specs.Formed.{Formed}
 use Rattle.law_runs.proofs.Invariant.{NoneAfter}
 use Rattle.law_runs.proofs.Nodes.{Prior}
-use Rattle.law_runs.specs.Orders.{Path, one, then_on, UpTo, Before, VisibleBy, Tied}
+use Rattle.law_runs.specs.Orders.{Path, one, then_on, UpTo, Before, VisibleBy, Synchronized}
 use Rattle.law_runs.specs.States.{State, over, Entered, UnderWay, Torn, Meets, MayLoad, MayStore, MaySync}
 use Rattle.law_runs.specs.Systems.{Doing, Load, Store, Superseded, Access, System, At, Has, is_load, is_long}
 
@@ -139,7 +139,7 @@ module _ (S : System) (F : Formed S) (s : State) (P : Past S s) where
 
   -- NO CLASH WITH WHAT IS UNDER WAY
 
-  module _ (T : Tied S) (n : ℕ) (c : Access) (t : Touches S s n c) where
+  module _ (T : Synchronized S) (n : ℕ) (c : Access) (t : Touches S s n c) where
     not_met : (v : ℕ) (b : Access) → Has S v b → v ≢ n → UnderWay S s v b → Before S v b n c ⊎ Before S n c v b → ⊥
     not_met v b h ne u (inl B) = false≢true (sym u.fresh ∙ sym (over_done s v h.0 b (long_no_load b.doing u.long)) ∙ t.ahead v h.0 b h.1 ne B)
     not_met v b h ne u (inr B) = t.hidden (entered_ahead n t.has.0 v c b t.has.1 u.entered B)

@@ -6,17 +6,17 @@ use Rattle.law_runs.proofs.Control.{Past, Touches, over_done, over_taken, of_ent
 use Rattle.law_runs.proofs.Formed.{is_load_loads, long_no_load}
 use Rattle.law_runs.proofs.Holds.{Holds, load_sees}
 use Rattle.law_runs.proofs.Invariant.{Values, Finishes}
-use Rattle.law_runs.proofs.Pieces.{not_spoilt, pieces_taken, pieces_stored, pieces_synced}
+use Rattle.law_runs.proofs.Pieces.{not_undefined, pieces_taken, pieces_stored, pieces_synced}
 use Rattle.law_runs.proofs.Progress.{FirstOpen, first_open}
 use Rattle.law_runs.proofs.Simulation.{Basis, Keeps, moves_keeps, opened_keeps, stores_right, main_stays, basis, reads_loads}
 use Rattle.law_runs.proofs.Steps.{put_other, put_here, finishes, store_holds, sync_holds}
 use Rattle.law_runs.specs.Apart.{Order}
-use Rattle.law_runs.specs.Device.{Device, fresh_device, Busy, DeviceSpoilt, IsHit, did_begin, MayBegin, Begins, Ends, did_end, MaySynchronize, DeviceJunkedAt, Synchronizes, did_synchronize, DeviceGoes, begins, ends, synchronizes, History, opens, goes_on, moves_on, DeviceSimulated, DeviceGoesOn}
+use Rattle.law_runs.specs.Device.{Device, fresh_device, Busy, DeviceLoadsUndefined, IsHit, did_begin, MayBegin, Begins, Ends, did_end, MaySynchronize, DeviceJunkedAt, Synchronizes, did_synchronize, DeviceGoes, begins, ends, synchronizes, History, opens, goes_on, moves_on, DeviceSimulated, DeviceGoesOn}
 use Rattle.law_runs.specs.Formed.{Formed}
 use Rattle.law_runs.specs.Laws.{Sound, AllDone}
 use Rattle.fg_caches.specs.Lines.{Lines, Bytes}
 use Rattle.law_runs.specs.Orders.{Before}
-use Rattle.law_runs.specs.Runs.{Spoilt, JunkedAt, Stores, Syncs, Moves, writes_back, fills, drops}
+use Rattle.law_runs.specs.Runs.{LoadsUndefined, JunkedAt, Stores, Syncs, Moves, writes_back, fills, drops}
 use Rattle.law_runs.specs.States.{State, Owner, put, over, Entered, UnderWay, Meets}
 use Rattle.law_runs.specs.Systems.{Access, System, At, Has, is_load, is_long}
 
@@ -33,7 +33,7 @@ module _ (S : System) (W : Values) (found : ℕ → ℕ → List ℕ) (G : Basis
   F : Formed S
   F = G.formed
 
-  module _ (d : Device) (K : Keeps S G.stated.first W found d.state) (B : Begun S d) where
+  module _ (d : Device) (K : Keeps S G.state_valid.first W found d.state) (B : Begun S d) where
     abbrev s : State
     s = d.state
 
@@ -47,15 +47,15 @@ module _ (S : System) (W : Values) (found : ℕ → ℕ → List ℕ) (G : Basis
     way n v b q h l = record { long = l; entered = B.entered v b q.begun h; fresh = q.fresh }
 
     -- what spoils on the device spoils single accesses as well
-    spoils : (n : ℕ) (a : Access) → DeviceSpoilt S d n a → Spoilt S d.state n a
+    spoils : (n : ℕ) (a : Access) → DeviceLoadsUndefined S d n a → LoadsUndefined S d.state n a
     spoils n a (inl q) = inl (record { node = q.0; access = q.1; has = q.3; other = q.2.other; way = way n q.0 q.1 q.2 q.3 q.4; overlaps = q.5 })
     spoils n a (inr q) = inr q
 
     hits : (n v : ℕ) (q : IsHit S d n v) → Meets S d.state n q.0 v q.1
     hits n v q = record { mine = q.3; theirs = q.4; other = λ e. q.2.other (sym e); clash = q.6; way = way n v q.1 q.2 q.4 q.5 }
 
-    sane : (n : ℕ) (a : Access) → Touches S d.state n a → DeviceSpoilt S d n a → ⊥
-    sane n a t q = not_spoilt S F G.tied G.stated d.state P K.pieces n a t (spoils n a q)
+    sane : (n : ℕ) (a : Access) → Touches S d.state n a → DeviceLoadsUndefined S d n a → ⊥
+    sane n a t q = not_undefined S F G.synchronized G.state_valid d.state P K.pieces n a t (spoils n a q)
 
     -- BEGIN
 
@@ -96,7 +96,7 @@ module _ (S : System) (W : Values) (found : ℕ → ℕ → List ℕ) (G : Basis
       gets : (k : ℕ) (a : Access) → At S n k a → is_load a.doing ≡ true → loaded k ≡ found n a.piece
       gets k a at l = ⊎_elim
           (λ q. absurd (sane n a (touch a (k, at)) q))
-          (λ e. e ∙ load_sees S F G.tied G.rank G.ranked W found G.agrees d.state H n a (touch a (k, at)) (is_load_loads a.doing l) M.command l (G.fed n a (k, at) (is_load_loads a.doing l)))
+          (λ e. e ∙ load_sees S F G.synchronized G.rank G.ranked W found G.agrees d.state H n a (touch a (k, at)) (is_load_loads a.doing l) M.command l (G.initialized n a (k, at) (is_load_loads a.doing l)))
           (E.bytes_are k a at l)
 
       unmarked : (v j : ℕ) → marked v j ≡ true → ⊥
@@ -108,8 +108,8 @@ module _ (S : System) (W : Values) (found : ℕ → ℕ → List ℕ) (G : Basis
 
           go : (d.state.marked v j ≡ true) ⊎ (IsHit S d n v ⊎ ((w : ℕ) × (b : Access) × (a : Access) × Busy d n w × Has S n b × (is_long b.doing ≡ true) × Has S w a × (S.clash b a ≡ true))) → ⊥
           go (inl e) = H.unmarked v j e
-          go (inr (inl q)) = not_meets S F d.state P G.tied n q.0 (touch q.0 q.3) v q.1 (hits n v q)
-          go (inr (inr q)) = meets q.0 q.1 q.2 q.3 q.4 q.5 q.6 (G.tied.ordered n q.0 q.1 q.2 q.4 q.6 (λ e. q.3.other (sym e)) q.7)
+          go (inr (inl q)) = not_meets S F d.state P G.synchronized n q.0 (touch q.0 q.3) v q.1 (hits n v q)
+          go (inr (inr q)) = meets q.0 q.1 q.2 q.3 q.4 q.5 q.6 (G.synchronized.ordered n q.0 q.1 q.2 q.4 q.6 (λ e. q.3.other (sym e)) q.7)
 
       begin_holds : Holds S W found (did_begin d n loaded marked owner).state
       begin_holds = record {
@@ -128,10 +128,10 @@ module _ (S : System) (W : Values) (found : ℕ → ℕ → List ℕ) (G : Basis
         hosts = H.hosts;
       }
 
-      pub begin_keeps : Keeps S G.stated.first W found (did_begin d n loaded marked owner).state
+      pub begin_keeps : Keeps S G.state_valid.first W found (did_begin d n loaded marked owner).state
       begin_keeps = record {
         holds = begin_holds;
-        pieces = pieces_taken S F G.tied G.stated d.state P K.pieces n (λ a. Unit {0}) (λ a h u. touch a h) owner E.takes;
+        pieces = pieces_taken S F G.synchronized G.state_valid d.state P K.pieces n (λ a. Unit {0}) (λ a h u. touch a h) owner E.takes;
       }
 
       pub begin_begun : Begun S (did_begin d n loaded marked owner)
@@ -163,10 +163,10 @@ module _ (S : System) (W : Values) (found : ℕ → ℕ → List ℕ) (G : Basis
       NE : Finishes d.state.done (put d.state.done n true) n
       NE = finishes d.state.done n (λ e. false≢true (sym E.fresh ∙ e))
 
-      pub end_keeps : Keeps S G.stated.first W found (did_end d n line).state
+      pub end_keeps : Keeps S G.state_valid.first W found (did_end d n line).state
       end_keeps = record {
-        holds = store_holds S F G.tied G.rank G.ranked W found G.agrees d.state H n bytes line d.state.marked d.state.owner Z;
-        pieces = pieces_stored S F G.tied G.stated d.state P K.pieces n (put d.state.done n true) NE Z.may.command (λ c. is_long c.doing ≡ true) (λ c h l. store_touches S F d.state P n c Z.may h l) d.state.owner Z.takes;
+        holds = store_holds S F G.synchronized G.rank G.ranked W found G.agrees d.state H n bytes line d.state.marked d.state.owner Z;
+        pieces = pieces_stored S F G.synchronized G.state_valid d.state P K.pieces n (put d.state.done n true) NE Z.may.command (λ c. is_long c.doing ≡ true) (λ c h l. store_touches S F d.state P n c Z.may h l) d.state.owner Z.takes;
       }
 
       pub end_begun : Begun S (did_end d n line)
@@ -213,10 +213,10 @@ module _ (S : System) (W : Values) (found : ℕ → ℕ → List ℕ) (G : Basis
       NS : Finishes d.state.done (put d.state.done n true) n
       NS = finishes d.state.done n (λ e. false≢true (sym Q.fresh ∙ e))
 
-      pub synchronize_keeps : Keeps S G.stated.first W found (did_synchronize S d n main read marked layout owner).state
+      pub synchronize_keeps : Keeps S G.state_valid.first W found (did_synchronize S d n main read marked layout owner).state
       synchronize_keeps = record {
-        holds = sync_holds S F G.tied G.rank G.ranked W found G.agrees d.state H n main read marked layout owner Y (λ a t e q. not_spoilt S F G.tied G.stated d.state P K.pieces n a t q) (λ a h l. G.fed n a h l);
-        pieces = pieces_synced S F G.tied G.stated d.state P K.pieces n (put d.state.done n true) NS G.rank G.ranked (λ a h. sync_touches S F d.state P n Y.may a h) layout owner Y.lays Y.hands;
+        holds = sync_holds S F G.synchronized G.rank G.ranked W found G.agrees d.state H n main read marked layout owner Y (λ a t e q. not_undefined S F G.synchronized G.state_valid d.state P K.pieces n a t q) (λ a h l. G.initialized n a h l);
+        pieces = pieces_synced S F G.synchronized G.state_valid d.state P K.pieces n (put d.state.done n true) NS G.rank G.ranked (λ a h. sync_touches S F d.state P n Y.may a h) layout owner Y.lays Y.hands;
       }
 
       pub synchronize_begun : Begun S (did_synchronize S d n main read marked layout owner)
@@ -232,7 +232,7 @@ module _ (S : System) (W : Values) (found : ℕ → ℕ → List ℕ) (G : Basis
   -- HISTORIES
 
   pub record DeviceKeeps (d : Device) : Type 0 where
-    pub keeps : Keeps S G.stated.first W found d.state
+    pub keeps : Keeps S G.state_valid.first W found d.state
     pub begun : Begun S d
 
   goes_keeps : (d e : Device) → DeviceGoes S d e → DeviceKeeps d → DeviceKeeps e
@@ -267,13 +267,13 @@ module _ (S : System) (W : Values) (found : ℕ → ℕ → List ℕ) (G : Basis
 
 module _ (S : System) (F : Formed S) (X : Sound S) (order : List ℕ) (O : Order S order) (main : Bytes) where
   abbrev W : Values
-  W = values S F X.tied order O main
+  W = values S F X.synchronized order O main
 
   abbrev found : ℕ → ℕ → List ℕ
-  found = found_in S F X.tied order O main
+  found = found_in S F X.synchronized order O main
 
-  pub device_keeps : (d : Device) → History S (fresh_device S main) d → DeviceKeeps S (values S F X.tied order O main) (found_in S F X.tied order O main) (basis S F X order O main) d
-  device_keeps d h = history_keeps S (values S F X.tied order O main) (found_in S F X.tied order O main) (basis S F X order O main) (fresh_device S main) d h (fresh_keeps S (values S F X.tied order O main) (found_in S F X.tied order O main) (basis S F X order O main))
+  pub device_keeps : (d : Device) → History S (fresh_device S main) d → DeviceKeeps S (values S F X.synchronized order O main) (found_in S F X.synchronized order O main) (basis S F X order O main) d
+  device_keeps d h = history_keeps S (values S F X.synchronized order O main) (found_in S F X.synchronized order O main) (basis S F X order O main) (fresh_device S main) d h (fresh_keeps S (values S F X.synchronized order O main) (found_in S F X.synchronized order O main) (basis S F X order O main))
 
   pub device_simulated : (d : Device) → History S (fresh_device S main) d → DeviceSimulated S main order d
   device_simulated d h = record {
@@ -281,15 +281,15 @@ module _ (S : System) (F : Formed S) (X : Sound S) (order : List ℕ) (O : Order
     unmarked = H.unmarked;
     stored = λ n bytes line E k c at st.
         stores_right S W found (basis S F X order O main) d.state H n bytes line d.state.marked d.state.owner (stores_of S W found (basis S F X order O main) d K.keeps K.begun n bytes line E) k c at st
-        ∙ stores_apart S F X.tied order O main n k c (d.state.loaded n) at st (λ j a aj l. H.loaded n j a aj l (K.begun.taken n j E.begun));
-    read = λ n a q r f. H.hosts n a q r f ∙ sym (read_held S F X.tied order O main n a q r);
-    stays = λ n a q r f. main_stays S W found (basis S F X order O main) d.state H n a q r f (X.fed n a q (reads_loads a.doing r)) ∙ sym (read_held S F X.tied order O main n a q r);
+        ∙ stores_apart S F X.synchronized order O main n k c (d.state.loaded n) at st (λ j a aj l. H.loaded n j a aj l (K.begun.taken n j E.begun));
+    read = λ n a q r f. H.hosts n a q r f ∙ sym (read_held S F X.synchronized order O main n a q r);
+    stays = λ n a q r f. main_stays S W found (basis S F X order O main) d.state H n a q r f (X.initialized n a q (reads_loads a.doing r)) ∙ sym (read_held S F X.synchronized order O main n a q r);
   }
     where
-      K : DeviceKeeps S (values S F X.tied order O main) (found_in S F X.tied order O main) (basis S F X order O main) d
+      K : DeviceKeeps S (values S F X.synchronized order O main) (found_in S F X.synchronized order O main) (basis S F X order O main) d
       K = device_keeps d h
 
-      H : Holds S (values S F X.tied order O main) (found_in S F X.tied order O main) d.state
+      H : Holds S (values S F X.synchronized order O main) (found_in S F X.synchronized order O main) d.state
       H = K.keeps.holds
 
 -- IT CAN GO ON

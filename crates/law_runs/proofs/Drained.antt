@@ -1,11 +1,11 @@
--- What is tied in one order is tied.
+-- What is synchronized in one order is synchronized.
 use Rattle.std.proofs.Common.{◌≡◌, ◌≢◌, ◌⊎◌, inl, inr, ℕ, true, false, List, [], ◌∷◌, refl, sym, ◌∙◌, subst, ⊎_elim}
 use Rattle.std.proofs.lemmas.Bool.{cases_eq, cases_Bool, false≢true}
 use Rattle.law_runs.proofs.Listing.{past, before_forward}
 use Rattle.law_runs.specs.Apart.{Among, Earlier, Order}
-use Rattle.law_runs.specs.Drain.{TiedIn}
+use Rattle.law_runs.specs.Drain.{SynchronizedIn}
 use Rattle.law_runs.specs.Formed.{Formed}
-use Rattle.law_runs.specs.Orders.{Before, Tied}
+use Rattle.law_runs.specs.Orders.{Before, Synchronized}
 use Rattle.law_runs.specs.Systems.{Doing, Store, Superseded, Access, System, Has, changes, is_store, is_superseded}
 
 -- of two nodes of a list one stands earlier
@@ -33,7 +33,7 @@ change_last : (d : Doing) → changes d ≡ true → is_superseded d ≡ false
 change_last Superseded h = absurd (false≢true h)
 change_last d h = refl
 
-module _ (S : System) (F : Formed S) (order : List ℕ) (O : Order S order) (D : TiedIn S order) where
+module _ (S : System) (F : Formed S) (order : List ℕ) (O : Order S order) (D : SynchronizedIn S order) where
   -- a superseded store too is before what is later
   first : (n m : ℕ) (a b : Access) → Has S n a → Has S m b → Earlier order n m → S.clash a b ≡ true → Before S n a m b
   first n m a b ha hb e c = go (cases_Bool (is_superseded a.doing))
@@ -45,8 +45,8 @@ module _ (S : System) (F : Formed S) (order : List ℕ) (O : Order S order) (D :
       go (inl q) = let t = F.superseded n a ha q in by t.0 t.1 t.2 t.3 (t.4 b c)
       go (inr q) = D.before n m a b ha hb e c q
 
-  pub tied : Tied S
-  tied = record {
+  pub synchronized : Synchronized S
+  synchronized = record {
     ordered = λ n m a b ha hb ne c. ⊎_elim (λ e. inl (first n m a b ha hb e c)) (λ e. inr (first m n b a hb ha e (F.clash_back a b c))) (either order n m (O.all n (F.within n a ha)) (O.all m (F.within m b hb)) ne);
     passed = λ n m a b ha hb ne c B ch keeps full. D.passed n m a b ha hb (before_forward S F order O n m a b ne B) c (change_last a.doing ch) ch keeps full;
   }

@@ -4,7 +4,7 @@ use Rattle.std.proofs.lemmas.Bool.{cases_eq}
 use Rattle.law_runs.proofs.Formed.{Ranked, not_both_ways}
 use Rattle.law_runs.specs.Formed.{Formed}
 use Rattle.law_runs.proofs.Invariant.{Spares, IsLast, Untouched, Finishes, NoneAfter}
-use Rattle.law_runs.specs.Orders.{Before, Tied}
+use Rattle.law_runs.specs.Orders.{Before, Synchronized}
 use Rattle.law_runs.specs.Systems.{Access, System, Has, covers, changes}
 
 module _ (S : System) (F : Formed S) (rank : ℕ → ℕ) (R : Ranked S rank) (done : ℕ → Bool) (m i w v : ℕ) (c d : Access) (p : IsLast S done m i w c) (q : IsLast S done m i v d) where
@@ -40,7 +40,7 @@ module _ (S : System) (done done' : ℕ → Bool) (n m i : ℕ) (N : Finishes do
         go v d h a b (inr f) = p.top v d f h a b
 
 -- access c of n touches the byte, n is not done, and nothing done is after c
-module _ (S : System) (F : Formed S) (T : Tied S) (done : ℕ → Bool) (n m i : ℕ) (c : Access) (hc : Has S n c) (ac : covers S c.piece m i ≡ true) (was : done n ≡ true → ⊥) (after : NoneAfter S done n c) where
+module _ (S : System) (F : Formed S) (T : Synchronized S) (done : ℕ → Bool) (n m i : ℕ) (c : Access) (hc : Has S n c) (ac : covers S c.piece m i ≡ true) (was : done n ≡ true → ⊥) (after : NoneAfter S done n c) where
   -- a done change of the byte is before it
   pub done_before : (v : ℕ) (d : Access) → done v ≡ true → Has S v d → changes d.doing ≡ true → covers S d.piece m i ≡ true → Before S v d n c
   done_before v d f h a b = go (T.ordered v n d c h hc ne (F.clash_change d c m i a b ac))

@@ -8,7 +8,7 @@ use Rattle.law_runs.proofs.Last.{last_unique, last_same, last_old, last_keep, un
 use Rattle.law_runs.proofs.Moves.{dropped_tells, dropped_any, part_dirty, part_tells}
 use Rattle.law_runs.specs.Lines.{is_dirty}
 use Rattle.fg_caches.specs.Lines.{Line, Dirty, dropped}
-use Rattle.law_runs.specs.Orders.{Path, UpTo, Before, FlushesOn, AvailableBy, VisibleBy, Passed, Tied}
+use Rattle.law_runs.specs.Orders.{Path, UpTo, Before, FlushesOn, AvailableBy, VisibleBy, Passed, Synchronized}
 use Rattle.law_runs.specs.Systems.{Doing, Store, Access, System, Has, covers, changes, stores, transfers, is_store}
 
 -- a store is made available by a node into which it leaves
@@ -25,7 +25,7 @@ other_left S d n x a s h = h
 abbrev pub Prior : System → (ℕ → Bool) → ℕ → Access → Type 0
 Prior S done n d = (x y : ℕ) → UpTo S x y → VisibleBy S d.doing n d y → (done x ≡ true) ⊎ (x ≡ n)
 
-module _ (S : System) (F : Formed S) (T : Tied S) (rank : ℕ → ℕ) (R : Ranked S rank) (W : Values) (done : ℕ → Bool) (n m i : ℕ) (lines : ℕ → Line) (v : ℕ) (was : done n ≡ true → ⊥) (B : ByteOk S done m i W lines v) where
+module _ (S : System) (F : Formed S) (T : Synchronized S) (rank : ℕ → ℕ) (R : Ranked S rank) (W : Values) (done : ℕ → Bool) (n m i : ℕ) (lines : ℕ → Line) (v : ℕ) (was : done n ≡ true → ⊥) (B : ByteOk S done m i W lines v) where
   abbrev Flushed : Type 0
   Flushed = (g : ℕ) → S.flushes n g m i ≡ true → is_dirty (lines g) ≡ false
 

@@ -7,9 +7,9 @@ use Rattle.law_runs.proofs.Control.{Past, Touches, over_done, over_before, not_t
 use Rattle.law_runs.proofs.Formed.{Ranked}
 use Rattle.law_runs.proofs.Invariant.{Finishes}
 use Rattle.law_runs.specs.Formed.{Formed}
-use Rattle.law_runs.specs.Found.{LastOf, NoneOf, LayoutBy, OwnerBy, Stated}
-use Rattle.law_runs.specs.Orders.{Before, Tied}
-use Rattle.law_runs.specs.Runs.{Spoilt, Takes, Lays, Hands}
+use Rattle.law_runs.specs.Found.{LastOf, NoneOf, LayoutBy, OwnerBy, StateValid}
+use Rattle.law_runs.specs.Orders.{Before, Synchronized}
+use Rattle.law_runs.specs.Runs.{LoadsUndefined, Takes, Lays, Hands}
 use Rattle.law_runs.specs.States.{State, Owner, Unused, Left, over}
 use Rattle.law_runs.specs.Systems.{Access, System, Has, sets_layout, sets_owner}
 
@@ -69,7 +69,7 @@ pieces_opened S first is = record {
 
 -- WHAT AN ACCESS THAT MAY BE MADE FINDS
 
-module _ (S : System) (F : Formed S) (T : Tied S) (s : State) (P : Past S s) (n : ℕ) (a : Access) (t : Touches S s n a) (sort : Access → Bool) (so : Sorted S sort) where
+module _ (S : System) (F : Formed S) (T : Synchronized S) (s : State) (P : Past S s) (n : ℕ) (a : Access) (t : Touches S s n a) (sort : Access → Bool) (so : Sorted S sort) where
   over_sort : (v : ℕ) (c : Access) (h : Has S v c) → sort c ≡ true → over s v h.0 c ≡ s.done v
   over_sort v c h k = over_done s v h.0 c (no_load c.doing (F.of_sync v c h (so.sync v c h k)))
 
@@ -93,15 +93,15 @@ module _ (S : System) (F : Formed S) (T : Tied S) (s : State) (P : Past S s) (n 
   pub none_done : NoneOf S sort n a → NoneDone S sort s.done a.piece
   none_done M v c f h k e = M v c h (other v f) k e (first v c f h k e)
 
-module _ (S : System) (F : Formed S) (T : Tied S) (X : Stated S) (s : State) (P : Past S s) (K : PiecesOk S X.first s.done s.layout s.owner) (n : ℕ) where
-  pub not_spoilt : (a : Access) → Touches S s n a → Spoilt S s n a → ⊥
-  not_spoilt a t (inl q) = not_torn S F s P T n a t q
-  not_spoilt a t (inr (inl q)) = q.2 (go (X.layout n a q.0 t.has q.1))
+module _ (S : System) (F : Formed S) (T : Synchronized S) (X : StateValid S) (s : State) (P : Past S s) (K : PiecesOk S X.first s.done s.layout s.owner) (n : ℕ) where
+  pub not_undefined : (a : Access) → Touches S s n a → LoadsUndefined S s n a → ⊥
+  not_undefined a t (inl q) = not_torn S F s P T n a t q
+  not_undefined a t (inr (inl q)) = q.2 (go (X.layout n a q.0 t.has q.1))
     where
       go : LayoutBy S n a q.0 → s.layout a.piece ≡ q.0
       go (inl r) = K.laid a.piece r.0 q.0 r.1 (last_done S F T s P n a t sets_layout (by_layout S F) r.0 r.1 r.2) r.3
       go (inr r) = K.bare a.piece (none_done S F T s P n a t sets_layout (by_layout S F) r.0) ∙ r.1
-  not_spoilt a t (inr (inr q)) = q.5 (go (X.owner n a t.has q.2))
+  not_undefined a t (inr (inr q)) = q.5 (go (X.owner n a t.has q.2))
     where
       -- the owner is the family of n
       same : s.owner a.piece ≡ Left (S.family n) → q.0 ≡ q.1

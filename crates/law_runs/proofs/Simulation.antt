@@ -4,21 +4,21 @@ use Rattle.std.proofs.lemmas.Bool.{cases_Bool, false≢true}
 use Rattle.law_runs.proofs.Control.{Touches, not_meets, load_touches, store_touches, sync_touches, over_before, over_done, up_done}
 use Rattle.law_runs.proofs.Formed.{Ranked, change_no_load, load_plain, stores_changes, store_long, none_later, is_load_loads}
 use Rattle.law_runs.specs.Formed.{Formed}
-use Rattle.law_runs.specs.Found.{Feeds, FedBy, Stated, Fed}
+use Rattle.law_runs.specs.Found.{Initializes, InitializedBy, StateValid, Initialized}
 use Rattle.law_runs.proofs.Holds.{Agrees, Holds}
 use Rattle.law_runs.proofs.Agreement.{found_in, values, agrees, stores_apart, read_held}
 use Rattle.law_runs.proofs.Listing.{rank_in, ranked}
 use Rattle.law_runs.proofs.Invariant.{Values, IsLast}
 use Rattle.law_runs.proofs.Nodes.{store_left}
-use Rattle.law_runs.proofs.Pieces.{PiecesOk, not_spoilt, pieces_opened, pieces_taken, pieces_stored, pieces_synced}
+use Rattle.law_runs.proofs.Pieces.{PiecesOk, not_undefined, pieces_opened, pieces_taken, pieces_stored, pieces_synced}
 use Rattle.law_runs.proofs.Shared.{overlap_at, same_bytes}
 use Rattle.law_runs.proofs.Steps.{finishes, opened_holds, load_holds, store_holds, sync_holds, drop_holds, fill_holds, write_back_holds}
 use Rattle.law_runs.specs.Apart.{Order}
 use Rattle.law_runs.specs.Laws.{Sound, Simulated}
 use Rattle.law_runs.specs.Lines.{is_dirty}
 use Rattle.fg_caches.specs.Lines.{Lines, Bytes}
-use Rattle.law_runs.specs.Orders.{UpTo, Before, VisibleBy, Tied}
-use Rattle.law_runs.specs.Runs.{reads, Spoilt, Stores, Goes, loads_one, stores_all, syncs_one, Moves, writes_back, fills, drops, Run, start, goes, moves}
+use Rattle.law_runs.specs.Orders.{UpTo, Before, VisibleBy, Synchronized}
+use Rattle.law_runs.specs.Runs.{reads, LoadsUndefined, Stores, Goes, loads_one, stores_all, syncs_one, Moves, writes_back, fills, drops, Run, start, goes, moves}
 use Rattle.law_runs.specs.States.{State, Owner, opened, put, over, bytes_in, Meets}
 use Rattle.law_runs.specs.Systems.{Doing, Read, TakeOver, Access, System, At, Has, covers, is_load, is_long, is_store, loads, changes}
 
@@ -40,12 +40,12 @@ reads_no_store d h s = false≢true h
 -- what the events of a device rest on
 pub record Basis (S : System) (W : Values) (found : ℕ → ℕ → List ℕ) : Type 0 where
   pub formed : Formed S
-  pub tied : Tied S
+  pub synchronized : Synchronized S
   pub rank : ℕ → ℕ
   pub ranked : Ranked S rank
   pub agrees : Agrees S W found
-  pub stated : Stated S
-  pub fed : Fed S
+  pub state_valid : StateValid S
+  pub initialized : Initialized S
 
 -- the whole invariant
 pub record Keeps (S : System) (first : ℕ → Option ℕ) (W : Values) (found : ℕ → ℕ → List ℕ) (s : State) : Type 0 where
@@ -54,29 +54,29 @@ pub record Keeps (S : System) (first : ℕ → Option ℕ) (W : Values) (found :
 
 module _ (S : System) (W : Values) (found : ℕ → ℕ → List ℕ) (G : Basis S W found) where
   abbrev Kept : State → Type 0
-  Kept s = Keeps S G.stated.first W found s
+  Kept s = Keeps S G.state_valid.first W found s
 
-  sane : (s : State) → Kept s → (n : ℕ) (a : Access) → Touches S s n a → Spoilt S s n a → ⊥
-  sane s K n a t q = not_spoilt S G.formed G.tied G.stated s K.holds.past K.pieces n a t q
+  sane : (s : State) → Kept s → (n : ℕ) (a : Access) → Touches S s n a → LoadsUndefined S s n a → ⊥
+  sane s K n a t q = not_undefined S G.formed G.synchronized G.state_valid s K.holds.past K.pieces n a t q
 
   pub goes_keeps : (s t : State) → Goes S s t → Kept s → Kept t
   goes_keeps s t (loads_one _ n k a bytes marked owner L) K = record {
-    holds = load_holds S G.formed G.tied G.rank G.ranked W found G.agrees s K.holds n k a bytes marked owner L (λ c q. sane s K n a c q) (G.fed n a (k, L.may.at) (is_load_loads a.doing L.may.load));
-    pieces = pieces_taken S G.formed G.tied G.stated s K.holds.past K.pieces n (λ b. b ≡ a) (λ b h e. subst (λ z. Touches S s n z) (sym e) (load_touches S G.formed s K.holds.past n k a L.may)) owner L.takes;
+    holds = load_holds S G.formed G.synchronized G.rank G.ranked W found G.agrees s K.holds n k a bytes marked owner L (λ c q. sane s K n a c q) (G.initialized n a (k, L.may.at) (is_load_loads a.doing L.may.load));
+    pieces = pieces_taken S G.formed G.synchronized G.state_valid s K.holds.past K.pieces n (λ b. b ≡ a) (λ b h e. subst (λ z. Touches S s n z) (sym e) (load_touches S G.formed s K.holds.past n k a L.may)) owner L.takes;
   }
   goes_keeps s t (stores_all _ n bytes line marked owner Z) K = record {
-    holds = store_holds S G.formed G.tied G.rank G.ranked W found G.agrees s K.holds n bytes line marked owner Z;
-    pieces = pieces_stored S G.formed G.tied G.stated s K.holds.past K.pieces n (put s.done n true) (finishes s.done n (λ d. false≢true (sym Z.may.fresh ∙ d))) Z.may.command (λ c. is_long c.doing ≡ true) (λ c h l. store_touches S G.formed s K.holds.past n c Z.may h l) owner Z.takes;
+    holds = store_holds S G.formed G.synchronized G.rank G.ranked W found G.agrees s K.holds n bytes line marked owner Z;
+    pieces = pieces_stored S G.formed G.synchronized G.state_valid s K.holds.past K.pieces n (put s.done n true) (finishes s.done n (λ d. false≢true (sym Z.may.fresh ∙ d))) Z.may.command (λ c. is_long c.doing ≡ true) (λ c h l. store_touches S G.formed s K.holds.past n c Z.may h l) owner Z.takes;
   }
   goes_keeps s t (syncs_one _ n main read marked layout owner Y) K = record {
-    holds = sync_holds S G.formed G.tied G.rank G.ranked W found G.agrees s K.holds n main read marked layout owner Y (λ a c d q. sane s K n a c q) (λ a h l. G.fed n a h l);
-    pieces = pieces_synced S G.formed G.tied G.stated s K.holds.past K.pieces n (put s.done n true) (finishes s.done n (λ d. false≢true (sym Y.may.fresh ∙ d))) G.rank G.ranked (λ a h. sync_touches S G.formed s K.holds.past n Y.may a h) layout owner Y.lays Y.hands;
+    holds = sync_holds S G.formed G.synchronized G.rank G.ranked W found G.agrees s K.holds n main read marked layout owner Y (λ a c d q. sane s K n a c q) (λ a h l. G.initialized n a h l);
+    pieces = pieces_synced S G.formed G.synchronized G.state_valid s K.holds.past K.pieces n (put s.done n true) (finishes s.done n (λ d. false≢true (sym Y.may.fresh ∙ d))) G.rank G.ranked (λ a h. sync_touches S G.formed s K.holds.past n Y.may a h) layout owner Y.lays Y.hands;
   }
 
   pub moves_keeps : (s t : State) → Moves s t → Kept s → Kept t
-  moves_keeps s t (writes_back _ agent range) K = record { holds = write_back_holds S G.formed G.tied G.rank G.ranked W found G.agrees s K.holds agent range; pieces = K.pieces }
-  moves_keeps s t (fills _ agent range) K = record { holds = fill_holds S G.formed G.tied G.rank G.ranked W found G.agrees s K.holds agent range; pieces = K.pieces }
-  moves_keeps s t (drops _ agent range) K = record { holds = drop_holds S G.formed G.tied G.rank G.ranked W found G.agrees s K.holds agent range; pieces = K.pieces }
+  moves_keeps s t (writes_back _ agent range) K = record { holds = write_back_holds S G.formed G.synchronized G.rank G.ranked W found G.agrees s K.holds agent range; pieces = K.pieces }
+  moves_keeps s t (fills _ agent range) K = record { holds = fill_holds S G.formed G.synchronized G.rank G.ranked W found G.agrees s K.holds agent range; pieces = K.pieces }
+  moves_keeps s t (drops _ agent range) K = record { holds = drop_holds S G.formed G.synchronized G.rank G.ranked W found G.agrees s K.holds agent range; pieces = K.pieces }
 
   pub run_keeps : (s t : State) → Run S s t → Kept s → Kept t
   run_keeps s t start K = K
@@ -85,8 +85,8 @@ module _ (S : System) (W : Values) (found : ℕ → ℕ → List ℕ) (G : Basis
 
   pub opened_keeps : Kept (opened S W.start)
   opened_keeps = record {
-    holds = opened_holds S G.formed G.tied G.rank G.ranked W found G.agrees;
-    pieces = pieces_opened S G.stated.first G.stated.first_is;
+    holds = opened_holds S G.formed G.synchronized G.rank G.ranked W found G.agrees;
+    pieces = pieces_opened S G.state_valid.first G.state_valid.first_is;
   }
 
   pub run_holds : (s : State) → Run S (opened S W.start) s → Holds S W found s
@@ -100,7 +100,7 @@ module _ (S : System) (W : Values) (found : ℕ → ℕ → List ℕ) (G : Basis
         go : ((s.marked n k ≡ true) ⊎ ((v : ℕ) × (b : Access) × Meets S s n c v b)) ⊎ (bytes k ≡ S.out n (s.loaded n) k) → bytes k ≡ S.out n (s.loaded n) k
         go (inr e) = e
         go (inl (inl e)) = absurd (H.unmarked n k e)
-        go (inl (inr q)) = absurd (not_meets S G.formed s H.past G.tied n c (store_touches S G.formed s H.past n c Z.may (k, at) (store_long c.doing st)) q.0 q.1 q.2)
+        go (inl (inr q)) = absurd (not_meets S G.formed s H.past G.synchronized n c (store_touches S G.formed s H.past n c Z.may (k, at) (store_long c.doing st)) q.0 q.1 q.2)
 
     -- WHAT WAS READ STAYS IN MAIN
 
@@ -116,7 +116,7 @@ module _ (S : System) (W : Values) (found : ℕ → ℕ → List ℕ) (G : Basis
 
       -- each done change of a byte is before n
       first : (m i : ℕ) → covers S a.piece m i ≡ true → (v : ℕ) (c : Access) → s.done v ≡ true → Has S v c → changes c.doing ≡ true → covers S c.piece m i ≡ true → (v ≢ n) × Before S v c n a
-      first m i cv v c f hc ch at = (ne, go (G.tied.ordered v n c a hc h ne (F.clash_change c a m i ch at cv)))
+      first m i cv v c f hc ch at = (ne, go (G.synchronized.ordered v n c a hc h ne (F.clash_change c a m i ch at cv)))
         where
           ne : v ≢ n
           ne e = F.reads_alone n a c h (subst (λ z. Has S z c) e hc) r ch
@@ -128,7 +128,7 @@ module _ (S : System) (W : Values) (found : ℕ → ℕ → List ℕ) (G : Basis
       done_first : (w : ℕ) (c : Access) → Has S w c → changes c.doing ≡ true → Before S w c n a → s.done w ≡ true
       done_first w c hc ch B = sym (over_done s w hc.0 c (change_no_load c.doing ch)) ∙ over_before S F s H.past w hc.0 n h.0 c a hc.1 h.1 over_a B
 
-      last : (w : ℕ) (c : Access) → Feeds S n a w c → (m i : ℕ) → covers S a.piece m i ≡ true → IsLast S s.done m i w c
+      last : (w : ℕ) (c : Access) → Initializes S n a w c → (m i : ℕ) → covers S a.piece m i ≡ true → IsLast S s.done m i w c
       last w c D m i cv = record {
         finished = done_first w c D.has (stores_changes c.doing D.leaves) D.before;
         has = D.has;
@@ -150,7 +150,7 @@ module _ (S : System) (W : Values) (found : ℕ → ℕ → List ℕ) (G : Basis
               let o = (H.bytes m i).dirty g e in
               let L = o.2.last in
               let q = first m i cv o.0 o.1 L.finished L.has L.alters L.at in
-              let p = G.tied.passed o.0 n o.1 a L.has h q.0 (F.clash_change o.1 a m i L.alters L.at cv) q.1 L.alters (load_plain a.doing lo) full in
+              let p = G.synchronized.passed o.0 n o.1 a L.has h q.0 (F.clash_change o.1 a m i L.alters L.at cv) q.1 L.alters (load_plain a.doing lo) full in
               let l = store_left S o.1.doing o.0 p.x o.1 o.2.store p.available in
               let f : s.done p.x ≡ true = up_done S F s H.past p.x p.y p.leads (up_done S F s H.past p.y n (reads_up a.doing r p.y p.visible) d) in
               ap (λ k. is_dirty (s.line k m i)) o.2.agent ∙ (H.bytes m i).flushed o.0 o.1 p.x L o.2.store (record { finished = f; next = l.0; flushes = l.1 m i L.at })
@@ -160,27 +160,27 @@ module _ (S : System) (W : Values) (found : ℕ → ℕ → List ℕ) (G : Basis
               reads_up TakeOver r y v = v
               reads_up e r y v = absurd (false≢true r)
 
-      pub main_stays : FedBy S n a → bytes_in S s.main a.piece ≡ found n a.piece
-      main_stays (inl D) = same_bytes S s.main (W.byte D.0) a.piece (λ m i cv. (H.bytes m i).value D.0 D.1 (last D.0 D.1 D.2 m i cv) D.2.leaves (none m i cv)) ∙ G.agrees.fed n D.0 a D.1 h lo D.2
+      pub main_stays : InitializedBy S n a → bytes_in S s.main a.piece ≡ found n a.piece
+      main_stays (inl D) = same_bytes S s.main (W.byte D.0) a.piece (λ m i cv. (H.bytes m i).value D.0 D.1 (last D.0 D.1 D.2 m i cv) D.2.leaves (none m i cv)) ∙ G.agrees.initialized n D.0 a D.1 h lo D.2
       main_stays (inr I) = same_bytes S s.main W.start a.piece (λ m i cv. ((H.bytes m i).fresh (λ v c f hc ch at. let q = first m i cv v c f hc ch at in I.none v c hc q.0 ch (overlap_at S c.piece a.piece m i at cv) q.1)).0) ∙ G.agrees.starts n a h lo I
 
 -- A SOUND PROGRAM
 
 module _ (S : System) (F : Formed S) (X : Sound S) (order : List ℕ) (O : Order S order) (main : Bytes) where
-  pub basis : Basis S (values S F X.tied order O main) (found_in S F X.tied order O main)
-  basis = record { formed = F; tied = X.tied; rank = rank_in order; ranked = ranked S order O; agrees = agrees S F X.tied order O main; stated = X.stated; fed = X.fed }
+  pub basis : Basis S (values S F X.synchronized order O main) (found_in S F X.synchronized order O main)
+  basis = record { formed = F; synchronized = X.synchronized; rank = rank_in order; ranked = ranked S order O; agrees = agrees S F X.synchronized order O main; state_valid = X.state_valid; initialized = X.initialized }
 
-  pub sound_holds : (s : State) → Run S (opened S main) s → Holds S (values S F X.tied order O main) (found_in S F X.tied order O main) s
-  sound_holds s r = run_holds S (values S F X.tied order O main) (found_in S F X.tied order O main) basis s r
+  pub sound_holds : (s : State) → Run S (opened S main) s → Holds S (values S F X.synchronized order O main) (found_in S F X.synchronized order O main) s
+  sound_holds s r = run_holds S (values S F X.synchronized order O main) (found_in S F X.synchronized order O main) basis s r
 
   pub simulated : (s : State) → Run S (opened S main) s → Simulated S main order s
   simulated s r = record {
     loaded = H.loaded;
-    stored = λ n bytes line marked owner Z k c at st. stores_right S (values S F X.tied order O main) (found_in S F X.tied order O main) basis s H n bytes line marked owner Z k c at st
-        ∙ stores_apart S F X.tied order O main n k c (s.loaded n) at st (λ j a aj l. H.loaded n j a aj l (Z.may.taken j a aj l));
-    read = λ n a h q d. H.hosts n a h q d ∙ sym (read_held S F X.tied order O main n a h q);
-    stays = λ n a h q d. main_stays S (values S F X.tied order O main) (found_in S F X.tied order O main) basis s H n a h q d (X.fed n a h (reads_loads a.doing q)) ∙ sym (read_held S F X.tied order O main n a h q);
+    stored = λ n bytes line marked owner Z k c at st. stores_right S (values S F X.synchronized order O main) (found_in S F X.synchronized order O main) basis s H n bytes line marked owner Z k c at st
+        ∙ stores_apart S F X.synchronized order O main n k c (s.loaded n) at st (λ j a aj l. H.loaded n j a aj l (Z.may.taken j a aj l));
+    read = λ n a h q d. H.hosts n a h q d ∙ sym (read_held S F X.synchronized order O main n a h q);
+    stays = λ n a h q d. main_stays S (values S F X.synchronized order O main) (found_in S F X.synchronized order O main) basis s H n a h q d (X.initialized n a h (reads_loads a.doing q)) ∙ sym (read_held S F X.synchronized order O main n a h q);
   }
     where
-      H : Holds S (values S F X.tied order O main) (found_in S F X.tied order O main) s
+      H : Holds S (values S F X.synchronized order O main) (found_in S F X.synchronized order O main) s
       H = sound_holds s r

@@ -6,8 +6,8 @@ use Rattle.law_runs.proofs.Absence.{some_same}
 use Rattle.law_runs.proofs.Control.{Past, Touches, none_after, over_done, over_taken, up_done, path_done, load_touches, store_touches, sync_touches, not_meets}
 use Rattle.law_runs.proofs.Formed.{Ranked, no_cycle, long_no_load, change_plain, long_plain, load_plain, is_load_loads, store_changes, store_long, stores_loads, sync_no_store, command_change}
 use Rattle.law_runs.specs.Formed.{Formed}
-use Rattle.law_runs.specs.Found.{FedBy}
-use Rattle.law_runs.proofs.Holds.{Agrees, Holds, load_sees, main_fed, main_starts, keep_sees}
+use Rattle.law_runs.specs.Found.{InitializedBy}
+use Rattle.law_runs.proofs.Holds.{Agrees, Holds, load_sees, main_initialized, main_starts, keep_sees}
 use Rattle.law_runs.proofs.Invariant.{Values, Spares, ByteOk, Finishes}
 use Rattle.law_runs.proofs.Moves.{cleaned_clean, drop_ok, fill_ok, flush_ok, written_to}
 use Rattle.law_runs.proofs.Nodes.{left_clean, store_ok, turn_ok, spare_ok}
@@ -15,8 +15,8 @@ use Rattle.law_runs.proofs.Shared.{same_bytes}
 use Rattle.law_runs.specs.Lines.{is_dirty}
 use Rattle.fg_caches.specs.Effects.{wrote_main, wrote_back, filled_from, dropped_in}
 use Rattle.fg_caches.specs.Lines.{Line, Lines, Dirty, Bytes, Range, is_in, cleaned, dropped, written}
-use Rattle.law_runs.specs.Orders.{Path, Tied}
-use Rattle.law_runs.specs.Runs.{reads, Spoilt, Marks, took, Loads, did_store, Stores, FlushTo, JunkedAt, line_after, did_sync, Syncs}
+use Rattle.law_runs.specs.Orders.{Path, Synchronized}
+use Rattle.law_runs.specs.Runs.{reads, LoadsUndefined, Marks, took, Loads, did_store, Stores, FlushTo, JunkedAt, line_after, did_sync, Syncs}
 use Rattle.law_runs.specs.States.{State, Owner, opened, put, put_at, over, bytes_in, Entered, Meets, MayLoad, MayStore, MaySync}
 use Rattle.law_runs.specs.Systems.{Doing, Load, Store, Superseded, Discard, Read, TakeOver, Access, System, At, Has, covers, is_load, is_long, is_store, is_discard, loads, changes, stores, transfers}
 
@@ -144,7 +144,7 @@ module _ (S : System) (F : Formed S) (s : State) (P : Past S s) (n : ℕ) (was :
           (λ q. P.entered x j a at cl (over_done s x j a e ∙ q) y h)
           (N.grows x (sym (over_done (finished s n) x j a e) ∙ o))
 
-module _ (S : System) (F : Formed S) (T : Tied S) (rank : ℕ → ℕ) (R : Ranked S rank) (W : Values) (found : ℕ → ℕ → List ℕ) (G : Agrees S W found) where
+module _ (S : System) (F : Formed S) (T : Synchronized S) (rank : ℕ → ℕ) (R : Ranked S rank) (W : Values) (found : ℕ → ℕ → List ℕ) (G : Agrees S W found) where
   -- BEFORE THE FIRST EVENT
 
   pub opened_holds : Holds S W found (opened S W.start)
@@ -185,8 +185,8 @@ module _ (S : System) (F : Formed S) (T : Tied S) (rank : ℕ → ℕ) (R : Rank
 
     -- A LOAD
 
-    pub load_holds : (n k : ℕ) (a : Access) (bytes : List ℕ) (marked : ℕ → ℕ → Bool) (owner : ℕ → Owner) → Loads S s n k a bytes marked owner → (Touches S s n a → Spoilt S s n a → ⊥) → FedBy S n a → Holds S W found (took s n k bytes marked owner)
-    load_holds n k a bytes marked owner L sane fed = record {
+    pub load_holds : (n k : ℕ) (a : Access) (bytes : List ℕ) (marked : ℕ → ℕ → Bool) (owner : ℕ → Owner) → Loads S s n k a bytes marked owner → (Touches S s n a → LoadsUndefined S s n a → ⊥) → InitializedBy S n a → Holds S W found (took s n k bytes marked owner)
+    load_holds n k a bytes marked owner L sane initialized = record {
       past = record {
         entered = λ x j c at cl o. entered x j c at cl o (here_or_not n k x j);
         edges = P.edges;
@@ -206,7 +206,7 @@ module _ (S : System) (F : Formed S) (T : Tied S) (rank : ℕ → ℕ) (R : Rank
         t = load_touches S F s P n k a M
 
         got : bytes ≡ found n a.piece
-        got = ⊎_elim (λ e. absurd (sane t e)) (λ e. e ∙ load_sees S F T rank R W found G s H n a t (is_load_loads a.doing M.load) M.command M.load fed) L.bytes_are
+        got = ⊎_elim (λ e. absurd (sane t e)) (λ e. e ∙ load_sees S F T rank R W found G s H n a t (is_load_loads a.doing M.load) M.command M.load initialized) L.bytes_are
 
         taken_stays : (x j : ℕ) → s.taken x j ≡ true → put_at s.taken n k true x j ≡ true
         taken_stays x j h = ⊎_elim (λ e. two_here s.taken n k x j true e.0 e.1) (λ e. two_other s.taken n k x j true e ∙ h) (here_or_not n k x j)
@@ -330,8 +330,8 @@ module _ (S : System) (F : Formed S) (T : Tied S) (rank : ℕ → ℕ) (R : Rank
 
     -- A SYNCHRONIZING NODE
 
-    pub sync_holds : (n : ℕ) (main : Bytes) (read : List ℕ) (marked : ℕ → ℕ → Bool) (layout : ℕ → ℕ) (owner : ℕ → Owner) → Syncs S s n main read marked layout owner → ((a : Access) → Touches S s n a → is_discard a.doing ≡ false → Spoilt S s n a → ⊥) → ((a : Access) → Has S n a → loads a.doing ≡ true → FedBy S n a) → Holds S W found (did_sync S s n main read marked layout owner)
-    sync_holds n main read marked layout owner Y sane fed = record {
+    pub sync_holds : (n : ℕ) (main : Bytes) (read : List ℕ) (marked : ℕ → ℕ → Bool) (layout : ℕ → ℕ) (owner : ℕ → Owner) → Syncs S s n main read marked layout owner → ((a : Access) → Touches S s n a → is_discard a.doing ≡ false → LoadsUndefined S s n a → ⊥) → ((a : Access) → Has S n a → loads a.doing ≡ true → InitializedBy S n a) → Holds S W found (did_sync S s n main read marked layout owner)
+    sync_holds n main read marked layout owner Y sane initialized = record {
       past = record { entered = Q.entered; edges = Q.edges; left = Q.left; stored = Q.stored };
       bytes = λ m i. byte m i (find_access (λ d. changes d.doing && covers S d.piece m i) (S.accesses n));
       loaded = H.loaded;
@@ -376,7 +376,7 @@ module _ (S : System) (F : Formed S) (T : Tied S) (rank : ℕ → ℕ) (R : Rank
         by_discard : (m i : ℕ) → JunkedAt S s n m i → (d : Access) × Has S n d × (is_discard d.doing ≡ true) × (covers S d.piece m i ≡ true)
         by_discard m i J = go J.why (cases_Bool (is_discard J.access.doing))
           where
-            go : (is_discard J.access.doing ≡ true) ⊎ Spoilt S s n J.access → (is_discard J.access.doing ≡ true) ⊎ (is_discard J.access.doing ≡ false) → (d : Access) × Has S n d × (is_discard d.doing ≡ true) × (covers S d.piece m i ≡ true)
+            go : (is_discard J.access.doing ≡ true) ⊎ LoadsUndefined S s n J.access → (is_discard J.access.doing ≡ true) ⊎ (is_discard J.access.doing ≡ false) → (d : Access) × Has S n d × (is_discard d.doing ≡ true) × (covers S d.piece m i ≡ true)
             go (inl e) r = (J.access, J.has, e, J.covered)
             go (inr q) (inl e) = (J.access, J.has, e, J.covered)
             go (inr q) (inr e) = absurd (sane J.access (touch J.access J.has) e q)
@@ -410,7 +410,7 @@ module _ (S : System) (F : Formed S) (T : Tied S) (rank : ℕ → ℕ) (R : Rank
             never y p f = ⊎_elim (λ e. no_cycle S F rank R n (subst (λ z. Path S.edge n z) e p)) (λ q. fresh (path_done S F s P n y p q)) (N'.grows y f)
 
             kept : stores t.0.doing ≡ true → main m i ≡ W.byte n m i
-            kept k = same ∙ keep_sees S F T rank R W found G s H n t.0 (touch t.0 hd) lo m i cv (cleans S s n m i) (Y.flushed m i) (B m i) (none m i t.0 hd (change_plain t.0.doing dc) cv) dc (fed t.0 hd lo)
+            kept k = same ∙ keep_sees S F T rank R W found G s H n t.0 (touch t.0 hd) lo m i cv (cleans S s n m i) (Y.flushed m i) (B m i) (none m i t.0 hd (change_plain t.0.doing dc) cv) dc (initialized t.0 hd lo)
               where
                 lo : loads t.0.doing ≡ true
                 lo = stores_loads t.0.doing k ds
@@ -434,16 +434,16 @@ module _ (S : System) (F : Formed S) (T : Tied S) (rank : ℕ → ℕ) (R : Rank
             same : (m i : ℕ) → covers S a.piece m i ≡ true → main m i ≡ Y.flushed m i
             same m i cv = ⊎_elim (λ e. e) (λ J. let b = by_discard m i J in absurd (F.reads_alone n a b.0 h b.1 r (discard_changes b.0.doing b.2))) (Y.main_is m i)
 
-            sees : (m i : ℕ) → covers S a.piece m i ≡ true → FedBy S n a → (w : ℕ → ℕ → ℕ) → ((v : ℕ) → ByteOk S s.done m i W (cleans S s n m i) v → ((g : ℕ) → is_dirty (cleans S s n m i g) ≡ false) → v ≡ w m i) → main m i ≡ w m i
+            sees : (m i : ℕ) → covers S a.piece m i ≡ true → InitializedBy S n a → (w : ℕ → ℕ → ℕ) → ((v : ℕ) → ByteOk S s.done m i W (cleans S s n m i) v → ((g : ℕ) → is_dirty (cleans S s n m i g) ≡ false) → v ≡ w m i) → main m i ≡ w m i
             sees m i cv f w k = same m i cv ∙ k (Y.flushed m i) (B m i) (none m i a h (load_plain a.doing lo) cv)
 
-            all : FedBy S n a → bytes_in S main a.piece ≡ found n a.piece
-            all (inl D) = same_bytes S main (W.byte D.0) a.piece (λ m i cv. sees m i cv (inl D) (W.byte D.0) (λ v b q. main_fed S F T rank R W found G s H n a (touch a h) lo m i cv (cleans S s n m i) v b q D.0 D.1 D.2)) ∙ G.fed n D.0 a D.1 h lo D.2
+            all : InitializedBy S n a → bytes_in S main a.piece ≡ found n a.piece
+            all (inl D) = same_bytes S main (W.byte D.0) a.piece (λ m i cv. sees m i cv (inl D) (W.byte D.0) (λ v b q. main_initialized S F T rank R W found G s H n a (touch a h) lo m i cv (cleans S s n m i) v b q D.0 D.1 D.2)) ∙ G.initialized n D.0 a D.1 h lo D.2
             all (inr I) = same_bytes S main W.start a.piece (λ m i cv. sees m i cv (inr I) W.start (λ v b q. main_starts S F T rank R W found G s H n a (touch a h) lo m i cv (cleans S s n m i) v b q I)) ∙ G.starts n a h lo I
 
-            go : Spoilt S s n a ⊎ (read ≡ bytes_in S main a.piece) → read ≡ found n a.piece
+            go : LoadsUndefined S s n a ⊎ (read ≡ bytes_in S main a.piece) → read ≡ found n a.piece
             go (inl e) = absurd (sane a (touch a h) (reads_not a.doing r) e)
-            go (inr e) = e ∙ all (fed a h lo)
+            go (inr e) = e ∙ all (initialized a h lo)
 
         hosts : (x : ℕ) (a : Access) → Has S x a → reads a.doing ≡ true → put s.done n true x ≡ true → (x ≡ n) ⊎ (x ≡ n → ⊥) → put s.host n read x ≡ found x a.piece
         hosts x a h r d (inl e) = put_here s.host n x read e ∙ got a (subst (λ z. Has S z a) e h) r ∙ ap (λ z. found z a.piece) (sym e)

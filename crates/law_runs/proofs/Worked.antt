@@ -7,10 +7,10 @@ use Rattle.law_runs.proofs.Shared.{covers_place}
 use Rattle.law_runs.proofs.Simulation.{simulated}
 use Rattle.law_runs.specs.Apart.{Among, Earlier, Order}
 use Rattle.law_runs.specs.Formed.{Formed}
-use Rattle.law_runs.specs.Found.{FedBy}
+use Rattle.law_runs.specs.Found.{InitializedBy}
 use Rattle.law_runs.specs.Laws.{Sound}
 use Rattle.fg_caches.specs.Lines.{Bytes}
-use Rattle.law_runs.specs.Orders.{one, Before, Passed, Tied}
+use Rattle.law_runs.specs.Orders.{one, Before, Passed, Synchronized}
 use Rattle.law_runs.specs.Runs.{reads, Run}
 use Rattle.law_runs.specs.States.{State, opened}
 use Rattle.law_runs.specs.Systems.{Doing, Store, Superseded, Read, Access, System, At, Has, covers, is_load, is_long, is_store, is_superseded, loads, changes, sets_layout, sets_owner}
@@ -198,8 +198,8 @@ PassedOn n a m b = n ≢ m → S.clash a b ≡ true → changes a.doing ≡ true
 one_passes : (n : ℕ) (a b : Access) → PassedOn n a n b
 one_passes n a b ne c h = absurd (ne refl)
 
-tied : Tied S
-tied = record {
+synchronized : Synchronized S
+synchronized = record {
   ordered = pairs Ordered
       (one_node 0 buffer buffer) (one_node 0 buffer early) (one_node 0 buffer late) (λ ne c. inl (before_read buffer))
       (one_node 0 early buffer) (one_node 0 early early) (one_node 0 early late) (λ ne c. inl (before_read early))
@@ -213,8 +213,8 @@ tied = record {
       n m a b h k ne c ch;
 }
 
-fed_read : FedBy S 2 read
-fed_read = inl (
+initialized_read : InitializedBy S 2 read
+initialized_read = inl (
   0,
   late,
   record {
@@ -256,14 +256,14 @@ ordered = record {
 
 sound : Sound S
 sound = record {
-  tied = tied;
-  stated = record {
+  synchronized = synchronized;
+  state_valid = record {
     first = λ p. None;
     first_is = λ p o e. absurd (none o e);
     layout = λ n a want h e. absurd (each (λ n a. a.wants ≡ Some want → ⊥) (not_wanted want) (not_wanted want) (not_wanted want) (not_wanted want) n a h e);
     owner = λ n a h e. absurd (false≢true e);
   };
-  fed = each (λ n a. loads a.doing ≡ true → FedBy S n a) (λ e. absurd (false≢true e)) (λ e. absurd (false≢true e)) (λ e. absurd (false≢true e)) (λ e. fed_read);
+  initialized = each (λ n a. loads a.doing ≡ true → InitializedBy S n a) (λ e. absurd (false≢true e)) (λ e. absurd (false≢true e)) (λ e. absurd (false≢true e)) (λ e. initialized_read);
   order = order;
   ordered = ordered;
 }

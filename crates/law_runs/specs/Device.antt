@@ -23,8 +23,8 @@ pub record Busy (d : Device) (n v : ℕ) : Type 0 where
   pub fresh : d.state.done v ≡ false
 
 -- a begun command stores to bytes of the piece, the layout is another one, or another family owns it
-abbrev pub DeviceSpoilt : System → Device → ℕ → Access → Type 0
-DeviceSpoilt S d n a = ((v : ℕ) × (b : Access) × Busy d n v × Has S v b × (is_long b.doing ≡ true) × (overlap S b.piece a.piece ≡ true)) ⊎ (WrongLayout d.state a ⊎ WrongOwner S d.state n a)
+abbrev pub DeviceLoadsUndefined : System → Device → ℕ → Access → Type 0
+DeviceLoadsUndefined S d n a = ((v : ℕ) × (b : Access) × Busy d n v × Has S v b × (is_long b.doing ≡ true) × (overlap S b.piece a.piece ≡ true)) ⊎ (WrongLayout d.state a ⊎ WrongOwner S d.state n a)
 
 -- a store of a begun command clashes with an access of n
 abbrev pub IsHit : System → Device → ℕ → ℕ → Type 0
@@ -47,7 +47,7 @@ pub record MayBegin (S : System) (d : Device) (n : ℕ) : Type 0 where
 
 pub record Begins (S : System) (d : Device) (n : ℕ) (loaded : ℕ → List ℕ) (marked : ℕ → ℕ → Bool) (owner : ℕ → Owner) : Type 0 where
   pub may : MayBegin S d n
-  pub bytes_are : (k : ℕ) (a : Access) → At S n k a → is_load a.doing ≡ true → DeviceSpoilt S d n a ⊎ (loaded k ≡ sight S d.state a)
+  pub bytes_are : (k : ℕ) (a : Access) → At S n k a → is_load a.doing ≡ true → DeviceLoadsUndefined S d n a ⊎ (loaded k ≡ sight S d.state a)
   -- begun commands whose store clashes with an access of n, and n where its store clashes with an access of one
   pub marks : (v j : ℕ) → marked v j ≡ true → (d.state.marked v j ≡ true) ⊎ (IsHit S d n v ⊎ ((w : ℕ) × (b : Access) × (a : Access) × Busy d n w × Has S n b × (is_long b.doing ≡ true) × Has S w a × (S.clash b a ≡ true)))
   pub takes : (p : ℕ) → Takes S d.state n (λ a. Unit {0}) p (owner p)
@@ -79,14 +79,14 @@ pub record DeviceJunkedAt (S : System) (d : Device) (n m i : ℕ) : Type 0 where
   pub has : Has S n access
   pub changes : changes access.doing ≡ true
   pub covered : covers S access.piece m i ≡ true
-  pub why : (is_discard access.doing ≡ true) ⊎ DeviceSpoilt S d n access
+  pub why : (is_discard access.doing ≡ true) ⊎ DeviceLoadsUndefined S d n access
 
 pub record Synchronizes (S : System) (d : Device) (n : ℕ) (main : Bytes) (read : List ℕ) (marked : ℕ → ℕ → Bool) (layout : ℕ → ℕ) (owner : ℕ → Owner) : Type 0 where
   pub may : MaySynchronize S d n
   pub flushed : Bytes
   pub flush : (m i : ℕ) → FlushTo (λ g. S.flushes n g m i) (λ g. d.state.line g m i) (d.state.main m i) (flushed m i)
   pub main_is : (m i : ℕ) → (main m i ≡ flushed m i) ⊎ DeviceJunkedAt S d n m i
-  pub read_is : (a : Access) → Has S n a → reads a.doing ≡ true → DeviceSpoilt S d n a ⊎ (read ≡ bytes_in S main a.piece)
+  pub read_is : (a : Access) → Has S n a → reads a.doing ≡ true → DeviceLoadsUndefined S d n a ⊎ (read ≡ bytes_in S main a.piece)
   pub marks : (v j : ℕ) → marked v j ≡ true → (d.state.marked v j ≡ true) ⊎ IsHit S d n v
   pub lays : (p : ℕ) → Lays S d.state n p (layout p)
   pub hands : (p : ℕ) → Hands S d.state n p (owner p)

@@ -4,7 +4,7 @@ use Rattle.law_runs.specs.Orders.{Before}
 use Rattle.law_runs.specs.Systems.{Access, System, Has, overlap, changes, stores, loads, sets_layout, sets_owner}
 
 -- of the changes of the piece's bytes before access b of n, c of w is the last, and it went through the piece and left bytes
-pub record Feeds (S : System) (n : ℕ) (b : Access) (w : ℕ) (c : Access) : Type 0 where
+pub record Initializes (S : System) (n : ℕ) (b : Access) (w : ℕ) (c : Access) : Type 0 where
   pub has : Has S w c
   pub leaves : stores c.doing ≡ true
   pub piece : c.piece ≡ b.piece
@@ -17,12 +17,12 @@ pub record Starts (S : System) (n : ℕ) (b : Access) : Type 0 where
   pub none : (v : ℕ) (d : Access) → Has S v d → v ≢ n → changes d.doing ≡ true → overlap S d.piece b.piece ≡ true → Before S v d n b → ⊥
   pub contents : S.contents b.piece ≡ true
 
-abbrev pub FedBy : System → ℕ → Access → Type 0
-FedBy S n b = ((w : ℕ) × (c : Access) × Feeds S n b w c) ⊎ Starts S n b
+abbrev pub InitializedBy : System → ℕ → Access → Type 0
+InitializedBy S n b = ((w : ℕ) × (c : Access) × Initializes S n b w c) ⊎ Starts S n b
 
--- each access that loads is fed
-abbrev pub Fed : System → Type 0
-Fed S = (n : ℕ) (a : Access) → Has S n a → loads a.doing ≡ true → FedBy S n a
+-- each access that loads is initialized
+abbrev pub Initialized : System → Type 0
+Initialized S = (n : ℕ) (a : Access) → Has S n a → loads a.doing ≡ true → InitializedBy S n a
 
 -- LAYOUTS AND OWNERS
 
@@ -46,7 +46,7 @@ abbrev pub OwnerBy : System → (ℕ → Option ℕ) → ℕ → Access → Opti
 OwnerBy S first n b family = ((t : ℕ) × (d : Access) × LastOf S sets_owner n b t d × (d.hands ≡ Some family)) ⊎ (NoneOf S sets_owner n b × (first b.piece ≡ family))
 
 -- each access finds the layout that it wants, and its family's ownership
-pub record Stated (S : System) : Type 0 where
+pub record StateValid (S : System) : Type 0 where
   pub first : ℕ → Option ℕ
   pub first_is : (p : ℕ) (o : Option ℕ) → S.first_owner p ≡ Some o → first p ≡ o
   pub layout : (n : ℕ) (a : Access) (want : ℕ) → Has S n a → a.wants ≡ Some want → LayoutBy S n a want

@@ -2,19 +2,19 @@
 use Rattle.std.specs.Prelude.{◌≡◌, ◌⊎◌, ℕ, ◌<◌, List, Bool, true}
 use Rattle.law_runs.specs.Apart.{Order, after_node, apart, bytes_before}
 use Rattle.law_runs.specs.Formed.{Formed}
-use Rattle.law_runs.specs.Found.{Stated, Fed}
+use Rattle.law_runs.specs.Found.{StateValid, Initialized}
 use Rattle.fg_caches.specs.Lines.{Lines, Bytes}
-use Rattle.law_runs.specs.Orders.{Tied}
+use Rattle.law_runs.specs.Orders.{Synchronized}
 use Rattle.law_runs.specs.Runs.{reads, Stores, Run}
 use Rattle.law_runs.specs.States.{State, Owner, opened, bytes_in, MayLoad, MayStore, MaySync}
 use Rattle.law_runs.specs.Systems.{Access, System, At, Has, is_load, is_store}
 
--- clashing accesses are in order and changes passed on, each access finds its layout and owner, each load is fed, and the nodes
+-- clashing accesses are in order and changes passed on, each access finds its layout and owner, each load is initialized, and the nodes
 -- have an order
 pub record Sound (S : System) : Type 0 where
-  pub tied : Tied S
-  pub stated : Stated S
-  pub fed : Fed S
+  pub synchronized : Synchronized S
+  pub state_valid : StateValid S
+  pub initialized : Initialized S
   pub order : List ℕ
   pub ordered : Order S order
 

@@ -47,6 +47,6 @@ pub record Passed (S : System) (n : ℕ) (a : Access) (m : ℕ) (b : Access) : T
   pub visible : VisibleBy S b.doing m b y
 
 -- accesses of two nodes that clash are in order, and changes are passed on
-pub record Tied (S : System) : Type 0 where
+pub record Synchronized (S : System) : Type 0 where
   pub ordered : (n m : ℕ) (a b : Access) → Has S n a → Has S m b → n ≢ m → S.clash a b ≡ true → Before S n a m b ⊎ Before S m b n a
   pub passed : (n m : ℕ) (a b : Access) → Has S n a → Has S m b → n ≢ m → S.clash a b ≡ true → Before S n a m b → changes a.doing ≡ true → transfers b.doing ≡ false → b.alone ≡ false → Passed S n a m b

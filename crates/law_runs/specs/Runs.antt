@@ -1,4 +1,4 @@
--- What each event leaves, and runs of events. Where something is spoilt any bytes may come.
+-- What each event leaves, and runs of events. Where something is undefined any bytes may come.
 use Rattle.std.specs.Prelude.{◌≡◌, ◌⊎◌, ℕ, ◌-◌, List, slice_index, Bool, true, false, Option, Some, if◌then◌else◌}
 use Rattle.law_runs.specs.Lines.{is_dirty}
 use Rattle.fg_caches.specs.Effects.{wrote_main, wrote_back, filled_from, dropped_in}
@@ -20,8 +20,8 @@ abbrev pub WrongOwner : System → State → ℕ → Access → Type 0
 WrongOwner S s n a = (owner : ℕ) × (family : ℕ) × (S.needs_owner n a ≡ true) × (s.owner a.piece ≡ Left (Some owner)) × (S.family n ≡ Some family) × (owner ≡ family → ⊥)
 
 -- what an access loads may be any bytes
-abbrev pub Spoilt : System → State → ℕ → Access → Type 0
-Spoilt S s n a = Torn S s n a.piece ⊎ (WrongLayout s a ⊎ WrongOwner S s n a)
+abbrev pub LoadsUndefined : System → State → ℕ → Access → Type 0
+LoadsUndefined S s n a = Torn S s n a.piece ⊎ (WrongLayout s a ⊎ WrongOwner S s n a)
 
 -- an access of n that is made takes a piece that nobody has used
 abbrev pub Takes : System → State → ℕ → (Access → Type 0) → ℕ → Owner → Type 0
@@ -38,7 +38,7 @@ took s n k bytes marked owner = record s { taken = put_at s.taken n k true; load
 
 pub record Loads (S : System) (s : State) (n k : ℕ) (a : Access) (bytes : List ℕ) (marked : ℕ → ℕ → Bool) (owner : ℕ → Owner) : Type 0 where
   pub may : MayLoad S s n k a
-  pub bytes_are : Spoilt S s n a ⊎ (bytes ≡ sight S s a)
+  pub bytes_are : LoadsUndefined S s n a ⊎ (bytes ≡ sight S s a)
   pub marks : Marks S s n (λ b. b ≡ a) marked
   pub takes : (p : ℕ) → Takes S s n (λ b. b ≡ a) p (owner p)
 
@@ -73,13 +73,13 @@ pub record Stores (S : System) (s : State) (n : ℕ) (bytes : ℕ → List ℕ) 
 abbrev pub FlushTo : (ℕ → Bool) → (ℕ → Line) → ℕ → ℕ → Type 0
 FlushTo pass lines v v' = ((g : ℕ) × (pass g ≡ true) × (lines g ≡ Dirty v')) ⊎ (((g : ℕ) → pass g ≡ true → is_dirty (lines g) ≡ false) × (v' ≡ v))
 
--- a discard of the byte, or a transition that keeps spoilt bytes
+-- a discard of the byte, or a transition that keeps undefined bytes
 pub record JunkedAt (S : System) (s : State) (n m i : ℕ) : Type 0 where
   pub access : Access
   pub has : Has S n access
   pub changes : changes access.doing ≡ true
   pub covered : covers S access.piece m i ≡ true
-  pub why : (is_discard access.doing ≡ true) ⊎ Spoilt S s n access
+  pub why : (is_discard access.doing ≡ true) ⊎ LoadsUndefined S s n access
 
 abbrev pub line_after : System → ℕ → Lines → Lines
 line_after S n line g m i = if S.shows n g m i then dropped (if S.flushes n g m i then cleaned (line g m i) else line g m i) else (if S.flushes n g m i then cleaned (line g m i) else line g m i)
@@ -100,7 +100,7 @@ pub record Syncs (S : System) (s : State) (n : ℕ) (main : Bytes) (read : List 
   pub flushed : Bytes
   pub flush : (m i : ℕ) → FlushTo (λ g. S.flushes n g m i) (λ g. s.line g m i) (s.main m i) (flushed m i)
   pub main_is : (m i : ℕ) → (main m i ≡ flushed m i) ⊎ JunkedAt S s n m i
-  pub read_is : (a : Access) → Has S n a → reads a.doing ≡ true → Spoilt S s n a ⊎ (read ≡ bytes_in S main a.piece)
+  pub read_is : (a : Access) → Has S n a → reads a.doing ≡ true → LoadsUndefined S s n a ⊎ (read ≡ bytes_in S main a.piece)
   pub marks : Marks S s n (λ c. Unit {0}) marked
   pub lays : (p : ℕ) → Lays S s n p (layout p)
   pub hands : (p : ℕ) → Hands S s n p (owner p)

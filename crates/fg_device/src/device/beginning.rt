@@ -8,18 +8,18 @@ ghost use Rattle.fg_caches.specs.Effects.{load};
 ghost use Rattle.fg_caches.specs.Lines.{range};
 ghost use Rattle.fg_caches.specs.Tables.{InMemory, caches_of};
 ghost use Rattle.fg_device.specs.Carried.{Carries};
-ghost use Rattle.fg_device.specs.Code.Loads.{store_size, IsWork};
-ghost use Rattle.fg_device.specs.Code.Takes.{loads_in, AreInputs, IsCommand, IsTaken};
+ghost use Rattle.fg_device.specs.Internal.Loads.{store_size, IsWork};
+ghost use Rattle.fg_device.specs.Internal.Takes.{loads_in, AreInputs, IsCommand, IsReserved};
 ghost use Rattle.fg_steps.specs.Devices.{state_of, view_in, did, is_ready, LoadsApart};
 ghost use Rattle.fg_steps.specs.Outputs.{no_old};
 ghost use Rattle.fg_steps.specs.Ready.{is_command, kind_at};
-ghost use Rattle.fg_steps.specs.Steps.{taken};
-ghost use Rattle.fg_view.specs.ShapedView.{Has};
+ghost use Rattle.fg_steps.specs.Steps.{loaded_by};
+ghost use Rattle.fg_view.specs.ValidView.{Has};
 ghost use Rattle.fg_view.specs.Views.{loads_of};
 
 use super::Device;
 use crate::agents::{agent_of, store_of};
-use crate::held::{Held, hold};
+use crate::pending::{Pending, put_pending};
 use crate::job::{Command, Job};
 use crate::nodes::op_of;
 use crate::room::Room;
@@ -28,19 +28,19 @@ use bytes::BytesMut;
 use fg_base::{Event, List, NoMemory};
 use fg_caches::{Contents, Segments};
 use fg_steps::event_laws;
-use fg_subs::{Piece, Shaped};
+use fg_subs::{Piece, ValidProgram};
 use fg_view::Access;
 use std::alloc::Global;
 use std::sync::Arc;
 
 // What a Begin takes memory for: the job and what the device holds.
 #[derive(Drop)]
-struct Taken {
+struct Reserved {
     command: Command,
     work: Work,
     room: Room,
-    program: Arc<Shaped, Global>,
-    held: Held,
+    program: Arc<ValidProgram, Global>,
+    pending: Pending,
 }
 
 // What a command loads, and what is computed of it.
@@ -64,7 +64,7 @@ fn copies(alloc: Global, loaded: &[Contents]) -> Result<List<Contents>, NoMemory
 // The bytes that an agent sees of a piece, or else junk of one byte.
 fn sight(
     alloc: Global,
-    spoilt: bool,
+    undefined: bool,
     byte: u8,
     table: &Segments,
     agent: u32,
@@ -73,10 +73,10 @@ fn sight(
     requires small { bytes_of from.shape < 2 ^ 32 }
     requires agent { agent < table.now.agents }
     requires within { InMemory table.now from.memory from.offset (bytes_of from.shape) }
-    ensures { IfOk result (λ bytes. bytes ≡ (if spoilt then replicate (bytes_of from.shape) byte else load agent (range from.memory from.offset (bytes_of from.shape)) (caches_of table.now))) }
+    ensures { IfOk result (λ bytes. bytes ≡ (if undefined then replicate (bytes_of from.shape) byte else load agent (range from.memory from.offset (bytes_of from.shape)) (caches_of table.now))) }
 {
     let len = from.shape.bytes() as u32;
-    if spoilt {
+    if undefined {
         return Ok(Contents::filled(byte, len));
     }
     let contents = table.seen(alloc, agent, from.memory, from.offset, len)?;
@@ -166,60 +166,60 @@ impl Device {
         ensures apart { IfOk result (λ job. LoadsApart self.new node job.loaded) }
         ensures err { OnErr result (self.new ≡ self.old) }
     {
-        let Taken {
+        let Reserved {
             command,
             work,
             room,
             program,
-            held,
-        } = self.taken(alloc, node, inputs, spare)?;
-        self.keep(node, held);
+            pending,
+        } = self.reserve(alloc, node, inputs, spare)?;
+        self.keep(node, pending);
         Ok(Job::new(command, work, room, program))
     }
 
     // The event itself, once there is what the device holds of the command.
-    fn keep(&mut self, node: u32, held: Held)
+    fn keep(&mut self, node: u32, pending: Pending)
         requires command { is_command (kind_at (view_in self.old) node) ≡ true }
         requires ready { is_ready self.old node ≡ true }
-        requires held { IsTaken self.old node held }
+        requires pending { IsReserved self.old node pending }
         ensures event { self.new ≡ did self.old (events.Begin node) }
-        ensures loaded { (state_of self.new).loaded node ≡ held.loaded }
-        ensures apart { LoadsApart self.new node held.loaded }
+        ensures loaded { (state_of self.new).loaded node ≡ pending.loaded }
+        ensures apart { LoadsApart self.new node pending.loaded }
     {
         event_laws();
         self.control.begin(node);
-        hold(&mut self.held, node, held);
+        put_pending(&mut self.pending, node, pending);
         self.history.push_reserved(Event::Begin { node });
     }
 
     // All that a Begin takes memory for.
-    fn taken(
+    fn reserve(
         &self,
         alloc: Global,
         node: u32,
         inputs: Inputs,
         spare: Option<BytesMut>,
-    ) -> Result<Taken, NoMemory>
+    ) -> Result<Reserved, NoMemory>
         requires command { is_command (kind_at (view_in self.now) node) ≡ true }
         requires node { node < length (view_in self.now).nodes }
         requires inputs { AreInputs self.now node inputs.loaded inputs.work }
-        ensures held { IfOk result (λ t. IsTaken self.now node t.held) }
-        ensures command { IfOk result (λ t. IsCommand self.now.program node t.held.loaded t.command) }
+        ensures pending { IfOk result (λ t. IsReserved self.now node t.pending) }
+        ensures command { IfOk result (λ t. IsCommand self.now.program node t.pending.loaded t.command) }
         ensures work { IfOk result (λ t. IsWork t.command.shapes t.command.op t.command.loaded t.work) }
         ensures room { IfOk result (λ t. t.room ≡ no_old t.command.shapes t.command.op) }
         ensures program { IfOk result (λ t. arc_value t.program ≡ self.now.program) }
     {
         let room = self.room(alloc, node, spare)?;
-        let held = self.held_for(alloc, node, inputs)?;
-        let command = self.command(alloc, node, &held.loaded)?;
-        let work = held.work.copy(alloc)?;
+        let pending = self.pending_for(alloc, node, inputs)?;
+        let command = self.command(alloc, node, &pending.loaded)?;
+        let work = pending.work.copy(alloc)?;
         let program = Arc::try_clone(&self.program)?;
-        Ok(Taken {
+        Ok(Reserved {
             command,
             work,
             room,
             program,
-            held,
+            pending,
         })
     }
 
@@ -245,15 +245,15 @@ impl Device {
         Ok(work)
     }
 
-    fn held_for(&self, alloc: Global, node: u32, inputs: Inputs) -> Result<Held, NoMemory>
+    fn pending_for(&self, alloc: Global, node: u32, inputs: Inputs) -> Result<Pending, NoMemory>
         requires command { is_command (kind_at (view_in self.now) node) ≡ true }
         requires node { node < length (view_in self.now).nodes }
         requires inputs { AreInputs self.now node inputs.loaded inputs.work }
-        ensures { IfOk result (IsTaken self.now node) }
+        ensures { IfOk result (IsReserved self.now node) }
     {
         let Inputs { loaded, work } = inputs;
         let room = self.room(alloc, node, None)?;
-        Ok(Held { loaded, work, room })
+        Ok(Pending { loaded, work, room })
     }
 
     // The command with what it loads.
@@ -299,7 +299,7 @@ impl Device {
     fn loads(&self, alloc: Global, node: u32) -> Result<List<Contents>, NoMemory>
         requires command { is_command (kind_at (view_in self.now) node) ≡ true }
         requires node { node < length (view_in self.now).nodes }
-        ensures { IfOk result (λ loaded. loaded ≡ map (taken (view_in self.now) (state_of self.now) node (self.now.fill ∷ [])) (loads_of (view_in self.now) node)) }
+        ensures { IfOk result (λ loaded. loaded ≡ map (loaded_by (view_in self.now) (state_of self.now) node (self.now.fill ∷ [])) (loads_of (view_in self.now) node)) }
     {
         let mut loaded = List::new(alloc);
         for access in self.control.view().effect_at(node).accesses.as_slice() {
@@ -315,12 +315,12 @@ impl Device {
         requires command { is_command (kind_at (view_in self.now) node) ≡ true }
         requires node { node < length (view_in self.now).nodes }
         requires has { Has (view_in self.now) node access }
-        ensures { IfOk result (λ bytes. bytes ≡ taken (view_in self.now) (state_of self.now) node (self.now.fill ∷ []) access) }
+        ensures { IfOk result (λ bytes. bytes ≡ loaded_by (view_in self.now) (state_of self.now) node (self.now.fill ∷ []) access) }
     {
         let piece = self.control.view().piece(access.piece);
-        let spoilt = self.control.is_spoilt(node, access);
+        let undefined = self.control.loads_undefined(node, access);
         let agent = agent_of(access.kind);
-        let contents = sight(alloc, spoilt, self.fill, &self.table, agent, piece)?;
+        let contents = sight(alloc, undefined, self.fill, &self.table, agent, piece)?;
         Ok(contents)
     }
 }

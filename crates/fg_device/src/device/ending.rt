@@ -7,9 +7,9 @@ ghost use Rattle.fg_base.specs.Shapes.{bytes_of, shape_at};
 ghost use Rattle.fg_base.specs.declared.event.Event.TheVariants as events;
 ghost use Rattle.fg_caches.specs.Effects.{put};
 ghost use Rattle.fg_caches.specs.Tables.{caches_of, Keeps};
-ghost use Rattle.fg_device.specs.Code.Loads.{IsWork, LoadsIn};
-ghost use Rattle.fg_device.specs.Code.Results.{IsResult};
-ghost use Rattle.fg_device.specs.Code.Tables.{IsCutOut};
+ghost use Rattle.fg_device.specs.Internal.Loads.{IsWork, LoadsIn};
+ghost use Rattle.fg_device.specs.Internal.Results.{IsResult};
+ghost use Rattle.fg_device.specs.Internal.Tables.{IsCutOut};
 ghost use Rattle.fg_device.specs.Landings.{MatchLanded};
 ghost use Rattle.fg_steps.specs.Agents.{agent_of, piece_range};
 ghost use Rattle.fg_steps.specs.Devices.{state_of, did};
@@ -21,7 +21,7 @@ use super::Device;
 use crate::agents::{agent_of, store_of};
 use crate::buffer::junk_if;
 use crate::comparing::same_loads;
-use crate::held::{Held, take_held};
+use crate::pending::{Pending, take_pending};
 use crate::job::{Command, Finished, Landed};
 use crate::nodes::op_of;
 use crate::running::stored_by;
@@ -30,7 +30,7 @@ use fg_base::{Event, Op, Shape};
 use fg_caches::{Contents, Segments};
 use fg_same::Same;
 use fg_steps::{device_laws, event_laws};
-use fg_subs::Shaped;
+use fg_subs::ValidProgram;
 use fg_view::View;
 use std::alloc::Global;
 use std::sync::Arc;
@@ -47,7 +47,7 @@ fn has_op(command: &Command, op: &Op<u32>, shapes: &[Shape]) -> bool
     command.op.same(op) && same_shapes(&command.shapes, shapes)
 }
 
-fn same_program(a: &Shaped, b: &Shaped) -> bool
+fn same_program(a: &ValidProgram, b: &ValidProgram) -> bool
     ensures { result ≡ true → a.now ≡ b.now }
 {
     a.program().same(b.program())
@@ -58,19 +58,19 @@ fn same_program(a: &Shaped, b: &Shaped) -> bool
 fn computed(
     op: &Op<u32>,
     shapes: &[Shape],
-    held: Held,
+    pending: Pending,
     known: bool,
     command: &Command,
     done: Contents,
 ) -> Contents
-    requires work { IsWork shapes.now op.now held.loaded held.work }
-    requires room { held.room ≡ no_old shapes.now op.now }
-    requires known { known ≡ true → command.now.loaded ≡ held.loaded }
+    requires work { IsWork shapes.now op.now pending.loaded pending.work }
+    requires room { pending.room ≡ no_old shapes.now op.now }
+    requires known { known ≡ true → command.now.loaded ≡ pending.loaded }
     requires done { IsResult command.now done }
-    ensures stored { result ≡ stored_by shapes.now op.now held.loaded }
+    ensures stored { result ≡ stored_by shapes.now op.now pending.loaded }
     ensures long { length result ≡ bytes_of (shape_at shapes.now (destination_of op.now)) }
 {
-    let Held { loaded, work, room } = held;
+    let Pending { loaded, work, room } = pending;
     if has_op(command, op, shapes) && (known || same_loads(&command.loaded, &loaded)) {
         return done;
     }
@@ -78,10 +78,10 @@ fn computed(
 }
 
 // Junk, as much as there is room for.
-fn filled(held: Held, byte: u8) -> Contents
-    ensures { result ≡ replicate (length held.room) byte }
+fn filled(pending: Pending, byte: u8) -> Contents
+    ensures { result ≡ replicate (length pending.room) byte }
 {
-    let Held { room, .. } = held;
+    let Pending { room, .. } = pending;
     Contents::own(room.into_filled(byte))
 }
 
@@ -90,22 +90,22 @@ fn made(
     junk: Option<u8>,
     op: &Op<u32>,
     shapes: &[Shape],
-    held: Held,
+    pending: Pending,
     known: bool,
     command: &Command,
     done: Contents,
 ) -> Contents
-    requires work { IsWork shapes.now op.now held.loaded held.work }
-    requires room { held.room ≡ no_old shapes.now op.now }
-    requires known { known ≡ true → command.now.loaded ≡ held.loaded }
+    requires work { IsWork shapes.now op.now pending.loaded pending.work }
+    requires room { pending.room ≡ no_old shapes.now op.now }
+    requires known { known ≡ true → command.now.loaded ≡ pending.loaded }
     requires done { IsResult command.now done }
-    ensures junk { IfSome junk (λ byte. result ≡ replicate (length held.room) byte) }
-    ensures stored { IfNone junk (result ≡ stored_by shapes.now op.now held.loaded) }
+    ensures junk { IfSome junk (λ byte. result ≡ replicate (length pending.room) byte) }
+    ensures stored { IfNone junk (result ≡ stored_by shapes.now op.now pending.loaded) }
     ensures long { length result ≡ bytes_of (shape_at shapes.now (destination_of op.now)) }
 {
     match junk {
-        Some(byte) => filled(held, byte),
-        None => computed(op, shapes, held, known, command, done),
+        Some(byte) => filled(pending, byte),
+        None => computed(op, shapes, pending, known, command, done),
     }
 }
 
@@ -131,7 +131,7 @@ fn store(table: &mut Segments, view: &View, node: u32, contents: Contents)
 impl Device {
     // Whether a command that is begun here loaded what it loaded here, since it is of the same sound program. It is looked at only
     // where the loads are longer than the program.
-    fn knows(&self, command: &Command, program: &Arc<Shaped, Global>) -> bool
+    fn knows(&self, command: &Command, program: &Arc<ValidProgram, Global>) -> bool
         requires begun { is_begun ((state_of self.now).phase command.now.node) ≡ true }
         requires loads { LoadsIn (arc_value program.now) command.now.node command.now.loaded }
         ensures { result ≡ true → command.now.loaded ≡ (state_of self.now).loaded command.now.node }
@@ -175,12 +175,12 @@ impl Device {
             return Landed::NotBegun;
         }
         let known = self.knows(&command, &program);
-        let Some(held) = take_held(&mut self.held, node) else {
+        let Some(pending) = take_pending(&mut self.pending, node) else {
             unreachable!();
         };
         let junk = junk_if(self.control.is_marked(node), self.fill);
         let op = op_of(&self.program, node);
-        let stored = made(junk, op, &self.shapes, held, known, &command, contents);
+        let stored = made(junk, op, &self.shapes, pending, known, &command, contents);
         store(&mut self.table, self.control.view(), node, stored);
         self.control.end(node);
         self.history.push_reserved(Event::End { node });

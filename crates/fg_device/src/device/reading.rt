@@ -5,7 +5,7 @@ ghost use Rattle.fg_base.specs.Shapes.{bytes_of};
 ghost use Rattle.fg_base.specs.declared.event.Event.TheVariants as events;
 ghost use Rattle.fg_caches.specs.Lines.{range};
 ghost use Rattle.fg_caches.specs.Tables.{InMemory, caches_of};
-ghost use Rattle.fg_device.specs.Code.Reads.{read_into};
+ghost use Rattle.fg_device.specs.Internal.Reads.{read_into};
 ghost use Rattle.fg_steps.specs.Devices.{did, is_ready};
 ghost use Rattle.fg_steps.specs.Ready.{read_node};
 
@@ -49,7 +49,7 @@ impl Device {
                 layout: None,
             },
         };
-        let junk = junk_if(self.control.is_spoilt(node, access), self.fill);
+        let junk = junk_if(self.control.loads_undefined(node, access), self.fill);
         let from = self.control.view().piece(piece);
         read_piece(&mut self.reads, readback, junk, &self.table, from);
         self.control.host(node);

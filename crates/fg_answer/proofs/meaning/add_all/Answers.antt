@@ -3,7 +3,7 @@ use Rattle.fg_base.specs.Applied.{bytes_at}
 use Rattle.fg_report.specs.Exports.{export_text}
 use Rattle.fg_stages.proofs.Turns.{one_more}
 use Rattle.fg_answer.proofs.meaning.add_all.Goals as goal
-use Rattle.fg_answer.specs.Code.Stages.{bytes_in}
+use Rattle.fg_answer.specs.Internal.Stages.{bytes_in}
 
 pub loop-k-preserved : goal.loop-k-preserved
 loop-k-preserved c =

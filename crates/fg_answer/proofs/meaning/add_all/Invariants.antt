@@ -1,6 +1,6 @@
 use Rattle.std.proofs.Common.{◌≡◌, ◌++◌}
 use Rattle.fg_report.specs.Exports.{export_text}
-use Rattle.fg_answer.specs.Code.Stages.{bytes_in}
+use Rattle.fg_answer.specs.Internal.Stages.{bytes_in}
 use Rattle.fg_stages.specs.Exports.{in_turn}
 use Rattle.fg_answer.proofs.meaning.add_all.Given as goal
 

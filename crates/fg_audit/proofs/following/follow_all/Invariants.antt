@@ -1,6 +1,6 @@
 use Rattle.std.proofs.Common.{◌≡◌}
 use Rattle.fg_audit.proofs.following.follow_all.Given as goal
-use Rattle.fg_audit.specs.Code.Following.{at_place}
+use Rattle.fg_audit.specs.Internal.Following.{at_place}
 use Rattle.fg_steps.specs.Coming.{AreEnabled}
 
 abbrev pub invariant-loop-at : goal.invariant-loop-at

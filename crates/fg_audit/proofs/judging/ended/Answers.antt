@@ -1,7 +1,7 @@
 use Rattle.std.proofs.Common.{◌∙◌, ℕ, length, IfSome, IfNone, Option, ap, subst}
 use Rattle.fg_audit.proofs.Saying.{has_run, undone}
 use Rattle.fg_audit.proofs.judging.ended.Goals as goal
-use Rattle.fg_audit.specs.Code.Following.{AreEnded, IsLeastUnended}
+use Rattle.fg_audit.specs.Internal.Following.{AreEnded, IsLeastUnended}
 use Rattle.fg_subs.specs.declared.program.Program.{Program}
 use Rattle.fg_view.specs.Views.{view_of}
 

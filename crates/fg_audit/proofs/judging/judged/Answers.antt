@@ -1,7 +1,7 @@
 use Rattle.std.proofs.Common.{◌≡◌, ◌∙◌, ℕ, length, IfNone, Option, sym, ap, subst}
 use Rattle.fg_audit.proofs.Coming.{at_end}
 use Rattle.fg_audit.proofs.judging.judged.Goals as goal
-use Rattle.fg_audit.specs.Code.Following.{at_place}
+use Rattle.fg_audit.specs.Internal.Following.{at_place}
 use Rattle.fg_steps.specs.Coming.{AreEnabled}
 use Rattle.fg_audit.specs.Verdicts.{ran}
 use Rattle.fg_steps.specs.Devices.{Device, IsComplete}

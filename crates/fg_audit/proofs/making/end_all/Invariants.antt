@@ -1,6 +1,6 @@
 use Rattle.std.proofs.Common.{◌≡◌, ℕ, ◌<◌, length, vec_len}
 use Rattle.fg_audit.proofs.making.end_all.Given as goal
-use Rattle.fg_audit.specs.Code.Following.{held_of}
+use Rattle.fg_audit.specs.Internal.Following.{held_of}
 use Rattle.fg_steps.specs.Devices.{view_in, IsComplete}
 
 abbrev pub invariant-loop-done : goal.invariant-loop-done

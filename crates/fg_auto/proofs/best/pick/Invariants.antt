@@ -1,5 +1,5 @@
 use Rattle.std.proofs.Common.{◌≤◌}
-use Rattle.fg_auto.specs.Code.Best.{IsBestFor}
+use Rattle.fg_auto.specs.Internal.Best.{IsBestFor}
 use Rattle.fg_frame.specs.Numbered.{numbered}
 use Rattle.fg_auto.proofs.best.pick.Given as goal
 

@@ -1,4 +1,4 @@
-use Rattle.fg_auto.specs.Code.Chosen.{IsFound}
+use Rattle.fg_auto.specs.Internal.Chosen.{IsFound}
 use Rattle.fg_frame.specs.Numbered.{numbered}
 use Rattle.fg_auto.proofs.choice.picked.Given as goal
 

@@ -1,7 +1,7 @@
 use Rattle.std.proofs.Common.{◌≡◌, ◌∙◌, ap, length, map, rules, subst, sym}
-use Rattle.fg_auto.specs.Code.Spans.{joined, spans_of, steps}
-use Rattle.fg_auto.specs.Code.Sweep.{AreSums}
-use Rattle.fg_auto.specs.Code.Work.{queue_by}
+use Rattle.fg_auto.specs.Internal.Spans.{joined, spans_of, steps}
+use Rattle.fg_auto.specs.Internal.Sweep.{AreSums}
+use Rattle.fg_auto.specs.Internal.Work.{queue_by}
 use Rattle.fg_auto.proofs.Swept.{all_below, as_costs, is_forward, spans_length, swept}
 use Rattle.fg_auto.proofs.Totals.{cost_is}
 use Rattle.fg_auto.proofs.cost.cost_on.Goals as goal

@@ -1,5 +1,5 @@
 use Rattle.std.proofs.Common.{◌≡◌, ◌++◌, map, drop}
-use Rattle.fg_auto.specs.Code.Work.{queue_by}
+use Rattle.fg_auto.specs.Internal.Work.{queue_by}
 use Rattle.fg_auto.proofs.owners.command_queues.Given as goal
 
 abbrev pub invariant-loop-owner : goal.invariant-loop-owner

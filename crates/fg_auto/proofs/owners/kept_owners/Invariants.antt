@@ -1,5 +1,5 @@
 use Rattle.std.proofs.Common.{◌≡◌, ◌++◌, drop}
-use Rattle.fg_auto.specs.Code.Work.{kept_owners}
+use Rattle.fg_auto.specs.Internal.Work.{kept_owners}
 use Rattle.fg_frame.specs.Numbered.{numbered}
 use Rattle.fg_auto.proofs.owners.kept_owners.Given as goal
 

@@ -1,5 +1,5 @@
 use Rattle.std.proofs.Common.{◌≡◌, ◌++◌, map, drop}
-use Rattle.fg_auto.specs.Code.Work.{export_owner}
+use Rattle.fg_auto.specs.Internal.Work.{export_owner}
 use Rattle.fg_frame.specs.Numbered.{numbered}
 use Rattle.fg_auto.proofs.owners.push_exports.Given as goal
 

@@ -1,5 +1,5 @@
 use Rattle.std.proofs.Common.{◌≤◌, length, rules}
-use Rattle.fg_auto.specs.Code.Spans.{joined}
+use Rattle.fg_auto.specs.Internal.Spans.{joined}
 use Rattle.fg_auto.proofs.Swept.{all_within}
 use Rattle.fg_auto.proofs.Walking.{next_is, span_after, spans_more}
 use Rattle.fg_auto.proofs.spans.spans_of.Goals as goal

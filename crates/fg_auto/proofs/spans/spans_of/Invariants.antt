@@ -1,6 +1,6 @@
 use Rattle.std.proofs.Common.{◌≡◌, map}
 use Rattle.std.specs.List.{range_with_len}
-use Rattle.fg_auto.specs.Code.Spans.{joined, span_before, span_of}
+use Rattle.fg_auto.specs.Internal.Spans.{joined, span_before, span_of}
 use Rattle.fg_auto.proofs.spans.spans_of.Given as goal
 
 abbrev pub invariant-loop-j : goal.invariant-loop-j

@@ -1,5 +1,5 @@
 use Rattle.std.proofs.Common.{true}
-use Rattle.fg_auto.specs.Code.Sweep.{IsTop}
+use Rattle.fg_auto.specs.Internal.Sweep.{IsTop}
 use Rattle.fg_auto.proofs.sums.greatest.Given as goal
 
 abbrev pub invariant-loop-sum : goal.invariant-loop-sum

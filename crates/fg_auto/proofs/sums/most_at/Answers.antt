@@ -1,7 +1,7 @@
 use Rattle.std.proofs.Common.{length, subst}
 use Rattle.std.specs.List.{list_any}
-use Rattle.fg_auto.specs.Code.Spans.{precedes}
-use Rattle.fg_auto.specs.Code.Sweep.{IsTop}
+use Rattle.fg_auto.specs.Internal.Spans.{precedes}
+use Rattle.fg_auto.specs.Internal.Sweep.{IsTop}
 use Rattle.fg_auto.proofs.Tops.{top_at}
 use Rattle.fg_auto.proofs.sums.most_at.Goals as goal
 

@@ -1,7 +1,7 @@
 use Rattle.std.proofs.Common.{◌≡◌, ◌+◌, ◌<◌, ◌≤◌, ◌∙◌, ap, arith, get_or, length, refl, rules, subst, sym}
 use Rattle.std.proofs.lemmas.List.{get_or_default}
-use Rattle.fg_auto.specs.Code.Spans.{steps}
-use Rattle.fg_auto.specs.Code.Sweep.{IsTop}
+use Rattle.fg_auto.specs.Internal.Spans.{steps}
+use Rattle.fg_auto.specs.Internal.Sweep.{IsTop}
 use Rattle.fg_auto.proofs.Totals.{on_more, sums_more}
 use Rattle.fg_auto.proofs.sums.sums_of.Goals as goal
 

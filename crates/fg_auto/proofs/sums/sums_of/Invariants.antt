@@ -1,6 +1,6 @@
 use Rattle.std.proofs.Common.{length}
-use Rattle.fg_auto.specs.Code.Spans.{steps}
-use Rattle.fg_auto.specs.Code.Sweep.{AreOn, AreSums}
+use Rattle.fg_auto.specs.Internal.Spans.{steps}
+use Rattle.fg_auto.specs.Internal.Sweep.{AreOn, AreSums}
 use Rattle.fg_auto.proofs.sums.sums_of.Given as goal
 
 abbrev pub invariant-loop-d : goal.invariant-loop-d

@@ -1,6 +1,6 @@
 use Rattle.std.proofs.Common.{◌≡◌, ◌≤◌, ◌++◌, map, drop}
 use Rattle.std.specs.List.{All}
-use Rattle.fg_auto.specs.Code.Sweep.{most_cost}
+use Rattle.fg_auto.specs.Internal.Sweep.{most_cost}
 use Rattle.fg_auto.specs.Cost.{command_cost}
 use Rattle.fg_auto.proofs.work.costs.Given as goal
 

@@ -1,6 +1,6 @@
 use Rattle.std.proofs.Common.{◌≡◌, ◌==◌}
 use Rattle.std.specs.List.{filter, range_with_len}
-use Rattle.fg_auto.specs.Code.Spans.{use_at}
+use Rattle.fg_auto.specs.Internal.Spans.{use_at}
 use Rattle.fg_auto.proofs.work.places_of.Given as goal
 
 abbrev pub invariant-loop-j : goal.invariant-loop-j

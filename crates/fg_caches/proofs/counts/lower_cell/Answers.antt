@@ -1,6 +1,6 @@
 use Rattle.std.proofs.Common.{◌+◌, subst}
 use Rattle.fg_caches.specs.declared.cell.Cell.{Cell}
-use Rattle.fg_caches.specs.Code.Uses.{cell_uses, Counts}
+use Rattle.fg_caches.specs.Internal.Uses.{cell_uses, Counts}
 use Rattle.fg_caches.proofs.counts.lower_cell.Goals as goal
 
 pub returns-in-Clean : goal.returns-in-Clean

@@ -3,7 +3,7 @@ use Rattle.std.proofs.lemmas.List.{take_all}
 use Rattle.std.proofs.lemmas.List.Sums.{sum_by_more}
 use Rattle.fg_caches.specs.declared.cell.Cell.{Cell}
 use Rattle.fg_caches.specs.declared.cell.Cell.TheVariants as cells
-use Rattle.fg_caches.specs.Code.Uses.{cell_uses, lines_uses, Counts}
+use Rattle.fg_caches.specs.Internal.Uses.{cell_uses, lines_uses, Counts}
 use Rattle.fg_caches.proofs.Counting.{fewer}
 use Rattle.fg_caches.proofs.counts.raise_cells.Goals as goal
 

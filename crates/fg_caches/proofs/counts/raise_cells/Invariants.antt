@@ -1,5 +1,5 @@
 use Rattle.std.proofs.Common.{ℕ, ◌+◌, take}
-use Rattle.fg_caches.specs.Code.Uses.{lines_uses, Counts}
+use Rattle.fg_caches.specs.Internal.Uses.{lines_uses, Counts}
 use Rattle.fg_caches.proofs.counts.raise_cells.Given as goal
 
 abbrev pub invariant-loop-k : goal.invariant-loop-k

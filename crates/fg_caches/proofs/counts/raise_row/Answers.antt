@@ -1,5 +1,5 @@
 use Rattle.std.proofs.Common.{◌+◌, arith}
-use Rattle.fg_caches.specs.Code.Uses.{part_uses, lines_uses, row_uses}
+use Rattle.fg_caches.specs.Internal.Uses.{part_uses, lines_uses, row_uses}
 use Rattle.fg_caches.proofs.Counting.{fewer}
 use Rattle.fg_caches.proofs.counts.raise_row.Goals as goal
 

@@ -1,6 +1,6 @@
 use Rattle.std.proofs.Common.{◌≡◌, ℕ, ◌+◌, ap, arith}
-use Rattle.fg_caches.specs.Code.Rows.{changed}
-use Rattle.fg_caches.specs.Code.Uses.{part_uses, cell_uses, row_uses}
+use Rattle.fg_caches.specs.Internal.Rows.{changed}
+use Rattle.fg_caches.specs.Internal.Uses.{part_uses, cell_uses, row_uses}
 use Rattle.fg_caches.specs.Places.{line_by}
 use Rattle.fg_caches.proofs.Counting.{fewer, changed_uses}
 use Rattle.fg_caches.proofs.counts.recount.Goals as goal

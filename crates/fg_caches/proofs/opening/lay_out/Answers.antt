@@ -6,8 +6,8 @@ use Rattle.fg_base.specs.Maxima.{max_memory_bytes}
 use Rattle.fg_caches.specs.declared.memory.Memory.{Memory}
 use Rattle.fg_caches.specs.declared.segment.Segment.{Segment}
 use Rattle.fg_caches.specs.Tables.{slot_at}
-use Rattle.fg_caches.specs.Code.Opened.{IsOpened, open_segment}
-use Rattle.fg_caches.specs.Code.Uses.{uses}
+use Rattle.fg_caches.specs.Internal.Opened.{IsOpened, open_segment}
+use Rattle.fg_caches.specs.Internal.Uses.{uses}
 use Rattle.fg_caches.proofs.Counting.{opened_uses}
 use Rattle.fg_caches.proofs.Growing.{opened_step, nothing_opened, next_sum, next_sum_le}
 use Rattle.fg_caches.proofs.opening.lay_out.Goals as goal

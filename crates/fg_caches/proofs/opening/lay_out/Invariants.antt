@@ -1,8 +1,8 @@
 use Rattle.std.proofs.Common.{◌≡◌, ◌<◌, ◌≤◌, ℕ, length, take, drop, vec_len}
 use Rattle.std.specs.Prelude.{vec_capacity}
 use Rattle.std.specs.List.{sum_by}
-use Rattle.fg_caches.specs.Code.Opened.{IsOpened}
-use Rattle.fg_caches.specs.Code.Uses.{uses}
+use Rattle.fg_caches.specs.Internal.Opened.{IsOpened}
+use Rattle.fg_caches.specs.Internal.Uses.{uses}
 use Rattle.fg_caches.proofs.opening.lay_out.Given as goal
 
 abbrev pub invariant-loop-memory : goal.invariant-loop-memory

@@ -6,7 +6,7 @@ use borrow.Rule.Slice.PartMut.{put_mid}
 use Rattle.fg_caches.specs.declared.part.Part.{Part}
 use Rattle.fg_caches.specs.Places.{row_at}
 use Rattle.fg_caches.specs.Tables.{byte_in}
-use Rattle.fg_caches.specs.Code.Kept.{PartFits}
+use Rattle.fg_caches.specs.Internal.Kept.{PartFits}
 use Rattle.fg_caches.proofs.Running.{seen_fits}
 use Rattle.fg_caches.proofs.runs.copy_out.Goals as goal
 

@@ -1,5 +1,5 @@
 use Rattle.std.proofs.Common.{◌≡◌, ℕ, ◌<◌, ◌≤◌, ◌+◌, ◌-◌, get_or}
-use Rattle.fg_caches.specs.Code.Rows.{seen_part}
+use Rattle.fg_caches.specs.Internal.Rows.{seen_part}
 use Rattle.fg_caches.specs.Places.{place, row_at}
 use Rattle.fg_caches.specs.Tables.{byte_in}
 use Rattle.fg_caches.proofs.runs.copy_out.Given as goal

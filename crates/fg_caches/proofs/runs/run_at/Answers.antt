@@ -1,6 +1,6 @@
 use Rattle.std.proofs.Common.{◌≡◌, ◌∙◌, sym, ap, subst, arith}
 use Rattle.fg_caches.specs.declared.row.Row.{Row}
-use Rattle.fg_caches.specs.Code.Rows.{HasLine, seen_part}
+use Rattle.fg_caches.specs.Internal.Rows.{HasLine, seen_part}
 use Rattle.fg_caches.specs.Places.{place, row_at, segment_at}
 use Rattle.fg_caches.proofs.Placing.{at_place}
 use Rattle.fg_caches.proofs.Running.{run_row, next_place}

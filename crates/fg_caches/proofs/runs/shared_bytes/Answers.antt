@@ -4,7 +4,7 @@ use Rattle.std.proofs.lemmas.Option.{IfSome_then}
 use Rattle.fg_caches.specs.declared.part.Part.{Part}
 use Rattle.fg_caches.specs.Places.{row_at}
 use Rattle.fg_caches.specs.Tables.{byte_in, slot_at}
-use Rattle.fg_caches.specs.Code.Kept.{PartFits}
+use Rattle.fg_caches.specs.Internal.Kept.{PartFits}
 use Rattle.fg_caches.proofs.Running.{seen_fits}
 use Rattle.fg_caches.proofs.runs.shared_bytes.Goals as goal
 

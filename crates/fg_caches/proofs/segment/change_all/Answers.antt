@@ -1,6 +1,6 @@
 use Rattle.std.proofs.Common.{rules, ◌≡◌, ℕ, List, ◌++◌, length, take, drop, sym, subst}
 use Rattle.fg_caches.specs.declared.segment.Segment.{Segment}
-use Rattle.fg_caches.specs.Code.Uses.{uses, Counts}
+use Rattle.fg_caches.specs.Internal.Uses.{uses, Counts}
 use Rattle.fg_caches.proofs.Counting.{whole}
 use Rattle.fg_caches.proofs.segment.change_all.Goals as goal
 

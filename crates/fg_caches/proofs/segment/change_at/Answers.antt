@@ -1,8 +1,8 @@
 use Rattle.std.proofs.Common.{ℕ, ◌+◌, ◌-◌, ◌≤◌, slice_set, arith, ap}
 use Rattle.std.proofs.lemmas.List.Sums.{get_or-le-sum_by}
 use Rattle.fg_caches.specs.declared.segment.Segment.{Segment}
-use Rattle.fg_caches.specs.Code.Rows.{changed}
-use Rattle.fg_caches.specs.Code.Uses.{row_uses, uses, Counts}
+use Rattle.fg_caches.specs.Internal.Rows.{changed}
+use Rattle.fg_caches.specs.Internal.Uses.{row_uses, uses, Counts}
 use Rattle.fg_caches.specs.Places.{nowhere, segment_at}
 use Rattle.fg_caches.proofs.Counting.{fewer, set_uses}
 use Rattle.fg_caches.proofs.segment.change_at.Goals as goal

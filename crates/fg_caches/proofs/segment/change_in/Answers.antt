@@ -3,7 +3,7 @@ use Rattle.std.specs.Prelude.{nat_le, nat_lt}
 use Rattle.std.proofs.lemmas.Bool.{cases_lt, and_right, le-ltb}
 use Rattle.fg_caches.specs.declared.segment.Segment.{Segment}
 use Rattle.fg_caches.specs.Places.{segment_at}
-use Rattle.fg_caches.specs.Code.Segments.{changed_in}
+use Rattle.fg_caches.specs.Internal.Segments.{changed_in}
 use Rattle.fg_caches.proofs.Changing.{changed_not}
 use Rattle.fg_caches.proofs.segment.change_in.Goals as goal
 

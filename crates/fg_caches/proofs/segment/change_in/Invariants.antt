@@ -1,7 +1,7 @@
 use Rattle.std.proofs.Common.{◌≡◌, ℕ, ◌<◌, ◌≤◌, length}
 use Rattle.fg_caches.specs.Places.{segment_at}
-use Rattle.fg_caches.specs.Code.Segments.{changed_in}
-use Rattle.fg_caches.specs.Code.Uses.{uses, Counts}
+use Rattle.fg_caches.specs.Internal.Segments.{changed_in}
+use Rattle.fg_caches.specs.Internal.Uses.{uses, Counts}
 use Rattle.fg_caches.proofs.segment.change_in.Given as goal
 
 abbrev pub invariant-loop-k : goal.invariant-loop-k

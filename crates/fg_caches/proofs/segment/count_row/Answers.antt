@@ -1,5 +1,5 @@
 use Rattle.std.proofs.Common.{rules, ◌≡◌, ℕ, ◌+◌, List, length, sym, subst}
-use Rattle.fg_caches.specs.Code.Uses.{row_uses, Counts}
+use Rattle.fg_caches.specs.Internal.Uses.{row_uses, Counts}
 use Rattle.fg_caches.proofs.Counting.{whole}
 use Rattle.fg_caches.proofs.segment.count_row.Goals as goal
 

@@ -1,11 +1,11 @@
 use Rattle.std.proofs.Common.{◌≡◌, ◌∙◌, ◌+◌, ◌<◌, ℕ, List, length, arith, ap, sym, subst, true, false}
 use Rattle.fg_caches.specs.declared.segment.Segment.{Segment}
 use Rattle.fg_caches.specs.Places.{place, row_at, cut_in}
-use Rattle.fg_caches.specs.Code.Segments.{covers, Ascending}
+use Rattle.fg_caches.specs.Internal.Segments.{covers, Ascending}
 use Rattle.fg_caches.proofs.Cutting.{cut, cut_is, cut_covers, cut_rows, cut_here, cuts_kept, cut_ascends}
 use Rattle.std.specs.List.{insert}
 use Rattle.std.proofs.lemmas.List.Sums.{sum_by-insert}
-use Rattle.fg_caches.specs.Code.Uses.{row_uses, uses}
+use Rattle.fg_caches.specs.Internal.Uses.{row_uses, uses}
 use Rattle.fg_caches.proofs.Counting.{fewer}
 use Rattle.fg_caches.proofs.segment.cut_at.Goals as goal
 

@@ -1,6 +1,6 @@
 use Rattle.std.proofs.Common.{subst, sym}
 use Rattle.fg_checker.specs.Sound.{Sound}
-use Rattle.fg_checker.specs.Code.Decided.{Judges}
+use Rattle.fg_checker.specs.Internal.Decided.{Judges}
 use Rattle.fg_view.specs.Views.{view_of}
 use Rattle.fg_checker.proofs.checking.check.Goals as goal
 

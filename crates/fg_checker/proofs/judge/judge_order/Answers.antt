@@ -1,9 +1,9 @@
 use Rattle.std.proofs.Common.{◌≡◌, ◌<◌, MatchOption, ◌∙◌, ap, sym, subst}
-use Rattle.fg_checker.specs.Code.Decided.{Clean, IsFound}
+use Rattle.fg_checker.specs.Internal.Decided.{HasNoHazard, IsFound}
 use Rattle.fg_checker.proofs.Verdicts.{hazard_found, sound_found}
 use Rattle.fg_hb.specs.Orders.{Among, Order}
 use Rattle.fg_ties.proofs.Whole.{rows_of}
-use Rattle.fg_view.specs.ShapedView.{Listed}
+use Rattle.fg_view.specs.ValidView.{Listed}
 use Rattle.fg_view.specs.Views.{node_accesses_of}
 use Rattle.fg_checker.proofs.judge.judge_order.Goals as goal
 
@@ -22,10 +22,10 @@ pub returns-in-Some : goal.returns-in-Some
 returns-in-Some c =
     let is : c.as_slice-3.result.now ≡ node_accesses_of c.args.view.now c.args.order = c.as_slice-3.ensures ∙ (c.in_ok-accesses.ensures.accesses ∙ ap (node_accesses_of c.args.view.now) c.as_slice-2.ensures) in
     hazard_found c.args.program.now c.args.view.now c.args.order c.as_slice-3.result.now c.requires.view c.requires.order is c.in-Some.hazard
-    (subst (λ o. MatchOption o (Clean c.args.view.now c.as_slice-3.result.now) (IsFound c.args.view.now c.as_slice-3.result.now)) c.in-Some.is (c.in_ok-hazard.ensures c.args.order c.requires.order.order is))
+    (subst (λ o. MatchOption o (HasNoHazard c.args.view.now c.as_slice-3.result.now) (IsFound c.args.view.now c.as_slice-3.result.now)) c.in-Some.is (c.in_ok-hazard.ensures c.args.order c.requires.order.order is))
 
 pub returns-in-None : goal.returns-in-None
 returns-in-None c =
     let is : c.as_slice-3.result.now ≡ node_accesses_of c.args.view.now c.args.order = c.as_slice-3.ensures ∙ (c.in_ok-accesses.ensures.accesses ∙ ap (node_accesses_of c.args.view.now) c.as_slice-2.ensures) in
     sound_found c.args.program.now c.args.view.now c.args.order c.as_slice-3.result.now c.requires.view c.requires.order is
-    (subst (λ o. MatchOption o (Clean c.args.view.now c.as_slice-3.result.now) (IsFound c.args.view.now c.as_slice-3.result.now)) c.in-None.is (c.in_ok-hazard.ensures c.args.order c.requires.order.order is))
+    (subst (λ o. MatchOption o (HasNoHazard c.args.view.now c.as_slice-3.result.now) (IsFound c.args.view.now c.as_slice-3.result.now)) c.in-None.is (c.in_ok-hazard.ensures c.args.order c.requires.order.order is))

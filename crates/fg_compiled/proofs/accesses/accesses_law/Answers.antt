@@ -1,4 +1,4 @@
-use Rattle.fg_compiled.proofs.AliasTaken.{takes_alias}
+use Rattle.fg_compiled.proofs.AliasSource.{takes_alias}
 use Rattle.fg_compiled.proofs.Compiled.{set_by}
 use Rattle.fg_compiled.proofs.Masked.{masked}
 use Rattle.fg_compiled.proofs.SpotFacts.{spots}

@@ -1,5 +1,5 @@
 use Rattle.std.proofs.Common.{◌∙◌, get_or, sym, ap}
-use Rattle.fg_control.proofs.Readiness.{busy, held_up, waits_only}
+use Rattle.fg_control.proofs.Readiness.{busy, blocked_up, waits_only}
 use Rattle.fg_control.proofs.going.may_go.Goals as goal
 use Rattle.fg_steps.specs.Ready.{reached}
 use Rattle.fg_steps.specs.declared.phase.Phase.TheVariants.{Idle}
@@ -8,7 +8,7 @@ pub returns-then-not-is_idle : goal.returns-then-not-is_idle
 returns-then-not-is_idle c = sym (busy c.args.view.now (λ x. get_or c.args.phases.now x Idle) (λ q. get_or c.args.counters.now q 0) c.args.n (sym c.is_idle.ensures ∙ c.if-not-is_idle.true))
 
 pub returns-then-not-follows_done : goal.returns-then-not-follows_done
-returns-then-not-follows_done c = sym (held_up c.args.view.now (λ x. get_or c.args.phases.now x Idle) (λ q. get_or c.args.counters.now q 0) c.args.n (sym c.follows_done.ensures ∙ c.if-not-follows_done.true))
+returns-then-not-follows_done c = sym (blocked_up c.args.view.now (λ x. get_or c.args.phases.now x Idle) (λ q. get_or c.args.counters.now q 0) c.args.n (sym c.follows_done.ensures ∙ c.if-not-follows_done.true))
 
 pub returns : goal.returns
 returns c =

@@ -1,6 +1,6 @@
 use Rattle.std.proofs.Common.{◌≡◌, ℕ, length, get_or, None}
 use Rattle.fg_control.proofs.lasts.last_signals.Given as goal
-use Rattle.fg_control.specs.Code.Held.{signal_below}
+use Rattle.fg_control.specs.Internal.Blocked.{signal_below}
 
 abbrev pub invariant-loop-n : goal.invariant-loop-n
 invariant-loop-n l = record {

@@ -1,6 +1,6 @@
 use Rattle.std.proofs.Common.{◌≡◌, false, get_or}
 use Rattle.fg_control.proofs.marks.hits_running.Given as goal
-use Rattle.fg_control.specs.Code.Held.{some_below}
+use Rattle.fg_control.specs.Internal.Blocked.{some_below}
 use Rattle.fg_steps.specs.Ready.{hits}
 
 abbrev pub invariant-loop-i : goal.invariant-loop-i

@@ -1,5 +1,5 @@
 use Rattle.fg_control.proofs.needs.loose_of.Given as goal
-use Rattle.fg_control.specs.Code.Needs.{AreNodes, LooseBelow}
+use Rattle.fg_control.specs.Internal.Needs.{AreNodes, LooseBelow}
 
 abbrev pub invariant-loop-n : goal.invariant-loop-n
 invariant-loop-n l = record {

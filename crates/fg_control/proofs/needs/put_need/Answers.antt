@@ -1,7 +1,7 @@
 use Rattle.std.proofs.Common.{◌+◌, [], ◌∷◌, ◌++◌, sym, subst}
 use Rattle.fg_control.proofs.Needing.{last_listed, needs_more, still_listed}
 use Rattle.fg_control.proofs.needs.put_need.Goals as goal
-use Rattle.fg_control.specs.Code.Needs.{waits_at, IsListed, NeedsBelow}
+use Rattle.fg_control.specs.Internal.Needs.{waits_at, IsListed, NeedsBelow}
 use Rattle.fg_control.specs.declared.needs.Need.{Need}
 use Rattle.fg_hb.specs.declared.node.Node.{Node}
 use Rattle.fg_view.specs.Views.{queue_at}

@@ -4,7 +4,7 @@ use Rattle.fg_base.specs.Shapes.{bytes_of}
 use Rattle.fg_caches.specs.Tables.{is_cut, slot_at, IsMade}
 use Rattle.fg_device.proofs.Openings.{ends_small, few_bytes, cuts_there, fits_made}
 use Rattle.fg_device.proofs.opening.table_of.Goals as goal
-use Rattle.fg_device.specs.Code.Opened.{opened_memory, piece_end, HasCuts}
+use Rattle.fg_device.specs.Internal.Opened.{opened_memory, piece_end, HasCuts}
 use Rattle.fg_subs.specs.declared.program.Memory.{Memory}
 use Rattle.fg_subs.specs.declared.program.Piece.{Piece}
 

@@ -4,7 +4,7 @@ use Rattle.fg_caches.specs.Effects.{Caches}
 use Rattle.fg_caches.specs.Tables.{caches_of}
 use Rattle.fg_device.proofs.Fitting.{stays_same, stays_on, still_has}
 use Rattle.fg_device.proofs.syncing.move_agents.Goals as goal
-use Rattle.fg_device.specs.Code.Syncs.{passes, moved_one, moved_agents}
+use Rattle.fg_device.specs.Internal.Syncs.{passes, moved_one, moved_agents}
 
 pub loop-agent-init : goal.loop-agent-init
 loop-agent-init c = record { cut = c.requires.cut; bytes = refl; stays = stays_same c.args.table.now }

@@ -1,8 +1,8 @@
 use Rattle.std.proofs.Common.{◌≡◌}
 use Rattle.fg_caches.specs.Tables.{caches_of}
 use Rattle.fg_device.proofs.syncing.move_agents.Given as goal
-use Rattle.fg_device.specs.Code.Syncs.{passes, moved_agents}
-use Rattle.fg_device.specs.Code.Tables.{HasCut, Stays}
+use Rattle.fg_device.specs.Internal.Syncs.{passes, moved_agents}
+use Rattle.fg_device.specs.Internal.Tables.{HasCut, Stays}
 
 abbrev pub invariant-loop-agent : goal.invariant-loop-agent
 invariant-loop-agent l = record {

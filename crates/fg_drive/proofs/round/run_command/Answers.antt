@@ -5,7 +5,7 @@ use Rattle.fg_device.specs.declared.job.Command.{Command}
 use Rattle.fg_drive.proofs.Advancing.{with_command}
 use Rattle.fg_drive.proofs.Calming.{still_may, still_begun, begins, round_command}
 use Rattle.fg_drive.proofs.round.run_command.Goals as goal
-use Rattle.fg_drive.specs.Code.Keepers.{Advanced, Calm}
+use Rattle.fg_drive.specs.Internal.Keepers.{Advanced, Calm}
 use Rattle.fg_steps.specs.Devices.{Device, state_of, did}
 use Rattle.fg_steps.specs.Ready.{is_command}
 use Rattle.fg_steps.specs.Rounds.{Round}

@@ -3,7 +3,7 @@ use Rattle.fg_base.specs.declared.event.Event.TheVariants.{Host}
 use Rattle.fg_drive.proofs.Advancing.{with_node}
 use Rattle.fg_drive.proofs.Calming.{still_may, round_host}
 use Rattle.fg_drive.proofs.round.run_host.Goals as goal
-use Rattle.fg_drive.specs.Code.Keepers.{Advanced}
+use Rattle.fg_drive.specs.Internal.Keepers.{Advanced}
 use Rattle.fg_hb.specs.Edges.{is_host}
 use Rattle.fg_steps.specs.Devices.{Device, did, is_ready}
 use Rattle.fg_steps.specs.Rounds.{Round}

@@ -4,7 +4,7 @@ use Rattle.fg_drive.proofs.Advancing.{unmoved, joined, keeps_on}
 use Rattle.fg_drive.proofs.Calming.{calm, calm_on}
 use Rattle.fg_drive.proofs.Drawing.{none_left}
 use Rattle.fg_drive.proofs.run.finish.Goals as goal
-use Rattle.fg_drive.specs.Code.Keepers.{to_come}
+use Rattle.fg_drive.specs.Internal.Keepers.{to_come}
 
 pub loop-move-init : goal.loop-move-init
 loop-move-init c = record { advanced = unmoved c.args.device.now c.args.keeper.now; calm = calm c.args.device.now; made = omega arith }

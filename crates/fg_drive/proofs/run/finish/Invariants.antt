@@ -1,6 +1,6 @@
 use Rattle.std.proofs.Common.{◌≡◌, ◌+◌}
 use Rattle.fg_drive.proofs.run.finish.Given as goal
-use Rattle.fg_drive.specs.Code.Keepers.{Advanced, Calm}
+use Rattle.fg_drive.specs.Internal.Keepers.{Advanced, Calm}
 
 abbrev pub invariant-loop-move : goal.invariant-loop-move
 invariant-loop-move l = record {

@@ -1,5 +1,5 @@
 use Rattle.fg_drive.proofs.run.run_all.Given as goal
-use Rattle.fg_drive.specs.Code.Keepers.{Advanced}
+use Rattle.fg_drive.specs.Internal.Keepers.{Advanced}
 use Rattle.fg_steps.specs.Devices.{NoneBegun}
 use Rattle.fg_steps.specs.Rounds.{to_do}
 

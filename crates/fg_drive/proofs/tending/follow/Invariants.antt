@@ -1,6 +1,6 @@
 use Rattle.std.proofs.Common.{◌<◌, ◌^◌, ◌↔◌, drop, length}
 use Rattle.fg_drive.proofs.tending.follow.Given as goal
-use Rattle.fg_drive.specs.Code.Following.{Makes}
+use Rattle.fg_drive.specs.Internal.Following.{Makes}
 
 abbrev pub invariant-loop-event : goal.invariant-loop-event
 invariant-loop-event l = record {

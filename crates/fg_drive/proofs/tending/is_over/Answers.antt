@@ -2,7 +2,7 @@ use Rattle.std.proofs.Common.{◌≡◌, ◌-◌, ℕ, [], suc, true, subst, ari
 use Rattle.std.specs.Prelude.{◌↔◌}
 use Rattle.fg_drive.proofs.Drawing.{over_if}
 use Rattle.fg_drive.proofs.tending.is_over.Goals as goal
-use Rattle.fg_drive.specs.Code.Keepers.{to_come}
+use Rattle.fg_drive.specs.Internal.Keepers.{to_come}
 
 pub returns : goal.returns
 returns c =

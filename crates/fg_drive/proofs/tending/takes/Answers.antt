@@ -2,7 +2,7 @@ use Rattle.std.proofs.Common.{◌≡◌, ◌-◌, suc, true, sym, ap, ◌∙◌,
 use Rattle.std.specs.Prelude.{◌↔◌}
 use Rattle.fg_drive.proofs.Following.{decided}
 use Rattle.fg_drive.proofs.tending.takes.Goals as goal
-use Rattle.fg_drive.specs.Code.Keepers.{to_come}
+use Rattle.fg_drive.specs.Internal.Keepers.{to_come}
 
 pub returns-in-Some-clause-follows : goal.returns-in-Some-clause-follows
 returns-in-Some-clause-follows c =

@@ -1,6 +1,6 @@
 use Rattle.std.proofs.Common.{◌≡◌, sym, ap, ◌∙◌}
 use Rattle.fg_drive.proofs.tending.tended.Goals as goal
-use Rattle.fg_drive.specs.Code.Keepers.{to_come}
+use Rattle.fg_drive.specs.Internal.Keepers.{to_come}
 use Rattle.fg_drive.specs.Tended.{tended_moves}
 use Rattle.fg_steps.specs.Histories.{moves_in}
 use Rattle.fg_subs.specs.declared.program.Program.{Program}

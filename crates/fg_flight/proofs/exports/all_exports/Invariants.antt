@@ -1,5 +1,5 @@
 use Rattle.std.proofs.Common.{◌≡◌, ◌++◌, drop}
-use Rattle.fg_flight.specs.Code.Parts.{all_exports}
+use Rattle.fg_flight.specs.Internal.WindowParts.{all_exports}
 use Rattle.fg_flight.proofs.exports.all_exports.Given as goal
 
 abbrev pub invariant-loop-i : goal.invariant-loop-i

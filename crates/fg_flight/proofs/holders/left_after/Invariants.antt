@@ -1,5 +1,5 @@
 use Rattle.std.proofs.Common.{◌≡◌, ◌++◌, drop}
-use Rattle.fg_flight.specs.Code.Left.{left_after}
+use Rattle.fg_flight.specs.Internal.Left.{left_after}
 use Rattle.fg_flight.proofs.holders.left_after.Given as goal
 
 abbrev pub invariant-loop-k : goal.invariant-loop-k

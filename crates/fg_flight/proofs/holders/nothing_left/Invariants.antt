@@ -1,5 +1,5 @@
 use Rattle.std.proofs.Common.{◌≡◌, take}
-use Rattle.fg_flight.specs.Code.Left.{nothing_left}
+use Rattle.fg_flight.specs.Internal.Left.{nothing_left}
 use Rattle.fg_flight.proofs.holders.nothing_left.Given as goal
 
 abbrev pub invariant-loop-name : goal.invariant-loop-name

@@ -1,5 +1,5 @@
 use Rattle.std.proofs.Common.{◌≡◌, ◌++◌, drop}
-use Rattle.fg_flight.specs.Code.Left.{carries_by}
+use Rattle.fg_flight.specs.Internal.Left.{carries_by}
 use Rattle.fg_flight.proofs.joins.carries_by.Given as goal
 
 abbrev pub invariant-loop-k : goal.invariant-loop-k

@@ -1,5 +1,5 @@
 use Rattle.std.proofs.Common.{◌≡◌, take, map}
-use Rattle.fg_flight.specs.Code.Left.{carried}
+use Rattle.fg_flight.specs.Internal.Left.{carried}
 use Rattle.fg_named.specs.Joins.{named_copy}
 use Rattle.fg_flight.proofs.joins.copies.Given as goal
 

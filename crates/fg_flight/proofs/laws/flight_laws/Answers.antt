@@ -9,7 +9,7 @@ pub returns-clause-exports : goal.returns-clause-exports
 returns-clause-exports c = export_alone
 
 pub returns-clause-next : goal.returns-clause-next
-returns-clause-next c frames persist depth F w lt held H bytes read = next_held frames persist depth F w lt held H bytes read
+returns-clause-next c frames persist depth F w lt persisted H bytes read = next_held frames persist depth F w lt persisted H bytes read
 
 pub returns-clause-in_turn : goal.returns-clause-in_turn
 returns-clause-in_turn c = all_alone

@@ -1,6 +1,6 @@
 use Rattle.std.proofs.Common.{◌≡◌, ◌++◌, drop, length}
-use Rattle.fg_flight.specs.Code.Left.{nothing_left}
-use Rattle.fg_flight.specs.Code.Parts.{all_passes}
+use Rattle.fg_flight.specs.Internal.Left.{nothing_left}
+use Rattle.fg_flight.specs.Internal.WindowParts.{all_passes}
 use Rattle.fg_flight.proofs.window.all_passes.Given as goal
 
 abbrev pub invariant-loop-i : goal.invariant-loop-i

@@ -1,5 +1,5 @@
 use Rattle.std.proofs.Common.{◌≡◌, drop, length}
-use Rattle.fg_flight.specs.Code.Left.{last_left, nothing_left}
+use Rattle.fg_flight.specs.Internal.Left.{last_left, nothing_left}
 use Rattle.fg_flight.proofs.window.last_left.Given as goal
 
 abbrev pub invariant-loop-i : goal.invariant-loop-i

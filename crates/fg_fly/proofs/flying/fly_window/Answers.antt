@@ -4,8 +4,8 @@ use Rattle.fg_fly.proofs.flying.fly_window.Goals as goal
 pub run_window-requires-clause-there : goal.run_window-requires-clause-there
 run_window-requires-clause-there g c κs within = c.requires.there
 
-pub run_window-requires-clause-held : goal.run_window-requires-clause-held
-run_window-requires-clause-held g c κs within = c.requires.flown.held.sized
+pub run_window-requires-clause-persisted : goal.run_window-requires-clause-persisted
+run_window-requires-clause-persisted g c κs within = c.requires.flown.persisted.sized
 
 pub returns-in_err-device : goal.returns-in_err-device
 returns-in_err-device g c = gave_up c.from_residual.result _ _ c.from_residual.ensures.1

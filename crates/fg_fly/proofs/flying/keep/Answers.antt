@@ -29,8 +29,8 @@ hold-requires-clause-read c = c.requires.read
 
 pub returns : goal.returns
 returns c =
-    on_ok c.hold.result _ _ c.hold.ensures (λ held. record {
+    on_ok c.hold.result _ _ c.hold.ensures (λ persisted. record {
       text = c.in_ok-add_window.ensures;
       history = c.in_ok-extend_from_slice.ensures.ok ∙ ap (λ (es : List Event). c.args.flying.now.history ++ es) c.history.ensures.history;
-      held = held;
+      persisted = persisted;
     })

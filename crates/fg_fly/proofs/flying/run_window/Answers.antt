@@ -1,5 +1,5 @@
 use Rattle.std.proofs.Common.{◌∙◌, ℕ, List, Option, IfOk, false, sym, ap, subst}
-use Rattle.fg_flight.specs.Flights.{AreHeld, window_at}
+use Rattle.fg_flight.specs.Flights.{ArePersisted, window_at}
 use Rattle.fg_fly.proofs.Flown.{gave_up}
 use Rattle.fg_fly.proofs.flying.run_window.Goals as goal
 use Rattle.fg_frame.specs.Numbered.{numbered}
@@ -9,9 +9,9 @@ use Rattle.fg_run.specs.FrameRuns.{RunsOn}
 pub frame-requires-clause-there : goal.frame-requires-clause-there
 frame-requires-clause-there g c = c.requires.there
 
-pub frame-requires-clause-held : goal.frame-requires-clause-held
-frame-requires-clause-held g c =
-    subst (λ (h : List (Option (List ℕ))). AreHeld c.args.windows.now.frames c.args.windows.now.persist h) (sym c.deref.ensures) c.requires.held
+pub frame-requires-clause-persisted : goal.frame-requires-clause-persisted
+frame-requires-clause-persisted g c =
+    subst (λ (h : List (Option (List ℕ))). ArePersisted c.args.windows.now.frames c.args.windows.now.persist h) (sym c.deref.ensures) c.requires.persisted
 
 pub returns-in_err-good : goal.returns-in_err-good
 returns-in_err-good g c = gave_up c.from_residual.result _ _ c.from_residual.ensures.1

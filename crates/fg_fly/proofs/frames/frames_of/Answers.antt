@@ -5,9 +5,9 @@ use Rattle.std.specs.Prelude.{Result}
 use Rattle.fg_fly.proofs.Cutting.{texts}
 use Rattle.fg_fly.proofs.Reading.{end_on, frame_on}
 use Rattle.fg_fly.proofs.frames.frames_of.Goals as goal
-use Rattle.fg_fly.specs.Code.Reading.{Gives}
+use Rattle.fg_fly.specs.Internal.Reading.{Gives}
 use Rattle.fg_fly.specs.Files.{frames_of}
-use Rattle.fg_fly.specs.declared.frames.FileEnd.{FileEnd}
+use Rattle.fg_fly.specs.declared.frames.FlightFileError.{FlightFileError}
 use Rattle.fg_frame.specs.declared.frame.Frame.{Frame}
 
 none : Bor (List ℕ)
@@ -21,8 +21,8 @@ returns-in_err-good-clause-frames c =
     let e = c.in_err-good.field-0.0 in
     let total = frames_of 0 (texts lines) in
     let p = err_from_is_err_and c.from_residual.result c.from_residual.ensures.1 in
-    let same = p.1 ∙ ap (λ (f : FileEnd). Err f) p.2 in
-    subst (λ (r : Result (List Frame) FileEnd). Gives total r) (sym same) (end_on lines i (get_or lines i none) none e c.loop-i.frames total c.loop-i-test.true refl c.in_err-good.ensures c.loop-i.invariant.so_far)
+    let same = p.1 ∙ ap (λ (f : FlightFileError). Err f) p.2 in
+    subst (λ (r : Result (List Frame) FlightFileError). Gives total r) (sym same) (end_on lines i (get_or lines i none) none e c.loop-i.frames total c.loop-i-test.true refl c.in_err-good.ensures c.loop-i.invariant.so_far)
 
 pub loop-i-preserved : goal.loop-i-preserved
 unfolding none

@@ -1,7 +1,7 @@
 use Rattle.std.proofs.Common.{◌≡◌, drop, length}
 use Rattle.fg_fly.proofs.Cutting.{texts}
 use Rattle.fg_fly.proofs.frames.frames_of.Given as goal
-use Rattle.fg_fly.specs.Code.Reading.{after_frames}
+use Rattle.fg_fly.specs.Internal.Reading.{after_frames}
 use Rattle.fg_fly.specs.Files.{frames_of}
 
 abbrev pub invariant-loop-i : goal.invariant-loop-i

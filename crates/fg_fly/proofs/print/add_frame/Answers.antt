@@ -26,7 +26,7 @@ bytes_of-requires-clause-complete c = c.requires.prints.read.complete
 pub bytes_of-requires-clause-there : goal.bytes_of-requires-clause-there
 bytes_of-requires-clause-there c =
     let prints = c.requires.prints in
-    omega (arith, c.export.ensures.within prints.held prints.read.sized, prints.read.readbacks)
+    omega (arith, c.export.ensures.within prints.persisted prints.read.sized, prints.read.readbacks)
 
 pub export_text-requires : goal.export_text-requires
 export_text-requires c =

@@ -2,7 +2,7 @@ use Rattle.std.proofs.Common.{◌≡◌, ◌*◌, ◌<◌, length, ap, subst, ar
 use Rattle.fg_fly.proofs.Printing.{begins, frame_here, in_this, window_end}
 use Rattle.fg_fly.proofs.Texts.{text_on}
 use Rattle.fg_fly.proofs.print.add_window.Goals as goal
-use Rattle.fg_fly.specs.Code.Flying.{text_before}
+use Rattle.fg_fly.specs.Internal.Flying.{text_before}
 
 pub overflow_mul-from : goal.overflow_mul-from
 overflow_mul-from c =

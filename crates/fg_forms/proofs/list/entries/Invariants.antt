@@ -1,7 +1,7 @@
 use Rattle.std.proofs.Common.{◌≡◌, drop}
 use Rattle.std.specs.List.{AllByRecursion}
 use Rattle.fg_forms.specs.Parts.{entries_at}
-use Rattle.fg_forms.specs.Places.{legs}
+use Rattle.fg_forms.specs.Locations.{legs}
 use Rattle.serde_json.specs.View.{items_view}
 use Rattle.fg_forms.proofs.Walks.{with_front}
 use Rattle.fg_forms.proofs.list.entries.Given as goal

@@ -1,6 +1,6 @@
 use Rattle.std.proofs.Common.{◌≡◌, map}
 use Rattle.fg_forms.specs.Parts.{unknown_in}
-use Rattle.fg_forms.specs.Places.{legs}
+use Rattle.fg_forms.specs.Locations.{legs}
 use Rattle.serde_json.specs.View.{members_view}
 use Rattle.fg_forms.proofs.members.unknown.Given as goal
 

@@ -11,7 +11,7 @@ returns-in-Some-clause-missing c =
     let rule = unwritten_at c.args.imported c.args.passes.now in
     let passes = c.args.passes.now in
     let gives = c.unwritten_in.ensures ∙ ap (λ m. unwritten_in (is_marked m) c.loop-p.p c.index-passes-p.result) c.deref.ensures ∙ same_place c.args.imported c.loop-p.marks passes c.loop-p.p c.index-passes-p.result c.loop-p.invariant.marks in
-    found_on rule passes c.loop-p.p c.index-passes-p.result c.in-Some.place (first_in rule 0 passes) c.loop-p-test.true c.index-passes-p.is (sym gives ∙ c.in-Some.is) c.loop-p.invariant.so_far
+    found_on rule passes c.loop-p.p c.index-passes-p.result c.in-Some.location (first_in rule 0 passes) c.loop-p-test.true c.index-passes-p.is (sym gives ∙ c.in-Some.is) c.loop-p.invariant.so_far
 
 pub loop-p-preserved : goal.loop-p-preserved
 loop-p-preserved c =

@@ -1,7 +1,7 @@
 use Rattle.std.proofs.Common.{ap, ◌∙◌, length, map}
 use Rattle.fg_groups.proofs.Filled.{put_all-length, put_group_more}
 use Rattle.fg_groups.proofs.by_command.by_command.Goals as goal
-use Rattle.fg_groups.specs.Code.Buckets.{put_all, in_group}
+use Rattle.fg_groups.specs.Internal.Buckets.{put_all, in_group}
 use Rattle.fg_groups.specs.declared.unit_use.UseAt.{UseAt}
 
 pub loop-g-preserved : goal.loop-g-preserved

@@ -1,5 +1,5 @@
 use Rattle.std.proofs.Common.{◌≡◌, drop, length}
-use Rattle.fg_groups.specs.Code.Buckets.{put_all, none_in, numbered_uses}
+use Rattle.fg_groups.specs.Internal.Buckets.{put_all, none_in, numbered_uses}
 use Rattle.fg_groups.proofs.by_command.by_command.Given as goal
 
 abbrev pub invariant-loop-g : goal.invariant-loop-g

@@ -1,5 +1,5 @@
 use Rattle.std.proofs.Common.{◌≡◌, drop, length}
-use Rattle.fg_groups.specs.Code.Buckets.{put_numbers, none_in}
+use Rattle.fg_groups.specs.Internal.Buckets.{put_numbers, none_in}
 use Rattle.fg_groups.proofs.by_command.by_group.Given as goal
 
 abbrev pub invariant-loop-k : goal.invariant-loop-k

@@ -1,5 +1,5 @@
 use Rattle.std.proofs.Common.{◌≡◌, drop}
-use Rattle.fg_groups.specs.Code.Buckets.{group_among}
+use Rattle.fg_groups.specs.Internal.Buckets.{group_among}
 use Rattle.fg_groups.proofs.by_command.group_among.Given as goal
 
 abbrev pub invariant-loop-at : goal.invariant-loop-at

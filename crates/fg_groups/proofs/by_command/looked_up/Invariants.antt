@@ -1,5 +1,5 @@
 use Rattle.std.proofs.Common.{◌≡◌, ◌++◌, map, drop}
-use Rattle.fg_groups.specs.Code.Buckets.{looked_up}
+use Rattle.fg_groups.specs.Internal.Buckets.{looked_up}
 use Rattle.fg_groups.proofs.by_command.looked_up.Given as goal
 
 abbrev pub invariant-loop-one : goal.invariant-loop-one

@@ -1,5 +1,5 @@
 use Rattle.std.proofs.Common.{◌≡◌, map, drop, length}
-use Rattle.fg_groups.specs.Code.Buckets.{put_all, in_group}
+use Rattle.fg_groups.specs.Internal.Buckets.{put_all, in_group}
 use Rattle.fg_groups.proofs.by_command.put_group.Given as goal
 
 abbrev pub invariant-loop-one : goal.invariant-loop-one

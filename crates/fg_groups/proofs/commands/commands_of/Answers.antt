@@ -2,7 +2,7 @@ use Rattle.std.proofs.Common.{◌++◌, ◌∙◌, ap₂, subst, sym}
 use Rattle.fg_frame.specs.Numbered.{numbered}
 use Rattle.fg_groups.proofs.Growing.{commands-known}
 use Rattle.fg_groups.proofs.commands.commands_of.Goals as goal
-use Rattle.fg_groups.specs.Code.Known.{AreKnown}
+use Rattle.fg_groups.specs.Internal.Known.{AreKnown}
 use Rattle.fg_groups.specs.Commands.{export_commands}
 
 pub returns-clause-commands : goal.returns-clause-commands

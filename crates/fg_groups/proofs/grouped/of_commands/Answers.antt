@@ -3,7 +3,7 @@ use Rattle.fg_frame.specs.Numbered.{numbered}
 use Rattle.fg_groups.proofs.Assembled.{uses_are, buckets_are, units-known, operands-known, of_own, own_commands}
 use Rattle.fg_groups.proofs.Tables.{by_unit}
 use Rattle.fg_groups.proofs.grouped.of_commands.Goals as goal
-use Rattle.fg_groups.specs.Code.Known.{AreKnown}
+use Rattle.fg_groups.specs.Internal.Known.{AreKnown}
 use Rattle.fg_groups.specs.Groups.{all_uses}
 
 pub uses_of-requires-clause-few : goal.uses_of-requires-clause-few

@@ -5,7 +5,7 @@ use Rattle.fg_frame.specs.Numbered.{numbered}
 use Rattle.fg_groups.proofs.Tables.{by_unit, by_unit-length, by_command-length}
 use Rattle.fg_groups.proofs.Tabled.{count-few, imports-length, places, places-within, places-small, groups-within, uses-within, looked, known-within, known-small, tabled}
 use Rattle.fg_groups.proofs.grouped.tabled.Goals as goal
-use Rattle.fg_groups.specs.Code.Buckets.{none_in, put_numbers}
+use Rattle.fg_groups.specs.Internal.Buckets.{none_in, put_numbers}
 
 pub overflow_cast-count : goal.overflow_cast-count
 overflow_cast-count c =

@@ -1,6 +1,6 @@
 use Rattle.std.proofs.Common.{◌≡◌}
 use Rattle.std.specs.List.{filter, range_with_len}
-use Rattle.fg_groups.specs.Code.Buckets.{has_place}
+use Rattle.fg_groups.specs.Internal.Buckets.{has_place}
 use Rattle.fg_groups.proofs.placed.placed.Given as goal
 
 abbrev pub invariant-loop-unit : goal.invariant-loop-unit

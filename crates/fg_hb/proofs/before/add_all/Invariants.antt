@@ -1,5 +1,5 @@
 use Rattle.std.proofs.Common.{◌<◌, ℕ}
-use Rattle.fg_hb.specs.Code.Filling.{Filling, Added, NodeDone}
+use Rattle.fg_hb.specs.Internal.Filling.{Filling, Added, NodeDone}
 use Rattle.fg_hb.proofs.before.add_all.Given as goal
 
 abbrev pub invariant-loop-n : goal.invariant-loop-n

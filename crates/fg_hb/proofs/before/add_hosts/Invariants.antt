@@ -1,6 +1,6 @@
 use Rattle.std.proofs.Common.{◌≡◌, ◌<◌, ℕ, true}
 use Rattle.fg_hb.specs.Before.{joined}
-use Rattle.fg_hb.specs.Code.Filling.{Filling, Added}
+use Rattle.fg_hb.specs.Internal.Filling.{Filling, Added}
 use Rattle.fg_hb.specs.Edges.{is_host, node_at}
 use Rattle.fg_hb.proofs.before.add_hosts.Given as goal
 

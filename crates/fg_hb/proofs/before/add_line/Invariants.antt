@@ -1,4 +1,4 @@
-use Rattle.fg_hb.specs.Code.Filling.{Filling, Added, QueueDone}
+use Rattle.fg_hb.specs.Internal.Filling.{Filling, Added, QueueDone}
 use Rattle.fg_hb.proofs.before.add_line.Given as goal
 
 abbrev pub invariant-loop-y : goal.invariant-loop-y

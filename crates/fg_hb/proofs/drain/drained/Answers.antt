@@ -1,5 +1,5 @@
 use Rattle.std.proofs.Common.{◌≡◌, ◌<◌, ℕ, false, rules, arith, get_or, subst}
-use Rattle.fg_hb.specs.Code.Queues.{queues_of, goes_on}
+use Rattle.fg_hb.specs.Internal.Queues.{queues_of, goes_on}
 use Rattle.fg_hb.proofs.Drained.{next_fits, stuck_fits, hosts_from, all_least, all_stuck}
 use Rattle.fg_hb.proofs.Going.{going-step, left-step}
 use Rattle.fg_hb.proofs.drain.drained.Goals as goal

@@ -1,5 +1,5 @@
 use Rattle.std.proofs.Common.{get_or}
-use Rattle.fg_hb.specs.Code.Queues.{queues_of, left_of}
+use Rattle.fg_hb.specs.Internal.Queues.{queues_of, left_of}
 use Rattle.fg_hb.proofs.Going.{Going}
 use Rattle.fg_hb.proofs.drain.drained.Given as goal
 

@@ -1,5 +1,5 @@
 use Rattle.std.proofs.Common.{◌≡◌, ◌<◌, ℕ, false}
-use Rattle.fg_hb.specs.Code.Queues.{queues_of, goes_on}
+use Rattle.fg_hb.specs.Internal.Queues.{queues_of, goes_on}
 use Rattle.fg_hb.proofs.drain.pick.Given as goal
 
 abbrev pub invariant-loop-q : goal.invariant-loop-q

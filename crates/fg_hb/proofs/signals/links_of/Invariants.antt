@@ -1,5 +1,5 @@
 use Rattle.std.proofs.Common.{◌≡◌}
-use Rattle.fg_hb.specs.Code.Tables.{links_until}
+use Rattle.fg_hb.specs.Internal.Tables.{links_until}
 use Rattle.fg_hb.proofs.signals.links_of.Given as goal
 
 abbrev pub invariant-loop-n : goal.invariant-loop-n

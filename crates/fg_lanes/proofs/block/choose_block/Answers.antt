@@ -3,7 +3,7 @@ use Rattle.std.specs.Prelude.{if◌then◌else◌}
 use Rattle.fg_base.specs.Texels.{modulus, texel_at}
 use Rattle.fg_base.specs.declared.shape.Texel.TheVariants.{R32}
 use Rattle.fg_pixels.proofs.Numbers.{byte_is, whole_texel}
-use Rattle.fg_lanes.specs.Code.Blocks.{block_texels}
+use Rattle.fg_lanes.specs.Internal.Blocks.{block_texels}
 use Rattle.fg_lanes.proofs.Blocks.{block_fits}
 use Rattle.fg_lanes.proofs.block.choose_block.Goals as goal
 use Rattle.fg_lanes.proofs.block.choose_block.Goals.{in-R8, in-R32}

@@ -5,7 +5,7 @@ use Rattle.std.proofs.lemmas.Simd.{get_or-put_chunk_below, get_or-put_chunk_at}
 use borrow.Rule.Slice.PartMut.{put_mid}
 use Rattle.fg_base.proofs.Lists.{mid_below, mid_at}
 use Rattle.fg_base.specs.Shapes.{texel_bytes}
-use Rattle.fg_lanes.specs.Code.Blocks.{block_texels, AreTexels}
+use Rattle.fg_lanes.specs.Internal.Blocks.{block_texels, AreTexels}
 use Rattle.fg_lanes.proofs.Blocks.{laid_on, whole_block}
 use Rattle.fg_lanes.proofs.laying.lay.Goals as goal
 

@@ -1,6 +1,6 @@
 use Rattle.std.proofs.Common.{ℕ, ◌*◌, length}
 use Rattle.fg_base.specs.declared.shape.Texel.{Texel}
-use Rattle.fg_lanes.specs.Code.Blocks.{AreTexels, GivesBlocks, block_texels}
+use Rattle.fg_lanes.specs.Internal.Blocks.{AreTexels, GivesBlocks, block_texels}
 use Rattle.fg_lanes.proofs.laying.lay.Given as goal
 
 abbrev pub invariant-loop-block : goal.invariant-loop-block

@@ -2,7 +2,7 @@ use Rattle.std.proofs.Common.{◌≡◌, ℕ, ◌*◌, ◌≤◌, length}
 use Rattle.std.specs.Prelude.{vec_capacity}
 use Rattle.fg_base.specs.Shapes.{texel_bytes}
 use Rattle.fg_base.specs.Texels.{band}
-use Rattle.fg_lanes.specs.Code.Painters.{Paints}
+use Rattle.fg_lanes.specs.Internal.Painters.{Paints}
 use Rattle.fg_lanes.proofs.strips.paint_strips.Given as goal
 
 abbrev pub invariant-loop-strip : goal.invariant-loop-strip

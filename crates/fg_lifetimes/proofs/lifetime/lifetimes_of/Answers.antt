@@ -1,5 +1,5 @@
 use Rattle.std.proofs.Common.{◌+◌, subst, sym}
-use Rattle.fg_lifetimes.specs.Code.Lifetimes.{AreLifetimes}
+use Rattle.fg_lifetimes.specs.Internal.Lifetimes.{AreLifetimes}
 use Rattle.fg_lifetimes.proofs.Sides.{placed_touched, one_more}
 use Rattle.fg_lifetimes.proofs.lifetime.lifetimes_of.Goals as goal
 

@@ -1,4 +1,4 @@
-use Rattle.fg_lifetimes.specs.Code.Lifetimes.{AreLifetimes}
+use Rattle.fg_lifetimes.specs.Internal.Lifetimes.{AreLifetimes}
 use Rattle.fg_lifetimes.proofs.lifetime.lifetimes_of.Given as goal
 
 abbrev pub invariant-loop-unit : goal.invariant-loop-unit

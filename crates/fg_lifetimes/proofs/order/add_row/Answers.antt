@@ -1,5 +1,5 @@
 use Rattle.std.proofs.Common.{◌==◌, ◌&&◌, ◌||◌, ap, ◌∙◌, refl, arith, rules}
-use Rattle.fg_lifetimes.specs.Code.Lifetimes.{is_before}
+use Rattle.fg_lifetimes.specs.Internal.Lifetimes.{is_before}
 use Rattle.fg_lifetimes.proofs.Adding.{none_yet, one_more, all_now}
 use Rattle.fg_lifetimes.proofs.order.add_row.Goals as goal
 use Rattle.fg_place.specs.Pairs.{has}

@@ -1,5 +1,5 @@
 use Rattle.std.proofs.Common.{◌≡◌, ◌<◌, ◌==◌, ◌&&◌, ◌||◌, nat_lt, ℕ}
-use Rattle.fg_lifetimes.specs.Code.Lifetimes.{is_before}
+use Rattle.fg_lifetimes.specs.Internal.Lifetimes.{is_before}
 use Rattle.fg_lifetimes.proofs.order.add_row.Given as goal
 use Rattle.fg_place.specs.Pairs.{has}
 use Rattle.fg_reach.specs.Pairs.{has as reaches}

@@ -1,5 +1,5 @@
 use Rattle.std.proofs.Common.{◌≡◌, true, take}
-use Rattle.fg_lifetimes.specs.Code.Lifetimes.{all_reach}
+use Rattle.fg_lifetimes.specs.Internal.Lifetimes.{all_reach}
 use Rattle.fg_lifetimes.proofs.order.all_reach.Given as goal
 use Rattle.fg_reach.specs.Pairs.{has}
 

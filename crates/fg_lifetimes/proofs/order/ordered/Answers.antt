@@ -3,7 +3,7 @@ use Rattle.std.proofs.lemmas.List.{length-map}
 use Rattle.fg_base.proofs.Booleans.{or_false}
 use Rattle.fg_base.specs.Shapes.{shape_at, bytes_of}
 use Rattle.fg_groups.specs.Placed.{placed}
-use Rattle.fg_lifetimes.specs.Code.Lifetimes.{AreLifetimes, is_before}
+use Rattle.fg_lifetimes.specs.Internal.Lifetimes.{AreLifetimes, is_before}
 use Rattle.fg_lifetimes.proofs.Deciding.{order_for}
 use Rattle.fg_lifetimes.proofs.Sides.{all_within}
 use Rattle.fg_lifetimes.proofs.order.ordered.Goals as goal

@@ -1,5 +1,5 @@
 use Rattle.std.proofs.Common.{◌≡◌, ◌==◌, ◌&&◌, ◌||◌, refl, subst, ◌∙◌, rules}
-use Rattle.fg_lifetimes.specs.Code.Leading.{queue_in, leads_to}
+use Rattle.fg_lifetimes.specs.Internal.Leading.{queue_in, leads_to}
 use Rattle.fg_lifetimes.proofs.Adding.{none_yet, one_more}
 use Rattle.fg_lifetimes.proofs.reach.add_earlier.Goals as goal
 use Rattle.fg_reach.specs.Pairs.{has}

@@ -1,5 +1,5 @@
 use Rattle.std.proofs.Common.{◌≡◌, ◌||◌, ℕ}
-use Rattle.fg_lifetimes.specs.Code.Leading.{leads_to}
+use Rattle.fg_lifetimes.specs.Internal.Leading.{leads_to}
 use Rattle.fg_lifetimes.proofs.reach.add_earlier.Given as goal
 use Rattle.fg_reach.specs.Pairs.{has}
 

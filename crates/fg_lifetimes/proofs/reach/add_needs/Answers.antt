@@ -1,6 +1,6 @@
 use Rattle.std.proofs.Common.{◌≡◌, ◌||◌, length, sym, ap, subst, ◌∙◌, rules}
 use Rattle.std.specs.List.{list_any, range_with_len}
-use Rattle.fg_lifetimes.specs.Code.Leading.{needs_by}
+use Rattle.fg_lifetimes.specs.Internal.Leading.{needs_by}
 use Rattle.fg_lifetimes.proofs.Adding.{needs_more, any_range}
 use Rattle.fg_lifetimes.proofs.reach.add_needs.Goals as goal
 use Rattle.fg_reach.specs.Pairs.{has}

@@ -1,6 +1,6 @@
 use Rattle.std.proofs.Common.{◌≡◌, ◌||◌, ℕ}
 use Rattle.std.specs.List.{list_any, range_with_len}
-use Rattle.fg_lifetimes.specs.Code.Leading.{needs_by}
+use Rattle.fg_lifetimes.specs.Internal.Leading.{needs_by}
 use Rattle.fg_lifetimes.proofs.reach.add_needs.Given as goal
 use Rattle.fg_reach.specs.Pairs.{has}
 

@@ -1,6 +1,6 @@
 use Rattle.std.proofs.Common.{◌<◌, ◌≤◌, ◌||◌, ◌==◌, nat_lt, length, refl, ap, subst, ◌∙◌}
 use Rattle.std.proofs.lemmas.Bool.{lt-ltb}
-use Rattle.fg_lifetimes.specs.Code.Leading.{queue_in, comes_later}
+use Rattle.fg_lifetimes.specs.Internal.Leading.{queue_in, comes_later}
 use Rattle.fg_lifetimes.proofs.Adding.{none_yet, one_more, ends_at, all_told}
 use Rattle.fg_lifetimes.proofs.reach.add_queues.Goals as goal
 use Rattle.fg_reach.specs.Pairs.{has}

@@ -1,5 +1,5 @@
 use Rattle.std.proofs.Common.{◌≡◌, ◌&&◌, ◌||◌, nat_lt, ℕ}
-use Rattle.fg_lifetimes.specs.Code.Leading.{comes_later}
+use Rattle.fg_lifetimes.specs.Internal.Leading.{comes_later}
 use Rattle.fg_lifetimes.proofs.reach.add_queues.Given as goal
 use Rattle.fg_reach.specs.Pairs.{has}
 

@@ -1,6 +1,6 @@
 use Rattle.std.proofs.Common.{◌≡◌, ◌||◌, ℕ, ap, ◌∙◌}
 use Rattle.fg_groups.specs.Needs.{needs, leads}
-use Rattle.fg_lifetimes.specs.Code.Leading.{comes_later}
+use Rattle.fg_lifetimes.specs.Internal.Leading.{comes_later}
 use Rattle.fg_lifetimes.proofs.Adding.{both_kinds}
 use Rattle.fg_lifetimes.proofs.reach.reach_of.Goals as goal
 use Rattle.fg_reach.specs.Pairs.{has}

@@ -1,6 +1,6 @@
 use Rattle.std.proofs.Common.{ap, ◌∙◌}
 use Rattle.fg_frame.specs.Numbered.{numbered}
-use Rattle.fg_meaning.specs.Code.Held.{all_settled}
+use Rattle.fg_meaning.specs.Internal.Held.{all_settled}
 use Rattle.fg_meaning.proofs.Exported.{exported}
 use Rattle.fg_meaning.proofs.Settling.{exports_meant, settled_count}
 use Rattle.fg_meaning.proofs.exports.exports_of.Goals as goal

@@ -1,6 +1,6 @@
 use Rattle.std.proofs.Common.{◌≡◌, drop, length}
 use Rattle.fg_frame.specs.Numbered.{numbered}
-use Rattle.fg_meaning.specs.Code.Held.{all_settled}
+use Rattle.fg_meaning.specs.Internal.Held.{all_settled}
 use Rattle.fg_meaning.proofs.exports.settle_all.Given as goal
 
 abbrev pub invariant-loop-unit : goal.invariant-loop-unit

@@ -1,8 +1,8 @@
 use Rattle.std.proofs.Common.{◌<◌, subst, sym, ap, ◌∙◌}
-use Rattle.fg_frame.specs.Good.{shapes_in}
+use Rattle.fg_frame.specs.Valid.{shapes_in}
 use Rattle.fg_frame.specs.Numbered.{numbered}
 use Rattle.fg_meaning.specs.Meaning.{after_passes, after_ops, all_bytes}
-use Rattle.fg_meaning.specs.Code.Sizes.{AreSized}
+use Rattle.fg_meaning.specs.Internal.Sizes.{AreSized}
 use Rattle.fg_meaning.proofs.Steps.{bytes_on, are_sized}
 use Rattle.fg_meaning.proofs.pictures.all_bytes.Goals as goal
 

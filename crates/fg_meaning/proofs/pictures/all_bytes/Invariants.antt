@@ -1,8 +1,8 @@
 use Rattle.std.proofs.Common.{◌≡◌, drop}
-use Rattle.fg_frame.specs.Good.{shapes_in}
+use Rattle.fg_frame.specs.Valid.{shapes_in}
 use Rattle.fg_frame.specs.Numbered.{numbered}
 use Rattle.fg_meaning.specs.Meaning.{after_passes, all_bytes}
-use Rattle.fg_meaning.specs.Code.Sizes.{AreSized}
+use Rattle.fg_meaning.specs.Internal.Sizes.{AreSized}
 use Rattle.fg_meaning.proofs.pictures.all_bytes.Given as goal
 
 abbrev pub invariant-loop-pass : goal.invariant-loop-pass

@@ -1,5 +1,5 @@
 use Rattle.std.proofs.Common.{◌≡◌, drop, length}
-use Rattle.fg_meaning.specs.Code.Stored.{marked_by}
+use Rattle.fg_meaning.specs.Internal.Stored.{marked_by}
 use Rattle.fg_meaning.proofs.stored.mark.Given as goal
 
 abbrev pub invariant-loop-op : goal.invariant-loop-op

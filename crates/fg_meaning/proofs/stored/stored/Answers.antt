@@ -1,7 +1,7 @@
 use Rattle.std.proofs.Common.{◌<◌, ◌≤◌, subst, map, is_some, length}
 use Rattle.fg_frame.specs.Numbered.{numbered}
 use Rattle.fg_meaning.proofs.Steps.{marks_on, marks_grown, all_marked}
-use Rattle.fg_meaning.specs.Code.Stored.{marked}
+use Rattle.fg_meaning.specs.Internal.Stored.{marked}
 use Rattle.fg_meaning.proofs.stored.stored.Goals as goal
 
 pub loop-pass-preserved : goal.loop-pass-preserved

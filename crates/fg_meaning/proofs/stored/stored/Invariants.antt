@@ -1,6 +1,6 @@
 use Rattle.std.proofs.Common.{◌≡◌, drop, length, map, is_some}
 use Rattle.fg_frame.specs.Numbered.{numbered}
-use Rattle.fg_meaning.specs.Code.Stored.{marked}
+use Rattle.fg_meaning.specs.Internal.Stored.{marked}
 use Rattle.fg_meaning.proofs.stored.stored.Given as goal
 
 abbrev pub invariant-loop-pass : goal.invariant-loop-pass

@@ -4,7 +4,7 @@ use Rattle.fg_base.specs.Operands.{touches}
 use Rattle.fg_frame.specs.Numbered.{numbered}
 use Rattle.fg_meaning.proofs.Remaining.{later, here, no_pass}
 use Rattle.fg_meaning.proofs.wanted.is_touched_from.Goals as goal
-use Rattle.fg_meaning.specs.Code.Held.{all_ops}
+use Rattle.fg_meaning.specs.Internal.Held.{all_ops}
 
 pub loop-pass-preserved : goal.loop-pass-preserved
 loop-pass-preserved c =

@@ -1,4 +1,4 @@
-use Rattle.fg_measure.specs.Code.Tables.{HoldsImage}
+use Rattle.fg_measure.specs.Internal.Tables.{HoldsImage}
 use Rattle.fg_measure.proofs.repeat.use_first.Given as goal
 
 abbrev pub invariant-loop-k : goal.invariant-loop-k

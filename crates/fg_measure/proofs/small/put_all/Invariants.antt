@@ -1,4 +1,4 @@
-use Rattle.fg_measure.specs.Code.Tables.{HoldsRow}
+use Rattle.fg_measure.specs.Internal.Tables.{HoldsRow}
 use Rattle.fg_measure.proofs.small.put_all.Given as goal
 
 abbrev pub invariant-loop-k : goal.invariant-loop-k

@@ -1,6 +1,6 @@
 use Rattle.std.proofs.Common.{◌≡◌, ◌≤◌}
 use Rattle.std.specs.List.{All}
-use Rattle.fg_measure.specs.Code.Tables.{image}
+use Rattle.fg_measure.specs.Internal.Tables.{image}
 use Rattle.fg_measure.proofs.table.cuts.Given as goal
 
 abbrev pub invariant-loop-k : goal.invariant-loop-k

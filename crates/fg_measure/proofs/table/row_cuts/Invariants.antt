@@ -1,6 +1,6 @@
 use Rattle.std.proofs.Common.{◌≡◌, ◌≤◌}
 use Rattle.std.specs.List.{All}
-use Rattle.fg_measure.specs.Code.Tables.{row}
+use Rattle.fg_measure.specs.Internal.Tables.{row}
 use Rattle.fg_measure.proofs.table.row_cuts.Given as goal
 
 abbrev pub invariant-loop-k : goal.invariant-loop-k

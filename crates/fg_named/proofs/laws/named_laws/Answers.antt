@@ -3,8 +3,8 @@ use Rattle.fg_named.proofs.Persisting.{held_by_names}
 use Rattle.fg_named.proofs.Turns.{declared_in_turn, each_declared}
 use Rattle.fg_named.proofs.laws.named_laws.Goals as goal
 
-pub returns-clause-held : goal.returns-clause-held
-returns-clause-held c = held_by_names
+pub returns-clause-persisted : goal.returns-clause-persisted
+returns-clause-persisted c = held_by_names
 
 pub returns-clause-numbers : goal.returns-clause-numbers
 returns-clause-numbers c = declared_numbered

@@ -1,4 +1,4 @@
-use Rattle.fg_pixels.specs.Code.Sums.{AreColumns, AreSmall}
+use Rattle.fg_pixels.specs.Internal.Sums.{AreColumns, AreSmall}
 use Rattle.fg_pixels.proofs.byte_blur.sum_columns.Given as goal
 
 abbrev pub invariant-loop-x : goal.invariant-loop-x

@@ -1,7 +1,7 @@
 use Rattle.std.proofs.Common.{◌≡◌, ◌≤◌, ◌+◌, ◌%◌}
 use Rattle.fg_place.specs.Pairs.{has}
 use Rattle.fg_place.specs.Placing.{granule}
-use Rattle.fg_place.specs.Code.Moving.{IsPast, IsTaken}
+use Rattle.fg_place.specs.Internal.Moving.{IsPast, IsTaken}
 use Rattle.fg_place.proofs.least.least_of.Given as goal
 
 abbrev pub invariant-loop-j : goal.invariant-loop-j

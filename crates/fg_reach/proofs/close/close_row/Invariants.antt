@@ -1,6 +1,6 @@
 use Rattle.std.proofs.Common.{◌≡◌, ◌/◌, ◌<◌, ℕ, true, length}
 use Rattle.fg_reach.specs.Bits.{bit}
-use Rattle.fg_reach.specs.Code.Closing.{Grown}
+use Rattle.fg_reach.specs.Internal.Closing.{Grown}
 use Rattle.fg_reach.proofs.close.close_row.Given as goal
 
 abbrev pub invariant-words : goal.invariant-words

@@ -3,7 +3,7 @@ use Rattle.std.proofs.lemmas.Nat.Bits.{bit_at-trailing_zeros}
 use Rattle.std.proofs.lemmas.Bool.{or_left, or_right}
 use Rattle.std.specs.Int.{trailing_zeros, bit_at}
 use Rattle.fg_reach.specs.Bits.{bit}
-use Rattle.fg_reach.specs.Code.Closing.{row_bit}
+use Rattle.fg_reach.specs.Internal.Closing.{row_bit}
 use Rattle.fg_reach.proofs.WordBits.{word_bit_at, word_bit_from, minus_less, minus_stays, minus_smaller, row_within, row_low, grow}
 use Rattle.fg_reach.proofs.close.take_word.Goals as goal
 

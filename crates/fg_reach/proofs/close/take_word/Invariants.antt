@@ -1,7 +1,7 @@
 use Rattle.std.proofs.Common.{◌≡◌, ◌+◌, ◌*◌, ◌<◌, ◌⊎◌, ℕ, true, length}
 use Rattle.std.specs.Int.{bit_at}
 use Rattle.fg_reach.specs.Bits.{bit}
-use Rattle.fg_reach.specs.Code.Closing.{Grown}
+use Rattle.fg_reach.specs.Internal.Closing.{Grown}
 use Rattle.fg_reach.proofs.close.take_word.Given as goal
 
 abbrev pub invariant-bits : goal.invariant-bits

@@ -1,5 +1,5 @@
 use Rattle.std.proofs.Common.{◌≡◌, take}
-use Rattle.fg_recorder.specs.Code.Wants.{last_number}
+use Rattle.fg_recorder.specs.Internal.Wants.{last_number}
 use Rattle.fg_recorder.proofs.needs.last_number.Given as goal
 use Rattle.fg_turns.specs.Unions.{on}
 

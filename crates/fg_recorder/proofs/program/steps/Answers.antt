@@ -7,10 +7,10 @@ use Rattle.fg_recorder.specs.Marks.{steps_of}
 use Rattle.fg_recorder.specs.declared.mark.Marked.{Marked}
 use Rattle.fg_timeline.specs.Steps.{IsScript}
 use Rattle.fg_timeline.specs.declared.step.Step.{Step}
-use Rattle.fg_turns.specs.Turns.{turns}
+use Rattle.fg_turns.specs.Prologues.{prologues}
 
 pub script-requires : goal.script-requires
-script-requires g c = (c.as_slice.ensures ∙ c.in_ok-turns.ensures ∙ ap (turns c.args.groups.now) (sym c.requires.0), c.requires.1.1.1.1)
+script-requires g c = (c.as_slice.ensures ∙ c.in_ok-prologues.ensures ∙ ap (prologues c.args.groups.now) (sym c.requires.0), c.requires.1.1.1.1)
 
 pub steps_of-requires : goal.steps_of-requires
 steps_of-requires g c = subst (λ (l : List Marked). length l < 2 ^ 32) (sym c.in_ok-script.ensures.script) (few_steps c.args.groups.now g.heap c.requires.1.0 c.script.ensures.small.few_commands)

@@ -1,6 +1,6 @@
 use Rattle.std.proofs.Common.{◌≤◌, length}
 use Rattle.fg_recorder.proofs.steps.tables_of.Given as goal
-use Rattle.fg_recorder.specs.Code.Tables.{Finds}
+use Rattle.fg_recorder.specs.Internal.Tables.{Finds}
 
 abbrev pub invariant-loop-step : goal.invariant-loop-step
 invariant-loop-step l = record { within : l.step ≤ length l.script; finds : Finds l.script l.step l.tables }

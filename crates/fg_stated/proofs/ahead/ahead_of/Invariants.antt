@@ -1,5 +1,5 @@
 use Rattle.std.proofs.Common.{◌-◌, length}
-use Rattle.fg_stated.specs.Code.Tables.{IsAhead}
+use Rattle.fg_stated.specs.Internal.Tables.{IsAhead}
 use Rattle.fg_stated.proofs.ahead.ahead_of.Given as goal
 
 abbrev pub invariant-loop-k : goal.invariant-loop-k

@@ -1,5 +1,5 @@
 use Rattle.std.proofs.Common.{◌≡◌, ◌+◌, drop}
-use Rattle.fg_subs.specs.Code.Counts.{batches_count}
+use Rattle.fg_subs.specs.Internal.Counts.{batches_count}
 use Rattle.fg_subs.proofs.limits.after_batches.Given as goal
 
 abbrev pub invariant-loop-batch : goal.invariant-loop-batch

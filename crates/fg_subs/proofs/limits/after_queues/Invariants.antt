@@ -1,5 +1,5 @@
 use Rattle.std.proofs.Common.{◌≡◌, ◌+◌, drop}
-use Rattle.fg_subs.specs.Code.Counts.{queues_count}
+use Rattle.fg_subs.specs.Internal.Counts.{queues_count}
 use Rattle.fg_subs.proofs.limits.after_queues.Given as goal
 
 abbrev pub invariant-loop-queue : goal.invariant-loop-queue

@@ -1,5 +1,5 @@
 use Rattle.std.proofs.Common.{◌≡◌, ◌++◌, drop}
-use Rattle.fg_subs.specs.Code.Nodes.{batch_nodes}
+use Rattle.fg_subs.specs.Internal.Nodes.{batch_nodes}
 use Rattle.fg_subs.specs.Places.{all_in}
 use Rattle.fg_subs.proofs.nodes.push_batches.Given as goal
 

@@ -1,5 +1,5 @@
 use Rattle.std.proofs.Common.{subst}
-use Rattle.fg_tight.specs.Code.Rounds.{FitTried}
+use Rattle.fg_tight.specs.Internal.Rounds.{FitTried}
 use Rattle.fg_tight.proofs.Walks.{came_after, first_same, second_same}
 use Rattle.fg_tight.proofs.leaving.fewer_stages.Goals as goal
 

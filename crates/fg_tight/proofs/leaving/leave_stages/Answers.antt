@@ -1,5 +1,5 @@
 use Rattle.std.proofs.Common.{◌≡◌, ◌∙◌, Some, subst, sym, arith}
-use Rattle.fg_tight.specs.Code.Rounds.{StageNumberTried, StageTried, Walked}
+use Rattle.fg_tight.specs.Internal.Rounds.{StageNumberTried, StageTried, Walked}
 use Rattle.fg_tight.proofs.Walks.{walked_none_as, walked_after}
 use Rattle.fg_tight.proofs.leaving.leave_stages.Goals as goal
 

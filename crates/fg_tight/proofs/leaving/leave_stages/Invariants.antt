@@ -1,4 +1,4 @@
-use Rattle.fg_tight.specs.Code.Rounds.{StageNumberTried, Walked}
+use Rattle.fg_tight.specs.Internal.Rounds.{StageNumberTried, Walked}
 use Rattle.fg_tight.proofs.leaving.leave_stages.Given as goal
 
 abbrev pub invariant-loop-i : goal.invariant-loop-i

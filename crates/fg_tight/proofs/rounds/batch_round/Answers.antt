@@ -1,23 +1,23 @@
 use Rattle.std.proofs.Common.{◌≡◌, ◌+◌, subst, arith}
-use Rattle.fg_tight.specs.Code.Rounds.{WaitDone}
+use Rattle.fg_tight.specs.Internal.Rounds.{WaitDone}
 use Rattle.fg_tight.proofs.Walks.{walked_after, first_same, second_same, batch_done}
 use Rattle.fg_tight.proofs.rounds.batch_round.Goals as goal
 
 pub loop-step-preserved : goal.loop-step-preserved
 loop-step-preserved c =
     let now = c.loop-step.now in
-    let turned = c.in_ok-turned.turned in
-    let trial = turned.trial in
+    let attempt = c.in_ok-attempt.attempt in
+    let trial = attempt.trial in
     let to = c.after-now.result in
     let held = c.loop-step.invariant in
     record {
       walked =
-          walked_after (WaitDone c.args.queue c.args.batch) c.args.program now.program trial.program to.program now.changed trial.changed to.changed c.loop-step.step held.walked c.in_ok-turned.ensures.came
-          (λ same also. subst (WaitDone c.args.queue c.args.batch now.program) (held.each same) (c.in_ok-turned.ensures.done also))
+          walked_after (WaitDone c.args.queue c.args.batch) c.args.program now.program trial.program to.program now.changed trial.changed to.changed c.loop-step.step held.walked c.in_ok-attempt.ensures.came
+          (λ same also. subst (WaitDone c.args.queue c.args.batch now.program) (held.each same) (c.in_ok-attempt.ensures.done also))
           c.after-now.ensures.program c.after-now.ensures.changed;
-      within = omega (arith, c.in_ok-turned.ensures.next, held.within);
+      within = omega (arith, c.in_ok-attempt.ensures.next, held.within);
       each = λ same.
-          let last : turned.next ≡ c.loop-step.at + 1 = c.in_ok-turned.ensures.last (second_same now.changed trial.changed to.changed c.after-now.ensures.changed same) in
+          let last : attempt.next ≡ c.loop-step.at + 1 = c.in_ok-attempt.ensures.last (second_same now.changed trial.changed to.changed c.after-now.ensures.changed same) in
           let each : c.loop-step.at ≡ c.loop-step.step = held.each (first_same now.changed trial.changed to.changed c.after-now.ensures.changed same) in
           omega (arith, last, each);
     }

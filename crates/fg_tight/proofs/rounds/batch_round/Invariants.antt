@@ -1,5 +1,5 @@
 use Rattle.std.proofs.Common.{◌≡◌, ◌≤◌, false}
-use Rattle.fg_tight.specs.Code.Rounds.{WaitDone, Walked}
+use Rattle.fg_tight.specs.Internal.Rounds.{WaitDone, Walked}
 use Rattle.fg_tight.proofs.rounds.batch_round.Given as goal
 
 abbrev pub invariant-loop-step : goal.invariant-loop-step

@@ -1,5 +1,5 @@
 use Rattle.std.proofs.Common.{arith}
-use Rattle.fg_tight.specs.Code.Rounds.{BatchDone}
+use Rattle.fg_tight.specs.Internal.Rounds.{BatchDone}
 use Rattle.fg_tight.proofs.Walks.{walked_none_as, walked_after, queue_done}
 use Rattle.fg_tight.proofs.rounds.queue_round.Goals as goal
 

@@ -1,4 +1,4 @@
-use Rattle.fg_tight.specs.Code.Rounds.{BatchDone, Walked}
+use Rattle.fg_tight.specs.Internal.Rounds.{BatchDone, Walked}
 use Rattle.fg_tight.proofs.rounds.queue_round.Given as goal
 
 abbrev pub invariant-loop-batch : goal.invariant-loop-batch

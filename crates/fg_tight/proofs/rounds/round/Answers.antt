@@ -1,5 +1,5 @@
 use Rattle.std.proofs.Common.{arith}
-use Rattle.fg_tight.specs.Code.Rounds.{QueueDone}
+use Rattle.fg_tight.specs.Internal.Rounds.{QueueDone}
 use Rattle.fg_tight.proofs.Walks.{walked_none_as, walked_after, all_done}
 use Rattle.fg_tight.proofs.rounds.round.Goals as goal
 

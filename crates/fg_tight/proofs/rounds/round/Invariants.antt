@@ -1,4 +1,4 @@
-use Rattle.fg_tight.specs.Code.Rounds.{QueueDone, Walked}
+use Rattle.fg_tight.specs.Internal.Rounds.{QueueDone, Walked}
 use Rattle.fg_tight.proofs.rounds.round.Given as goal
 
 abbrev pub invariant-loop-queue : goal.invariant-loop-queue

@@ -1,5 +1,5 @@
 use Rattle.fg_subs.specs.declared.program.Program.{Program}
-use Rattle.fg_tight.specs.Code.Weights.{weight}
+use Rattle.fg_tight.specs.Internal.Weights.{weight}
 use Rattle.fg_tight.specs.Standing.{StandsTo}
 use Rattle.fg_tight.specs.Tight.{Passes}
 use Rattle.fg_tight.proofs.rounds.settled.Given as goal

@@ -6,6 +6,6 @@ use Rattle.fg_tight.proofs.tightening.tighten.Goals as goal
 pub returns-clause-stands : goal.returns-clause-stands
 returns-clause-stands c =
     let given = c.args.program.program in
-    stands_taken (λ checked. checked.program) given c.in_ok-tight.tight c.taken.result
+    stands_taken (λ checked. checked.program) given c.in_ok-tight.tight c.proved_sound.result
     (c.in_ok-tight.ensures.stands given (subst (StandsTo given) (sym c.in_ok-copy.ensures.program) (same_program given)))
-    c.taken.ensures
+    c.proved_sound.ensures

@@ -1,7 +1,7 @@
 use Rattle.std.proofs.Common.{◌≡◌, ◌∙◌, length, subst, arith}
 use Rattle.fg_timeline.proofs.Submitting.{all_added}
 use Rattle.fg_timeline.specs.Below.{all_below}
-use Rattle.fg_timeline.specs.Code.Submissions.{nothing, Adds, ClosedAt}
+use Rattle.fg_timeline.specs.Internal.Submissions.{nothing, Adds, ClosedAt}
 use Rattle.fg_timeline.specs.Parts.{parts_at}
 use Rattle.fg_timeline.proofs.queues.batches_of.Goals as goal
 

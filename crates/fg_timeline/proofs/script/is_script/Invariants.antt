@@ -1,5 +1,5 @@
 use Rattle.std.proofs.Common.{◌≡◌, ◌<◌, ℕ, length, true}
-use Rattle.fg_timeline.specs.Code.Scripts.{is_fit}
+use Rattle.fg_timeline.specs.Internal.Scripts.{is_fit}
 use Rattle.fg_timeline.proofs.script.is_script.Given as goal
 
 abbrev pub invariant-loop-at : goal.invariant-loop-at

@@ -2,7 +2,7 @@ use Rattle.std.proofs.Common.{◌≡◌, ◌+◌, ◌<◌, ◌∙◌, length, se
 use Rattle.std.proofs.lemmas.List.{get_or_read}
 use Rattle.fg_timeline.proofs.Counting.{queue_known, count_room, count_here, count_none, counted_value}
 use Rattle.fg_timeline.proofs.Walks.{queue_here}
-use Rattle.fg_timeline.specs.Code.Counts.{HasCounts}
+use Rattle.fg_timeline.specs.Internal.Counts.{HasCounts}
 use Rattle.fg_timeline.specs.Steps.{queue_at}
 use Rattle.fg_timeline.proofs.signals.counted.Goals as goal
 use Rattle.fg_timeline.proofs.signals.counted.Goals.{After-queue-queue, Joined-is_signalled, then-is_signalled, else-is_signalled}

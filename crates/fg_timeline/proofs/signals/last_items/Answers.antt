@@ -2,7 +2,7 @@ use Rattle.std.proofs.Common.{sym, subst, ◌<◌, ◌+◌, ◌∙◌}
 use Rattle.fg_timeline.proofs.Counting.{last_item_here, last_need_here}
 use Rattle.fg_timeline.proofs.Latest.{has_there}
 use Rattle.fg_timeline.proofs.Walks.{step_there}
-use Rattle.fg_timeline.specs.Code.Counts.{HasLasts}
+use Rattle.fg_timeline.specs.Internal.Counts.{HasLasts}
 use Rattle.fg_timeline.specs.declared.step.Step.TheVariants.{Item, Need}
 use Rattle.fg_timeline.proofs.signals.last_items.Goals as goal
 use Rattle.fg_timeline.proofs.signals.last_items.Goals.{in-Item, in-Need}

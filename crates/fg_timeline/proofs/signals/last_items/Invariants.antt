@@ -1,4 +1,4 @@
-use Rattle.fg_timeline.specs.Code.Counts.{HasLasts}
+use Rattle.fg_timeline.specs.Internal.Counts.{HasLasts}
 use Rattle.fg_timeline.proofs.signals.last_items.Given as goal
 
 abbrev pub invariant-loop-at : goal.invariant-loop-at

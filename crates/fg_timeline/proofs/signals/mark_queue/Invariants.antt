@@ -1,5 +1,5 @@
 use Rattle.std.proofs.Common.{◌≡◌, ◌||◌, ℕ, false, length, get_or}
-use Rattle.fg_timeline.specs.Code.Walks.{Knows}
+use Rattle.fg_timeline.specs.Internal.Walks.{Knows}
 use Rattle.fg_timeline.specs.Signals.{awaited_by}
 use Rattle.fg_timeline.proofs.signals.mark_queue.Given as goal
 

@@ -1,5 +1,5 @@
 use Rattle.std.proofs.Common.{◌≡◌}
-use Rattle.fg_timeline.specs.Code.Counts.{signalled_below, values_below, HasCounts}
+use Rattle.fg_timeline.specs.Internal.Counts.{signalled_below, values_below, HasCounts}
 use Rattle.fg_timeline.proofs.signals.signals_of.Given as goal
 
 abbrev pub invariant-loop-at : goal.invariant-loop-at

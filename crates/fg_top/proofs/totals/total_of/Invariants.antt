@@ -1,6 +1,6 @@
 use Rattle.std.proofs.Common.{◌≤◌, ◌*◌}
 use Rattle.fg_top.proofs.totals.total_of.Given as goal
-use Rattle.fg_top.specs.Code.Totals.{IsTotal}
+use Rattle.fg_top.specs.Internal.Totals.{IsTotal}
 use Rattle.fg_run.specs.Runs.{read_by}
 
 abbrev pub invariant-loop-k : goal.invariant-loop-k

@@ -1,6 +1,6 @@
 use Rattle.std.proofs.Common.{ap, sym, ◌∙◌}
 use Rattle.fg_turns.proofs.Members.{earlier_apart, earlier_joined}
-use Rattle.fg_turns.specs.Turns.{first}
+use Rattle.fg_turns.specs.Prologues.{first}
 use Rattle.fg_turns.proofs.of_groups.earlier.Goals as goal
 
 pub returns-else-unit_of : goal.returns-else-unit_of

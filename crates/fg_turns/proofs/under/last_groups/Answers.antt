@@ -1,7 +1,7 @@
 use Rattle.std.proofs.Common.{◌<◌, ◌∙◌, length, ap, sym, subst, arith, []}
 use Rattle.fg_groups.specs.Uses.{no_use}
 use Rattle.fg_turns.proofs.Members.{some_use, lasts_more}
-use Rattle.fg_turns.specs.Turns.{first}
+use Rattle.fg_turns.specs.Prologues.{first}
 use Rattle.fg_turns.proofs.under.last_groups.Goals as goal
 
 pub loop-g-preserved : goal.loop-g-preserved

@@ -1,4 +1,4 @@
-use Rattle.fg_turns.specs.Code.Lasts.{AreLasts}
+use Rattle.fg_turns.specs.Internal.Lasts.{AreLasts}
 use Rattle.fg_turns.proofs.under.last_groups.Given as goal
 
 abbrev pub invariant-loop-g : goal.invariant-loop-g

@@ -1,5 +1,5 @@
 use Rattle.std.proofs.Common.{◌≡◌, drop, length}
-use Rattle.fg_versions.specs.Code.Counts.{counted}
+use Rattle.fg_versions.specs.Internal.Counts.{counted}
 use Rattle.fg_versions.proofs.counts.count_all.Given as goal
 
 abbrev pub invariant-loop-row : goal.invariant-loop-row

@@ -1,5 +1,5 @@
 use Rattle.std.proofs.Common.{◌≡◌, drop, length}
-use Rattle.fg_versions.specs.Code.Counts.{raised}
+use Rattle.fg_versions.specs.Internal.Counts.{raised}
 use Rattle.fg_versions.proofs.counts.count_row.Given as goal
 
 abbrev pub invariant-loop-maker : goal.invariant-loop-maker

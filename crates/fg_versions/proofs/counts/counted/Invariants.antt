@@ -1,5 +1,5 @@
 use Rattle.std.proofs.Common.{◌≡◌, take}
-use Rattle.fg_versions.specs.Code.Counts.{root_counts}
+use Rattle.fg_versions.specs.Internal.Counts.{root_counts}
 use Rattle.fg_versions.proofs.counts.counted.Given as goal
 
 abbrev pub invariant-loop-root : goal.invariant-loop-root

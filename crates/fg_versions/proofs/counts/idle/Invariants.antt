@@ -1,5 +1,5 @@
 use Rattle.std.proofs.Common.{◌≡◌, ◌++◌, drop}
-use Rattle.fg_versions.specs.Code.Counts.{idle_from}
+use Rattle.fg_versions.specs.Internal.Counts.{idle_from}
 use Rattle.fg_versions.proofs.counts.idle.Given as goal
 
 abbrev pub invariant-loop-at : goal.invariant-loop-at

@@ -1,5 +1,5 @@
 use Rattle.std.proofs.Common.{◌≡◌, ◌≤◌, ℕ, drop, length}
-use Rattle.fg_versions.specs.Code.Counts.{times, count_of, refs_after, stack_after}
+use Rattle.fg_versions.specs.Internal.Counts.{times, count_of, refs_after, stack_after}
 use Rattle.fg_versions.proofs.counts.lose.Given as goal
 
 abbrev pub invariant-loop-maker : goal.invariant-loop-maker

@@ -1,6 +1,6 @@
 use Rattle.std.proofs.Common.{◌+◌, length}
 use Rattle.std.specs.List.{sum_by}
-use Rattle.fg_versions.specs.Code.Counts.{Counts}
+use Rattle.fg_versions.specs.Internal.Counts.{Counts}
 use Rattle.fg_versions.proofs.counts.needed.Given as goal
 
 abbrev pub invariant-loop-pass : goal.invariant-loop-pass

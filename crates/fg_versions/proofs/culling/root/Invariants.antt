@@ -1,5 +1,5 @@
 use Rattle.std.proofs.Common.{◌≡◌, drop, length}
-use Rattle.fg_versions.specs.Code.Roots.{rooted}
+use Rattle.fg_versions.specs.Internal.Roots.{rooted}
 use Rattle.fg_versions.proofs.culling.root.Given as goal
 
 abbrev pub invariant-loop-unit : goal.invariant-loop-unit

@@ -4,7 +4,7 @@ use Rattle.fg_subs.specs.Entries.{entries_of, seen}
 use Rattle.fg_subs.specs.Rules.{shapes_of}
 use Rattle.fg_subs.specs.declared.rule.Rule.TheVariants as rules
 use Rattle.fg_view.proofs.EntryFits.{entry_known}
-use Rattle.fg_view.specs.Code.KnownEntries.{IsKnown}
+use Rattle.fg_view.specs.Internal.KnownEntries.{IsKnown}
 use Rattle.fg_view.specs.Effects.{entry_effect}
 use Rattle.fg_view.proofs.effects.effects_of.Goals as goal
 

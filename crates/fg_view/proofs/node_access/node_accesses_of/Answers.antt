@@ -1,7 +1,7 @@
 use Rattle.std.proofs.Common.{◌≡◌, ap, sym, ◌∙◌, subst}
 use Rattle.std.proofs.lemmas.List.{take_all}
 use Rattle.fg_view.proofs.Listing.{among_at, listed}
-use Rattle.fg_view.specs.ShapedView.{Listed}
+use Rattle.fg_view.specs.ValidView.{Listed}
 use Rattle.fg_view.specs.Views.{node_accesses_of}
 use Rattle.fg_view.proofs.node_access.node_accesses_of.Goals as goal
 

@@ -5,6 +5,6 @@ use Rattle.fg_words.proofs.persist.all_named.Given as goal
 
 abbrev pub invariant-loop-part : goal.invariant-loop-part
 invariant-loop-part l = record {
-  names : l.names ≡ map (λ part. part.now) (take l.part-index l.parts);
-  each : list_all is_name (map (λ part. part.now) (take l.part-index l.parts)) ≡ true;
+  names : l.names ≡ map (λ part. part.now) (take l.part-index l.entries);
+  each : list_all is_name (map (λ part. part.now) (take l.part-index l.entries)) ≡ true;
 }

@@ -1,7 +1,7 @@
 use Rattle.std.proofs.Common.{true, false, ◌∙◌, List, ◌∷◌, [], ◌++◌, sym, ap, subst}
 use Rattle.fg_audit.proofs.Made.{begins, cannot, follows_begin}
 use Rattle.fg_audit.proofs.follower.Follower.begin.Goals as goal
-use Rattle.fg_audit.specs.Code.Following.{Follows}
+use Rattle.fg_audit.specs.Internal.Following.{Follows}
 use Rattle.fg_base.specs.declared.event.Event.TheVariants.{Begin}
 use Rattle.fg_device.specs.declared.job.Command.{Command}
 use Rattle.fg_steps.specs.Devices.{Device}

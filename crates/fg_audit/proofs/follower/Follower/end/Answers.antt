@@ -3,7 +3,7 @@ use Rattle.std.specs.List.{position}
 use Rattle.fg_audit.proofs.Holding.{none_held}
 use Rattle.fg_audit.proofs.Made.{ends, follows_not, found_ends, not_held}
 use Rattle.fg_audit.proofs.follower.Follower.end.Goals as goal
-use Rattle.fg_audit.specs.Code.Following.{Follows}
+use Rattle.fg_audit.specs.Internal.Following.{Follows}
 use Rattle.fg_base.specs.declared.event.Event.TheVariants.{End}
 use Rattle.fg_device.specs.declared.job.Command.{Command}
 use Rattle.fg_steps.specs.Devices.{Device}

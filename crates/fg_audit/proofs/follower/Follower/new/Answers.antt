@@ -1,7 +1,7 @@
 use Rattle.std.proofs.Common.{◌∙◌, List, sym, ap, subst}
 use Rattle.fg_audit.proofs.Made.{none_yet}
 use Rattle.fg_audit.proofs.follower.Follower.new.Goals as goal
-use Rattle.fg_audit.specs.Code.Following.{Holds}
+use Rattle.fg_audit.specs.Internal.Following.{Holds}
 use Rattle.fg_device.specs.declared.job.Command.{Command}
 use Rattle.fg_steps.specs.Devices.{opening, state_of}
 

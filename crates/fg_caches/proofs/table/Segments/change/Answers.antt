@@ -3,11 +3,11 @@ use Rattle.std.specs.Prelude.{if◌then◌else◌}
 use Rattle.fg_base.proofs.Booleans.{kept_false}
 use Rattle.fg_caches.specs.declared.row.Row.{Row}
 use Rattle.fg_caches.specs.Lines.{is_in, range}
-use Rattle.fg_caches.specs.Code.Rows.{changed}
+use Rattle.fg_caches.specs.Internal.Rows.{changed}
 use Rattle.fg_caches.specs.Places.{cut_in, row_at}
-use Rattle.fg_caches.specs.Code.Segments.{within}
+use Rattle.fg_caches.specs.Internal.Segments.{within}
 use Rattle.fg_caches.specs.Tables.{Table, address}
-use Rattle.fg_caches.specs.Code.Kept.{AreApart, IsTiled}
+use Rattle.fg_caches.specs.Internal.Kept.{AreApart, IsTiled}
 use Rattle.fg_caches.proofs.Addresses.{address_inside, range_addresses}
 use Rattle.fg_caches.proofs.Rooms.{toll_false, toll_kept, missing_is}
 use Rattle.fg_caches.proofs.table.Segments.change.Goals as goal

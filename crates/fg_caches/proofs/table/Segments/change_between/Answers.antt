@@ -1,11 +1,11 @@
 use Rattle.std.proofs.Common.{◌≡◌, ◌∙◌, ℕ, ◌<◌, ◌≤◌, List, true, length, sym, ap, subst, ⊎_elim, arith}
 use Rattle.std.specs.Prelude.{if◌then◌else◌}
 use Rattle.fg_caches.specs.declared.segment.Segment.{Segment}
-use Rattle.fg_caches.specs.Code.Rows.{changed, ChangeIn}
+use Rattle.fg_caches.specs.Internal.Rows.{changed, ChangeIn}
 use Rattle.fg_caches.specs.Places.{place, row_at, cut_in}
-use Rattle.fg_caches.specs.Code.Segments.{within}
+use Rattle.fg_caches.specs.Internal.Segments.{within}
 use Rattle.fg_caches.specs.Tables.{Table}
-use Rattle.fg_caches.specs.Code.Kept.{ChangeFits}
+use Rattle.fg_caches.specs.Internal.Kept.{ChangeFits}
 use Rattle.std.proofs.lemmas.Bool.{cases_lt, lt-ltb, ltb-true}
 use Rattle.fg_caches.proofs.Placing.{place_mono}
 use Rattle.fg_caches.proofs.Changing.{changed_covers, changed_ascends, changed_cuts, changed_rows}

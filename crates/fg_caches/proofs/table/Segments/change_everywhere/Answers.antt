@@ -1,9 +1,9 @@
 use Rattle.std.proofs.Common.{◌≡◌, ◌∙◌, ℕ, ◌<◌, Bool, true, leb, ltb, refl, sym, ap, subst, arith}
 use Rattle.std.specs.Prelude.{if◌then◌else◌}
 use Rattle.std.proofs.lemmas.Bool.{and_from, le-leb, lt-ltb}
-use Rattle.fg_caches.specs.Code.Kept.{AreApart, ChangeFits, IsTiled}
-use Rattle.fg_caches.specs.Code.Rows.{changed}
-use Rattle.fg_caches.specs.Code.Segments.{within}
+use Rattle.fg_caches.specs.Internal.Kept.{AreApart, ChangeFits, IsTiled}
+use Rattle.fg_caches.specs.Internal.Rows.{changed}
+use Rattle.fg_caches.specs.Internal.Segments.{within}
 use Rattle.fg_caches.specs.Places.{row_at, cut_in}
 use Rattle.fg_caches.specs.Tables.{Table, address}
 use Rattle.fg_caches.proofs.Addresses.{address_inside}

@@ -1,7 +1,7 @@
 use Rattle.std.proofs.Common.{◌≡◌, ◌∙◌, ◌≤◌, length, sym, subst, arith}
-use Rattle.fg_caches.specs.Code.Uses.{uses}
+use Rattle.fg_caches.specs.Internal.Uses.{uses}
 use Rattle.fg_caches.specs.Tables.{Table, caches_of, slot_at, junk_of}
-use Rattle.fg_caches.specs.Code.Kept.{view_of}
+use Rattle.fg_caches.specs.Internal.Kept.{view_of}
 use Rattle.fg_caches.proofs.Storing.{stored_tiled, stored_bytes}
 use Rattle.fg_caches.proofs.table.Segments.empty.Goals as goal
 

@@ -2,7 +2,7 @@ use Rattle.std.proofs.Common.{◌≡◌, ◌+◌, ◌≤◌, sym, ap, subst, ari
 use Rattle.std.proofs.lemmas.List.{get_or_read}
 use Rattle.fg_caches.specs.declared.memory.Memory.{Memory}
 use Rattle.fg_caches.specs.Tables.{Table, memory_of, size_of, address, InMemory}
-use Rattle.fg_caches.specs.Code.Kept.{view_of}
+use Rattle.fg_caches.specs.Internal.Kept.{view_of}
 use Rattle.fg_caches.proofs.table.Segments.first_address.Goals as goal
 
 range : (c : goal.After-index) → InMemory (view_of c.self.inside) c.args.memory c.args.start c.args.len

@@ -3,7 +3,7 @@ use Rattle.std.proofs.lemmas.Bool.{leb-true}
 use Rattle.std.proofs.lemmas.List.{get_or_read}
 use Rattle.fg_caches.specs.declared.memory.Memory.{Memory}
 use Rattle.fg_caches.specs.Tables.{Table, memory_of, size_of, InMemory}
-use Rattle.fg_caches.specs.Code.Kept.{view_of}
+use Rattle.fg_caches.specs.Internal.Kept.{view_of}
 use Rattle.fg_caches.proofs.table.Segments.has_place.Goals as goal
 
 pub returns : goal.returns

@@ -1,6 +1,6 @@
 use Rattle.std.proofs.Common.{◌≡◌, ◌∙◌, ℕ, ◌+◌, List, Some, get_or, ap, subst, arith}
 use Rattle.fg_caches.specs.declared.segment.Segment.{Segment}
-use Rattle.fg_caches.specs.Code.Rows.{seen_part}
+use Rattle.fg_caches.specs.Internal.Rows.{seen_part}
 use Rattle.fg_caches.specs.Places.{row_at}
 use Rattle.fg_caches.specs.Tables.{Table, address, byte_in}
 use Rattle.fg_caches.proofs.table.Segments.look.Goals as goal

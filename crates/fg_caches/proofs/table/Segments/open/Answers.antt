@@ -1,6 +1,6 @@
 use Rattle.std.proofs.Common.{◌≡◌, ℕ, ◌-◌, List, length, refl, ap, subst, arith}
 use Rattle.fg_caches.specs.Tables.{Table}
-use Rattle.fg_caches.specs.Code.Opened.{IsOpened}
+use Rattle.fg_caches.specs.Internal.Opened.{IsOpened}
 use Rattle.fg_caches.proofs.Making.{is_made}
 use Rattle.fg_caches.proofs.table.Segments.open.Goals as goal
 

@@ -5,7 +5,7 @@ use Rattle.fg_control.proofs.Listing.{room_left}
 use Rattle.fg_control.proofs.Readiness.{ready_within, ready_idle, idle_not_begun, runs_set, spans_set}
 use Rattle.fg_control.proofs.Spanning.{spanned_put}
 use Rattle.fg_control.proofs.control.Control.begin.Goals as goal
-use Rattle.fg_control.specs.Code.Kept.{control_in}
+use Rattle.fg_control.specs.Internal.Kept.{control_in}
 use Rattle.fg_control.specs.Controls.{Control, phase_of, is_ready, Agrees}
 use Rattle.fg_steps.proofs.Control.{idle_not_done}
 use Rattle.fg_steps.specs.States.{State}

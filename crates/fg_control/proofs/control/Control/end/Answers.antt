@@ -3,7 +3,7 @@ use Rattle.std.proofs.lemmas.List.{length-set}
 use Rattle.fg_control.proofs.Agreement.{ended_agrees}
 use Rattle.fg_control.proofs.Readiness.{begun_within, runs_set}
 use Rattle.fg_control.proofs.control.Control.end.Goals as goal
-use Rattle.fg_control.specs.Code.Kept.{control_in}
+use Rattle.fg_control.specs.Internal.Kept.{control_in}
 use Rattle.fg_control.specs.Controls.{Control, phase_of, Agrees}
 use Rattle.fg_steps.specs.States.{State, is_begun}
 use Rattle.fg_steps.specs.Steps.{ended}

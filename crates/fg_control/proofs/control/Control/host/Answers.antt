@@ -3,7 +3,7 @@ use Rattle.std.proofs.lemmas.List.{length-set}
 use Rattle.fg_control.proofs.Agreement.{hosted_agrees}
 use Rattle.fg_control.proofs.Readiness.{ready_within, ready_idle, idle_not_begun, runs_done}
 use Rattle.fg_control.proofs.control.Control.host.Goals as goal
-use Rattle.fg_control.specs.Code.Kept.{control_in}
+use Rattle.fg_control.specs.Internal.Kept.{control_in}
 use Rattle.fg_control.specs.Controls.{Control, phase_of, is_ready, Agrees}
 use Rattle.fg_steps.specs.States.{State}
 use Rattle.fg_steps.specs.Steps.{hosted}

@@ -1,7 +1,7 @@
 use Rattle.std.proofs.Common.{◌≡◌, ◌&&◌, sym, ap, subst, ◌∙◌, eq-eqb}
 use Rattle.std.proofs.lemmas.Bool.{ne_eqb}
 use Rattle.fg_control.proofs.control.Control.is_next.Goals as goal
-use Rattle.fg_control.specs.Code.Held.{Gathers}
+use Rattle.fg_control.specs.Internal.Blocked.{Gathers}
 use Rattle.fg_control.specs.Controls.{phase_of, is_ready}
 use Rattle.fg_view.specs.Views.{queue_at}
 
@@ -11,11 +11,11 @@ returns-then-node-queue c =
     let on : c.node.result.queue ≡ queue_at old.view c.args.n = ap (λ z. z.queue) c.node.ensures ∙ ap (λ s. queue_at s.view c.args.n) c.self.view_is in
     sym (ap (λ b. b && is_ready old c.args.n) (ne_eqb (queue_at old.view c.args.n) c.args.queue (λ e. c.if-node-queue.true (on ∙ e))))
 
-pub may_go-requires-clause-held : goal.may_go-requires-clause-held
-may_go-requires-clause-held c =
+pub may_go-requires-clause-blocked : goal.may_go-requires-clause-blocked
+may_go-requires-clause-blocked c =
     let old = c.args.self.now in
     let on : c.node.result.queue ≡ queue_at old.view c.args.n = ap (λ z. z.queue) c.node.ensures ∙ ap (λ s. queue_at s.view c.args.n) c.self.view_is in
-    subst (λ q. Gathers old.view (phase_of old) q c.args.n c.args.held) (sym c.if-node-queue.false ∙ on) c.requires.held
+    subst (λ q. Gathers old.view (phase_of old) q c.args.n c.args.blocked) (sym c.if-node-queue.false ∙ on) c.requires.blocked
 
 pub returns : goal.returns
 returns c =

@@ -1,8 +1,8 @@
 use Rattle.std.proofs.Common.{◌≡◌, ◌<◌, ◌&&◌, not, length, get_or, false, sym, ap, subst, ◌∙◌}
 use Rattle.fg_control.proofs.Needing.{may_not}
 use Rattle.fg_control.proofs.control.Control.might_come.Goals as goal
-use Rattle.fg_control.specs.Code.Held.{is_open}
-use Rattle.fg_control.specs.Code.Kept.{control_in}
+use Rattle.fg_control.specs.Internal.Blocked.{is_open}
+use Rattle.fg_control.specs.Internal.Kept.{control_in}
 use Rattle.fg_control.specs.Controls.{is_ready}
 use Rattle.fg_hb.specs.Edges.{meeting}
 use Rattle.fg_steps.specs.Ready.{kind_at}

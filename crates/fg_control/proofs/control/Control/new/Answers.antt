@@ -4,8 +4,8 @@ use Rattle.fg_bits.specs.declared.layout.Layout.TheVariants.{Undefined}
 use Rattle.fg_control.proofs.Agreement.{opened_agrees}
 use Rattle.fg_control.proofs.Lists.{copies}
 use Rattle.fg_control.proofs.control.Control.new.Goals as goal
-use Rattle.fg_control.specs.Code.Running.{Runs}
-use Rattle.fg_control.specs.Code.Spans.{Spanned}
+use Rattle.fg_control.specs.Internal.Running.{Runs}
+use Rattle.fg_control.specs.Internal.Spans.{Spanned}
 use Rattle.fg_control.specs.Controls.{Control}
 use Rattle.fg_steps.specs.States.{is_begun}
 use Rattle.fg_steps.specs.declared.owner.Owner.TheVariants.{Unused}

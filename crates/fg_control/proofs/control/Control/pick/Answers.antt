@@ -1,12 +1,12 @@
 use Rattle.std.proofs.Common.{◌≡◌, ◌+◌, ◌<◌, ◌≤◌, ℕ, length, get_or, sym, ap, subst, ◌∙◌, arith}
-use Rattle.fg_control.proofs.Gathering.{nothing_held}
+use Rattle.fg_control.proofs.Gathering.{nothing_blocked}
 use Rattle.fg_control.proofs.Needing.{none_below_from}
 use Rattle.fg_control.proofs.Readiness.{NoneBelow, none_first, none_more, next_not, next_here, none_at_all}
 use Rattle.fg_control.proofs.Spanning.{done_below}
 use Rattle.fg_control.proofs.control.Control.pick.Goals as goal
-use Rattle.fg_control.specs.Code.Held.{Gathers}
-use Rattle.fg_control.specs.Code.Kept.{control_in}
-use Rattle.fg_control.specs.Code.Spans.{from_of, to_of}
+use Rattle.fg_control.specs.Internal.Blocked.{Gathers}
+use Rattle.fg_control.specs.Internal.Kept.{control_in}
+use Rattle.fg_control.specs.Internal.Spans.{from_of, to_of}
 use Rattle.fg_control.specs.Controls.{Control, phase_of}
 use Rattle.fg_view.specs.Views.{queue_at}
 
@@ -17,16 +17,16 @@ loop-n-init c =
     let from = c.from-from.result in
     let le : from ≤ from_of i.spans q = omega (arith, c.from-from.ensures) in
     let done = done_below i.view (phase_of (control_in i)) i.spans c.self.invariant.spanned q from le in
-    let G : Control → Type 0 = λ z. Gathers z.view (phase_of z) q from c.nothing-held.result in
+    let G : Control → Type 0 = λ z. Gathers z.view (phase_of z) q from c.nothing-blocked.result in
     let N : Control → Type 0 = λ z. NoneBelow z q from in
     record {
-      gathers = subst G c.self.view_is (nothing_held i.view (phase_of (control_in i)) q from done c.nothing-held.result c.nothing-held.ensures.by_syncs c.nothing-held.ensures.by_all c.nothing-held.ensures.signal);
+      gathers = subst G c.self.view_is (nothing_blocked i.view (phase_of (control_in i)) q from done c.nothing-blocked.result c.nothing-blocked.ensures.by_syncs c.nothing-blocked.ensures.by_all c.nothing-blocked.ensures.signal);
       none = subst N c.self.view_is (none_first (control_in i) q from done);
     }
 
 pub loop-n-preserved : goal.loop-n-preserved
 loop-n-preserved c = record {
-  gathers = c.past-held.ensures;
+  gathers = c.past-blocked.ensures;
   none = none_more c.args.self.now c.args.queue c.loop-n.n c.loop-n.invariant.none (next_not c.args.self.now c.args.queue c.loop-n.n (sym c.is_next.ensures ∙ c.if-is_next.false));
 }
 

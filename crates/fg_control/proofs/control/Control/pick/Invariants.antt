@@ -1,10 +1,10 @@
 use Rattle.fg_control.proofs.Readiness.{NoneBelow}
 use Rattle.fg_control.proofs.control.Control.pick.Given as goal
-use Rattle.fg_control.specs.Code.Held.{Gathers}
+use Rattle.fg_control.specs.Internal.Blocked.{Gathers}
 use Rattle.fg_control.specs.Controls.{phase_of}
 
 abbrev pub invariant-loop-n : goal.invariant-loop-n
 invariant-loop-n l = record {
-  gathers : Gathers l.self.view (phase_of l.self) l.queue l.n l.held;
+  gathers : Gathers l.self.view (phase_of l.self) l.queue l.n l.blocked;
   none : NoneBelow l.self l.queue l.n;
 }

@@ -2,7 +2,7 @@ use Rattle.std.proofs.Common.{◌≡◌, ◌==◌, ◌<◌, length, get_or, true
 use Rattle.std.proofs.lemmas.Bool.{cases_lt}
 use Rattle.fg_control.proofs.Lists.{read_at}
 use Rattle.fg_control.proofs.control.Control.some_might_come.Goals as goal
-use Rattle.fg_control.specs.Code.Needs.{waits_at}
+use Rattle.fg_control.specs.Internal.Needs.{waits_at}
 use Rattle.fg_control.specs.Controls.{is_ready}
 use Rattle.fg_view.specs.Views.{queue_at}
 

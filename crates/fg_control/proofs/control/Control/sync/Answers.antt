@@ -3,7 +3,7 @@ use Rattle.std.proofs.lemmas.List.{length-set}
 use Rattle.fg_control.proofs.Agreement.{synced_agrees}
 use Rattle.fg_control.proofs.Readiness.{ready_within, ready_idle, idle_not_begun, runs_done, signal_within}
 use Rattle.fg_control.proofs.control.Control.sync.Goals as goal
-use Rattle.fg_control.specs.Code.Kept.{control_in}
+use Rattle.fg_control.specs.Internal.Kept.{control_in}
 use Rattle.fg_control.specs.Controls.{Control, phase_of, is_ready, Agrees}
 use Rattle.fg_hb.specs.Edges.{is_signal}
 use Rattle.fg_steps.specs.States.{State}

@@ -1,6 +1,6 @@
 use Rattle.std.proofs.Common.{get_or}
 use Rattle.fg_control.proofs.spans.Spans.new.Given as goal
-use Rattle.fg_control.specs.Code.Spans.{Spanned}
+use Rattle.fg_control.specs.Internal.Spans.{Spanned}
 use Rattle.fg_steps.specs.declared.phase.Phase.TheVariants.{Idle}
 
 abbrev pub invariant-loop-queue : goal.invariant-loop-queue

@@ -2,7 +2,7 @@ use Rattle.std.proofs.Common.{◌≡◌, ◌∙◌, ◌<◌, length, true, IfOk,
 use Rattle.fg_base.specs.declared.event.Event.TheVariants.{Begin}
 use Rattle.fg_device.proofs.Keeping.{ready_inside}
 use Rattle.fg_device.proofs.device.Device.begin_alone.Goals as goal
-use Rattle.fg_device.specs.Code.Takes.{AreInputs}
+use Rattle.fg_device.specs.Internal.Takes.{AreInputs}
 use Rattle.fg_steps.specs.Devices.{Device, view_in, did, is_ready}
 use Rattle.fg_steps.specs.Ready.{is_command, kind_at}
 

@@ -3,21 +3,21 @@ use Rattle.std.specs.Arc.{arc_value}
 use Rattle.fg_checker.specs.Apart.{op_at}
 use Rattle.fg_device.proofs.Keeping.{ready_inside}
 use Rattle.fg_device.proofs.device.Device.begun.Goals as goal
-use Rattle.fg_device.specs.Code.Loads.{LoadsIn}
+use Rattle.fg_device.specs.Internal.Loads.{LoadsIn}
 use Rattle.fg_device.specs.declared.job.Command.{Command}
 use Rattle.fg_steps.specs.Devices.{Device, LoadsApart}
 use Rattle.fg_subs.specs.Rules.{shapes_of}
 use Rattle.fg_subs.specs.declared.program.Program.{Program}
 
-pub taken-requires : goal.taken-requires
-taken-requires c = record { command = c.requires.command; node = ready_inside c.args.self.now c.args.node c.requires.ready; inputs = c.requires.inputs }
+pub reserve-requires : goal.reserve-requires
+reserve-requires c = record { command = c.requires.command; node = ready_inside c.args.self.now c.args.node c.requires.ready; inputs = c.requires.inputs }
 
 pub new-requires : goal.new-requires
 new-requires c =
     let e = c.in_ok-command.ensures in
     let n = c.args.node in
     let program : arc_value c.in_ok-command.field-0.program ≡ c.keep.new.self.program = e.program ∙ ap (λ (d : Device). d.program) (sym c.keep.ensures.event) in
-    let loads = subst (λ (p : Program). LoadsIn p n c.in_ok-command.field-0.held.loaded) (sym program) c.keep.ensures.apart in
+    let loads = subst (λ (p : Program). LoadsIn p n c.in_ok-command.field-0.pending.loaded) (sym program) c.keep.ensures.apart in
     let own = subst (λ (bytes : List (List ℕ)). LoadsIn (arc_value c.in_ok-command.field-0.program) n bytes) (sym e.command.loaded) loads in
     record {
       work = e.work;

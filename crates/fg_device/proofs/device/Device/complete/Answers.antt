@@ -1,7 +1,7 @@
 use Rattle.std.proofs.Common.{subst}
 use Rattle.std.specs.Prelude.{◌↔◌, IsTrue}
 use Rattle.fg_device.proofs.device.Device.complete.Goals as goal
-use Rattle.fg_device.specs.Code.Kept.{device_in}
+use Rattle.fg_device.specs.Internal.Kept.{device_in}
 use Rattle.fg_steps.specs.Devices.{Device, state_of, IsComplete}
 use Rattle.fg_steps.specs.Laws.{AllDone}
 use Rattle.fg_view.specs.Views.{View}

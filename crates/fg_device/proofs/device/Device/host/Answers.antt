@@ -8,8 +8,8 @@ use Rattle.fg_steps.specs.Ready.{kind_at, read_node}
 use Rattle.fg_subs.specs.declared.program.Program.{Program}
 use Rattle.fg_view.specs.Views.{view_of}
 
-pub is_spoilt-requires-clause-piece : goal.is_spoilt-requires-clause-piece
-is_spoilt-requires-clause-piece c =
+pub loads_undefined-requires-clause-piece : goal.loads_undefined-requires-clause-piece
+loads_undefined-requires-clause-piece c =
     let at = read_there c.self.inside c.self.view_is c.args.readback c.requires.there (c.program.ensures.program ∙ c.deref-2.ensures) c.index-piece.result.now c.index-piece.ensures in
     piece_there c.self.inside c.self.invariant c.args.readback c.index-piece.result.now at c.self.inside.control.view refl
 
@@ -48,5 +48,5 @@ invariant_of-self c =
     let p = c.push_reserved.ensures in
     kept_host i K n c.host.new.self c.host.ensures.view c.push_reserved.new.self p.len p.capacity c.event_laws.ensures.nodes
     R by c.read_piece.new.reads
-    (reads i K k q at c.view.result.now c.view.ensures.view c.piece-from.result c.piece-from.ensures n node c.junk_if-junk.result c.is_spoilt.result c.is_spoilt.ensures c.junk_if-junk.ensures c.host.new.self c.host.ensures.agrees R.fresh c.read_piece.new.reads.items c.read_piece.ensures)
+    (reads i K k q at c.view.result.now c.view.ensures.view c.piece-from.result c.piece-from.ensures n node c.junk_if-junk.result c.loads_undefined.result c.loads_undefined.ensures c.junk_if-junk.ensures c.host.new.self c.host.ensures.agrees R.fresh c.read_piece.new.reads.items c.read_piece.ensures)
     p.items

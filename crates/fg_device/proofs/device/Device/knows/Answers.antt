@@ -2,7 +2,7 @@ use Rattle.std.proofs.Common.{◌≡◌, ◌∙◌, true, None, rules, sym, ap, 
 use Rattle.std.specs.Arc.{arc_value}
 use Rattle.fg_checker.specs.Sound.{IsSound}
 use Rattle.fg_device.proofs.device.Device.knows.Goals as goal
-use Rattle.fg_device.specs.Code.Loads.{LoadsIn}
+use Rattle.fg_device.specs.Internal.Loads.{LoadsIn}
 use Rattle.fg_steps.specs.Devices.{Device}
 use Rattle.fg_subs.specs.FirstFault.{first_fault}
 use Rattle.fg_subs.specs.declared.program.Program.{Program}

@@ -7,8 +7,8 @@ use Rattle.fg_device.proofs.device.Device.load.Goals as goal
 pub piece-piece-requires : goal.piece-piece-requires
 piece-piece-requires c = in_view c.self.inside c.self.invariant c.args.self.now c.self.view_is c.args.node c.requires.command c.args.access c.requires.has c.view.result.now c.view.ensures.view
 
-pub is_spoilt-spoilt-requires-clause-piece : goal.is_spoilt-spoilt-requires-clause-piece
-is_spoilt-spoilt-requires-clause-piece c = in_view c.self.inside c.self.invariant c.args.self.now c.self.view_is c.args.node c.requires.command c.args.access c.requires.has c.self.inside.control.view refl
+pub loads_undefined-undefined-requires-clause-piece : goal.loads_undefined-undefined-requires-clause-piece
+loads_undefined-undefined-requires-clause-piece c = in_view c.self.inside c.self.invariant c.args.self.now c.self.view_is c.args.node c.requires.command c.args.access c.requires.has c.self.inside.control.view refl
 
 pub agent_of-agent-requires : goal.agent_of-agent-requires
 agent_of-agent-requires c = agent_fits c.self.inside c.self.invariant c.args.self.now c.self.view_is c.args.node c.requires.command c.args.access c.requires.has
@@ -25,4 +25,4 @@ sight-requires-clause-within c = in_memory c.self.inside c.self.invariant c.args
 pub returns : goal.returns
 returns c =
     c.in_ok-contents.ensures
-    ∙ is_taken c.self.inside c.self.invariant c.args.self.now c.self.view_is c.args.node c.requires.command c.args.access c.requires.has c.view.result.now c.view.ensures.view c.piece-piece.result c.piece-piece.ensures c.is_spoilt-spoilt.result c.agent_of-agent.result (replicate (bytes_of c.piece-piece.result.shape) c.self.inside.fill) c.is_spoilt-spoilt.ensures c.agent_of-agent.ensures refl
+    ∙ is_taken c.self.inside c.self.invariant c.args.self.now c.self.view_is c.args.node c.requires.command c.args.access c.requires.has c.view.result.now c.view.ensures.view c.piece-piece.result c.piece-piece.ensures c.loads_undefined-undefined.result c.agent_of-agent.result (replicate (bytes_of c.piece-piece.result.shape) c.self.inside.fill) c.loads_undefined-undefined.ensures c.agent_of-agent.ensures refl

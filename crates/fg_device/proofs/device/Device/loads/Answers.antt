@@ -4,7 +4,7 @@ use Rattle.fg_device.proofs.Touching.{has_at}
 use Rattle.fg_device.proofs.Turning.{loads_all}
 use Rattle.fg_device.proofs.device.Device.loads.Goals as goal
 use Rattle.fg_steps.specs.Devices.{Device, state_of, view_in}
-use Rattle.fg_steps.specs.Steps.{taken}
+use Rattle.fg_steps.specs.Steps.{loaded_by}
 use Rattle.fg_view.specs.AccessKinds.{loads}
 use Rattle.fg_view.specs.Views.{View, accesses_of}
 use Rattle.fg_view.specs.declared.access.Access.{Access}
@@ -24,7 +24,7 @@ returns c =
     let n = c.args.node in
     let d = c.args.self.now in
     let list = c.as_slice-access-items.result.now in
-    let f = taken (view_in d) (state_of d) n (d.fill ∷ []) in
+    let f = loaded_by (view_in d) (state_of d) n (d.fill ∷ []) in
     let seen : c.view.result.now ≡ view_in d = c.view.ensures.view ∙ c.self.invariant.view ∙ ap (λ (d : Device). view_in d) c.self.view_is in
     let is : list ≡ accesses_of (view_in d) n = c.as_slice-access-items.ensures ∙ ap (λ (e : Effect). e.accesses) c.effect_at.ensures ∙ ap (λ (v : View). accesses_of v n) seen in
     loads_all f list c.loop-access.access-index c.loop-access.loaded c.loop-access-test.false c.loop-access.invariant ∙ ap (λ (list : List Access). map f (filter (λ a. loads a.kind) list)) is

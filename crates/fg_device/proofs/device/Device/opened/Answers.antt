@@ -6,9 +6,9 @@ use Rattle.fg_caches.specs.Effects as effects
 use Rattle.fg_device.proofs.Opens.{opens_kept}
 use Rattle.fg_device.proofs.Openings.{sizes_small, read_there}
 use Rattle.fg_device.proofs.device.Device.opened.Goals as goal
-use Rattle.fg_device.specs.Code.Opened.{opened_memory, room_of}
-use Rattle.fg_device.specs.Code.Parts.{node_count}
-use Rattle.fg_device.specs.Code.Tables.{FitsProgram}
+use Rattle.fg_device.specs.Internal.Opened.{opened_memory, room_of}
+use Rattle.fg_device.specs.Internal.Fields.{node_count}
+use Rattle.fg_device.specs.Internal.Tables.{FitsProgram}
 use Rattle.fg_device.specs.declared.device.Device.TheInside.{Inside}
 use Rattle.fg_subs.specs.Entries.{entries_of}
 use Rattle.fg_subs.specs.FirstFault.{first_fault}
@@ -48,7 +48,7 @@ invariant_of-result c =
     let same : c.program-plain.result.now ≡ program = P.program ∙ c.deref.ensures in
     let view : c.in_ok-control.control.view ≡ view_of program = c.in_ok-control.ensures.view ∙ ap view_of c.deref-2.ensures in
     let count : c.count-count.result ≡ node_count program = c.count-count.ensures.count ∙ ap (λ (v : View). length v.nodes) (c.view.ensures.view ∙ view) in
-    let i : Inside = record { program = c.args.program; sound = c.args.sound; weight = c.weight_of-weight.result; shapes = c.in_ok-stored.stored.shapes; fill = c.args.fill; moves = c.args.moves; history = c.in_ok-lists.lists.history; control = c.in_ok-control.control; table = c.in_ok-stored.stored.table; held = c.in_ok-lists.lists.held; reads = c.in_ok-lists.lists.reads; helpers = c.new-helpers.result } in
+    let i : Inside = record { program = c.args.program; sound = c.args.sound; weight = c.weight_of-weight.result; shapes = c.in_ok-stored.stored.shapes; fill = c.args.fill; moves = c.args.moves; history = c.in_ok-lists.lists.history; control = c.in_ok-control.control; table = c.in_ok-stored.stored.table; pending = c.in_ok-lists.lists.pending; reads = c.in_ok-lists.lists.reads; helpers = c.new-helpers.result } in
     opens_kept i c.count-count.result c.in_ok-lists.ensures.items (c.event_laws.ensures.opens program c.args.fill c.args.moves)
     (subst (λ (p : Program). first_fault p ≡ None) c.deref.ensures P.shaped)
     c.requires
@@ -58,6 +58,6 @@ invariant_of-result c =
     (c.in_ok-stored.ensures.shapes ∙ ap shapes_of same)
     (subst (λ (p : Program). FitsProgram c.in_ok-stored.stored.table p c.args.fill) same c.in_ok-stored.ensures.fits)
     (c.in_ok-stored.ensures.opened ∙ ap (λ (p : Program). effects.opened (map (opened_memory c.args.fill) p.memories)) same)
-    c.in_ok-stored.ensures.cuts c.in_ok-stored.ensures.stores c.in_ok-lists.ensures.held
+    c.in_ok-stored.ensures.cuts c.in_ok-stored.ensures.stores c.in_ok-lists.ensures.pending
     (c.in_ok-lists.ensures.reads ∙ ap (λ (v : View). map (room_of v) c.deref-3.result.now) (c.view-2.ensures.view ∙ view) ∙ ap (λ (list : List ℕ). map (room_of (view_of program)) list) (c.deref-3.ensures ∙ ap (λ (p : Program). p.readbacks) same))
     c.in_ok-lists.ensures.room

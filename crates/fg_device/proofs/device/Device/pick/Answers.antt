@@ -2,7 +2,7 @@ use Rattle.std.proofs.Common.{◌≡◌, None, subst}
 use Rattle.std.specs.Prelude.{IfSome, IfNone}
 use Rattle.fg_device.proofs.Readiness.{some_next, none_next}
 use Rattle.fg_device.proofs.device.Device.pick.Goals as goal
-use Rattle.fg_device.specs.Code.Kept.{device_in}
+use Rattle.fg_device.specs.Internal.Kept.{device_in}
 use Rattle.fg_steps.specs.Devices.{Device, IsNext, NoneReady}
 use Rattle.fg_subs.specs.FirstFault.{first_fault}
 

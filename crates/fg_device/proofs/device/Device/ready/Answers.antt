@@ -1,7 +1,7 @@
 use Rattle.std.proofs.Common.{◌<◌, length, ◌∙◌, sym, ap, subst}
 use Rattle.fg_device.proofs.Readiness.{agrees_ready}
 use Rattle.fg_device.proofs.device.Device.ready.Goals as goal
-use Rattle.fg_device.specs.Code.Kept.{device_in}
+use Rattle.fg_device.specs.Internal.Kept.{device_in}
 use Rattle.fg_steps.specs.Devices.{Device, view_in, is_ready}
 use Rattle.fg_view.specs.Views.{View}
 

@@ -4,8 +4,8 @@ use Rattle.std.proofs.lemmas.List.{length-map}
 use Rattle.fg_device.proofs.Facts.{scope_there}
 use Rattle.fg_device.proofs.Going.{ready_in, kept_sync}
 use Rattle.fg_device.proofs.device.Device.sync.Goals as goal
-use Rattle.fg_device.specs.Code.Syncs.{IsThere}
-use Rattle.fg_device.specs.Code.Tables.{HasCut}
+use Rattle.fg_device.specs.Internal.Syncs.{IsThere}
+use Rattle.fg_device.specs.Internal.Tables.{HasCut}
 use Rattle.fg_steps.specs.Steps.{agent_count}
 use Rattle.fg_view.specs.Views.{View, effect_at}
 

@@ -1,7 +1,7 @@
 use Rattle.std.proofs.Common.{sym, subst}
 use Rattle.fg_drive.proofs.Ranges.{of_program, calm_move}
 use Rattle.fg_drive.proofs.keeper.Keeper.tend.Goals as goal
-use Rattle.fg_drive.specs.Code.Keepers.{Calm}
+use Rattle.fg_drive.specs.Internal.Keepers.{Calm}
 use Rattle.fg_steps.specs.Devices.{Device}
 
 pub returns-clause-calm : goal.returns-clause-calm

@@ -1,7 +1,7 @@
 use Rattle.std.proofs.Common.{ℕ, ◌/◌, ◌<◌, List, length, slice_get, Option, sym, subst}
 use Rattle.std.specs.Prelude.{IfSome}
 use Rattle.fg_flight.proofs.Read.{export_inside, export_small}
-use Rattle.fg_flight.specs.Flights.{AreHeld, window_at}
+use Rattle.fg_flight.specs.Flights.{ArePersisted, window_at}
 use Rattle.fg_frame.specs.Numbered.{numbered}
 use Rattle.fg_flight.proofs.windows.Windows.export.Goals as goal
 
@@ -17,6 +17,6 @@ returns-clause-within c =
     let own = c.self.inside in
     let there : c.args.frame < length own.frames.now = subst (λ f. c.args.frame < length f.frames) (sym c.self.view_is) c.requires.there in
     let exports : IfSome (slice_get own.frames.now c.args.frame) (λ f. c.args.k < length (numbered f).exports) = subst (λ w. IfSome (slice_get w.frames c.args.frame) (λ f. c.args.k < length (numbered f).exports)) (sym c.self.view_is) c.requires.exports in
-    subst (λ w. (held : List (Option (List ℕ))) → AreHeld w.frames w.persist held → c.export_place.result < length (numbered (window_at w.frames w.persist w.depth held (c.args.frame / w.depth))).exports) c.self.view_is
-    (λ held H. subst (λ n. n < length (numbered (window_at own.frames.now own.persist.now own.depth held (c.args.frame / own.depth))).exports) (sym c.export_place.ensures)
-    (export_inside own.frames.now own.persist.now own.depth c.self.invariant c.args.frame c.args.k there exports held H))
+    subst (λ w. (persisted : List (Option (List ℕ))) → ArePersisted w.frames w.persist persisted → c.export_place.result < length (numbered (window_at w.frames w.persist w.depth persisted (c.args.frame / w.depth))).exports) c.self.view_is
+    (λ persisted H. subst (λ n. n < length (numbered (window_at own.frames.now own.persist.now own.depth persisted (c.args.frame / own.depth))).exports) (sym c.export_place.ensures)
+    (export_inside own.frames.now own.persist.now own.depth c.self.invariant c.args.frame c.args.k there exports persisted H))

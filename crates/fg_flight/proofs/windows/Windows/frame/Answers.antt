@@ -1,7 +1,7 @@
 use Rattle.std.proofs.Common.{◌≡◌, ◌<◌, length, None, sym, subst}
 use Rattle.fg_flight.proofs.Counted.{there}
 use Rattle.fg_flight.proofs.Flies.{window_good}
-use Rattle.fg_flight.specs.Flights.{AreHeld, window_count}
+use Rattle.fg_flight.specs.Flights.{ArePersisted, window_count}
 use Rattle.fg_frame.specs.FirstFault.{first_fault}
 use Rattle.fg_flight.proofs.windows.Windows.frame.Goals as goal
 
@@ -11,5 +11,5 @@ faultless-requires c =
     let frames = own.frames.now in
     let F = c.self.invariant in
     let counted : c.args.w < window_count own.depth frames = subst (λ f. c.args.w < window_count f.depth f.frames) (sym c.self.view_is) c.requires.there in
-    let held : AreHeld frames own.persist.now c.args.held.now = subst (λ f. AreHeld f.frames f.persist c.args.held.now) (sym c.self.view_is) c.requires.held in
-    subst (λ f. first_fault f ≡ None) (sym c.in_ok-frame.ensures) (window_good frames own.persist.now own.depth F c.args.w (there (length frames) own.depth c.args.w F.deep counted) counted c.args.held.now held)
+    let persisted : ArePersisted frames own.persist.now c.args.persisted.now = subst (λ f. ArePersisted f.frames f.persist c.args.persisted.now) (sym c.self.view_is) c.requires.persisted in
+    subst (λ f. first_fault f ≡ None) (sym c.in_ok-frame.ensures) (window_good frames own.persist.now own.depth F c.args.w (there (length frames) own.depth c.args.w F.deep counted) counted c.args.persisted.now persisted)

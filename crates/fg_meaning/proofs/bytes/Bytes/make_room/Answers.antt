@@ -2,7 +2,7 @@ use Rattle.std.proofs.Common.{◌≡◌, ◌<◌, length, true, subst, slice_set
 use Rattle.fg_base.specs.Operands.{destination_of, mapped}
 use Rattle.fg_base.specs.Shapes.{bytes_of, shape_at}
 use Rattle.fg_base.specs.Wholes.{is_whole}
-use Rattle.fg_frame.specs.Good.{shapes_in}
+use Rattle.fg_frame.specs.Valid.{shapes_in}
 use Rattle.fg_frame.specs.Numbered.{numbered}
 use Rattle.fg_meaning.proofs.Room.{destination_there, room_serves}
 use Rattle.fg_meaning.proofs.bytes.Bytes.make_room.Goals as goal

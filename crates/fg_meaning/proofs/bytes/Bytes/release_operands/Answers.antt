@@ -1,7 +1,7 @@
 use Rattle.std.proofs.Common.{◌<◌, length, subst, sym, ap, ◌∙◌}
 use Rattle.fg_base.specs.Operands.{operands_of}
 use Rattle.fg_frame.specs.Numbered.{numbered}
-use Rattle.fg_meaning.specs.Code.Held.{all_released, is_wanted, ops_from}
+use Rattle.fg_meaning.specs.Internal.Held.{all_released, is_wanted, ops_from}
 use Rattle.fg_meaning.proofs.Settling.{operand_within, release_on, released-length}
 use Rattle.fg_meaning.proofs.bytes.Bytes.release_operands.Goals as goal
 

@@ -1,6 +1,6 @@
 use Rattle.std.proofs.Common.{◌≡◌, drop}
 use Rattle.fg_meaning.specs.Meaning.{after_ops}
-use Rattle.fg_meaning.specs.Code.Sizes.{AreSized}
+use Rattle.fg_meaning.specs.Internal.Sizes.{AreSized}
 use Rattle.fg_meaning.proofs.bytes.Bytes.run.Given as goal
 
 abbrev pub invariant-loop-op : goal.invariant-loop-op

@@ -1,6 +1,6 @@
 use Rattle.std.proofs.Common.{◌<◌, ◌≤◌, length, subst, sym}
 use Rattle.fg_frame.specs.Numbered.{numbered}
-use Rattle.fg_meaning.specs.Code.Held.{IsAt}
+use Rattle.fg_meaning.specs.Internal.Held.{IsAt}
 use Rattle.fg_meaning.proofs.Remaining.{whole_pass, no_op}
 use Rattle.fg_meaning.proofs.bytes.Bytes.run_pass.Goals as goal
 

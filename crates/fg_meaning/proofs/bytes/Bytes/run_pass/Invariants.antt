@@ -1,5 +1,5 @@
 use Rattle.fg_frame.specs.Numbered.{numbered}
-use Rattle.fg_meaning.specs.Code.Held.{IsAt, ops_from}
+use Rattle.fg_meaning.specs.Internal.Held.{IsAt, ops_from}
 use Rattle.fg_meaning.proofs.bytes.Bytes.run_pass.Given as goal
 
 abbrev pub invariant-loop-k : goal.invariant-loop-k

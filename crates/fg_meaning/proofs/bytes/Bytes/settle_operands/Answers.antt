@@ -1,7 +1,7 @@
 use Rattle.std.proofs.Common.{◌<◌, length, subst, ap, ◌∙◌}
 use Rattle.fg_base.specs.Operands.{operands_of}
 use Rattle.fg_frame.specs.Numbered.{numbered}
-use Rattle.fg_meaning.specs.Code.Held.{all_settled}
+use Rattle.fg_meaning.specs.Internal.Held.{all_settled}
 use Rattle.fg_meaning.proofs.Settling.{operand_within, settle_on, settled-length}
 use Rattle.fg_meaning.proofs.bytes.Bytes.settle_operands.Goals as goal
 

@@ -1,7 +1,7 @@
 use Rattle.std.proofs.Common.{◌≡◌, drop, length}
 use Rattle.fg_base.specs.Operands.{operands_of}
 use Rattle.fg_frame.specs.Numbered.{numbered}
-use Rattle.fg_meaning.specs.Code.Held.{all_settled}
+use Rattle.fg_meaning.specs.Internal.Held.{all_settled}
 use Rattle.fg_meaning.proofs.bytes.Bytes.settle_operands.Given as goal
 
 abbrev pub invariant-loop-j : goal.invariant-loop-j

@@ -4,13 +4,13 @@ use Rattle.fg_base.specs.Applied.{bytes_at, after_op}
 use Rattle.fg_base.specs.Fits.{fits}
 use Rattle.fg_base.specs.Operands.{destination_of, operands_of, mapped}
 use Rattle.fg_base.specs.Shapes.{bytes_of, shape_at}
-use Rattle.fg_frame.specs.Good.{shapes_in}
+use Rattle.fg_frame.specs.Valid.{shapes_in}
 use Rattle.fg_frame.specs.Numbered.{numbered}
 use Rattle.fg_meaning.proofs.Remaining.{next_op}
 use Rattle.fg_meaning.proofs.Settling.{ready_count, ready_sized, run_within, stepped}
 use Rattle.fg_meaning.proofs.bytes.Bytes.step.Goals as goal
-use Rattle.fg_meaning.specs.Code.Held.{IsAt, ops_at, ops_from}
-use Rattle.fg_meaning.specs.Code.Sizes.{IsRunnable}
+use Rattle.fg_meaning.specs.Internal.Held.{IsAt, ops_at, ops_from}
+use Rattle.fg_meaning.specs.Internal.Sizes.{IsRunnable}
 
 pub make_room-requires : goal.make_room-requires
 make_room-requires c =

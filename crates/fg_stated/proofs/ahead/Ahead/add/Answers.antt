@@ -3,7 +3,7 @@ use Rattle.std.proofs.lemmas.List.{length-set}
 use Rattle.fg_hb.specs.Edges.{is_host, node_at}
 use Rattle.fg_view.specs.AccessKinds.{transfers}
 use Rattle.fg_stated.specs.PieceStates.{kind_of}
-use Rattle.fg_stated.specs.Code.Tables.{NextFrom}
+use Rattle.fg_stated.specs.Internal.Tables.{NextFrom}
 use Rattle.fg_stated.proofs.Tables.{first_own_more, next_more}
 use Rattle.fg_stated.proofs.ahead.Ahead.add.Goals as goal
 

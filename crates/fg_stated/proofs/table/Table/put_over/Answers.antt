@@ -1,5 +1,5 @@
 use Rattle.std.proofs.Common.{◌≡◌, ◌<◌, true, length, get_or, subst, sym, arith}
-use Rattle.fg_stated.specs.Code.Tables.{PutWhere}
+use Rattle.fg_stated.specs.Internal.Tables.{PutWhere}
 use Rattle.fg_stated.proofs.Tables.{among, put_over}
 use Rattle.fg_view.proofs.Overlapping.{known_overlapping}
 use Rattle.fg_view.specs.AccessKinds.{changes}

@@ -1,4 +1,4 @@
-use Rattle.fg_stated.specs.Code.Tables.{PutWhere}
+use Rattle.fg_stated.specs.Internal.Tables.{PutWhere}
 use Rattle.fg_stated.proofs.Tables.{among}
 use Rattle.fg_stated.proofs.table.Table.put_over.Given as goal
 

@@ -1,5 +1,5 @@
 use Rattle.std.proofs.Common.{subst}
-use Rattle.fg_ties.specs.Code.Listings.{IsListing}
+use Rattle.fg_ties.specs.Internal.Listings.{IsListing}
 use Rattle.fg_ties.proofs.listing.Listing.access.Goals as goal
 
 pub returns-clause-listing : goal.returns-clause-listing

@@ -1,10 +1,10 @@
 use Rattle.std.proofs.Common.{length}
-use Rattle.fg_ties.specs.Code.Chains.{BothLinks}
-use Rattle.fg_ties.specs.Code.Places.{PlacesTiedBelow}
+use Rattle.fg_ties.specs.Internal.Chains.{BothLinks}
+use Rattle.fg_ties.specs.Internal.Places.{PlacesSynchronizedBelow}
 use Rattle.fg_ties.proofs.listing.Listing.first.Given as goal
 
 abbrev pub invariant-loop-j : goal.invariant-loop-j
 invariant-loop-j l = record {
-  tied : PlacesTiedBelow l.self.view l.self.accesses l.j;
+  synchronized : PlacesSynchronizedBelow l.self.view l.self.accesses l.j;
   links : BothLinks l.self.accesses (length l.self.view.pieces) l.j l.chains;
 }

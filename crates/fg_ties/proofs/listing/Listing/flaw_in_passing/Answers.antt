@@ -1,7 +1,7 @@
 use Rattle.std.proofs.Common.{◌≡◌, ◌+◌, ◌<◌, length, Some, sym, ◌∙◌, subst, arith}
 use Rattle.std.proofs.lemmas.Bool.{false≢true}
-use Rattle.fg_ties.specs.Code.Passings.{AvailableAt, VisibleFrom, NotPassedUntil}
-use Rattle.fg_ties.specs.Code.Listings.{IsListing}
+use Rattle.fg_ties.specs.Internal.Passings.{AvailableAt, VisibleFrom, NotPassedUntil}
+use Rattle.fg_ties.specs.Internal.Listings.{IsListing}
 use Rattle.fg_ties.proofs.Passes.{until_more, until_seen, until_invisible, until_none, until_some}
 use Rattle.fg_ties.proofs.listing.Listing.flaw_in_passing.Goals as goal
 use Rattle.fg_ties.proofs.listing.Listing.flaw_in_passing.Goals.{then-is_available_at+else-is_still_visible_from, else-is_available_at}

@@ -1,4 +1,4 @@
-use Rattle.fg_ties.specs.Code.Passings.{NotPassedUntil}
+use Rattle.fg_ties.specs.Internal.Passings.{NotPassedUntil}
 use Rattle.fg_ties.proofs.listing.Listing.flaw_in_passing.Given as goal
 
 abbrev pub invariant-loop-k : goal.invariant-loop-k

@@ -1,6 +1,6 @@
 use Rattle.std.proofs.Common.{IfSome, subst}
 use Rattle.std.proofs.lemmas.Bool.{false≢true}
-use Rattle.fg_ties.specs.Code.Passings.{InvisibleFrom}
+use Rattle.fg_ties.specs.Internal.Passings.{InvisibleFrom}
 use Rattle.fg_ties.proofs.Passes.{invisible_on}
 use Rattle.fg_ties.proofs.listing.Listing.is_still_visible_from.Goals as goal
 

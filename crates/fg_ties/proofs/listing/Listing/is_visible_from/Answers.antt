@@ -1,7 +1,7 @@
 use Rattle.std.proofs.Common.{◌≡◌, below_more, length, sym, ◌∙◌, subst, arith}
 use Rattle.std.proofs.lemmas.Bool.{false≢true}
 use Rattle.fg_ties.specs.Passing.{UpTo, MadeVisibleBy}
-use Rattle.fg_ties.specs.Code.Listings.{IsListing}
+use Rattle.fg_ties.specs.Internal.Listings.{IsListing}
 use Rattle.fg_ties.proofs.Passes.{none_visible}
 use Rattle.fg_ties.proofs.listing.Listing.is_visible_from.Goals as goal
 

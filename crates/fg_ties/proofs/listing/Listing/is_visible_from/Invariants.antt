@@ -1,5 +1,5 @@
 use Rattle.std.proofs.Common.{ℕ, ◌<◌}
-use Rattle.fg_ties.specs.Code.Around.{down_from}
+use Rattle.fg_ties.specs.Internal.Around.{down_from}
 use Rattle.fg_ties.specs.Passing.{UpTo, MadeVisibleBy}
 use Rattle.fg_ties.proofs.listing.Listing.is_visible_from.Given as goal
 

@@ -1,6 +1,6 @@
 use Rattle.std.proofs.Common.{◌≡◌, ◌||◌, ℕ, false, length, get_or}
 use Rattle.fg_timeline.specs.Below.{any_below}
-use Rattle.fg_timeline.specs.Code.Walks.{is_for}
+use Rattle.fg_timeline.specs.Internal.Walks.{is_for}
 use Rattle.fg_timeline.proofs.needs.Needs.mark.Given as goal
 
 abbrev pub invariant-loop-queue : goal.invariant-loop-queue

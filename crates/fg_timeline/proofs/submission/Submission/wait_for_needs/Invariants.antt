@@ -1,4 +1,4 @@
-use Rattle.fg_timeline.specs.Code.Submissions.{Adds, needed_waits}
+use Rattle.fg_timeline.specs.Internal.Submissions.{Adds, needed_waits}
 use Rattle.fg_timeline.proofs.submission.Submission.wait_for_needs.Given as goal
 
 abbrev pub invariant-loop-queue : goal.invariant-loop-queue

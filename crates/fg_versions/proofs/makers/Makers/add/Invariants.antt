@@ -1,5 +1,5 @@
 use Rattle.std.proofs.Common.{◌≡◌, ◌++◌, drop, length}
-use Rattle.fg_versions.specs.Code.Rows.{added, added_numbers}
+use Rattle.fg_versions.specs.Internal.Rows.{added, added_numbers}
 use Rattle.fg_versions.proofs.makers.Makers.add.Given as goal
 
 abbrev pub invariant-loop-write : goal.invariant-loop-write

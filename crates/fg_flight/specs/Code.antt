@@ -1,4 +1,0 @@
-pub mod Inside
-pub mod Left
-pub mod Parts
-pub mod Units

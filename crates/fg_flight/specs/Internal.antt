@@ -1,0 +1,4 @@
+pub mod Inside
+pub mod Left
+pub mod WindowParts
+pub mod Units
