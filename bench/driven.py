@@ -1,5 +1,5 @@
 #!/usr/bin/env python3
-"""Times how long a device takes to be driven, in the built program fg_measure, by the number of its nodes.
+"""Times how long a device takes to be driven, in the built program measure, by the number of its nodes.
 
     bench/driven.py [--runs 3] [--program PROGRAM] [--case NAME ..]
 

@@ -1,5 +1,5 @@
 #!/usr/bin/env python3
-"""Times the calls of the table of caches against a copy of the same bytes, in the built program fg_measure.
+"""Times the calls of the table of caches against a copy of the same bytes, in the built program measure.
 
     bench/segments.py [--runs 5] [--program PROGRAM]
 

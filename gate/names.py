@@ -77,6 +77,11 @@ def lines_of(path):
             yield number, line
 
 
+def crates_in(line):
+    """The crates that a line names: in backticks, alone or before what of them is meant."""
+    return [word for word in re.findall(r"`(?:crates/)?(\w+)(?=`|/|::)", line) if word in CRATES]
+
+
 def is_file(name, crates, page):
     """Whether a file is there by its path from the top, from crates/, from a crate or from the page, or by its name in one of these crates."""
     if "*" in name or "NAME" in name or BUILT.search(name) or name in ("specs/", "specs/Code/", "src/", "proofs/"):
@@ -95,7 +100,7 @@ def look_at(path):
     last = set()
     for number, line in lines_of(path):
         last = set() if line.startswith("#") else last
-        named = {word for word in re.findall(r"\w+", line) if word in CRATES}
+        named = set(crates_in(line))
         last = named or last
         crates = own | (named or last)
         for name in FILE.findall(line):
@@ -194,9 +199,8 @@ def look_at_model():
     named, last = set(), set()
     for _, line in lines_of(path):
         last = set() if line.startswith("#") else last
-        for word in re.findall(r"[\w.]+", line):
-            if word in CRATES:
-                last = {word}
+        for word in re.findall(r"`(?:crates/)?\w+(?=`|/|::)|[\w.]+", line):
+            last = set(crates_in(f"{word}`")) or last
             named |= {(crate, word) for crate in last if word.endswith(".antt")}
     for source in SOURCES:
         if source.parent.name == "specs" and source.suffix == ".antt" and source.stem not in ("Lib", "Code"):

@@ -73,32 +73,32 @@ def reached(edges, start):
 # Row by row: a colour, what goes in, and each step with its crates and the commands that end there.
 ROWS = [
     ("blue", "frame file", [
-        (["JSON, the first", "fault of its form"], ["fg_forms", "fg_framefile"], ""),
-        (["the first broken", "rule, numbers"], ["fg_frame"], "migrate; meaning: fg_meaning"),
-        (["passes that", "somebody sees"], ["fg_versions"], "cull"),
-        (["commands, uses", "in groups"], ["fg_groups"], "auto: fg_auto"),
-        (["what may lie in", "the same bytes"], ["fg_lifetimes"], ""),
+        (["JSON, the first", "fault of its form"], ["file_json", "file_frame"], ""),
+        (["the first broken", "rule, numbers"], ["frame"], "migrate; meaning: frame_meaning"),
+        (["passes that", "somebody sees"], ["frame_cull"], "cull"),
+        (["commands, uses", "in groups"], ["compile_groups"], "auto: compile_queues"),
+        (["what may lie in", "the same bytes"], ["compile_lifetimes"], ""),
     ]),
     ("amber", "", [
-        (["offsets in", "one heap"], ["fg_place"], "place; bound: fg_bound"),
-        (["barriers, layouts,", "transfers"], ["fg_turns"], ""),
-        (["items and needs", "in one list"], ["fg_recorder"], ""),
-        (["batches, waits,", "signals"], ["fg_timeline"], ""),
-        (["a sound program,", "perhaps tight"], ["fg_compile", "fg_tight"], "compile"),
+        (["offsets in", "one heap"], ["compile_heap"], "place; bound: compile_bound"),
+        (["barriers, layouts,", "transfers"], ["compile_barriers"], ""),
+        (["items and needs", "in one list"], ["compile_record"], ""),
+        (["batches, waits,", "signals"], ["compile_timeline"], ""),
+        (["a sound program,", "perhaps tight"], ["compile", "check_tighten"], "compile"),
     ]),
     ("rose", "submission file", [
-        (["JSON, the first", "fault of its form"], ["fg_forms", "fg_subfile"], ""),
-        (["the first broken", "rule, nodes"], ["fg_subs"], ""),
-        (["accesses, order,", "happens-before"], ["fg_view", "fg_hb"], ""),
-        (["H2 to H4;", "H5 to H9"], ["fg_ties", "fg_stated"], ""),
-        (["a sound program,", "or a hazard"], ["fg_checker"], "check"),
+        (["JSON, the first", "fault of its form"], ["file_json", "file_program"], ""),
+        (["the first broken", "rule, nodes"], ["program"], ""),
+        (["accesses, order,", "happens-before"], ["check_access", "check_order"], ""),
+        (["H2 to H4;", "H5 to H9"], ["check_sync", "check_state"], ""),
+        (["a sound program,", "or a hazard"], ["check_program"], "check"),
     ]),
     ("green", "", [
-        (["workers, or", "one thread"], ["fg_worker", "fg_drive"], ""),
-        (["events on a device", "with caches"], ["fg_device", "fg_caches"], "audit: fg_audit"),
-        (["the bytes of", "a command"], ["fg_lanes", "fg_pixels"], ""),
-        (["what the host", "reads"], ["fg_run"], ""),
-        (["the text, and", "the status"], ["fg_report", "fg_top"], "run, exec, flight: fg_fly"),
+        (["workers, or", "one thread"], ["device_workers", "device_drive"], ""),
+        (["events on a device", "with caches"], ["device", "device_cache"], "audit: device_audit"),
+        (["the bytes of", "a command"], ["kernel_simd", "kernel"], ""),
+        (["what the host", "reads"], ["device_run"], ""),
+        (["the text, and", "the status"], ["report", "top"], "run, exec, flight: flight_file"),
     ]),
 ]
 
@@ -106,7 +106,7 @@ ROWS = [
 def pipeline():
     """The way of a file through the crates: a frame to a program, a submission to a program, a program to what is printed."""
     known = own_crates()
-    left, wide, high, column, row = 132, 166, 78, 200, 128
+    left, wide, high, column, row = 132, 216, 78, 248, 128
     picture = Picture(left + 4 * column + wide + 40, 4 * row + 6)
     edge = picture.width - 14
     for r, (fill, source, steps) in enumerate(ROWS):
@@ -115,7 +115,7 @@ def pipeline():
             picture.box(12, y + 20, 96, 38, source.split(), "none")
             picture.line([(108, y + 39), (left - 2, y + 39)])
         for k, (words, crates, ends) in enumerate(steps):
-            missing = [crate for crate in crates + [word for word in re.findall(r"\w+", ends) if word.startswith("fg_")] if crate not in known]
+            missing = [crate for crate in crates + re.findall(r": (\w+)", ends) if crate not in known]
             if missing:
                 sys.exit(f"no crate {', '.join(missing)}")
             x = left + k * column

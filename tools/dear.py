@@ -32,9 +32,9 @@ def renamed(top, crate):
     The libraries that are built go with it."""
     shutil.rmtree(top / "crates" / crate / "out", ignore_errors=True)
     folder = (top / "crates" / crate).rename(top / "crates" / f"timed_{crate}")
-    for path in [top / "crates.txt", *folder.rglob("*.rt"), *folder.rglob("*.antt")]:
+    for path, before in [(top / "crates.txt", r"\b"), *((path, r"\bRattle\.") for end in ("rt", "antt") for path in folder.rglob(f"*.{end}"))]:
         text = path.read_text(encoding="utf-8")
-        path.write_text(re.sub(rf"\b{crate}\b", f"timed_{crate}", text), encoding="utf-8")
+        path.write_text(re.sub(rf"({before}){crate}\b", rf"\1timed_{crate}", text), encoding="utf-8")
     return folder
 
 

@@ -20,10 +20,10 @@ Process = collections.namedtuple("Process", "parent session seconds")
 
 
 def measure():
-    """The program fg_measure, where it is built."""
-    path = TOP / "crates/fg_measure/out/fg_measure"
+    """The program measure, where it is built."""
+    path = TOP / "crates/measure/out/measure"
     if not path.exists():
-        sys.exit("the program fg_measure is not built: `rt run` in crates/fg_measure")
+        sys.exit("the program measure is not built: `rt run` in crates/measure")
     return str(path)
 
 

@@ -1,8 +1,9 @@
 //! The program: words, standard input and standard output are handed to the top call.
 #![tactic(auto)]
 
-use fg_base::{CountTap, IdleGate, NoMemory, ReadSource, Tap, WriteSink};
-use fg_top::{Ended, Status, framec};
+use base::NoMemory;
+use base_io::{CountTap, IdleGate, ReadSource, Tap, WriteSink};
+use top::{Ended, Status, framec};
 use std::process::ExitCode;
 use std::rt::Env;
 use std::{env, io};

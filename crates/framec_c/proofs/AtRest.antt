@@ -1,7 +1,7 @@
 -- The commands that C can call need no device, and have no numbers.
 use Rattle.std.proofs.Common.{◌≡◌, Some, false, refl}
-use Rattle.fg_answer.specs.AtRest.{needs_device}
-use Rattle.fg_words.specs.Commands.{IsBounded}
+use Rattle.answer.specs.AtRest.{needs_device}
+use Rattle.cli.specs.Commands.{IsBounded}
 use Rattle.framec_c.specs.Exports.{command_of}
 use Rattle.framec_c.specs.declared.export.Export.{Export}
 use Rattle.framec_c.specs.declared.export.Export.TheVariants.{Check, Cull, Place, Bound, Compile, Auto, Meaning, Migrate}

@@ -1,10 +1,10 @@
 -- What a call from C comes to.
 use Rattle.std.specs.Prelude.{ℕ, ℤ, pos, ◌≡◌, ◌⊎◌, List, ◌++◌, length, drop, nat_le, if◌then◌else◌}
-use Rattle.fg_answer.specs.Answers.{Answers}
-use Rattle.fg_answer.specs.Statuses.{number_of, HasText}
-use Rattle.fg_answer.specs.declared.answer.Answer.{Answer}
-use Rattle.fg_answer.specs.declared.status.Status.TheVariants.{NoMemory}
-use Rattle.fg_words.specs.declared.command.Command.{Command}
+use Rattle.answer.specs.Answers.{Answers}
+use Rattle.answer.specs.Statuses.{number_of, HasText}
+use Rattle.answer.specs.declared.answer.Answer.{Answer}
+use Rattle.answer.specs.declared.status.Status.TheVariants.{NoMemory}
+use Rattle.cli.specs.declared.command.Command.{Command}
 
 -- a text that fits stands at the front of the room, and the room behind it is as it was; for one that does not fit all of the
 -- room is as it was

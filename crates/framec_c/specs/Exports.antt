@@ -1,9 +1,9 @@
 -- Which commands C can call.
 use Rattle.std.specs.Prelude.{false}
-use Rattle.fg_words.specs.declared.command.Command.{Command}
-use Rattle.fg_words.specs.declared.command.Command.TheVariants.{Frame, Submission}
-use Rattle.fg_words.specs.declared.command.FrameCommand.TheVariants as frames
-use Rattle.fg_words.specs.declared.command.SubmissionCommand.TheVariants as submissions
+use Rattle.cli.specs.declared.command.Command.{Command}
+use Rattle.cli.specs.declared.command.Command.TheVariants.{Frame, Submission}
+use Rattle.cli.specs.declared.command.FrameCommand.TheVariants as frames
+use Rattle.cli.specs.declared.command.SubmissionCommand.TheVariants as submissions
 use Rattle.framec_c.specs.declared.export.Export.{Export}
 use Rattle.framec_c.specs.declared.export.Export.TheVariants.{Check, Cull, Place, Bound, Compile, Auto, Meaning, Migrate}
 

@@ -1,12 +1,12 @@
 //! A command on bytes, answered into the caller's room.
 
 ghost use Rattle.std.specs.Prelude.{◌≡◌, ◌≤◌, ◌++◌, pos, length, drop, nat_le};
-ghost use Rattle.fg_answer.specs.Statuses.{number_of};
+ghost use Rattle.answer.specs.Statuses.{number_of};
 ghost use Rattle.framec_c.specs.Calls.{Gives, placed};
 ghost use Rattle.framec_c.specs.Exports.{command_of};
 
 use crate::export::{Export, command_of};
-use fg_answer::{Answer, Status, answer_to};
+use answer::{Answer, Status, answer_to};
 use std::alloc::Global;
 
 /// The number of the status that a command on these bytes ends with. `wanted` is left as the number of bytes of the whole text, and

@@ -3,7 +3,7 @@
 ghost use Rattle.std.specs.Prelude.{◌≡◌};
 ghost use Rattle.framec_c.specs.Exports.{command_of};
 
-use fg_words::{Command, FrameCommand, SubmissionCommand};
+use cli::{Command, FrameCommand, SubmissionCommand};
 
 /// A command that C can call.
 #[derive(Clone, Copy, Debug, PartialEq, Eq)]

@@ -2,9 +2,9 @@
 //! tells in `wanted` how many bytes its text has; where the text is longer than `output`, `output` is left as it was.
 
 ghost use Rattle.std.specs.Prelude.{false};
-ghost use Rattle.fg_words.specs.declared.command.Command.{Command};
-ghost use Rattle.fg_words.specs.declared.command.FrameCommand.{FrameCommand};
-ghost use Rattle.fg_words.specs.declared.command.SubmissionCommand.{SubmissionCommand};
+ghost use Rattle.cli.specs.declared.command.Command.{Command};
+ghost use Rattle.cli.specs.declared.command.FrameCommand.{FrameCommand};
+ghost use Rattle.cli.specs.declared.command.SubmissionCommand.{SubmissionCommand};
 ghost use Rattle.framec_c.specs.Calls.{Gives};
 
 use crate::call::call;

@@ -15,7 +15,7 @@ use Rattle.law_runs.proofs.Listing.{among_right, after_in, earlier_among, before
 use Rattle.law_runs.proofs.Shared.{covers_place, covers_at, overlap_self}
 use Rattle.law_runs.proofs.Steps.{find_access}
 use Rattle.law_runs.specs.Apart.{Among, before_in, Earlier, Order, Contents, store_place, loads_in, after_node, after_nodes, first_bytes, apart, bytes_before}
-use Rattle.fg_caches.specs.Lines.{Bytes}
+use Rattle.device_cache.specs.Lines.{Bytes}
 use Rattle.law_runs.specs.Orders.{Before, Synchronized}
 use Rattle.law_runs.specs.Runs.{reads}
 use Rattle.law_runs.specs.States.{bytes_in}

@@ -14,7 +14,7 @@ use Rattle.law_runs.specs.Apart.{Order}
 use Rattle.law_runs.specs.Device.{Device, fresh_device, Busy, DeviceLoadsUndefined, IsHit, did_begin, MayBegin, Begins, Ends, did_end, MaySynchronize, DeviceJunkedAt, Synchronizes, did_synchronize, DeviceGoes, begins, ends, synchronizes, History, opens, goes_on, moves_on, DeviceSimulated, DeviceGoesOn}
 use Rattle.law_runs.specs.Formed.{Formed}
 use Rattle.law_runs.specs.Laws.{Sound, AllDone}
-use Rattle.fg_caches.specs.Lines.{Lines, Bytes}
+use Rattle.device_cache.specs.Lines.{Lines, Bytes}
 use Rattle.law_runs.specs.Orders.{Before}
 use Rattle.law_runs.specs.Runs.{LoadsUndefined, JunkedAt, Stores, Syncs, Moves, writes_back, fills, drops}
 use Rattle.law_runs.specs.States.{State, Owner, put, over, Entered, UnderWay, Meets}

@@ -11,7 +11,7 @@ use Rattle.law_runs.proofs.Moves.{knows_sees, fresh_sees}
 use Rattle.law_runs.proofs.Nodes.{store_left, other_left}
 use Rattle.law_runs.proofs.Shared.{overlap_at, same_bytes}
 use Rattle.law_runs.specs.Lines.{is_dirty}
-use Rattle.fg_caches.specs.Lines.{Line, seen}
+use Rattle.device_cache.specs.Lines.{Line, seen}
 use Rattle.law_runs.specs.Orders.{UpTo, Before, VisibleBy, ShowsOn, Passed, Synchronized}
 use Rattle.law_runs.specs.Runs.{reads}
 use Rattle.law_runs.specs.States.{State, bytes_in, sight}

@@ -1,7 +1,7 @@
 -- What holds of each byte after any events.
 use Rattle.std.proofs.Common.{◌≡◌, ◌≢◌, ◌⊎◌, ℕ, Bool, true, false}
 use Rattle.law_runs.specs.Lines.{is_dirty}
-use Rattle.fg_caches.specs.Lines.{Line, Bytes, seen}
+use Rattle.device_cache.specs.Lines.{Line, Bytes, seen}
 use Rattle.law_runs.specs.Orders.{UpTo, Before}
 use Rattle.law_runs.specs.Systems.{Access, System, Has, covers, changes, stores, is_store}
 

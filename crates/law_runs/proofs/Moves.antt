@@ -6,7 +6,7 @@ use Rattle.law_runs.specs.Formed.{Formed}
 use Rattle.law_runs.proofs.Invariant.{Tells, Values, IsLast, Untouched, Knows, own, store_passed, turn_passed, Owned, ByteOk}
 use Rattle.law_runs.proofs.Last.{last_same}
 use Rattle.law_runs.specs.Lines.{is_dirty}
-use Rattle.fg_caches.specs.Lines.{Line, Absent, Clean, Dirty, seen, written, cleaned, filled, dropped}
+use Rattle.device_cache.specs.Lines.{Line, Absent, Clean, Dirty, seen, written, cleaned, filled, dropped}
 use Rattle.law_runs.specs.Runs.{FlushTo}
 use Rattle.law_runs.specs.Systems.{Access, System, is_store, stores}
 

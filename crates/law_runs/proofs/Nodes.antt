@@ -7,7 +7,7 @@ use Rattle.law_runs.proofs.Invariant.{Tells, Values, Spares, IsLast, FlushedAt, 
 use Rattle.law_runs.proofs.Last.{last_unique, last_same, last_old, last_keep, untouched_old, done_before, last_new}
 use Rattle.law_runs.proofs.Moves.{dropped_tells, dropped_any, part_dirty, part_tells}
 use Rattle.law_runs.specs.Lines.{is_dirty}
-use Rattle.fg_caches.specs.Lines.{Line, Dirty, dropped}
+use Rattle.device_cache.specs.Lines.{Line, Dirty, dropped}
 use Rattle.law_runs.specs.Orders.{Path, UpTo, Before, FlushesOn, AvailableBy, VisibleBy, Passed, Synchronized}
 use Rattle.law_runs.specs.Systems.{Doing, Store, Access, System, Has, covers, changes, stores, transfers, is_store}
 

@@ -7,7 +7,7 @@ use Rattle.law_runs.proofs.Simulation.{sound_holds}
 use Rattle.law_runs.specs.Apart.{Among, before_in, Earlier, Order}
 use Rattle.law_runs.specs.Formed.{Formed}
 use Rattle.law_runs.specs.Laws.{Sound, AllDone, GoesOn}
-use Rattle.fg_caches.specs.Lines.{Bytes}
+use Rattle.device_cache.specs.Lines.{Bytes}
 use Rattle.law_runs.specs.Runs.{Run}
 use Rattle.law_runs.specs.States.{State, opened, over, MaySync}
 use Rattle.law_runs.specs.Systems.{Access, System, At, is_load}

@@ -2,7 +2,7 @@
 use Rattle.std.proofs.Common.{◌≡◌, ℕ, zero, suc, ◌+◌, ◌<◌, ◌≤◌, ◌==◌, ◌&&◌, nat_le, nat_lt, true, map, refl, sym, ◌∙◌, eq-eqb, eqb-true, arith}
 use Rattle.std.specs.List.{range_with_len}
 use Rattle.std.proofs.lemmas.Bool.{and_parts, and_from, leb-true, ltb-true, le-leb, lt-ltb}
-use Rattle.fg_caches.specs.Lines.{Bytes}
+use Rattle.device_cache.specs.Lines.{Bytes}
 use Rattle.law_runs.specs.States.{bytes_in}
 use Rattle.law_runs.specs.Systems.{System, covers, overlap}
 

@@ -16,7 +16,7 @@ use Rattle.law_runs.proofs.Steps.{finishes, opened_holds, load_holds, store_hold
 use Rattle.law_runs.specs.Apart.{Order}
 use Rattle.law_runs.specs.Laws.{Sound, Simulated}
 use Rattle.law_runs.specs.Lines.{is_dirty}
-use Rattle.fg_caches.specs.Lines.{Lines, Bytes}
+use Rattle.device_cache.specs.Lines.{Lines, Bytes}
 use Rattle.law_runs.specs.Orders.{UpTo, Before, VisibleBy, Synchronized}
 use Rattle.law_runs.specs.Runs.{reads, LoadsUndefined, Stores, Goes, loads_one, stores_all, syncs_one, Moves, writes_back, fills, drops, Run, start, goes, moves}
 use Rattle.law_runs.specs.States.{State, Owner, opened, put, over, bytes_in, Meets}

@@ -13,8 +13,8 @@ use Rattle.law_runs.proofs.Moves.{cleaned_clean, drop_ok, fill_ok, flush_ok, wri
 use Rattle.law_runs.proofs.Nodes.{left_clean, store_ok, turn_ok, spare_ok}
 use Rattle.law_runs.proofs.Shared.{same_bytes}
 use Rattle.law_runs.specs.Lines.{is_dirty}
-use Rattle.fg_caches.specs.Effects.{wrote_main, wrote_back, filled_from, dropped_in}
-use Rattle.fg_caches.specs.Lines.{Line, Lines, Dirty, Bytes, Range, is_in, cleaned, dropped, written}
+use Rattle.device_cache.specs.Effects.{wrote_main, wrote_back, filled_from, dropped_in}
+use Rattle.device_cache.specs.Lines.{Line, Lines, Dirty, Bytes, Range, is_in, cleaned, dropped, written}
 use Rattle.law_runs.specs.Orders.{Path, Synchronized}
 use Rattle.law_runs.specs.Runs.{reads, LoadsUndefined, Marks, took, Loads, did_store, Stores, FlushTo, JunkedAt, line_after, did_sync, Syncs}
 use Rattle.law_runs.specs.States.{State, Owner, opened, put, put_at, over, bytes_in, Entered, Meets, MayLoad, MayStore, MaySync}

@@ -9,7 +9,7 @@ use Rattle.law_runs.specs.Apart.{Among, Earlier, Order}
 use Rattle.law_runs.specs.Formed.{Formed}
 use Rattle.law_runs.specs.Found.{InitializedBy}
 use Rattle.law_runs.specs.Laws.{Sound}
-use Rattle.fg_caches.specs.Lines.{Bytes}
+use Rattle.device_cache.specs.Lines.{Bytes}
 use Rattle.law_runs.specs.Orders.{one, Before, Passed, Synchronized}
 use Rattle.law_runs.specs.Runs.{reads, Run}
 use Rattle.law_runs.specs.States.{State, opened}

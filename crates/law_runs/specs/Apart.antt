@@ -1,7 +1,7 @@
 -- What a program comes to where its commands run one after another and each piece has bytes of its own.
 use Rattle.std.specs.Prelude.{◌≡◌, ◌⊎◌, ℕ, suc, ◌<◌, ◌==◌, ◌&&◌, List, [], ◌∷◌, replicate, slice_get, true, Option, Some, None, if◌then◌else◌}
 use Rattle.std.specs.Option.{option_map, option_map_or}
-use Rattle.fg_caches.specs.Lines.{Bytes}
+use Rattle.device_cache.specs.Lines.{Bytes}
 use Rattle.law_runs.specs.States.{bytes_in}
 use Rattle.law_runs.specs.Systems.{Access, System, is_load, is_store}
 

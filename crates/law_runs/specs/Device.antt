@@ -4,7 +4,7 @@ use Rattle.std.specs.Prelude.{◌≡◌, ◌≢◌, ◌⊎◌, ℕ, ◌-◌, ◌
 use Rattle.law_runs.specs.Apart.{Order, after_node, apart, bytes_before}
 use Rattle.law_runs.specs.Formed.{Formed}
 use Rattle.law_runs.specs.Laws.{Sound, AllDone}
-use Rattle.fg_caches.specs.Lines.{Lines, Bytes, Dirty}
+use Rattle.device_cache.specs.Lines.{Lines, Bytes, Dirty}
 use Rattle.law_runs.specs.Runs.{reads, WrongLayout, WrongOwner, Takes, StoresAt, FlushTo, Lays, Hands, did_store, did_sync, Moves}
 use Rattle.law_runs.specs.States.{State, Owner, opened, put, bytes_in, sight, Entered}
 use Rattle.law_runs.specs.Systems.{Access, System, At, Has, covers, overlap, is_load, is_store, is_long, is_discard, changes}

@@ -3,7 +3,7 @@ use Rattle.std.specs.Prelude.{◌≡◌, ◌⊎◌, ℕ, ◌<◌, List, Bool, tr
 use Rattle.law_runs.specs.Apart.{Order, after_node, apart, bytes_before}
 use Rattle.law_runs.specs.Formed.{Formed}
 use Rattle.law_runs.specs.Found.{StateValid, Initialized}
-use Rattle.fg_caches.specs.Lines.{Lines, Bytes}
+use Rattle.device_cache.specs.Lines.{Lines, Bytes}
 use Rattle.law_runs.specs.Orders.{Synchronized}
 use Rattle.law_runs.specs.Runs.{reads, Stores, Run}
 use Rattle.law_runs.specs.States.{State, Owner, opened, bytes_in, MayLoad, MayStore, MaySync}

@@ -1,8 +1,8 @@
 -- What each event leaves, and runs of events. Where something is undefined any bytes may come.
 use Rattle.std.specs.Prelude.{◌≡◌, ◌⊎◌, ℕ, ◌-◌, List, slice_index, Bool, true, false, Option, Some, if◌then◌else◌}
 use Rattle.law_runs.specs.Lines.{is_dirty}
-use Rattle.fg_caches.specs.Effects.{wrote_main, wrote_back, filled_from, dropped_in}
-use Rattle.fg_caches.specs.Lines.{Line, Lines, Dirty, Bytes, Range, cleaned, dropped}
+use Rattle.device_cache.specs.Effects.{wrote_main, wrote_back, filled_from, dropped_in}
+use Rattle.device_cache.specs.Lines.{Line, Lines, Dirty, Bytes, Range, cleaned, dropped}
 use Rattle.law_runs.specs.States.{State, Owner, Unused, Left, put, put_at, bytes_in, sight, Torn, Meets, MayLoad, MayStore, MaySync}
 use Rattle.law_runs.specs.Systems.{Doing, Read, TakeOver, Access, System, At, Has, covers, changes, is_store, is_long, is_discard}
 

@@ -2,7 +2,7 @@
 use Rattle.std.specs.Prelude.{◌≡◌, ◌≢◌, ℕ, ◌+◌, ◌<◌, ◌==◌, ◌&&◌, List, [], map, Bool, true, false, Option, if◌then◌else◌}
 use Rattle.std.specs.List.{range_with_len}
 use Rattle.std.specs.Option.{option_map_or}
-use Rattle.fg_caches.specs.Lines.{Lines, Absent, Bytes, seen}
+use Rattle.device_cache.specs.Lines.{Lines, Absent, Bytes, seen}
 use Rattle.law_runs.specs.Systems.{Access, System, At, Has, is_load, is_long, overlap}
 
 -- whose a piece is: nobody has used it yet, or this family's, or nobody's

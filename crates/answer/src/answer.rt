@@ -1,0 +1,50 @@
+//! What a command answers, before it is written.
+
+ghost use Rattle.std.specs.Prelude.{◌≡◌, IfOk};
+ghost use Rattle.answer.specs.Plain.{done, refusal, program_refusal};
+
+use crate::Status;
+use base::{NoMemory, Text};
+use frame::FrameFault;
+use report::{frame_fault_text, program_fault_text};
+use program::ProgramFault;
+use std::alloc::Global;
+
+/// A status, and the whole text that goes with it.
+#[derive(Drop)]
+pub struct Answer {
+    /// How a call ends that writes the text whole.
+    pub status: Status,
+    /// The text, in lines that end with a line feed each.
+    pub text: Text,
+}
+
+/// The whole text of a command that was done.
+pub fn done(text: Text) -> Answer
+    ensures { result ≡ done text }
+{
+    Answer {
+        status: Status::Done,
+        text,
+    }
+}
+
+/// The answer to a frame file with a fault.
+pub fn refusal(alloc: Global, fault: &FrameFault) -> Result<Answer, NoMemory>
+    ensures { IfOk result (λ answer. answer ≡ refusal fault.now) }
+{
+    Ok(Answer {
+        status: Status::Refused,
+        text: frame_fault_text(alloc, fault)?,
+    })
+}
+
+/// The answer to a submission with a fault.
+pub fn program_refusal(alloc: Global, fault: &ProgramFault) -> Result<Answer, NoMemory>
+    ensures { IfOk result (λ answer. answer ≡ program_refusal fault.now) }
+{
+    Ok(Answer {
+        status: Status::Refused,
+        text: program_fault_text(alloc, fault)?,
+    })
+}

@@ -1,0 +1,33 @@
+//! The command `cull`.
+
+ghost use Rattle.std.specs.Prelude.{IfOk};
+ghost use Rattle.frame.specs.Numbered.{numbered};
+ghost use Rattle.answer.specs.Answers.{CullsFrame};
+ghost use Rattle.answer.specs.Statuses.{HasText};
+ghost use Rattle.frame_cull.specs.Culled.{AreKept};
+
+use crate::answer::{Answer, done};
+use base::NoMemory;
+use frame::ValidFrame;
+use report::cull_text;
+use frame_cull::{Kept, cull, versions_of};
+use std::alloc::Global;
+
+/// Which passes of a frame are kept.
+pub fn kept_of(alloc: Global, good: &ValidFrame) -> Result<Kept, NoMemory>
+    ensures { IfOk result (AreKept (numbered good.now)) }
+{
+    let versions = versions_of(alloc, good)?;
+    cull(alloc, good, &versions)
+}
+
+/// The answer to the command on a good frame.
+#[tactic(auto, using(crate::proofs::KeptLemmas::one_each))]
+pub fn cull_frame(alloc: Global, good: &ValidFrame) -> Result<Answer, NoMemory>
+    ensures frame { IfOk result (CullsFrame good.now) }
+    ensures has_text { IfOk result (λ answer. HasText answer.status) }
+{
+    let kept = kept_of(alloc, good)?;
+    let text = cull_text(alloc, good, &kept)?;
+    Ok(done(text))
+}

@@ -1,0 +1,22 @@
+//! The command `migrate`.
+
+ghost use Rattle.std.specs.Prelude.{IfOk};
+ghost use Rattle.answer.specs.Answers.{MigratesFrame};
+ghost use Rattle.answer.specs.Statuses.{HasText};
+
+use crate::answer::{Answer, done};
+use base::NoMemory;
+use frame::ValidFrame;
+use file_frame::write_frame;
+use base_text::Lines;
+use std::alloc::Global;
+
+/// The answer to the command on a good frame.
+pub fn migrate_frame(alloc: Global, good: &ValidFrame) -> Result<Answer, NoMemory>
+    ensures frame { IfOk result (MigratesFrame good.now) }
+    ensures has_text { IfOk result (λ answer. HasText answer.status) }
+{
+    let mut text = write_frame(alloc, good.frame())?;
+    text.end_line()?;
+    Ok(done(text))
+}

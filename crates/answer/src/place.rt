@@ -1,0 +1,51 @@
+//! The command `place`.
+
+ghost use Rattle.std.specs.Prelude.{IfOk};
+ghost use Rattle.frame.specs.Numbered.{numbered};
+ghost use Rattle.answer.specs.Answers.{PlacesFrame};
+ghost use Rattle.answer.specs.Internal.Stages.{AreGrouped, ArePlaced, ArePlaceLines};
+ghost use Rattle.answer.specs.Statuses.{HasText};
+
+use crate::answer::{Answer, done};
+use crate::groups::kept_groups;
+use base::{NoMemory, Text};
+use frame::ValidFrame;
+use compile_groups::Groups;
+use compile_lifetimes::ordered;
+use compile_heap::{Placement, place};
+use report::place_text;
+use std::alloc::Global;
+
+// Where the transient units lie.
+fn places_of(alloc: Global, groups: &Groups) -> Result<Placement, NoMemory>
+    ensures { IfOk result (ArePlaced groups.now) }
+{
+    let ordered = ordered(alloc, groups)?;
+    place(alloc, groups.sizes(), &ordered)
+}
+
+#[tactic(auto, using(crate::proofs::PlaceLemmas::as_many, crate::proofs::PlaceLemmas::known_units))]
+fn place_lines(alloc: Global, good: &ValidFrame, groups: &Groups) -> Result<Text, NoMemory>
+    requires { AreGrouped (numbered good.now) groups.now }
+    ensures { IfOk result (ArePlaceLines good.now groups.now) }
+{
+    let placement = places_of(alloc, groups)?;
+    place_text(alloc, good, groups, &placement)
+}
+
+fn place_answer(alloc: Global, good: &ValidFrame, groups: &Groups) -> Result<Answer, NoMemory>
+    requires { AreGrouped (numbered good.now) groups.now }
+    ensures frame { IfOk result (PlacesFrame good.now) }
+    ensures has_text { IfOk result (λ answer. HasText answer.status) }
+{
+    Ok(done(place_lines(alloc, good, groups)?))
+}
+
+/// The answer to the command on a good frame.
+pub fn place_frame(alloc: Global, good: &ValidFrame) -> Result<Answer, NoMemory>
+    ensures frame { IfOk result (PlacesFrame good.now) }
+    ensures has_text { IfOk result (λ answer. HasText answer.status) }
+{
+    let groups = kept_groups(alloc, good)?;
+    place_answer(alloc, good, &groups)
+}

@@ -1,0 +1,27 @@
+//! What an access that is not state_valid has wrong.
+
+use base::Family;
+use vk::Layout;
+
+/// What is wrong with an access beside bytes. Nodes and pieces are named by their numbers.
+#[derive(Clone, Copy, Debug, PartialEq, Eq)]
+pub enum StateHazard {
+    /// An image is in another layout than the one wanted.
+    BadLayout {
+        node: u32,
+        piece: u32,
+        found: Layout,
+        wanted: Layout,
+    },
+    /// Another queue family owns the piece, or none does.
+    BadOwner {
+        node: u32,
+        piece: u32,
+        found: Option<Family>,
+        wanted: Family,
+    },
+    /// Half of a transfer of ownership without its other half.
+    Unmatched {
+        node: u32,
+    },
+}

@@ -1,0 +1,80 @@
+-- A program whose pairs are synchronized is synchronized, and one with a flaw is not.
+use Rattle.std.specs.Prelude.{◌↔◌}
+use Rattle.std.proofs.Common.{◌≡◌, ◌⊎◌, inl, inr, ℕ, ◌<◌, true, List, length, slice_get, Option, Some, None, Result, Ok, Err, IfOk, sym, ap, subst, ◌∙◌, ⊎_elim, arith}
+use Rattle.std.proofs.lemmas.Bool.{cases_eq, cases_lt}
+use Rattle.std.proofs.lemmas.Option.{slice_get_within}
+use Rattle.std.specs.Option.{option_map_or}
+use Rattle.check_order.specs.Before.{Reached, happens}
+use Rattle.check_order.specs.Edges.{edge}
+use Rattle.check_order.specs.Laws.{GoesForward, IsIrreflexive, IsWithin}
+use Rattle.check_order.specs.Nodes.{program_nodes}
+use Rattle.check_order.specs.Orders.{Order}
+use Rattle.check_order.specs.declared.node.Node.{Node}
+use Rattle.base_reach.specs.Paths.{Path, then_on}
+use Rattle.check_access.specs.ValidView.{ValidView, Has, NodeAccessAt}
+use Rattle.check_access.specs.Views.{View, view_of, node_access, node_accesses_of}
+use Rattle.check_access.specs.declared.access.Access.{Access}
+use Rattle.check_access.specs.declared.node_access.NodeAccess.{NodeAccess}
+use Rattle.check_sync.specs.First.{DecidesSynchronized, FindsFirst, IsFirst}
+use Rattle.program.specs.declared.program.Program.{Program}
+use Rattle.check_sync.specs.Rows.{Rows}
+use Rattle.check_sync.specs.Synchronized.{Clashing, Synchronized, PairSynchronized, Flawed, SynchronizedBelow, FirstFlaw}
+use Rattle.check_sync.specs.declared.sync_hazard.Flaw.{Flaw}
+use Rattle.check_sync.specs.declared.sync_hazard.Flaw.TheVariants.{Unordered, NotAvailable, NotVisible}
+use Rattle.check_sync.specs.declared.sync_hazard.SyncHazard.{SyncHazard}
+use Rattle.check_sync.proofs.Clashes.{clash_turned}
+use Rattle.check_sync.proofs.Ordered.{has_within, listed_in, listed_of, not_earlier}
+use Rattle.check_sync.proofs.Passes.{up_to_on, visible_before}
+
+turned : (V : View) (x y : ℕ) (a b : Access) → Clashing V x a y b → Clashing V y b x a
+turned V x y a b C = record { apart = λ e. C.apart (sym e); clash = clash_turned V a b C.clash }
+
+same_node : (V : View) (order : List ℕ) (x y i j : ℕ) (a b : Access) → i ≡ j → NodeAccessAt (node_accesses_of V order) i (node_access x a) → NodeAccessAt (node_accesses_of V order) j (node_access y b) → x ≡ y
+same_node V order x y i j a b e p q = ap (λ o. option_map_or (λ t. t.node) o 0) (sym p ∙ ap (λ k. slice_get (node_accesses_of V order) k) e ∙ q)
+
+-- one of two accesses of different nodes is listed before the other
+pair_of : (V : View) (order : List ℕ) → ValidView V → Order V.nodes order → SynchronizedBelow V (node_accesses_of V order) (length (node_accesses_of V order)) → (x y : ℕ) (a b : Access) → Has V x a → Has V y b → Clashing V x a y b → PairSynchronized V (node_access x a) (node_access y b) ⊎ PairSynchronized V (node_access y b) (node_access x a)
+pair_of V order S O T x y a b hx hy C =
+    let i = listed_in V order x a (O.all x (has_within V x a S hx)) hx in
+    let j = listed_in V order y b (O.all y (has_within V y b S hy)) hy in
+    ⊎_elim
+    (λ (e : i.0 ≡ j.0). absurd (C.apart (same_node V order x y i.0 j.0 a b e i.1 j.1)))
+    (λ ne. ⊎_elim
+    (λ lt. inl (T i.0 j.0 (node_access x a) (node_access y b) i.1 j.1 lt (slice_get_within (node_accesses_of V order) j.0 (node_access y b) j.1)))
+    (λ ge. inr (T j.0 i.0 (node_access y b) (node_access x a) j.1 i.1 (omega (arith, ne, ge)) (slice_get_within (node_accesses_of V order) i.0 (node_access x a) i.1)))
+    (cases_lt i.0 j.0))
+    (cases_eq i.0 j.0)
+
+pub synchronized_all : (V : View) (order : List ℕ) → IsIrreflexive V.nodes → ValidView V → Order V.nodes order → SynchronizedBelow V (node_accesses_of V order) (length (node_accesses_of V order)) → Synchronized V
+synchronized_all V order never S O T = record {
+  ordered = λ x y a b hx hy C. ⊎_elim (λ t. inl (t C).0) (λ t. inr (t (turned V x y a b C)).0) (pair_of V order S O T x y a b hx hy C);
+  passed = λ x y a b hx hy C p ha hb. ⊎_elim (λ t. (t C).1 ha hb) (λ t. absurd (never order O x (then_on p (t (turned V x y a b C)).0))) (pair_of V order S O T x y a b hx hy C);
+}
+
+module _ (V : View) (order : List ℕ) (forward : GoesForward V.nodes) (O : Order V.nodes order) where
+  -- a flaw of any two listed accesses
+  flaw_against : (flaw : Flaw) (i j : ℕ) (a b : NodeAccess) → NodeAccessAt (node_accesses_of V order) i a → NodeAccessAt (node_accesses_of V order) j b → i < j → Clashing V a.node a.access b.node b.access → Flawed flaw V a b → Synchronized V → ⊥
+  flaw_against Unordered i j a b ha hb lt C f T = ⊎_elim
+      (λ p. f p)
+      (λ p. not_earlier V order O.once i j a b ha hb lt (forward order O b.node a.node p))
+      (T.ordered a.node b.node a.access b.access (listed_of V order i a ha).1 (listed_of V order j b hb).1 C)
+  flaw_against NotAvailable i j a b ha hb lt C f T =
+      let t = T.passed a.node b.node a.access b.access (listed_of V order i a ha).1 (listed_of V order j b hb).1 C f.0 f.1 f.2 in
+      f.3 (t.0, t.2, up_to_on V t.0 t.1 b.node t.3 (visible_before V b.node b.access t.1 t.4))
+  flaw_against NotVisible i j a b ha hb lt C f T = f.4 (T.passed a.node b.node a.access b.access (listed_of V order i a ha).1 (listed_of V order j b hb).1 C f.0 f.1 f.2)
+
+  pub flaw_breaks : (i j : ℕ) (a b : NodeAccess) (flaw : Flaw) → FirstFlaw V (node_accesses_of V order) i j a b flaw → Synchronized V → ⊥
+  flaw_breaks i j a b flaw F T = flaw_against flaw i j a b F.first F.second F.rising F.clashing F.flawed T
+
+-- what is found decides whether all is synchronized
+decides : (V : View) (accesses : List NodeAccess) (found : Option SyncHazard) → ((nodes : List Node) → GoesForward nodes) → ((nodes : List Node) → IsIrreflexive nodes) → ValidView V → FindsFirst V accesses found → DecidesSynchronized V accesses found
+decides V accesses None forward never S T order O is = synchronized_all V order (never V.nodes) S O (subst (λ l. SynchronizedBelow V l (length l)) is T)
+decides V accesses (Some sync_hazard) forward never S F order O is = let first = subst (λ l. IsFirst V l sync_hazard.flaw sync_hazard.first sync_hazard.second) is F in flaw_breaks V order (forward V.nodes) O first.i first.j first.a first.b sync_hazard.flaw first.flawed
+
+pub all_decided : {E : Type 0} (V : View) (accesses : List NodeAccess) (result : Result (Option SyncHazard) E) → ((nodes : List Node) → GoesForward nodes) → ((nodes : List Node) → IsIrreflexive nodes) → ValidView V → IfOk result (FindsFirst V accesses) → IfOk result (DecidesSynchronized V accesses)
+all_decided V accesses (Ok found) forward never S F = decides V accesses found forward never S F
+all_decided V accesses (Err n) forward never S F = tt
+
+-- rows of a program's nodes, by what `before_of` says
+pub rows_of : (P : Program) (V : View) (reached : Reached) → V ≡ view_of P → length reached.places ≡ length (program_nodes P) → ((x y : ℕ) → x < length (program_nodes P) → y < length (program_nodes P) → (happens reached x y ≡ true) ↔ Path (edge (program_nodes P)) x y) → IsWithin (program_nodes P) → Rows V reached
+rows_of P V reached same size paths within = subst (λ W. Rows W reached) (sym same) (record { size = size; paths = paths; within = within })

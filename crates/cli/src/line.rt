@@ -1,0 +1,186 @@
+//! Which command words are.
+
+ghost use Rattle.std.specs.Prelude.{◌≡◌, ◌∷◌, IfOk, IfSome, map, string_bytes, codes};
+ghost use Rattle.clap.specs.Words.{first_of, rows_of, found_of};
+ghost use Rattle.cli.specs.Commands.{IsBounded, command_in, command_of_word, flying, generating, unless_more, without_options};
+ghost use Rattle.cli.specs.Lines.{command_of};
+ghost use Rattle.cli.specs.Persist.{persist_in};
+ghost use Rattle.cli.specs.declared.command.Command.TheVariants as commands;
+
+use crate::line_options::{LineOptions, line_options_in, text_in};
+use crate::matching::{Unmatched, matches};
+use crate::options::run_options;
+use crate::persist::persist_in;
+use crate::word::{Word, word_of};
+use crate::{Command, FrameCommand, SubmissionCommand};
+use clap::ArgMatches;
+use base::{List, Name, NoMemory};
+use std::alloc::Global;
+
+#[tactic(auto, using(crate::proofs::Bounds::bounded_lines))]
+/// The command of the words after the program's name; none where they are no command line.
+pub fn command_of(alloc: Global, words: &[String]) -> Result<Option<Command>, NoMemory>
+    ensures command { IfOk result (λ found. found ≡ command_of (map string_bytes words.now)) }
+    ensures bounded { IfSome (command_of (map string_bytes words.now)) IsBounded }
+{
+    let line = line_of(alloc, words)?;
+    match matches(alloc, line.as_slice()) {
+        Ok(matches) => command_in(alloc, &matches),
+        Err(Unmatched::NoLine) => Ok(None),
+        Err(Unmatched::NoMemory) => Err(NoMemory),
+    }
+}
+
+// The whole line, the program's own name first.
+fn line_of<'a>(alloc: Global, words: &'a [String]) -> Result<Vec<&'a str>, NoMemory>
+    ensures { IfOk result (λ line. map (λ word. word.now) line.items ≡ codes "framec" ∷ map string_bytes words.entry.now) }
+{
+    let mut line: Vec<&'a str> = Vec::new(alloc);
+    line.push("framec")?;
+    for word in words {
+        line.push(word.as_str())?;
+    }
+    Ok(line)
+}
+
+// The command, with these persisting names.
+fn command_with(matches: &ArgMatches<'_>, persist: Option<List<Name>>) -> Option<Command>
+    requires { persist ≡ persist_in (first_of (codes "persist") (rows_of (found_of matches.now))) }
+    ensures { result ≡ command_in (rows_of (found_of matches.now)) }
+{
+    let word = word_of(text_in(matches, "command")?)?;
+    command_of_word(word, line_options_in(matches)?, persist)
+}
+
+fn command_in(alloc: Global, matches: &ArgMatches<'_>) -> Result<Option<Command>, NoMemory>
+    ensures { IfOk result (λ command. command ≡ command_in (rows_of (found_of matches.now))) }
+{
+    let persist = persist_in(alloc, text_in(matches, "persist"))?;
+    Ok(command_with(matches, persist))
+}
+
+// The command, where no option is left that it does not take.
+fn unless_more(rest: LineOptions, command: Command) -> Option<Command>
+    ensures { result ≡ unless_more rest command }
+{
+    if rest.is_none() { Some(command) } else { None }
+}
+
+fn without_options(given: LineOptions) -> LineOptions
+    ensures { result ≡ without_options given }
+{
+    LineOptions {
+        workers: None,
+        tend: None,
+        ..given
+    }
+}
+
+fn without_trace(given: LineOptions) -> LineOptions
+    ensures { result ≡ record (without_options given) { trace = Rattle.std.specs.Prelude.false } }
+{
+    LineOptions {
+        trace: false,
+        ..without_options(given)
+    }
+}
+
+fn without_tight(given: LineOptions) -> LineOptions
+    ensures { result ≡ record given { tight = Rattle.std.specs.Prelude.false } }
+{
+    LineOptions {
+        tight: false,
+        ..given
+    }
+}
+
+fn without_cost(given: LineOptions) -> LineOptions
+    ensures { result ≡ record given { cost = Rattle.std.specs.Prelude.false } }
+{
+    LineOptions {
+        cost: false,
+        ..given
+    }
+}
+
+// The frame of a number, or its summary.
+fn generating(given: LineOptions, number: u32) -> Option<Command>
+    ensures { result ≡ generating given number }
+{
+    let passes = given.passes.unwrap_or(64);
+    let rest = LineOptions {
+        number: None,
+        passes: None,
+        summary: false,
+        ..given
+    };
+    if given.summary {
+        let options = run_options(given);
+        unless_more(
+            without_options(rest),
+            Command::Summary {
+                number,
+                passes,
+                options,
+            },
+        )
+    } else {
+        unless_more(rest, Command::Gen { number, passes })
+    }
+}
+
+// Frames with these persisting names.
+fn flying(given: LineOptions, persist: Option<List<Name>>) -> Option<Command>
+    ensures { result ≡ flying given persist }
+{
+    let rest = LineOptions {
+        depth: None,
+        persist: false,
+        ..without_options(given)
+    };
+    unless_more(
+        rest,
+        Command::Flight {
+            options: run_options(given),
+            persist: persist?,
+            depth: given.depth.unwrap_or(2),
+        },
+    )
+}
+
+fn of_frame(rest: LineOptions, asked: FrameCommand) -> Option<Command>
+    ensures { result ≡ unless_more rest (commands.Frame asked) }
+{
+    unless_more(rest, Command::Frame(asked))
+}
+
+fn command_of_word(word: Word, given: LineOptions, persist: Option<List<Name>>) -> Option<Command>
+    ensures { result ≡ command_of_word word given persist }
+{
+    let options = run_options(given);
+    let trace = given.trace;
+    let tight = given.tight;
+    let cost = given.cost;
+    match word {
+        Word::Cull => of_frame(given, FrameCommand::Cull),
+        Word::Place => of_frame(given, FrameCommand::Place),
+        Word::Bound => of_frame(given, FrameCommand::Bound),
+        Word::Compile => of_frame(without_tight(given), FrameCommand::Compile { tight }),
+        Word::Auto => of_frame(without_cost(given), FrameCommand::Auto { cost }),
+        Word::Meaning => of_frame(given, FrameCommand::Meaning),
+        Word::Migrate => of_frame(given, FrameCommand::Migrate),
+        Word::Check => unless_more(given, Command::Submission(SubmissionCommand::Check)),
+        Word::Gen => generating(given, given.number?),
+        Word::Run => unless_more(
+            without_tight(without_trace(given)),
+            Command::Run {
+                options,
+                trace,
+                tight,
+            },
+        ),
+        Word::Exec => unless_more(without_trace(given), Command::Exec { options, trace }),
+        Word::Flight => flying(given, persist),
+        Word::Audit => unless_more(given, Command::Audit),
+    }
+}

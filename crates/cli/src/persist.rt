@@ -1,0 +1,89 @@
+//! Names under which bytes persist from one frame to the next.
+
+ghost use Rattle.std.specs.Prelude.{◌≡◌, ◌==◌, ◌≤◌, IfOk, length, map, option_map};
+ghost use Rattle.std.specs.List.{slice_split};
+ghost use Rattle.frame.specs.Repeats.{first_repeat, repeats_at};
+ghost use Rattle.cli.specs.Persist.{all_named, are_different, if_different, names_of, persist_in};
+
+use base::{List, Name, NoMemory};
+use std::alloc::{AllocError, Global};
+
+fn split_at_commas<'a>(alloc: Global, text: &'a str) -> Result<Vec<&'a str>, AllocError>
+    ensures { IfOk result (λ entries. map (λ part. part.now) entries.items ≡ slice_split (λ b. b == 44) text.entry.now) }
+{
+    text.split(',').collect(alloc)
+}
+
+// The names that these are; none at all where one is none.
+fn all_named(alloc: Global, entries: &[&str]) -> Result<Option<List<Name>>, NoMemory>
+    ensures { IfOk result (λ names. names ≡ all_named (map (λ part. part.now) entries.now)) }
+{
+    let mut names = List::new(alloc);
+    for part in entries {
+        match Name::read(part.as_bytes()) {
+            Some(name) => names.push(name)?,
+            None => return Ok(None),
+        }
+    }
+    Ok(Some(names))
+}
+
+fn repeats_at(names: &[Name], at: usize, name: &Name) -> Option<usize>
+    requires { at ≤ length names.now }
+    ensures { result ≡ repeats_at names.now at name.now }
+{
+    if names[..at].contains(name) {
+        Some(at)
+    } else {
+        None
+    }
+}
+
+// The first name that stands before it too.
+#[tactic(auto, using(base::proofs::Walks::first_on, base::proofs::Walks::found_on))]
+fn first_repeat(names: &[Name]) -> Option<usize>
+    ensures { result ≡ first_repeat names.now }
+{
+    for (i, name) in names.iter().enumerate() {
+        if let Some(at) = repeats_at(names, i, name) {
+            return Some(at);
+        }
+    }
+    None
+}
+
+fn are_different(names: &[Name]) -> bool
+    ensures { result ≡ are_different names.now }
+{
+    names.len() <= 16 && first_repeat(names).is_none()
+}
+
+fn if_different(names: Option<List<Name>>) -> Option<List<Name>>
+    ensures { result ≡ if_different names }
+{
+    let names = names?;
+    if are_different(&names) {
+        Some(names)
+    } else {
+        None
+    }
+}
+
+fn names_of(alloc: Global, text: &str) -> Result<Option<List<Name>>, NoMemory>
+    ensures { IfOk result (λ names. names ≡ names_of text.now) }
+{
+    let entries = split_at_commas(alloc, text)?;
+    let names = all_named(alloc, entries.as_slice())?;
+    Ok(if_different(names))
+}
+
+/// The names of a word; no names where there is no word, and none at all where the word is not 1 to 16 different names with a comma
+/// between.
+pub(crate) fn persist_in(alloc: Global, word: Option<&str>) -> Result<Option<List<Name>>, NoMemory>
+    ensures { IfOk result (λ names. names ≡ persist_in (option_map (λ w. w.now) word.entry)) }
+{
+    match word {
+        Some(text) => names_of(alloc, text),
+        None => Ok(Some(List::new(alloc))),
+    }
+}

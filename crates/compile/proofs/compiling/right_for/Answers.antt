@@ -1,0 +1,5 @@
+use Rattle.compile.proofs.compiling.right_for.Goals as goal
+use Rattle.frame.specs.Numbered.{numbered}
+
+pub returns : goal.returns
+returns c = λ kept places program are_kept compiled. c.compile_law.ensures (numbered c.args.frame.now) kept places program c.frame.ensures.numbers are_kept compiled

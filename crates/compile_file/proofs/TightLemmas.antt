@@ -1,0 +1,41 @@
+-- What is submitted for a frame.
+use Rattle.std.proofs.Common.{◌≡◌, ◌∙◌, List, Bool, true, false, length, None, refl, ap, subst}
+use Rattle.check_program.specs.Sound.{IsSound}
+use Rattle.law_meaning.specs.Laws.{IsReadMeant}
+use Rattle.frame.specs.Numbered.{NumberedFrame}
+use Rattle.compile_heap.specs.Placing.{Places}
+use Rattle.compile_record.specs.Recorded.{IsCompiled}
+use Rattle.program.specs.FirstFault.{first_fault}
+use Rattle.program.specs.declared.program.Program.{Program}
+use Rattle.check_tighten.specs.Standing.{StandsTo}
+use Rattle.check_tighten.specs.Tight.{Tight}
+use Rattle.compile_file.specs.Compiles.{Compiles}
+use Rattle.frame_cull.specs.Culled.{AreKept}
+
+module _ (frame : NumberedFrame) (kept : List Bool) (places : Places) where
+  -- the compiled program itself
+  pub as_compiled : (program : Program) → AreKept frame kept → IsCompiled frame kept places program → first_fault program ≡ None → IsSound program → IsReadMeant frame program → length program.readbacks ≡ length frame.exports → Compiles false frame kept places program
+  as_compiled program are is faultless sound means readbacks = record {
+    are_kept = are;
+    given = program;
+    compiled = is;
+    submits = refl;
+    right = record { faultless = faultless; sound = sound; readbacks = readbacks; means = means };
+  }
+
+  -- one that is tight; the host reads the same, whatever waits keep a program sound
+  pub as_tight : (given program : Program) → Compiles false frame kept places given → StandsTo given program → Tight program → ((f : NumberedFrame) (g p : Program) → StandsTo g p → IsSound g → first_fault p ≡ None → IsSound p → IsReadMeant f g → IsReadMeant f p) → Compiles true frame kept places program
+  as_tight given program compiles stands tight means =
+      let passes = tight.passes in
+      record {
+        are_kept = compiles.are_kept;
+        given = compiles.given;
+        compiled = compiles.compiled;
+        submits = (subst (λ g. StandsTo g program) compiles.submits stands, tight);
+        right = record {
+          faultless = passes.faultless;
+          sound = passes.sound;
+          readbacks = ap length stands.readbacks ∙ compiles.right.readbacks;
+          means = means frame given program stands compiles.right.sound passes.faultless passes.sound compiles.right.means;
+        };
+      }

@@ -1,0 +1,103 @@
+//! From a frame to its submissions.
+
+ghost use Rattle.std.specs.Prelude.{◌≡◌, length, IfOk};
+ghost use Rattle.frame.specs.Numbered.{numbered};
+ghost use Rattle.compile_groups.specs.Placed.{placed};
+ghost use Rattle.compile_lifetimes.specs.Ordered.{IsOrdered};
+ghost use Rattle.compile_heap.specs.Pairs.{has};
+ghost use Rattle.compile_record.specs.Internal.Resources.{IsOf};
+ghost use Rattle.compile_record.specs.Internal.Laid.{IsLaid};
+ghost use Rattle.compile_record.specs.Recorded.{IsCompiled};
+ghost use Rattle.frame_cull.specs.Culled.{AreKept};
+ghost use Rattle.frame_cull.specs.Versions.{numbers_of};
+
+use crate::whole_program::program_of;
+use base::NoMemory;
+use frame::ValidFrame;
+use compile_groups::{Groups, groups_of};
+use compile_lifetimes::ordered;
+use compile_heap::{Pairs, Placement, place};
+use program::Program;
+use frame_cull::{Kept, Versions, cull, versions_of};
+use std::alloc::Global;
+
+/// What is recorded of a frame, with what was decided on the way.
+#[derive(Drop)]
+pub struct Recorded {
+    pub program: Program,
+    /// The passes whose commands are submitted.
+    pub kept: Kept,
+    /// Where transient units lie in the heap.
+    pub placement: Placement,
+}
+
+// One stage after another, since a function that holds several owned values over calls that may fail is dear to prove.
+
+// The least places for these pairs, and the submissions over them.
+#[tactic(auto, using(crate::proofs::Compiling::as_many))]
+fn laid(
+    alloc: Global,
+    frame: &ValidFrame,
+    groups: &Groups,
+    ordered: &Pairs,
+) -> Result<(Placement, Program), NoMemory>
+    requires of { IsOf (numbered frame.now) groups.now }
+    requires count { ordered.now.count ≡ length (placed groups.now) }
+    requires ordered { IsOrdered groups.now (has ordered.now) }
+    ensures { IfOk result (λ made. IsLaid (numbered frame.now) groups.now made.0 made.1) }
+{
+    let placement = place(alloc, groups.sizes(), ordered)?;
+    let program = program_of(alloc, frame, groups, ordered, &placement)?;
+    Ok((placement, program))
+}
+
+fn of_groups(
+    alloc: Global,
+    frame: &ValidFrame,
+    groups: &Groups,
+) -> Result<(Placement, Program), NoMemory>
+    requires { IsOf (numbered frame.now) groups.now }
+    ensures { IfOk result (λ made. IsLaid (numbered frame.now) groups.now made.0 made.1) }
+{
+    let ordered = ordered(alloc, groups)?;
+    laid(alloc, frame, groups, &ordered)
+}
+
+#[tactic(auto, using(crate::proofs::Compiling::of_grouping))]
+fn of_kept(
+    alloc: Global,
+    frame: &ValidFrame,
+    versions: &Versions,
+    kept: &Kept,
+) -> Result<(Placement, Program), NoMemory>
+    requires versions { versions.now ≡ numbers_of (numbered frame.now) }
+    requires kept { length kept.now ≡ length (numbered frame.now).passes }
+    ensures { IfOk result (λ made. IsCompiled (numbered frame.now) kept.now made.0 made.1) }
+{
+    let groups = groups_of(alloc, frame, versions, kept)?;
+    of_groups(alloc, frame, &groups)
+}
+
+fn of_versions(alloc: Global, frame: &ValidFrame, versions: &Versions) -> Result<Recorded, NoMemory>
+    requires { versions.now ≡ numbers_of (numbered frame.now) }
+    ensures kept { IfOk result (λ r. AreKept (numbered frame.now) r.kept) }
+    ensures compiled { IfOk result (λ r. IsCompiled (numbered frame.now) r.kept r.placement r.program) }
+{
+    let kept = cull(alloc, frame, versions)?;
+    let (placement, program) = of_kept(alloc, frame, versions, &kept)?;
+    Ok(Recorded {
+        program,
+        kept,
+        placement,
+    })
+}
+
+/// The submissions of a frame: what its kept passes do, and the barriers, transfers, waits and signals that this needs. Want
+/// of memory is its one refusal.
+pub fn record(alloc: Global, frame: &ValidFrame) -> Result<Recorded, NoMemory>
+    ensures kept { IfOk result (λ r. AreKept (numbered frame.now) r.kept) }
+    ensures compiled { IfOk result (λ r. IsCompiled (numbered frame.now) r.kept r.placement r.program) }
+{
+    let versions = versions_of(alloc, frame)?;
+    of_versions(alloc, frame, &versions)
+}

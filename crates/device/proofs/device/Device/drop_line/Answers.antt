@@ -1,0 +1,15 @@
+use Rattle.device.proofs.Moved.{asked, kept_drop}
+use Rattle.device.proofs.device.Device.drop_line.Goals as goal
+
+pub drop_clean-requires : goal.drop_clean-requires
+drop_clean-requires c =
+    let a = c.args in
+    let A = asked c.self.inside c.self.invariant c.self.view_is a.agent a.memory a.start a.len c.requires.may c.requires.moves in
+    record { agent = A.known; within = A.within; room = A.room }
+
+pub invariant_of-self : goal.invariant_of-self
+invariant_of-self c =
+    let a = c.args in
+    let e = c.drop_clean.ensures in
+    let p = c.push_reserved.ensures in
+    kept_drop c.self.inside c.self.invariant c.self.view_is a.agent a.memory a.start a.len c.requires.may c.requires.moves c.drop_clean.new.self e.keeps e.cuts e.stores c.push_reserved.new.self p.len p.capacity c.event_laws.ensures.moves e.bytes p.items

@@ -1,0 +1,16 @@
+use Rattle.std.proofs.Common.{◌∙◌, ap, refl}
+use Rattle.device_cache.specs.declared.change.Change.TheVariants as changes
+use Rattle.device_cache.specs.Lines.{dropped}
+use Rattle.device_cache.specs.Tables.{caches_of}
+use Rattle.device_cache.proofs.Effects.{changed_everywhere, line_dropped}
+use Rattle.device_cache.proofs.Calls.{keeps_segments}
+use Rattle.device_cache.proofs.table.Segments.drop_clean_all.Goals as goal
+
+pub returns-clause-bytes : goal.returns-clause-bytes
+returns-clause-bytes c =
+    let t = c.args.self.now in
+    let e = c.change_everywhere.ensures in
+    ap caches_of e.same ∙ changed_everywhere t c.change_everywhere.new.self.segments t.cuts_left c.args.agent changes.DropClean c.requires e.lines e.rows (λ l v. v) dropped (λ x p cell. refl) (λ x p cell. line_dropped t.slots x p cell) refl refl
+
+pub returns-clause-keeps : goal.returns-clause-keeps
+returns-clause-keeps c = keeps_segments c.args.self.now c.change_everywhere.new.self c.change_everywhere.ensures.same c.change_everywhere.ensures.cuts

@@ -1,0 +1,14 @@
+use Rattle.std.proofs.Common.{sym, subst}
+use Rattle.device_drive.proofs.Calming.{still_may, round_sync}
+use Rattle.device_drive.proofs.round.run_sync.Goals as goal
+use Rattle.check_order.specs.Edges.{is_sync}
+use Rattle.device_model.specs.Devices.{Device}
+use Rattle.device_model.specs.Rounds.{Round}
+
+pub sync-requires-clause-ready : goal.sync-requires-clause-ready
+sync-requires-clause-ready c = (still_may c.args.device.now c.tend.new.device c.tend.ensures.calm is_sync c.args.node c.requires.may).ready
+
+pub returns-clause-round : goal.returns-clause-round
+returns-clause-round c =
+    let a = c.args.device.now in
+    subst (λ (x : Device). Round a x) (sym c.sync.ensures) (round_sync a c.tend.new.device c.args.node c.requires.idle c.tend.ensures.calm c.requires.may)

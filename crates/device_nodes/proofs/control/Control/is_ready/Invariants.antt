@@ -1,0 +1,6 @@
+use Rattle.device_nodes.proofs.control.Control.is_ready.Given as goal
+use Rattle.device_nodes.specs.Internal.Blocked.{Gathers}
+use Rattle.device_nodes.specs.Controls.{phase_of}
+
+abbrev pub invariant-loop-n : goal.invariant-loop-n
+invariant-loop-n l = Gathers l.self.view (phase_of l.self) l.queue l.n l.blocked

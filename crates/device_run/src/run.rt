@@ -1,0 +1,30 @@
+//! A good frame runs.
+
+ghost use Rattle.std.specs.Prelude.{IfOk};
+ghost use Rattle.frame.specs.Numbered.{numbered};
+ghost use Rattle.device_run.specs.FrameRuns.{RunsOn};
+
+use crate::programs::run_program;
+use base::{NoMemory, RunOptions};
+use base_io::Gate;
+use device::Device;
+use frame::ValidFrame;
+use compile_file::compiled;
+use std::alloc::Global;
+use std::sync::Wait;
+use std::thread::Threads;
+
+/// A device that has run what the frame is compiled to.
+pub fn run_good<R: Threads + Wait + Sync, G: Gate + Sync>(
+    rt: &R,
+    alloc: Global,
+    options: RunOptions,
+    tight: bool,
+    good: &ValidFrame,
+    gate: &G,
+) -> Result<Device, NoMemory>
+    ensures { IfOk result (RunsOn options.tend tight (numbered good.now)) }
+{
+    let made = compiled(alloc, good, tight)?;
+    run_program(rt, alloc, &made.program, options, gate)
+}

@@ -1,0 +1,7 @@
+use Rattle.std.proofs.Common.{◌-◌}
+use Rattle.device_workers.proofs.tending.tend_through.Given as goal
+use Rattle.device_workers.specs.Internal.Loops.{TendsOn}
+use Rattle.device_workers.specs.Holds.{Both}
+
+abbrev pub invariant-loop-move : goal.invariant-loop-move
+invariant-loop-move g l = Both (g.H.Holder.told l.initial.hold) (g.H.Holder.told l.hold) (λ d e. TendsOn d e l.seed (256 - l._move) l.tender l.agents l.sizes)

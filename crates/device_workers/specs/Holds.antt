@@ -1,0 +1,60 @@
+-- What holds do to the device of a holder that tells which one it has.
+use Rattle.std.specs.Prelude.{◌≡◌, ◌≤◌, ◌<◌, ◌↔◌, ℕ, Bool, true, List, Option, Some, None, if◌then◌else◌}
+use Rattle.base.specs.declared.event.Event.{Event}
+use Rattle.base.specs.declared.event.Event.TheVariants.{End}
+use Rattle.device_cache.specs.Draws.{IsMove, moves_of}
+use Rattle.device_drive.specs.Tended.{agents_of, sizes_of}
+use Rattle.device_model.specs.Devices.{Device, state_of, did, IsComplete, NoneBegun}
+use Rattle.device_model.specs.Histories.{moved, Went}
+use Rattle.device_model.specs.States.{is_begun}
+use Rattle.device_workers.specs.WorkerSteps.{WorkerSteps}
+use Rattle.device_workers.specs.declared.step.WorkerStep.{WorkerStep}
+
+-- of a holder that told a device: it tells one again, and this holds of both
+abbrev pub Both : Option Device → Option Device → (Device → Device → Type 0) → Type 0
+Both None new P = Unit {0}
+Both (Some d) None P = ⊥
+Both (Some d) (Some e) P = P d e
+
+abbrev pub StepsTo : Option Device → Option Device → ℕ → WorkerStep → Type 0
+StepsTo old new own step = Both old new (λ d e. WorkerSteps d e own step)
+
+-- a begun command ends; else nothing changes
+abbrev pub Lands : Device → Device → ℕ → Type 0
+Lands old new n = new ≡ (if is_begun ((state_of old).phase n) then did old (End n) else old)
+
+abbrev pub LandsTo : Option Device → Option Device → ℕ → Type 0
+LandsTo old new n = Both old new (λ d e. Lands d e n)
+
+-- a move is left, and the device has that agent and range
+pub record MayMake (d : Device) (event : Event) : Type 0 where
+  pub left : 0 < d.moves
+  pub move : IsMove (agents_of d.program) (sizes_of d.program) event
+
+pub record Tends (old new : Device) (event : Event) (made : Bool) : Type 0 where
+  pub may : (made ≡ true) ↔ MayMake old event
+  pub effect : new ≡ (if made then moved old event else old)
+
+abbrev pub TendsTo : Option Device → Option Device → Event → Bool → Type 0
+TendsTo old new event made = Both old new (λ d e. Tends d e event made)
+
+-- holds of the worker of a queue, one after another, and no others
+pub data Works (own : ℕ) : Device → Device → Type 0 where
+  here : {d : Device} → Works own d d
+  by_step : {d e f : Device} (step : WorkerStep) → Works own d e → WorkerSteps e f own step → Works own d f
+  by_end : {d e f : Device} (n : ℕ) → Works own d e → Lands e f n → Works own d f
+
+abbrev pub WorksTo : Option Device → Option Device → ℕ → Type 0
+WorksTo old new own = Both old new (λ d e. Works own d e)
+
+-- all nodes are done at the end
+abbrev pub EndsComplete : Option Device → Option Device → Type 0
+EndsComplete old new = Both old new (λ d e. IsComplete e)
+
+-- nothing of it is begun at the end, where nothing was
+abbrev pub LeavesNone : Option Device → Option Device → Type 0
+LeavesNone old new = Both old new (λ d e. NoneBegun d → NoneBegun e)
+
+-- where a tender asks for moves of the program of the device, and enough are left, exactly its first 256 have been made
+abbrev pub TendsAll : Option Device → Option Device → ℕ → ℕ → List ℕ → Type 0
+TendsAll old new seed agents sizes = Both old new (λ d e. agents ≡ agents_of d.program → sizes ≡ sizes_of d.program → 256 ≤ d.moves → Went d e (moves_of seed 256 agents sizes))

@@ -1,0 +1,52 @@
+//! The tender beside the workers.
+
+ghost use Rattle.std.specs.Prelude.{◌≡◌, ◌<◌, ◌^◌, ℕ, Some, None, length};
+ghost use Rattle.device_workers.specs.Holds.{Tends, TendsAll};
+
+use crate::hold::Holder;
+use base::Event;
+use device_cache::{MOVES, Tender};
+use device::Device;
+use device_drive::{is_move_of, make_move, move_laws};
+use device_model::history_laws;
+
+/// One hold of a tender: it makes the move if one is left and the device has that agent and range, and tells whether it did.
+pub fn tend_once(device: &mut Device, event: Event) -> bool
+    ensures { Tends device.old device.new event result }
+{
+    if device.moves_left() == 0 || !is_move_of(device, &event) {
+        return false;
+    }
+    make_move(device, event);
+    true
+}
+
+/// How many cache moves a run makes: `MOVES` with a seed, and else none.
+pub fn moves_of(tend: Option<u64>) -> u32
+    ensures seeded { (seed : ℕ) → tend ≡ Some seed → result ≡ 256 }
+    ensures none { tend ≡ None → result ≡ 0 }
+{
+    match tend {
+        Some(_) => MOVES,
+        None => 0,
+    }
+}
+
+/// Makes the first `MOVES` moves of the seed's tender, one in each hold, or none where it gives none. It stops at the first move
+/// that the hold does not make.
+pub fn tend_through<H: Holder>(hold: &mut H, seed: u64, agents: u32, sizes: &[u32])
+    requires few { length sizes.now < 2 ^ 32 }
+    ensures { TendsAll (H.told hold.old) (H.told hold.new) seed agents sizes.now }
+{
+    history_laws();
+    move_laws();
+    let mut tender = Tender::new(seed);
+    for _move in 0..MOVES {
+        let Some(event) = tender.next(agents, sizes) else {
+            return;
+        };
+        if !hold.tend(event) {
+            return;
+        }
+    }
+}

@@ -1,7 +1,0 @@
-use Rattle.std.proofs.Common.{sym, subst}
-use Rattle.fg_answer.proofs.AnswerLemmas.{migrated}
-use Rattle.fg_answer.proofs.migrate.migrate_frame.Goals as goal
-use Rattle.fg_answer.specs.Answers.{MigratesFrame}
-
-pub returns-clause-frame : goal.returns-clause-frame
-returns-clause-frame c = subst (MigratesFrame c.args.good.now) (sym c.done.ensures) (migrated c.args.good.now c.in_ok-text.text c.end_line.new.self (rw c.frame.ensures.frame at c.in_ok-text.ensures.text) (rw c.frame.ensures.frame at c.in_ok-text.ensures.good) c.frame.ensures.good c.in_ok-end_line.ensures.ok)

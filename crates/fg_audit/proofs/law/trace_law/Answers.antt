@@ -1,5 +1,0 @@
-use Rattle.fg_audit.proofs.Again.{read_again}
-use Rattle.fg_audit.proofs.law.trace_law.Goals as goal
-
-pub returns : goal.returns
-returns c = read_again

@@ -1,6 +1,0 @@
-use Rattle.std.proofs.Common.{◌≡◌, ◌++◌, map, drop}
-use Rattle.fg_auto.specs.Internal.Work.{queue_by}
-use Rattle.fg_auto.proofs.owners.command_queues.Given as goal
-
-abbrev pub invariant-loop-owner : goal.invariant-loop-owner
-invariant-loop-owner l = l.list ++ map (queue_by l.queues) (drop l.owner-index l.owners) ≡ map (queue_by l.queues) l.owners

@@ -1,9 +1,0 @@
-use Rattle.std.proofs.Common.{◌≡◌, length, take}
-use Rattle.fg_auto.specs.Renamed.{passes_on}
-use Rattle.fg_auto.proofs.queues.passes_on.Given as goal
-
-abbrev pub invariant-loop-pass : goal.invariant-loop-pass
-invariant-loop-pass l = record {
-  count : l.p ≡ length l.yielded;
-  list : l.list ≡ passes_on (take l.p l.names) l.yielded;
-}

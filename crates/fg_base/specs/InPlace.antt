@@ -1,9 +1,0 @@
--- Which operations read what they store to.
-use Rattle.std.specs.Prelude.{ℕ, Bool, ◌==◌}
-use Rattle.std.specs.List.{list_any}
-use Rattle.fg_base.specs.Operands.{sources_of, destination_of}
-use Rattle.fg_base.specs.declared.op.Op.{Op}
-
--- a source is the destination
-abbrev pub in_place : Op ℕ → Bool
-in_place op = list_any (λ source. source == destination_of op) (sources_of op)

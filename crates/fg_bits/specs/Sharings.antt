@@ -1,8 +1,0 @@
--- Which resources have no owner.
-use Rattle.std.specs.Prelude.{Bool, true, false}
-use Rattle.fg_bits.specs.declared.sharing.Sharing.{Sharing}
-use Rattle.fg_bits.specs.declared.sharing.Sharing.TheVariants.{Exclusive, Concurrent}
-
-abbrev pub is_shared : Sharing → Bool
-is_shared Exclusive = false
-is_shared Concurrent = true

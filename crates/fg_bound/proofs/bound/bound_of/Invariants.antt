@@ -1,9 +1,0 @@
-use Rattle.fg_bound.proofs.bound.bound_of.Given as goal
-use Rattle.fg_bound.specs.Bounds.{IsBest, IsShown}
-use Rattle.fg_place.specs.Pairs.{has}
-
-abbrev pub invariant-loop-r : goal.invariant-loop-r
-invariant-loop-r l = record {
-  best : IsBest l.sizes (has l.ordered) l.r l.best;
-  shown : IsShown l.sizes (has l.ordered) l.best;
-}

@@ -1,7 +1,0 @@
-use Rattle.std.proofs.Common.{◌≡◌, take, true}
-use Rattle.fg_bound.proofs.choices.is_apart.Given as goal
-use Rattle.fg_bound.specs.Choices.{is_apart}
-use Rattle.fg_place.specs.Pairs.{has}
-
-abbrev pub invariant-loop-r : goal.invariant-loop-r
-invariant-loop-r l = is_apart (has l.ordered) l.s (take l.r-index l.chosen) ≡ true

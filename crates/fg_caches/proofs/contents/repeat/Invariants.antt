@@ -1,6 +1,0 @@
-use Rattle.std.proofs.Common.{◌≡◌, ℕ, ◌<◌, ◌+◌, get_or}
-use Rattle.fg_caches.specs.Repeats.{byte_of}
-use Rattle.fg_caches.proofs.contents.repeat.Given as goal
-
-abbrev pub invariant-loop-k : goal.invariant-loop-k
-invariant-loop-k l = (j : ℕ) → j < l.k → get_or l.out j 0 ≡ byte_of l.word (l.first + j)

@@ -1,7 +1,0 @@
--- A program that was found sound, with its least order.
-use Rattle.std.specs.Prelude.{ℕ, List}
-use Rattle.fg_subs.specs.declared.program.Program.{Program}
-
-pub record Accepted : Type 0 where
-  pub program : Program
-  pub order : List ℕ

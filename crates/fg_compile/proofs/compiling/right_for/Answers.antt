@@ -1,5 +1,0 @@
-use Rattle.fg_compile.proofs.compiling.right_for.Goals as goal
-use Rattle.fg_frame.specs.Numbered.{numbered}
-
-pub returns : goal.returns
-returns c = λ kept places program are_kept compiled. c.compile_law.ensures (numbered c.args.frame.now) kept places program c.frame.ensures.numbers are_kept compiled

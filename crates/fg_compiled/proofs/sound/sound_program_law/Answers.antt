@@ -1,7 +1,0 @@
-use Rattle.std.proofs.Common.{sym, subst}
-use Rattle.fg_checker.specs.Sound.{IsSound}
-use Rattle.fg_compiled.proofs.sound.sound_program_law.Goals as goal
-
-pub returns : goal.returns
-returns c = λ frame kept places program good are_kept C.
-    subst IsSound (sym C.recorded) (c.bytes_law.ensures.sound frame kept C.ordered places good C.is_ordered C.least (c.starts_law.ensures.initialized frame kept good are_kept))

@@ -1,6 +1,0 @@
-use Rattle.fg_control.proofs.control.Control.is_ready.Given as goal
-use Rattle.fg_control.specs.Internal.Blocked.{Gathers}
-use Rattle.fg_control.specs.Controls.{phase_of}
-
-abbrev pub invariant-loop-n : goal.invariant-loop-n
-invariant-loop-n l = Gathers l.self.view (phase_of l.self) l.queue l.n l.blocked

@@ -1,8 +1,0 @@
-use Rattle.std.proofs.Common.{◌≡◌, ◌&&◌, drop}
-use Rattle.std.specs.List.{list_any}
-use Rattle.fg_control.proofs.marks.stores_over.Given as goal
-use Rattle.fg_view.specs.AccessKinds.{changes}
-use Rattle.fg_view.specs.Views.{overlap}
-
-abbrev pub invariant-loop-a : goal.invariant-loop-a
-invariant-loop-a l = list_any (λ a. changes a.kind && overlap l.view a.piece l.piece) (drop l.a-index l.a-items) ≡ list_any (λ a. changes a.kind && overlap l.view a.piece l.piece) l.a-items

@@ -1,8 +1,0 @@
-use Rattle.fg_control.proofs.needs.loose_of.Given as goal
-use Rattle.fg_control.specs.Internal.Needs.{AreNodes, LooseBelow}
-
-abbrev pub invariant-loop-n : goal.invariant-loop-n
-invariant-loop-n l = record {
-  listed : LooseBelow l.view l.n l.loose;
-  nodes : AreNodes l.view l.loose;
-}

@@ -1,5 +1,0 @@
-use Rattle.fg_control.proofs.needs.needs_of.Given as goal
-use Rattle.fg_control.specs.Internal.Needs.{NeedsBelow}
-
-abbrev pub invariant-loop-n : goal.invariant-loop-n
-invariant-loop-n l = NeedsBelow l.view l.n l.list

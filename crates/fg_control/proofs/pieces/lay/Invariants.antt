@@ -1,9 +1,0 @@
-use Rattle.std.proofs.Common.{◌≡◌, length}
-use Rattle.fg_control.proofs.Walking.{LaidFrom}
-use Rattle.fg_control.proofs.pieces.lay.Given as goal
-
-abbrev pub invariant-loop-access : goal.invariant-loop-access
-invariant-loop-access l = record {
-  size : length l.layouts ≡ length l.initial.layouts;
-  laid : LaidFrom l.access-items l.access-index l.initial.layouts l.layouts;
-}

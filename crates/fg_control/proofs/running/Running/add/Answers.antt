@@ -1,6 +1,0 @@
-use Rattle.std.proofs.Common.{refl}
-use Rattle.fg_control.proofs.Listing.{added}
-use Rattle.fg_control.proofs.running.Running.add.Goals as goal
-
-pub returns : goal.returns
-returns c = λ nodes phase lt idle R. added nodes phase c.args.self.now R c.args.node lt idle _ c.set.ensures refl

@@ -1,7 +1,0 @@
-use Rattle.std.proofs.Common.{get_or}
-use Rattle.fg_control.proofs.spans.Spans.new.Given as goal
-use Rattle.fg_control.specs.Internal.Spans.{Spanned}
-use Rattle.fg_steps.specs.declared.phase.Phase.TheVariants.{Idle}
-
-abbrev pub invariant-loop-queue : goal.invariant-loop-queue
-invariant-loop-queue l = Spanned l.view (λ n. get_or l.phases n Idle) l.spans

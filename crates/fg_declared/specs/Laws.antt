@@ -1,9 +1,0 @@
--- What holds of programs by the order in which commands are declared.
-use Rattle.std.specs.Prelude.{ℕ, List, Bool}
-use Rattle.fg_faithful.specs.Declared.{InDeclaredOrder}
-use Rattle.fg_frame.specs.Numbered.{NumberedFrame}
-use Rattle.fg_subs.specs.declared.program.Program.{Program}
-
--- some order of the nodes has the commands as they are declared
-abbrev pub HasDeclaredOrder : NumberedFrame → List Bool → Program → Type 0
-HasDeclaredOrder frame kept program = (order : List ℕ) × InDeclaredOrder frame kept program order

@@ -1,9 +1,0 @@
--- What the host reads.
-use Rattle.std.specs.Prelude.{ℕ, List, replicate, Option, Some, None}
-use Rattle.fg_caches.specs.Effects.{Caches, read_main}
-use Rattle.fg_caches.specs.Lines.{Range}
-
--- a junk byte again and again, or else main's bytes
-abbrev pub read_into : Option ℕ → Range → Caches → List ℕ
-read_into None range c = read_main range c
-read_into (Some byte) range c = replicate range.len byte

@@ -1,7 +1,0 @@
-//! Rectangles that are drawn into an image.
-#![tactic(auto)]
-
-mod attachment;
-mod mix;
-
-pub use attachment::draw;

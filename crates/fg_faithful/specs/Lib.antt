@@ -1,3 +1,0 @@
-pub mod Declared
-pub mod Kept
-pub mod Laws

@@ -1,7 +1,0 @@
-use Rattle.std.proofs.Common.{◌≡◌, drop}
-use Rattle.fg_base.specs.Walks.{first_in}
-use Rattle.fg_flight.specs.Alone.{import_under}
-use Rattle.fg_flight.proofs.begun.first_import.Given as goal
-
-abbrev pub invariant-loop-good : goal.invariant-loop-good
-invariant-loop-good l = first_in (import_under l.name) l.good-index (drop l.good-index l.frames) ≡ first_in (import_under l.name) 0 l.frames

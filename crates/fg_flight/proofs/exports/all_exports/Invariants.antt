@@ -1,6 +1,0 @@
-use Rattle.std.proofs.Common.{◌≡◌, ◌++◌, drop}
-use Rattle.fg_flight.specs.Internal.WindowParts.{all_exports}
-use Rattle.fg_flight.proofs.exports.all_exports.Given as goal
-
-abbrev pub invariant-loop-i : goal.invariant-loop-i
-invariant-loop-i l = l.exports ++ all_exports l.i (drop l.i l.frames) ≡ all_exports 0 l.frames

@@ -1,6 +1,0 @@
-use Rattle.std.proofs.Common.{◌≡◌, take}
-use Rattle.fg_flight.specs.Internal.Left.{nothing_left}
-use Rattle.fg_flight.proofs.holders.nothing_left.Given as goal
-
-abbrev pub invariant-loop-name : goal.invariant-loop-name
-invariant-loop-name l = l.left ≡ nothing_left (take l._name-index l.persist)

@@ -1,6 +1,0 @@
-use Rattle.std.proofs.Common.{◌≡◌, ◌++◌, drop}
-use Rattle.fg_flight.specs.Internal.Left.{carries_by}
-use Rattle.fg_flight.proofs.joins.carries_by.Given as goal
-
-abbrev pub invariant-loop-k : goal.invariant-loop-k
-invariant-loop-k l = l.carries ++ carries_by l.i l.resources (drop l.k l.holders) (drop l.k l.left) ≡ carries_by l.i l.resources l.holders l.left

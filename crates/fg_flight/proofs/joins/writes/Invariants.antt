@@ -1,7 +1,0 @@
-use Rattle.std.proofs.Common.{◌≡◌, take, map}
-use Rattle.fg_flight.specs.Internal.Left.{carried}
-use Rattle.fg_named.specs.Joins.{named_renewal}
-use Rattle.fg_flight.proofs.joins.writes.Given as goal
-
-abbrev pub invariant-loop-carry : goal.invariant-loop-carry
-invariant-loop-carry l = l.writes ≡ map (λ carry. named_renewal (carried carry)) (take l.carry-index l.carries)

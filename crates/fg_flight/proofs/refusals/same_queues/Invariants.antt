@@ -1,6 +1,0 @@
-use Rattle.std.proofs.Common.{◌≡◌, drop}
-use Rattle.fg_flight.specs.Refusals.{same_queues}
-use Rattle.fg_flight.proofs.refusals.same_queues.Given as goal
-
-abbrev pub invariant-loop-i : goal.invariant-loop-i
-invariant-loop-i l = same_queues (drop l.i l.a) (drop l.i l.b) ≡ same_queues l.a l.b

@@ -1,6 +1,0 @@
-use Rattle.std.proofs.Common.{◌≡◌}
-use Rattle.fg_fly.proofs.print.add_window.Given as goal
-use Rattle.fg_fly.specs.Internal.Flying.{text_before}
-
-abbrev pub invariant-loop-i : goal.invariant-loop-i
-invariant-loop-i l = l.text ≡ text_before l.windows l.i

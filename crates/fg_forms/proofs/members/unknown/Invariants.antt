@@ -1,8 +1,0 @@
-use Rattle.std.proofs.Common.{◌≡◌, map}
-use Rattle.fg_forms.specs.Parts.{unknown_in}
-use Rattle.fg_forms.specs.Locations.{legs}
-use Rattle.serde_json.specs.View.{members_view}
-use Rattle.fg_forms.proofs.members.unknown.Given as goal
-
-abbrev pub invariant-loop-name : goal.invariant-loop-name
-invariant-loop-name l = unknown_in (map (λ k. k.now) l.known) (legs l.at) (members_view l.name-iterator) ≡ unknown_in (map (λ k. k.now) l.known) (legs l.at) (members_view l.members.entries)

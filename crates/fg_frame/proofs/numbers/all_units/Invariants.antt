@@ -1,7 +1,0 @@
-use Rattle.std.proofs.Common.{◌≡◌, take}
-use Rattle.std.specs.List.{flat_map}
-use Rattle.fg_frame.specs.Units.{units_in}
-use Rattle.fg_frame.proofs.numbers.all_units.Given as goal
-
-abbrev pub invariant-loop-span : goal.invariant-loop-span
-invariant-loop-span l = l.units ≡ flat_map units_in (take l.span-index l.spans)

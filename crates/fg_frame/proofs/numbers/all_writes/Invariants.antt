@@ -1,7 +1,0 @@
-use Rattle.std.proofs.Common.{◌≡◌, take}
-use Rattle.std.specs.List.{flat_map}
-use Rattle.fg_frame.specs.Numbered.{unit_writes}
-use Rattle.fg_frame.proofs.numbers.all_writes.Given as goal
-
-abbrev pub invariant-loop-stored : goal.invariant-loop-stored
-invariant-loop-stored l = l.writes ≡ flat_map unit_writes (take l.stored-index l.entries)

@@ -1,6 +1,0 @@
-use Rattle.std.proofs.Common.{◌≡◌, take, map}
-use Rattle.fg_frame.specs.Numbered.{stored_of}
-use Rattle.fg_frame.proofs.numbers.stored.Given as goal
-
-abbrev pub invariant-loop-write : goal.invariant-loop-write
-invariant-loop-write l = l.entries ≡ map (stored_of l.table) (take l.write-index l.writes)

@@ -1,5 +1,0 @@
-use Rattle.std.proofs.Common.{◌≡◌, take, map}
-use Rattle.fg_frame.proofs.repeats.queue_names.Given as goal
-
-abbrev pub invariant-loop-queue : goal.invariant-loop-queue
-invariant-loop-queue l = l.names ≡ map (λ x. x.name) (take l.queue-index l.frame.queues)

@@ -1,6 +1,0 @@
-use Rattle.std.proofs.Common.{◌≡◌, ◌++◌, drop}
-use Rattle.fg_frame.specs.Units.{owners}
-use Rattle.fg_frame.proofs.units.owners.Given as goal
-
-abbrev pub invariant-loop-i : goal.invariant-loop-i
-invariant-loop-i l = l.list ++ owners l.i (drop l.i l.resources) ≡ owners 0 l.resources

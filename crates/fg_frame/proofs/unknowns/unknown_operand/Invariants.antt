@@ -1,8 +1,0 @@
-use Rattle.std.proofs.Common.{◌≡◌, drop}
-use Rattle.fg_base.specs.Operands.{operands_of}
-use Rattle.fg_base.specs.Walks.{first_in}
-use Rattle.fg_frame.proofs.unknowns.unknown_operand.Given as goal
-use Rattle.fg_frame.specs.Unknowns.{unknown_at}
-
-abbrev pub invariant-loop-j : goal.invariant-loop-j
-invariant-loop-j l = first_in (unknown_at l.table l.p l.k l.op) l.j (drop l.j (operands_of l.op)) ≡ first_in (unknown_at l.table l.p l.k l.op) 0 (operands_of l.op)

@@ -1,7 +1,0 @@
-use Rattle.std.proofs.Common.{◌≡◌, None, subst}
-use Rattle.fg_frame.proofs.Small.{faultless}
-use Rattle.fg_frame.specs.FirstFault.{first_fault}
-use Rattle.fg_frame.proofs.valid.ValidFrame.frame.Goals as goal
-
-pub returns-clause-good : goal.returns-clause-good
-returns-clause-good c = subst (λ f. first_fault f ≡ None) c.self.view_is (faultless c.self.inside.frame c.self.invariant.0)

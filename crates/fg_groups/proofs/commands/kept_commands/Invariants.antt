@@ -1,7 +1,0 @@
-use Rattle.std.proofs.Common.{◌≡◌, take}
-use Rattle.fg_frame.specs.Numbered.{numbered}
-use Rattle.fg_groups.specs.Commands.{kept_commands}
-use Rattle.fg_groups.proofs.commands.kept_commands.Given as goal
-
-abbrev pub invariant-loop-pass : goal.invariant-loop-pass
-invariant-loop-pass l = l.list ≡ kept_commands (take l.pass (numbered l.frame).passes) (take l.pass l.kept)

@@ -1,6 +1,0 @@
-use Rattle.std.proofs.Common.{◌≡◌, ◌++◌, map, drop}
-use Rattle.fg_base.specs.Shapes.{shape_at, bytes_of}
-use Rattle.fg_groups.proofs.placed.sizes.Given as goal
-
-abbrev pub invariant-loop-unit : goal.invariant-loop-unit
-invariant-loop-unit l = l.sizes ++ map (λ unit. bytes_of (shape_at l.shapes unit)) (drop l.unit-index l.units) ≡ map (λ unit. bytes_of (shape_at l.shapes unit)) l.units

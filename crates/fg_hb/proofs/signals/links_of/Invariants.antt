@@ -1,6 +1,0 @@
-use Rattle.std.proofs.Common.{◌≡◌}
-use Rattle.fg_hb.specs.Internal.Tables.{links_until}
-use Rattle.fg_hb.proofs.signals.links_of.Given as goal
-
-abbrev pub invariant-loop-n : goal.invariant-loop-n
-invariant-loop-n l = l.links ≡ links_until l.nodes l.n

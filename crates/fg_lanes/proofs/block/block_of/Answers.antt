@@ -1,5 +1,0 @@
-use Rattle.fg_lanes.proofs.Blocks.{narrowed}
-use Rattle.fg_lanes.proofs.block.block_of.Goals as goal
-
-pub returns : goal.returns
-returns c j lt = narrowed c.args.words j c.fits-words lt

@@ -1,9 +1,0 @@
-use Rattle.std.proofs.Common.{◌∙◌, get_or, w8, ltb}
-use Rattle.fg_lanes.proofs.Lanes.{lane_chosen, greatest_by_test}
-use Rattle.fg_lanes.proofs.byte_lanes.greatest.Goals as goal
-
-pub returns : goal.returns
-returns c j lt =
-    let a = c.args.a in
-    let b = c.args.b in
-    lane_chosen w8 ltb a b b a 32 j c.fits-a.0 c.fits-b.0 c.fits-b.0 c.fits-a.0 lt ∙ greatest_by_test (get_or a j 0) (get_or b j 0)

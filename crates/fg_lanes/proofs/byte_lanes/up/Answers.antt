@@ -1,9 +1,0 @@
-use Rattle.std.proofs.Common.{ℕ, ◌*◌, ◌%◌, ◌^◌}
-use Rattle.fg_lanes.proofs.Lanes.{lane, shifts}
-use Rattle.fg_lanes.proofs.byte_lanes.up.Goals as goal
-
-pub overflow_shl-result : goal.overflow_shl-result
-overflow_shl-result c = shifts 8 c.args.a c.args.by 32 c.fits-by.0 c.requires
-
-pub returns : goal.returns
-returns c j lt = lane (λ (a b : ℕ). a * 2 ^ b % 2 ^ 8) c.args.a c.args.by 32 j c.fits-a.0 c.fits-by.0 lt

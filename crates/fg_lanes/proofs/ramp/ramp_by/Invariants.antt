@@ -1,6 +1,0 @@
-use Rattle.std.proofs.Common.{◌≡◌, ◌+◌, ◌*◌, take}
-use Rattle.fg_base.specs.Texels.{band}
-use Rattle.fg_lanes.proofs.ramp.ramp_by.Given as goal
-
-abbrev pub invariant-loop-y : goal.invariant-loop-y
-invariant-loop-y l = take (l.row * l.y) l.out ≡ band l.texel l.width l.first l.y (λ x y. l.base + x * l.dx + y * l.dy)

@@ -1,5 +1,0 @@
-use Rattle.fg_lifetimes.specs.Internal.Lifetimes.{AreLifetimes}
-use Rattle.fg_lifetimes.proofs.lifetime.lifetimes_of.Given as goal
-
-abbrev pub invariant-loop-unit : goal.invariant-loop-unit
-invariant-loop-unit l = AreLifetimes l.groups l.unit-index l.lifetimes

@@ -1,5 +1,0 @@
-use Rattle.std.proofs.Common.{◌≡◌, replicate, []}
-use Rattle.fg_meaning.proofs.bytes.Bytes.none.Given as goal
-
-abbrev pub invariant-loop : goal.invariant-loop
-invariant-loop l = l.units.items ≡ replicate l.counter []

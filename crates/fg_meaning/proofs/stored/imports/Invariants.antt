@@ -1,6 +1,0 @@
-use Rattle.std.proofs.Common.{◌≡◌, map, take, is_some}
-use Rattle.fg_frame.specs.Numbered.{numbered}
-use Rattle.fg_meaning.proofs.stored.imports.Given as goal
-
-abbrev pub invariant-loop-unit : goal.invariant-loop-unit
-invariant-loop-unit l = l.marks ≡ map (λ u. is_some u.imported) (take l.unit (numbered l.frame).units)

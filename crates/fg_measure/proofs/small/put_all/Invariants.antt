@@ -1,5 +1,0 @@
-use Rattle.fg_measure.specs.Internal.Tables.{HoldsRow}
-use Rattle.fg_measure.proofs.small.put_all.Given as goal
-
-abbrev pub invariant-loop-k : goal.invariant-loop-k
-invariant-loop-k l = HoldsRow l.table

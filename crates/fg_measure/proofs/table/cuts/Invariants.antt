@@ -1,7 +1,0 @@
-use Rattle.std.proofs.Common.{◌≡◌, ◌≤◌}
-use Rattle.std.specs.List.{All}
-use Rattle.fg_measure.specs.Internal.Tables.{image}
-use Rattle.fg_measure.proofs.table.cuts.Given as goal
-
-abbrev pub invariant-loop-k : goal.invariant-loop-k
-invariant-loop-k l = All (λ c. (c.0 ≡ 0) × (c.1 ≤ image)) l.cuts.items

@@ -1,9 +1,0 @@
-use Rattle.std.proofs.Common.{◌≡◌, ◌*◌, take}
-use Rattle.fg_base.specs.Kernels.{box3}
-use Rattle.fg_base.specs.Texels.{picture, band}
-use Rattle.fg_base.specs.declared.shape.Texel.TheVariants.{R8}
-use Rattle.fg_pixels.proofs.byte_blur.byte_rows.Given as goal
-
-abbrev pub invariant-loop-y : goal.invariant-loop-y
-invariant-loop-y l =
-    take (l.y * l.width) l.out ≡ band R8 l.width l.first l.y (box3 l.grid.width l.grid.height (picture l.grid l.src))

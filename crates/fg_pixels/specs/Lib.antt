@@ -1,5 +1,0 @@
-pub mod Anew
-pub mod Bands
-pub mod Closures
-pub mod Internal
-pub mod Sources

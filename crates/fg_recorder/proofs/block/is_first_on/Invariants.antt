@@ -1,6 +1,0 @@
-use Rattle.std.proofs.Common.{◌≡◌, drop}
-use Rattle.fg_recorder.proofs.block.is_first_on.Given as goal
-use Rattle.fg_turns.specs.Unions.{on}
-
-abbrev pub invariant-loop-one : goal.invariant-loop-one
-invariant-loop-one l = on l.queue (drop l.one-index l.uses) ≡ on l.queue l.uses

@@ -1,5 +1,0 @@
-use Rattle.fg_recorder.proofs.Members.{first_unit}
-use Rattle.fg_recorder.proofs.items.barrier_to.Goals as goal
-
-pub piece_of-piece-requires-clause-within : goal.piece_of-piece-requires-clause-within
-piece_of-piece-requires-clause-within c = first_unit c.args.groups.now c.args.g c.members-after.result.now _ c.members-after.ensures.members c.members-after.ensures.grouped c.requires.known c.requires.group

@@ -1,7 +1,0 @@
-use Rattle.std.proofs.Common.{◌≡◌, map}
-use Rattle.std.specs.List.{filter, range_with_len}
-use Rattle.fg_recorder.specs.Pieces.{is_readback, piece_of}
-use Rattle.fg_recorder.proofs.pieces.readbacks.Given as goal
-
-abbrev pub invariant-loop-r : goal.invariant-loop-r
-invariant-loop-r l = l.list ≡ map (piece_of l.groups) (filter (is_readback l.groups) (range_with_len 0 l.r))

@@ -1,6 +1,0 @@
-use Rattle.std.proofs.Common.{◌≡◌, map}
-use Rattle.fg_recorder.proofs.steps.steps_of.Given as goal
-use Rattle.fg_recorder.specs.Internal.Tables.{with_step}
-
-abbrev pub invariant-loop-one : goal.invariant-loop-one
-invariant-loop-one l = l.steps ≡ map (with_step l.tables) l.yielded

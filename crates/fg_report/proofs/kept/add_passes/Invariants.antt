@@ -1,6 +1,0 @@
-use Rattle.std.proofs.Common.{◌≡◌, ◌++◌, drop}
-use Rattle.fg_report.specs.KeptLines.{pass_lines}
-use Rattle.fg_report.proofs.kept.add_passes.Given as goal
-
-abbrev pub invariant-loop-p : goal.invariant-loop-p
-invariant-loop-p l = l.text ++ pass_lines l.listing l.kept l.p (drop l.p l.passes) ≡ l.fn.text ++ pass_lines l.listing l.kept 0 l.passes

@@ -1,6 +1,0 @@
-use Rattle.std.proofs.Common.{◌≡◌, ◌++◌, take}
-use Rattle.fg_report.specs.Paths.{path_text}
-use Rattle.fg_report.proofs.path.add_path.Given as goal
-
-abbrev pub invariant-loop-leg : goal.invariant-loop-leg
-invariant-loop-leg l = l.text ≡ l.fn.text ++ path_text (take l.leg-index l.location)

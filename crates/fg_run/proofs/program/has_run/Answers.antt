@@ -1,8 +1,0 @@
-use Rattle.fg_base.proofs.Results.{if_ok}
-use Rattle.fg_run.proofs.RunLemmas.{has_run}
-use Rattle.fg_run.proofs.program.has_run.Goals as goal
-
-pub returns : goal.returns
-returns c =
-    let belongs = c.belongs.ensures.0 c.if-not-belongs.false in
-    if_ok c.tended.result (λ has moves is. has_run c.args.program.now.program c.args.tend c.args.device.now c.run_laws.ensures belongs.0 belongs.1 c.history-came.ensures.came (c.complete.ensures.0 c.if-not-complete.false) (moves.0 is)) c.tended.ensures

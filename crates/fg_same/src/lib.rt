@@ -1,9 +1,0 @@
-//! Whether two programs, or two parts of them, are the same.
-#![tactic(auto)]
-
-mod op;
-mod parts;
-mod program;
-mod same;
-
-pub use same::{Same, same_all};

@@ -1,6 +1,0 @@
-use Rattle.fg_stated.specs.Internal.Tables.{PutWhere}
-use Rattle.fg_stated.proofs.Tables.{among}
-use Rattle.fg_stated.proofs.table.Table.put_over.Given as goal
-
-abbrev pub invariant-loop-p : goal.invariant-loop-p
-invariant-loop-p l = PutWhere (among l.p-items l.p-index) l.node_access l.initial.self l.self

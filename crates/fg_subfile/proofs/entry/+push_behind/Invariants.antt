@@ -1,4 +1,0 @@
-use Rattle.fg_subfile.proofs.entry.+push_behind.Given as goal
-
-abbrev pub decreases-push_behind : goal.decreases-push_behind
-decreases-push_behind l = l.more

@@ -1,6 +1,0 @@
-use Rattle.std.proofs.Common.{◌≡◌, ◌+◌, drop}
-use Rattle.fg_subs.specs.Internal.Counts.{queues_count}
-use Rattle.fg_subs.proofs.limits.after_queues.Given as goal
-
-abbrev pub invariant-loop-queue : goal.invariant-loop-queue
-invariant-loop-queue l = l.left + queues_count l.queues ≡ l.room + queues_count (drop l.queue-index l.queues)

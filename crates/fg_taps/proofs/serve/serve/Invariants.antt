@@ -1,7 +1,0 @@
-use Rattle.std.proofs.Common.{take}
-use Rattle.fg_base.specs.Taps.{Hears}
-use Rattle.fg_taps.proofs.serve.serve.Given as goal
-
-abbrev pub invariant-loop-event : goal.invariant-loop-event
-invariant-loop-event g l =
-    Hears ((goal.Tap-dyn g l.initial.tap.now).heard l.initial.tap.now.1) ((goal.Tap-dyn g l.tap.now).heard l.tap.now.1) (take l.event-index l.events)

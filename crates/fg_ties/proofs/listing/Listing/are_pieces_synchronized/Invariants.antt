@@ -1,5 +1,0 @@
-use Rattle.fg_ties.proofs.Walks.{SynchronizedAmong}
-use Rattle.fg_ties.proofs.listing.Listing.are_pieces_synchronized.Given as goal
-
-abbrev pub invariant-loop-q : goal.invariant-loop-q
-invariant-loop-q l = SynchronizedAmong l.self.view l.self.accesses l.chain.loads l.j l.q-items l.q-index

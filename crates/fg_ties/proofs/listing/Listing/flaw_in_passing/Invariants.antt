@@ -1,5 +1,0 @@
-use Rattle.fg_ties.specs.Internal.Passings.{NotPassedUntil}
-use Rattle.fg_ties.proofs.listing.Listing.flaw_in_passing.Given as goal
-
-abbrev pub invariant-loop-k : goal.invariant-loop-k
-invariant-loop-k l = NotPassedUntil l.invisible_from l.self.view l.a l.b l.count l.k

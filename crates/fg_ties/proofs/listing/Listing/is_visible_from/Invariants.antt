@@ -1,7 +1,0 @@
-use Rattle.std.proofs.Common.{ℕ, ◌<◌}
-use Rattle.fg_ties.specs.Internal.Around.{down_from}
-use Rattle.fg_ties.specs.Passing.{UpTo, MadeVisibleBy}
-use Rattle.fg_ties.proofs.listing.Listing.is_visible_from.Given as goal
-
-abbrev pub invariant-loop-k : goal.invariant-loop-k
-invariant-loop-k l = (i : ℕ) → i < l.k → UpTo l.self.view l.x (down_from l.b.node l.count i) × MadeVisibleBy l.self.view l.b.node l.b.access (down_from l.b.node l.count i) → ⊥

@@ -1,5 +1,0 @@
-use Rattle.std.proofs.Common.{below_more}
-use Rattle.fg_ties.proofs.listing.Listing.scan.Goals as goal
-
-pub loop-i-preserved : goal.loop-i-preserved
-loop-i-preserved c = below_more _ _ c.loop-i.invariant c.in_default.ensures

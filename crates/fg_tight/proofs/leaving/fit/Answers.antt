@@ -1,9 +1,0 @@
-use Rattle.fg_tight.proofs.LeftOut.{no_fit}
-use Rattle.fg_tight.proofs.Trials.{came_unchanged}
-use Rattle.fg_tight.proofs.leaving.fit.Goals as goal
-
-pub returns-in-None : goal.returns-in-None
-returns-in-None c = record {
-  came = came_unchanged c.args.program c.unchanged.result.program c.unchanged.result.changed c.unchanged.ensures.program c.unchanged.ensures.changed;
-  tried = λ same. no_fit c.args.program c.args.place.queue c.args.place.batch c.args.place.at c.in-None.ensures;
-}

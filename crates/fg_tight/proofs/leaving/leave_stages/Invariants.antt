@@ -1,5 +1,0 @@
-use Rattle.fg_tight.specs.Internal.Rounds.{StageNumberTried, Walked}
-use Rattle.fg_tight.proofs.leaving.leave_stages.Given as goal
-
-abbrev pub invariant-loop-i : goal.invariant-loop-i
-invariant-loop-i l = Walked (StageNumberTried l.place.queue l.place.batch l.place.at) l.fn.program l.now.program l.now.changed l.i

@@ -1,5 +1,0 @@
-use Rattle.fg_tight.specs.Internal.Rounds.{BatchDone, Walked}
-use Rattle.fg_tight.proofs.rounds.queue_round.Given as goal
-
-abbrev pub invariant-loop-batch : goal.invariant-loop-batch
-invariant-loop-batch l = Walked (BatchDone l.queue) l.fn.program l.now.program l.now.changed l.batch

@@ -1,6 +1,0 @@
-use Rattle.std.proofs.Common.{◌≡◌, ◌<◌, ℕ, length, true}
-use Rattle.fg_timeline.specs.Internal.Scripts.{is_fit}
-use Rattle.fg_timeline.proofs.script.is_script.Given as goal
-
-abbrev pub invariant-loop-at : goal.invariant-loop-at
-invariant-loop-at l = (i : ℕ) → i < l.at → is_fit l.script (length l.families) i ≡ true

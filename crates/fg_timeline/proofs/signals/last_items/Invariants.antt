@@ -1,5 +1,0 @@
-use Rattle.fg_timeline.specs.Internal.Counts.{HasLasts}
-use Rattle.fg_timeline.proofs.signals.last_items.Given as goal
-
-abbrev pub invariant-loop-at : goal.invariant-loop-at
-invariant-loop-at l = HasLasts l.script l.count l.at l.lasts

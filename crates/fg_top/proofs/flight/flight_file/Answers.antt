@@ -1,4 +1,0 @@
-use Rattle.fg_top.proofs.flight.flight_file.Goals as goal
-
-pub returns-clause-file : goal.returns-clause-file
-returns-clause-file g c = record { outcome = c.in_ok-outcome.outcome; flies = c.in_ok-outcome.ensures; whole = c.reply_of.ensures.reply }

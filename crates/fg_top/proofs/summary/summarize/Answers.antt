@@ -1,7 +1,0 @@
-use Rattle.std.proofs.Common.{IfOk, subst}
-use Rattle.fg_frame.specs.declared.frame.Frame.{Frame}
-use Rattle.fg_top.proofs.summary.summarize.Goals as goal
-use Rattle.fg_top.specs.Headline.{SummarizesFrame}
-
-pub returns-clause-frame : goal.returns-clause-frame
-returns-clause-frame g c = subst (λ (f : Frame). IfOk c.summarize_frame.result (SummarizesFrame c.args.options f)) c.in_ok-good.ensures c.summarize_frame.ensures.frame

@@ -1,5 +1,0 @@
-use Rattle.fg_turns.specs.Internal.Lasts.{AreLasts}
-use Rattle.fg_turns.proofs.under.last_groups.Given as goal
-
-abbrev pub invariant-loop-g : goal.invariant-loop-g
-invariant-loop-g l = AreLasts l.groups l.g l.lasts

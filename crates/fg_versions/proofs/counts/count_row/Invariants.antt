@@ -1,6 +1,0 @@
-use Rattle.std.proofs.Common.{◌≡◌, drop, length}
-use Rattle.fg_versions.specs.Internal.Counts.{raised}
-use Rattle.fg_versions.proofs.counts.count_row.Given as goal
-
-abbrev pub invariant-loop-maker : goal.invariant-loop-maker
-invariant-loop-maker l = record { size : length l.refs ≡ length l.fn.refs; refs : raised (drop l.maker-index l.row) l.refs ≡ raised l.row l.fn.refs }

@@ -1,6 +1,0 @@
-use Rattle.std.proofs.Common.{◌≡◌, take}
-use Rattle.fg_versions.specs.Internal.Counts.{root_counts}
-use Rattle.fg_versions.proofs.counts.counted.Given as goal
-
-abbrev pub invariant-loop-root : goal.invariant-loop-root
-invariant-loop-root l = l.refs ≡ root_counts (take l.root-index l.roots)

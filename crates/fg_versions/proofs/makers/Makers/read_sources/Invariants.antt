@@ -1,7 +1,0 @@
-use Rattle.std.proofs.Common.{◌≡◌, ◌++◌, drop}
-use Rattle.std.specs.List.{filter_map}
-use Rattle.fg_versions.specs.Versions.{row_of, latest_maker}
-use Rattle.fg_versions.proofs.makers.Makers.read_sources.Given as goal
-
-abbrev pub invariant-loop-unit : goal.invariant-loop-unit
-invariant-loop-unit l = l.sources ++ filter_map (λ unit. latest_maker (row_of l.self unit)) (drop l.unit-index l.units) ≡ l.fn.sources ++ filter_map (λ unit. latest_maker (row_of l.self unit)) l.units

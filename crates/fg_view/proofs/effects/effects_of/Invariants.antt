@@ -1,8 +1,0 @@
-use Rattle.std.proofs.Common.{◌≡◌, map, take}
-use Rattle.fg_subs.specs.Entries.{entries_of}
-use Rattle.fg_subs.specs.Rules.{shapes_of}
-use Rattle.fg_view.specs.Effects.{entry_effect}
-use Rattle.fg_view.proofs.effects.effects_of.Given as goal
-
-abbrev pub invariant-loop-n : goal.invariant-loop-n
-invariant-loop-n l = l.effects ≡ map (entry_effect (shapes_of l.shaped)) (take l.n (entries_of l.shaped))

@@ -1,8 +1,0 @@
-use Rattle.fg_worker.proofs.worker.work_through.Given as goal
-use Rattle.fg_worker.specs.Holds.{LeavesNone, WorksTo}
-
-abbrev pub invariant-loop : goal.invariant-loop
-invariant-loop g l =
-    (goal.iterator-loop g).can_next l.iterator' × (goal.iterator-loop g).is_finite l.iterator'
-    × WorksTo (g.H.Holder.told l.initial.hold) (g.H.Holder.told l.hold) l.own_queue
-    × LeavesNone (g.H.Holder.told l.initial.hold) (g.H.Holder.told l.hold)

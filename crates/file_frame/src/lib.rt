@@ -1,0 +1,17 @@
+//! Frame files: the frame that bytes are, or the first fault.
+#![tactic(auto)]
+
+mod file;
+mod flag;
+mod whole_frame;
+mod pass;
+mod queue;
+mod resource;
+mod resource_members;
+mod spot;
+mod text;
+mod typed;
+mod write;
+
+pub use file::{FrameReadError, read_frame};
+pub use text::write_frame;

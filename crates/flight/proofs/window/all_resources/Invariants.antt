@@ -1,0 +1,10 @@
+use Rattle.std.proofs.Common.{◌≡◌, ◌++◌, drop, length}
+use Rattle.flight.specs.Internal.Left.{nothing_left}
+use Rattle.flight.specs.Internal.WindowParts.{all_resources}
+use Rattle.flight.proofs.window.all_resources.Given as goal
+
+abbrev pub invariant-loop-i : goal.invariant-loop-i
+invariant-loop-i l = record {
+  each : length l.left ≡ length l.persist;
+  so_far : l.resources ++ all_resources l.persist l.persisted l.i l.left (drop l.i l.frames) ≡ all_resources l.persist l.persisted 0 (nothing_left l.persist) l.frames;
+}

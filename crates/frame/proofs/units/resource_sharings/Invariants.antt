@@ -1,0 +1,6 @@
+use Rattle.std.proofs.Common.{◌≡◌, take, replicate}
+use Rattle.std.specs.List.{flat_map}
+use Rattle.frame.proofs.units.resource_sharings.Given as goal
+
+abbrev pub invariant-loop-resource : goal.invariant-loop-resource
+invariant-loop-resource l = l.list ≡ flat_map (λ r. replicate r.layers r.sharing) (take l.resource-index l.resources)

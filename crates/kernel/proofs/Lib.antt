@@ -1,0 +1,12 @@
+pub mod Areas
+pub mod Bytes
+pub mod Counts
+pub mod DrawnRects
+pub mod Draws
+pub mod Fitting
+pub mod Moduli
+pub mod Numbers
+pub mod Pictures
+pub mod Pieces
+pub mod Rows
+pub mod WholeLaw

@@ -1,0 +1,6 @@
+pub mod Anew
+pub mod Bands
+pub mod Closures
+pub mod Internal
+pub mod Rects
+pub mod Sources

@@ -1,0 +1,4 @@
+pub mod Declared
+pub mod DeclaredLaws
+pub mod Kept
+pub mod Laws

@@ -1,0 +1,51 @@
+//! A command line, and the status that it ends with.
+
+use base::NoMemory;
+use base_io::{Gate, Sink, Source, Tap};
+use top::{Ended, Status, framec};
+use std::alloc::Global;
+use std::sync::Wait;
+use std::thread::Threads;
+
+/// The words of a command line.
+pub fn words_of(alloc: Global, line: &str) -> Result<Vec<String>, NoMemory> {
+    let mut words = Vec::new(alloc);
+    for word in line.split_whitespace() {
+        words.push(String::from_str(alloc, word)?)?;
+    }
+    Ok(words)
+}
+
+// The status, if no tap was finished.
+fn unspent(ended: Ended) -> Option<Status> {
+    if ended.spent.is_empty() && ended.places.is_empty() {
+        Some(ended.status)
+    } else {
+        None
+    }
+}
+
+fn called<R: Threads + Wait + Sync, I: Source, O: Sink, G: Gate + Sync>(
+    rt: &R,
+    alloc: Global,
+    words: &[String],
+    input: &mut I,
+    output: &mut O,
+    gate: &G,
+) -> Option<Status> {
+    let mut taps: Vec<Box<dyn Tap>> = Vec::new(alloc);
+    unspent(framec(rt, alloc, words, input, output, gate, &mut taps))
+}
+
+/// The status of a command line without taps; none if one is finished all the same.
+pub fn status_of<R: Threads + Wait + Sync, I: Source, O: Sink, G: Gate + Sync>(
+    rt: &R,
+    alloc: Global,
+    line: &str,
+    input: &mut I,
+    output: &mut O,
+    gate: &G,
+) -> Result<Option<Status>, NoMemory> {
+    let words = words_of(alloc, line)?;
+    Ok(called(rt, alloc, &words, input, output, gate))
+}

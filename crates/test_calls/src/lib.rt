@@ -1,0 +1,11 @@
+//! The top call, and calls of it over sources and sinks in memory, for tests of it. No crate of the product stands on it.
+#![tactic(auto)]
+
+mod answers;
+mod call;
+mod given;
+
+pub use answers::{Answer, answer_from, answer_of, is_given};
+pub use call::{status_of, words_of};
+pub use given::gives;
+pub use top::{Ended, Status, at_rest, framec};

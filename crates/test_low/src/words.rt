@@ -1,0 +1,262 @@
+use base::{Name, RunOptions};
+use cli::{Command, command_of};
+use std::alloc::{AllocError, Global};
+use std::process::Abort;
+use std::test::Fail;
+
+// The words of a line.
+fn words_of(alloc: Global, line: &str) -> Result<Vec<String>, AllocError> {
+    let mut words = Vec::new(alloc);
+    for word in line.split_whitespace() {
+        words.push(String::from_str(alloc, word)?)?;
+    }
+    Ok(words)
+}
+
+// Lines, and how their commands are shown.
+const COMMANDS: [(&str, &str); 18] = [
+    ("-- cull", "Frame(Cull)"),
+    ("place", "Frame(Place)"),
+    ("bound", "Frame(Bound)"),
+    ("compile", "Frame(Compile { tight: false })"),
+    ("--tight compile", "Frame(Compile { tight: true })"),
+    ("auto", "Frame(Auto { cost: false })"),
+    ("auto --cost", "Frame(Auto { cost: true })"),
+    (
+        "run --trace --tight --workers 3",
+        "Run { options: RunOptions { workers: 3, tend: None }, trace: true, tight: true }",
+    ),
+    ("meaning", "Frame(Meaning)"),
+    ("migrate", "Frame(Migrate)"),
+    ("check", "Submission(Check)"),
+    ("audit", "Audit"),
+    ("gen --number 0", "Gen { number: 0, passes: 64 }"),
+    (
+        "--passes 1 gen --number 4294967295",
+        "Gen { number: 4294967295, passes: 1 }",
+    ),
+    (
+        "gen --number=0000000007 --passes=256",
+        "Gen { number: 7, passes: 256 }",
+    ),
+    (
+        "gen --summary --number 1",
+        "Summary { number: 1, passes: 64, options: RunOptions { workers: 2, tend: None } }",
+    ),
+    (
+        "gen --number 1 --passes 2 --workers 16 --summary",
+        "Summary { number: 1, passes: 2, options: RunOptions { workers: 16, tend: None } }",
+    ),
+    (
+        "--tend 0 --summary gen --workers 1 --number 1",
+        "Summary { number: 1, passes: 64, options: RunOptions { workers: 1, tend: Some(0) } }",
+    ),
+];
+
+// The line of `flight`, how many workers, the seed, the persisting names with a blank behind each, and the depth.
+const FLIGHTS: [(&str, u32, Option<u64>, &str, u32); 5] = [
+    ("flight", 2, None, "", 2),
+    ("flight --persist b", 2, None, "b ", 2),
+    (
+        "--depth 8 flight --persist=b,A_b-c.9",
+        2,
+        None,
+        "b A_b-c.9 ",
+        8,
+    ),
+    ("flight --workers 3 --depth 01 --tend 5", 3, Some(5), "", 1),
+    (
+        "flight --persist 1,2,3,4,5,6,7,8,9,10,11,12,13,14,15,16",
+        2,
+        None,
+        "1 2 3 4 5 6 7 8 9 10 11 12 13 14 15 16 ",
+        2,
+    ),
+];
+
+// The line of `exec`, and with the other word of `run`, how many workers, the seed, and whether a trace is wanted.
+const RUNS: [(&str, u32, Option<u64>, bool); 8] = [
+    ("exec", 2, None, false),
+    ("exec --workers 1", 1, None, false),
+    ("--workers=16 exec", 16, None, false),
+    ("exec --trace", 2, None, true),
+    ("exec --tend 0", 2, Some(0), false),
+    (
+        "--tend 4294967295 --trace -- exec",
+        2,
+        Some(4_294_967_295),
+        true,
+    ),
+    (
+        "exec --workers 0000000007 --tend=0000000010",
+        7,
+        Some(10),
+        false,
+    ),
+    ("exec --trace --tend 5 --workers 4", 4, Some(5), true),
+];
+
+const NO_COMMANDS: [&str; 68] = [
+    "",
+    "Run",
+    "run run",
+    "run --help",
+    "--version",
+    "check --workers 2",
+    "meaning --trace",
+    "run --workers 17",
+    "--tend 1 cull",
+    "exec exec",
+    "exec --workers",
+    "exec --workers 0",
+    "exec --workers 17",
+    "exec --workers 00000000002",
+    "exec --workers +2",
+    "exec --workers -2",
+    "exec --workers=",
+    "exec --workers 0x2",
+    "exec --workers 2 --workers 2",
+    "exec --tend 4294967296",
+    "exec --tend 18446744073709551616",
+    "exec --trace --trace",
+    "exec --trace=true",
+    "exec -t",
+    "exec -- --trace",
+    "exec --passes 4",
+    "run --number 1",
+    "run --summary",
+    "check --number 3",
+    "cull --summary",
+    "audit --trace",
+    "exec --tight",
+    "cull --tight",
+    "compile --tight --tight",
+    "compile --tight --workers 2",
+    "gen --number 1 --summary --tight",
+    "auto --tight",
+    "auto --cost --cost",
+    "auto auto",
+    "cull --cost",
+    "audit --workers 2",
+    "gen",
+    "gen --passes 3",
+    "gen --number 4294967296",
+    "gen --number 1 --passes 0",
+    "gen --number 1 --passes 257",
+    "gen --number 1 --number 1",
+    "gen --number 1 --workers 2",
+    "gen --number 1 --tend 2",
+    "gen --number 1 --summary --trace",
+    "auto --tight",
+    "auto --cost --cost",
+    "auto auto",
+    "cull --cost",
+    "flight --depth 0",
+    "flight --depth 9",
+    "flight --persist",
+    "flight --persist=",
+    "flight --persist b,",
+    "flight --persist ,b",
+    "flight --persist b,b",
+    "flight --persist b,c/0",
+    "flight --persist b --persist c",
+    "flight --persist 1,2,3,4,5,6,7,8,9,10,11,12,13,14,15,16,17",
+    "flight --trace",
+    "flight --tight",
+    "run --persist b",
+    "run --depth 2",
+];
+
+fn found(alloc: Global, line: &str) -> Result<Option<Command>, Fail> {
+    let words = words_of(alloc, line)?;
+    Ok(command_of(alloc, words.as_slice())?)
+}
+
+fn is_read_as(rt: &impl Abort, alloc: Global, line: &str, wanted: &str) -> Result<(), Fail> {
+    let found = found(alloc, line)?;
+    let shown = match found {
+        Some(command) => format!(in alloc; "{command:?}")?,
+        None => String::new(alloc),
+    };
+    assert!(rt; shown.as_str() == wanted, "{line}");
+    Ok(())
+}
+
+// The names with a blank behind each.
+fn names_shown(alloc: Global, names: &[Name]) -> Result<String, Fail> {
+    let mut shown = String::new(alloc);
+    for name in names {
+        shown.push_str(name.as_str())?;
+        shown.push_str(" ")?;
+    }
+    Ok(shown)
+}
+
+fn flies(
+    rt: &impl Abort,
+    alloc: Global,
+    line: &str,
+    wanted: RunOptions,
+    names: &str,
+    layers: u32,
+) -> Result<(), Fail> {
+    let found = found(alloc, line)?;
+    let Some(
+        Command::Flight {
+            options,
+            persist,
+            depth,
+        },
+    ) = found
+    else {
+        assert!(rt; false, "{line}");
+        return Ok(());
+    };
+    let shown = names_shown(alloc, &persist)?;
+    assert!(rt;
+        options == wanted && shown.as_str() == names && depth == layers,
+        "{line}"
+    );
+    Ok(())
+}
+
+#[test]
+fn command_lines(rt: HostRuntime) -> Result<(), Fail> {
+    let alloc = rt.alloc();
+    for (line, wanted) in &COMMANDS {
+        is_read_as(&rt, alloc, line, wanted)?;
+    }
+    for line in &NO_COMMANDS {
+        is_read_as(&rt, alloc, line, "")?;
+    }
+    Ok(())
+}
+
+#[test]
+fn lines_that_run(rt: HostRuntime) -> Result<(), Fail> {
+    let alloc = rt.alloc();
+    for (line, workers, tend, trace) in &RUNS {
+        let options = format!(in alloc;
+            "options: RunOptions {{ workers: {workers}, tend: {tend:?} }}, trace: {trace}"
+        )?;
+        let exec = format!(in alloc; "Exec {{ {options} }}")?;
+        is_read_as(&rt, alloc, line, exec.as_str())?;
+        let frame_line = line.replace(alloc, "exec", "run")?;
+        let run = format!(in alloc; "Run {{ {options}, tight: false }}")?;
+        is_read_as(&rt, alloc, frame_line.as_str(), run.as_str())?;
+    }
+    Ok(())
+}
+
+#[test]
+fn lines_that_fly(rt: HostRuntime) -> Result<(), Fail> {
+    let alloc = rt.alloc();
+    for (line, workers, tend, names, depth) in &FLIGHTS {
+        let options = RunOptions {
+            workers: *workers,
+            tend: *tend,
+        };
+        flies(&rt, alloc, line, options, names, *depth)?;
+    }
+    Ok(())
+}

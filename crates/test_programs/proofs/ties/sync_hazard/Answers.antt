@@ -1,0 +1,19 @@
+use Rattle.std.proofs.Common.{◌≡◌, ◌<◌, rules, sym, subst}
+use Rattle.check_order.specs.Orders.{Order}
+use Rattle.check_access.specs.ValidView.{Listed}
+use Rattle.check_sync.proofs.Whole.{rows_of}
+use Rattle.test_programs.proofs.ties.sync_hazard.Goals as goal
+
+pub node_accesses_of-requires : goal.node_accesses_of-requires
+node_accesses_of-requires c =
+    let whole : Order c.in_ok-view.view.nodes c.deref-in-Whole.result.now = search rules in
+    λ n m. subst (λ count. n < count) (sym c.in_ok-view.ensures.shaped.effects) (whole.only n m)
+
+pub first_flaw-requires-clause-rows : goal.first_flaw-requires-clause-rows
+first_flaw-requires-clause-rows c = rows_of c.args.shaped.now c.in_ok-view.view c.in_ok-before-in-Whole.before c.in_ok-view.ensures.view c.in_ok-before-in-Whole.ensures.count c.in_ok-before-in-Whole.ensures.happens c.in_ok-before-in-Whole.ensures.within
+
+pub first_flaw-requires-clause-listed : goal.first_flaw-requires-clause-listed
+first_flaw-requires-clause-listed c =
+    let whole : Order c.in_ok-view.view.nodes c.deref-in-Whole.result.now = search rules in
+    let accesses : c.in_ok-accesses-in-Whole.accesses ≡ c.deref-in-Whole-2.result.now = search rules in
+    subst (λ l. Listed c.in_ok-view.view l) accesses (c.in_ok-accesses-in-Whole.ensures.listed c.in_ok-view.ensures.shaped whole)

@@ -1,0 +1,31 @@
+-- Frames that were compiled, and devices that have run them.
+use Rattle.std.proofs.Common.{◌≡◌, ◌++◌, ℕ, List, Bool, false, ap}
+use Rattle.compile_file.specs.Compiles.{Compiles}
+use Rattle.compile_file.specs.Exports.{exports_text}
+use Rattle.frame.specs.Numbered.{numbered}
+use Rattle.frame.specs.declared.frame.Frame.{Frame}
+use Rattle.compile_heap.specs.Placing.{Places}
+use Rattle.report.specs.KeptLines.{run_text}
+use Rattle.device_run.proofs.RunLemmas.{runs_on}
+use Rattle.device_run.specs.Runs.{HasRun, read_by}
+use Rattle.device_model.specs.Devices.{Device}
+use Rattle.program.specs.declared.program.Program.{Program}
+use Rattle.top.specs.Headline.{RunsFrame, SummarizesFrame}
+use Rattle.top.specs.Replies.{ran}
+use Rattle.top.specs.Summaries.{summary_of}
+use Rattle.top.specs.Texts.{traced}
+use Rattle.base.specs.declared.run_options.RunOptions.{RunOptions}
+
+pub runs_frame : (options : RunOptions) (trace tight : Bool) (frame : Frame) (kept : List Bool) (places : Places) (program : Program) (d : Device) (text : List ℕ) → Compiles tight (numbered frame) kept places program → HasRun program options.tend d → text ≡ run_text frame kept ++ (exports_text frame (read_by d) ++ traced trace d.history) → RunsFrame options trace tight frame (ran d text)
+runs_frame options trace tight frame kept places program d text compiles has is = record {
+  device = d;
+  run = runs_on options.tend tight (numbered frame) kept places program d compiles has;
+  whole = ap (ran d) is;
+}
+
+pub summarizes_frame : (options : RunOptions) (frame : Frame) (kept : List Bool) (places : Places) (program : Program) (d : Device) (text : List ℕ) → Compiles false (numbered frame) kept places program → HasRun program options.tend d → text ≡ summary_of (numbered frame) kept places program (read_by d) → SummarizesFrame options frame (ran d text)
+summarizes_frame options frame kept places program d text compiles has is = record {
+  device = d;
+  run = runs_on options.tend false (numbered frame) kept places program d compiles has;
+  whole = ap (ran d) is;
+}

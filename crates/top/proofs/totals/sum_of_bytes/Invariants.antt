@@ -1,0 +1,10 @@
+use Rattle.std.proofs.Common.{◌≡◌, ◌≤◌, ◌*◌, take}
+use Rattle.std.specs.List.{sum}
+use Rattle.top.proofs.totals.sum_of_bytes.Given as goal
+
+abbrev pub invariant-loop-byte : goal.invariant-loop-byte
+invariant-loop-byte l =
+    record {
+      summed : l.sum ≡ sum (take l.byte-index l.bytes);
+      small : l.sum ≤ 255 * l.byte-index;
+    }

@@ -1,0 +1,13 @@
+-- Which commands are answered in which way.
+use Rattle.std.specs.Prelude.{◌≡◌, false, true, Some}
+use Rattle.answer.specs.AtRest.{needs_device}
+use Rattle.cli.specs.Commands.{IsBounded}
+use Rattle.cli.specs.declared.command.Command.{Command}
+
+-- by at_rest
+abbrev pub IsAtRest : Command → Type 0
+IsAtRest command = (needs_device (Some command) ≡ false) × IsBounded command
+
+-- on a device
+abbrev pub RunsOnDevice : Command → Type 0
+RunsOnDevice command = (needs_device (Some command) ≡ true) × IsBounded command

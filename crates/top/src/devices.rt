@@ -1,0 +1,164 @@
+//! The commands that run a program on a device.
+
+ghost use Rattle.std.specs.Prelude.{◌≡◌, ◌≤◌, ◌⊎◌, [], vec_len, vec_capacity, map, string_bytes, Some, None, true, IfOk, IfErr};
+ghost use Rattle.top.specs.Answers.{AnswersBytes, AnswersLeft, IsAnswered};
+ghost use Rattle.answer.specs.AtRest.{needs_device};
+ghost use Rattle.top.specs.Calls.{Call};
+ghost use Rattle.top.specs.Causes.{ReadCause, WriteCause};
+ghost use Rattle.top.specs.Internal.Served.{RunsOnDevice};
+ghost use Rattle.top.specs.Internal.Steps.{ReadsAnswer};
+ghost use Rattle.answer.specs.Statuses.{HasText};
+ghost use Rattle.top.specs.Ends.{ends};
+ghost use Rattle.answer.specs.Inputs.{file_of};
+ghost use Rattle.top.specs.Takes.{TakesAll, TakesFew, file_in};
+ghost use Rattle.top.specs.Outcomes.{IsUnanswered};
+ghost use Rattle.top.specs.Told.{AreTold};
+ghost use Rattle.cli.specs.Lines.{command_of};
+
+use crate::audit::audit_file;
+use crate::exec::execute_file;
+use crate::flights::flight_file;
+use crate::input::{Input, input_of};
+use crate::reply::{Reply, still};
+use crate::run::run_file;
+use crate::summary::summarize;
+use crate::telling::{deliver, reserved, untold};
+use crate::{Ended, Status};
+use answer::{file_of, over_input};
+use base::NoMemory;
+use base_io::{Gate, Sink, Source, Tap};
+use flight_file::FlightPlan;
+use cli::{Command, command_of};
+use std::alloc::Global;
+use std::sync::Wait;
+use std::thread::Threads;
+
+fn answer_bytes<R: Threads + Wait + Sync, G: Gate + Sync>(
+    rt: &R,
+    alloc: Global,
+    command: &Command,
+    bytes: &[u8],
+    gate: &G,
+) -> Result<Reply, NoMemory>
+    requires { RunsOnDevice command.now }
+    ensures answer { IfOk result (AnswersBytes command.now bytes.now) }
+    ensures has_text { IfOk result (λ reply. HasText reply.answer.status) }
+{
+    match command {
+        Command::Run {
+            options,
+            trace,
+            tight,
+        } => run_file(rt, alloc, *options, *trace, *tight, bytes, gate),
+        Command::Exec { options, trace } => execute_file(rt, alloc, *options, *trace, bytes, gate),
+        Command::Summary {
+            number,
+            passes,
+            options,
+        } => summarize(rt, alloc, *number, *passes, *options, gate),
+        Command::Flight {
+            options,
+            persist,
+            depth,
+        } => {
+            let plan = FlightPlan {
+                options: *options,
+                persist,
+                depth: *depth,
+            };
+            flight_file(rt, alloc, &plan, bytes, gate)
+        }
+        Command::Audit => Ok(still(audit_file(rt, alloc, bytes)?)),
+        Command::Frame(_) | Command::Submission(_) | Command::Gen { .. } => unreachable!(),
+    }
+}
+
+// The answer to the input that is read, or the status where there is none.
+fn answer_input<R: Threads + Wait + Sync, G: Gate + Sync, I: Source>(
+    rt: &R,
+    alloc: Global,
+    command: &Command,
+    input: &mut I,
+    gate: &G,
+) -> Result<Reply, Status>
+    requires { RunsOnDevice command.now }
+    ensures answer { IfOk result (AnswersLeft command.now (I.left input.old)) }
+    ensures has_text { IfOk result (λ reply. HasText reply.answer.status) }
+    ensures none { IfErr result (λ status. (status ≡ Status.ReadFault) ⊎ (status ≡ Status.NoMemory)) }
+    ensures read { ReadsAnswer (I.faults input.old) (I.faults input.new) result }
+    ensures taken { TakesFew (file_of command.now) (I.left input.old) (I.left input.new) }
+    ensures whole { IfOk result (λ _. TakesAll (file_of command.now) (I.left input.old) (I.left input.new)) }
+    ensures unread { file_of command.now ≡ None → input.new ≡ input.old }
+{
+    match input_of(alloc, file_of(command), input)? {
+        Input::Bytes(bytes) => Ok(answer_bytes(rt, alloc, command, bytes.as_slice(), gate)?),
+        Input::Over(file) => Ok(still(over_input(alloc, file)?)),
+    }
+}
+
+// With room for all taps.
+fn answer<R: Threads + Wait + Sync, I: Source, O: Sink, G: Gate + Sync>(
+    rt: &R,
+    alloc: Global,
+    command: &Command,
+    input: &mut I,
+    output: &mut O,
+    gate: &G,
+    taps: &mut Vec<Box<dyn Tap>>,
+    room: Ended,
+) -> Ended
+    requires served { RunsOnDevice command.now }
+    requires spent { (room.spent.items ≡ []) × (vec_len taps.old ≤ vec_capacity room.spent) }
+    requires places { (room.places.items ≡ []) × (vec_len taps.old ≤ vec_capacity room.places) }
+    ensures answered { IsAnswered command.now (I.left input.old) (O.taken output.old) (O.taken output.new) (AreTold (λ b. heard b) (λ b. finished b) taps.old.items taps.new.items result.spent.items result.places.items) result.status }
+    ensures read { ReadCause (I.faults input.old) (I.faults input.new) result.status }
+    ensures write { WriteCause (O.faults output.old) (O.faults output.new) result.status }
+    ensures taken { TakesFew (file_of command.now) (I.left input.old) (I.left input.new) }
+    ensures whole { ¬ IsUnanswered result.status → TakesAll (file_of command.now) (I.left input.old) (I.left input.new) }
+    ensures unread { file_of command.now ≡ None → input.new ≡ input.old }
+    ensures unwritten { IsUnanswered result.status → output.new ≡ output.old }
+{
+    match answer_input(rt, alloc, command, input, gate) {
+        Ok(reply) => deliver(&reply, output, taps, room),
+        Err(status) => untold(alloc, status),
+    }
+}
+
+// The command of the words.
+fn command_in(alloc: Global, words: &[String]) -> Result<Command, NoMemory>
+    requires { needs_device (command_of (map string_bytes words.now)) ≡ true }
+    ensures command { IfOk result (λ command. command_of (map string_bytes words.now) ≡ Some command) }
+    ensures served { IfOk result RunsOnDevice }
+{
+    match command_of(alloc, words) {
+        Ok(Some(command)) => Ok(command),
+        Ok(None) => unreachable!(),
+        Err(NoMemory) => Err(NoMemory),
+    }
+}
+
+#[tactic(auto, using(crate::proofs::CallLemmas::called, crate::proofs::CallLemmas::nothing))]
+/// Does the work of words that need a device: room for all taps is taken before anything is read.
+pub fn answer_words<R: Threads + Wait + Sync, I: Source, O: Sink, G: Gate + Sync>(
+    rt: &R,
+    alloc: Global,
+    words: &[String],
+    input: &mut I,
+    output: &mut O,
+    gate: &G,
+    taps: &mut Vec<Box<dyn Tap>>,
+) -> Ended
+    requires { needs_device (command_of (map string_bytes words.now)) ≡ true }
+    ensures call { let seen = ends I.left I.faults O.taken O.faults in
+        Call (command_of (map string_bytes words.now)) (seen input.old output.old) (seen input.new output.new) (AreTold (λ b. heard b) (λ b. finished b) taps.old.items taps.new.items result.spent.items result.places.items) result.status }
+    ensures unread { file_in (command_of (map string_bytes words.now)) ≡ None → input.new ≡ input.old }
+    ensures unwritten { IsUnanswered result.status → output.new ≡ output.old }
+{
+    let Ok(command) = command_in(alloc, words) else {
+        return untold(alloc, Status::NoMemory);
+    };
+    let Ok(room) = reserved(alloc, taps.len()) else {
+        return untold(alloc, Status::NoMemory);
+    };
+    answer(rt, alloc, &command, input, output, gate, taps, room)
+}

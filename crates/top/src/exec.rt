@@ -1,0 +1,78 @@
+//! The command `exec`.
+
+ghost use Rattle.std.specs.Prelude.{◌⊎◌, IfOk};
+ghost use Rattle.check_program.specs.Sound.{IsSound};
+ghost use Rattle.top.specs.Answers.{ExecutesFile};
+ghost use Rattle.answer.specs.Statuses.{HasText};
+ghost use Rattle.compile_file.specs.Files.{program_file};
+ghost use Rattle.top.specs.Headline.{Executes};
+ghost use Rattle.top.specs.Replies.{IsStill};
+ghost use Rattle.answer.specs.Plain.{Rejects};
+
+use crate::readbacks::exec_text;
+use crate::reply::{Reply, ran, still};
+use answer::{checked, program_refusal};
+use base::{NoMemory, RunOptions};
+use base_io::Gate;
+use check_program::Checked;
+use device_run::run_program;
+use compile_file::valid_program;
+use file_program::ProgramReadError;
+use program::ValidProgram;
+use std::alloc::Global;
+use std::sync::Wait;
+use std::thread::Threads;
+
+// A sound program runs on a device.
+fn execute_checked<R: Threads + Wait + Sync, G: Gate + Sync>(
+    rt: &R,
+    alloc: Global,
+    options: RunOptions,
+    trace: bool,
+    program: &Checked,
+    gate: &G,
+) -> Result<Reply, NoMemory>
+    requires sound { IsSound program.now.program }
+    ensures program { IfOk result (Executes options trace program.now.program) }
+    ensures has_text { IfOk result (λ reply. HasText reply.answer.status) }
+{
+    let device = run_program(rt, alloc, program, options, gate)?;
+    let text = exec_text(alloc, &device, trace)?;
+    ran(alloc, &device, text)
+}
+
+fn execute_program<R: Threads + Wait + Sync, G: Gate + Sync>(
+    rt: &R,
+    alloc: Global,
+    options: RunOptions,
+    trace: bool,
+    program: ValidProgram,
+    gate: &G,
+) -> Result<Reply, NoMemory>
+    ensures program { IfOk result (λ reply. Executes options trace program reply ⊎ IsStill (Rejects program) reply) }
+    ensures has_text { IfOk result (λ reply. HasText reply.answer.status) }
+{
+    match checked(alloc, program) {
+        Ok(checked) => execute_checked(rt, alloc, options, trace, &checked, gate),
+        Err(answer) => Ok(still(answer?)),
+    }
+}
+
+/// The answer to the bytes of a submission.
+pub fn execute_file<R: Threads + Wait + Sync, G: Gate + Sync>(
+    rt: &R,
+    alloc: Global,
+    options: RunOptions,
+    trace: bool,
+    bytes: &[u8],
+    gate: &G,
+) -> Result<Reply, NoMemory>
+    ensures file { IfOk result (ExecutesFile options trace (program_file bytes.now)) }
+    ensures has_text { IfOk result (λ reply. HasText reply.answer.status) }
+{
+    match valid_program(alloc, bytes) {
+        Ok(program) => execute_program(rt, alloc, options, trace, program, gate),
+        Err(ProgramReadError::Refused(fault)) => Ok(still(program_refusal(alloc, &fault)?)),
+        Err(ProgramReadError::NoMemory) => Err(NoMemory),
+    }
+}

@@ -1,0 +1,25 @@
+//! The top call: from words and the bytes of a file to a status and the bytes of a text.
+#![tactic(auto)]
+
+mod audit;
+mod devices;
+mod ended;
+mod exec;
+mod flights;
+mod input;
+mod intake;
+mod output;
+mod readbacks;
+mod reply;
+mod rest;
+mod run;
+mod summary;
+mod telling;
+mod top;
+mod totals;
+
+pub use ended::Ended;
+pub use answer::Status;
+pub use reply::Reply;
+pub use rest::at_rest;
+pub use top::framec;
