@@ -6,8 +6,8 @@ ghost use Rattle.answer.specs.Plain.{done, refusal, program_refusal};
 use crate::Status;
 use base::{NoMemory, Text};
 use frame::FrameFault;
-use report::{frame_fault_text, program_fault_text};
 use program::ProgramFault;
+use report::{frame_fault_text, program_fault_text};
 use std::alloc::Global;
 
 /// A status, and the whole text that goes with it.

@@ -6,11 +6,11 @@ ghost use Rattle.answer.specs.Statuses.{HasText};
 ghost use Rattle.report.specs.CostLines.{cost_text};
 
 use crate::answer::{Answer, done};
-use compile_queues::{Choice, choose};
 use base::{NoMemory, Text};
-use frame::ValidFrame;
-use file_frame::write_frame;
 use base_text::Lines;
+use compile_queues::{Choice, choose};
+use file_frame::write_frame;
+use frame::ValidFrame;
 use report::cost_text;
 use std::alloc::Global;
 

@@ -12,10 +12,10 @@ use crate::answer::{Answer, done};
 use crate::groups::kept_groups;
 use base::{NoMemory, Text};
 use compile_bound::bound_of;
-use frame::ValidFrame;
 use compile_groups::Groups;
-use compile_lifetimes::ordered;
 use compile_heap::{Pairs, place};
+use compile_lifetimes::ordered;
+use frame::ValidFrame;
 use report::bound_text;
 use std::alloc::Global;
 

@@ -6,10 +6,10 @@ ghost use Rattle.answer.specs.Statuses.{HasText};
 
 use crate::answer::{Answer, done};
 use base::NoMemory;
-use frame::ValidFrame;
 use base_text::Lines;
 use compile_file::compiled;
 use file_program::write_program;
+use frame::ValidFrame;
 use std::alloc::Global;
 
 /// The answer to the command on a good frame.

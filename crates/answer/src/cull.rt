@@ -9,8 +9,8 @@ ghost use Rattle.frame_cull.specs.Culled.{AreKept};
 use crate::answer::{Answer, done};
 use base::NoMemory;
 use frame::ValidFrame;
-use report::cull_text;
 use frame_cull::{Kept, cull, versions_of};
+use report::cull_text;
 use std::alloc::Global;
 
 /// Which passes of a frame are kept.

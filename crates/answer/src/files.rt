@@ -7,9 +7,9 @@ ghost use Rattle.answer.specs.Statuses.{HasText};
 
 use crate::answer::{Answer, program_refusal, refusal};
 use base::{Limit, List, NoMemory};
+use cli::Command;
 use frame::FrameFault;
 use program::ProgramFault;
-use cli::Command;
 use std::alloc::Global;
 
 /// What a command reads.

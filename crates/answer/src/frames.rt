@@ -14,10 +14,10 @@ use crate::meaning::mean_frame;
 use crate::migrate::migrate_frame;
 use crate::place::place_frame;
 use base::NoMemory;
-use frame::ValidFrame;
-use file_frame::FrameReadError;
-use compile_file::valid_frame;
 use cli::FrameCommand;
+use compile_file::valid_frame;
+use file_frame::FrameReadError;
+use frame::ValidFrame;
 use std::alloc::Global;
 
 /// The answer to the bytes of a frame file.

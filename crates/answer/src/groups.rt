@@ -5,8 +5,8 @@ ghost use Rattle.frame.specs.Numbered.{numbered};
 ghost use Rattle.answer.specs.Internal.Stages.{AreGrouped};
 
 use base::NoMemory;
-use frame::ValidFrame;
 use compile_groups::{Groups, groups_of};
+use frame::ValidFrame;
 use frame_cull::{cull, versions_of};
 use std::alloc::Global;
 

@@ -6,9 +6,9 @@ ghost use Rattle.answer.specs.Statuses.{HasText};
 
 use crate::answer::{Answer, done};
 use base::NoMemory;
-use frame::ValidFrame;
-use file_frame::write_frame;
 use base_text::Lines;
+use file_frame::write_frame;
+use frame::ValidFrame;
 use std::alloc::Global;
 
 /// The answer to the command on a good frame.

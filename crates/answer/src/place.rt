@@ -9,10 +9,10 @@ ghost use Rattle.answer.specs.Statuses.{HasText};
 use crate::answer::{Answer, done};
 use crate::groups::kept_groups;
 use base::{NoMemory, Text};
-use frame::ValidFrame;
 use compile_groups::Groups;
-use compile_lifetimes::ordered;
 use compile_heap::{Placement, place};
+use compile_lifetimes::ordered;
+use frame::ValidFrame;
 use report::place_text;
 use std::alloc::Global;
 

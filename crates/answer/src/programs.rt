@@ -11,11 +11,11 @@ use crate::Status;
 use crate::answer::{Answer, done, program_refusal};
 use base::NoMemory;
 use check_program::{CheckError, Checked, Hazard, check};
-use report::{check_text, hazard_text};
+use cli::SubmissionCommand;
 use compile_file::valid_program;
 use file_program::ProgramReadError;
 use program::ValidProgram;
-use cli::SubmissionCommand;
+use report::{check_text, hazard_text};
 use std::alloc::Global;
 
 /// The answer to the bytes of a submission.

@@ -23,7 +23,7 @@ pub use memory_source::MemorySource;
 pub use read_source::ReadSource;
 pub use serve::serve_all;
 pub use sink::{Put, Sink};
-pub use source::{Source, ReadResult};
+pub use source::{ReadResult, Source};
 pub use steady_sink::SteadySink;
 pub use steady_source::SteadySource;
 pub use tap::{Tap, Tell};

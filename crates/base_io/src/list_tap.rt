@@ -3,8 +3,8 @@
 ghost use Rattle.std.specs.Prelude.{◌≡◌, ◌≤◌, ◌↔◌, ◌++◌, ◌∷◌, [], true, false, vec_len, vec_capacity, IfOk, Some};
 ghost use Rattle.base_io.specs.Listed.{hearing};
 
-use base::{Event, NoMemory};
 use crate::{Tap, Tell};
+use base::{Event, NoMemory};
 use std::alloc::Global;
 use std::marker::Model;
 

@@ -5,8 +5,8 @@ ghost use Rattle.std.specs.List.{HoldsAt};
 ghost use Rattle.base_io.specs.Internal.Serves.{ServesAt};
 ghost use Rattle.base_io.specs.Served.{AreServed, IsServed};
 
-use base::Event;
 use crate::{Tap, Tell};
+use base::Event;
 
 // Tells each event, until the tap is finished, and answers whether it is.
 fn serve(tap: &mut dyn Tap, events: &[Event]) -> bool

@@ -4,8 +4,8 @@ ghost use Rattle.std.specs.Prelude.{◌≡◌, ◌≤◌, ◌<◌, ◌+◌, ◌-
 ghost use Rattle.base_io.specs.Memory.{given};
 ghost use Rattle.base_io.specs.Reads.{IsWithin, ReadsBytes};
 
-use crate::memory_source::fill_front;
 use crate::Source;
+use crate::memory_source::fill_front;
 use base::{List, ReadResult};
 use std::marker::Model;
 

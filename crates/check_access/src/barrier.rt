@@ -8,9 +8,9 @@ ghost use Rattle.check_access.specs.declared.access.AccessKind.TheVariants as ac
 use crate::command::push_some;
 use crate::{Access, AccessKind, Handover};
 use base::{List, NoMemory};
-use vk::Layouts;
 use program::Transfer;
 use std::alloc::Global;
+use vk::Layouts;
 
 fn transition_through(piece: u32, layouts: Layouts) -> Option<Access>
     ensures { option_to_list result ≡ transition_through piece layouts }

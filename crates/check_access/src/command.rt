@@ -8,8 +8,8 @@ ghost use Rattle.check_access.specs.Effects.{role_agent, touch_load, touch_store
 
 use crate::{Access, AccessKind, Agent};
 use base::{List, NoMemory, Op, Role, Shape, Touch};
-use vk::{Accesses, agents, layout_wanted, load_access, role_stage, store_access};
 use std::alloc::Global;
+use vk::{Accesses, agents, layout_wanted, load_access, role_stage, store_access};
 
 // The agent of a queue that makes such an access in the stage of the role.
 fn role_agent(queue: u32, role: Role, kind: Accesses) -> Agent

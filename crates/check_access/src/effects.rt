@@ -10,11 +10,11 @@ ghost use Rattle.check_access.specs.Effects.{plain_effect, barrier_effect, item_
 use crate::barrier::{acquire_accesses, layout_change, released};
 use crate::command::{command_accesses, push_some};
 use crate::{Access, AccessKind, Agent, Effect, Scope};
-use bitflags::Flags;
 use base::{List, NoMemory, Shape};
-use vk::{Accesses, Masks, Stages, agents};
-use program::{Entry, Item, ValidProgram, Signal, WaitFor};
+use bitflags::Flags;
+use program::{Entry, Item, Signal, ValidProgram, WaitFor};
 use std::alloc::Global;
+use vk::{Accesses, Masks, Stages, agents};
 
 fn plain_effect(accesses: List<Access>) -> Effect
     ensures { result ≡ plain_effect accesses }

@@ -11,11 +11,11 @@ use crate::effects::effects_of;
 use crate::overlaps::{lists_of, pieces_overlap};
 use crate::{Access, Agent, Effect, Scope};
 use base::{Family, List, NoMemory};
-use vk::HOST_AGENT;
 use check_order::{Edges, Node, direct};
 use program::{Memory, Piece, Program, Queue, ValidProgram};
 use std::alloc::Global;
 use std::marker::Model;
+use vk::HOST_AGENT;
 
 /// The nodes of a program with what they do to memory, the pieces, and the families of the queues.
 #[derive(Debug, Drop)]

@@ -10,11 +10,11 @@ ghost use Rattle.program.specs.Entries.{seen};
 ghost use Rattle.check_order.specs.declared.kind.Kind.TheVariants as kinds;
 
 use crate::Kind;
-use bitflags::Flags;
 use base::{List, NoMemory, Op};
-use vk::{Masks, Stages, op_stage};
-use program::{Entry, Item, ValidProgram, Signal, WaitFor};
+use bitflags::Flags;
+use program::{Entry, Item, Signal, ValidProgram, WaitFor};
 use std::alloc::Global;
+use vk::{Masks, Stages, op_stage};
 
 /// A node as edges see it. Its stages are expanded.
 #[derive(Clone, Copy, Debug, PartialEq, Eq)]

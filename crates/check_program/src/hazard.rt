@@ -4,9 +4,9 @@ ghost use Rattle.std.specs.Prelude.{◌≡◌};
 ghost use Rattle.check_program.specs.Internal.Hazards.{of_sync_hazard, of_state_hazard, of_load_hazard};
 
 use base::Family;
-use vk::Layout;
-use check_state::{StateHazard, LoadHazard};
+use check_state::{LoadHazard, StateHazard};
 use check_sync::{Flaw, SyncHazard};
+use vk::Layout;
 
 /// What keeps a program from being sound. Nodes, pieces and queues are named by their numbers.
 #[derive(Clone, Copy, Debug, PartialEq, Eq)]

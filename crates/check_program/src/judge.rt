@@ -9,11 +9,11 @@ ghost use Rattle.check_access.specs.Views.{view_of};
 
 use crate::Hazard;
 use base::{List, NoMemory};
-use check_order::{Before, Drain, before_of, drain_of};
-use check_state::{first_state_hazard, first_load_hazard};
-use program::ValidProgram;
-use check_sync::first_flaw;
 use check_access::{NodeAccess, View, node_accesses_of, view_of};
+use check_order::{Before, Drain, before_of, drain_of};
+use check_state::{first_load_hazard, first_state_hazard};
+use check_sync::first_flaw;
+use program::ValidProgram;
 use std::alloc::Global;
 
 /// What a program is found to be.

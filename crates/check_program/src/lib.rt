@@ -7,5 +7,5 @@ mod hazard;
 mod judge;
 
 pub use checked::Checked;
-pub use checking::{CheckError, check, sound, proved_sound};
+pub use checking::{CheckError, check, proved_sound, sound};
 pub use hazard::Hazard;

@@ -12,7 +12,11 @@ use check_access::{NodeAccess, View};
 use std::alloc::Global;
 
 // What is wrong with the bytes that the access loads, after the last change of bytes of its piece.
-fn check_load(view: &View, node_access: NodeAccess, change: Option<NodeAccess>) -> Option<LoadHazard>
+fn check_load(
+    view: &View,
+    node_access: NodeAccess,
+    change: Option<NodeAccess>,
+) -> Option<LoadHazard>
     requires { node_access.access.piece < length view.now.imported }
     ensures { (accesses : List NodeAccess) (j : ℕ) → change ≡ last_change view.now accesses j node_access.access.piece → MatchOption result (InitializedAt view.now accesses j node_access) (λ load_hazard. IsLoadHazard load_hazard view.now accesses j node_access) }
 {
@@ -46,7 +50,11 @@ pub fn first_load_hazard(
     let mut changed = Table::new(alloc, view.piece_count())?;
     for j in 0..accesses.len() {
         let node_access = accesses[j];
-        if let Some(load_hazard) = check_load(view, node_access, changed.at(node_access.access.piece)) {
+        if let Some(load_hazard) = check_load(
+            view,
+            node_access,
+            changed.at(node_access.access.piece),
+        ) {
             return Ok(Some(load_hazard));
         }
         changed.put_over(view, node_access);

@@ -4,17 +4,17 @@
 
 mod ahead;
 mod initialized;
-mod state_hazard_at;
-mod state_hazard;
+mod load_hazard;
 mod past;
 mod piece_state;
 mod same;
+mod state_hazard;
+mod state_hazard_at;
 mod state_valid;
 mod table;
-mod load_hazard;
 
 pub use initialized::first_load_hazard;
-pub use state_hazard_at::needs_owner;
-pub use state_hazard::StateHazard;
-pub use state_valid::first_state_hazard;
 pub use load_hazard::LoadHazard;
+pub use state_hazard::StateHazard;
+pub use state_hazard_at::needs_owner;
+pub use state_valid::first_state_hazard;

@@ -12,8 +12,8 @@ use crate::ahead::Ahead;
 use crate::past::Past;
 use crate::table::kind_of;
 use base::Family;
-use vk::Layout;
 use check_access::{AccessKind, NodeAccess, View};
+use vk::Layout;
 
 /// What an access finds of its piece: the layout, the owner, and the last and the next transfer.
 #[derive(Clone, Copy)]

@@ -3,8 +3,8 @@
 ghost use Rattle.std.specs.Prelude.{◌≡◌, ◌↔◌, IsTrue};
 
 use base::Family;
-use vk::{Layout, Layouts};
 use check_access::Handover;
+use vk::{Layout, Layouts};
 
 fn same_family(a: Family, b: Family) -> bool
     ensures { IsTrue result ↔ a ≡ b }

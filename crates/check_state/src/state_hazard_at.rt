@@ -11,8 +11,8 @@ use crate::StateHazard;
 use crate::piece_state::PieceState;
 use crate::same::same_handover;
 use base::Family;
-use vk::Layout;
 use check_access::{AccessKind, Handover, NodeAccess, View};
+use vk::Layout;
 
 // The layout that is wanted, where another one is found.
 fn missed_layout(kind: AccessKind, found: Layout) -> Option<Layout>

@@ -6,9 +6,9 @@ ghost use Rattle.check_state.specs.StateValid.{FirstStateHazard, StateValid};
 
 use crate::StateHazard;
 use crate::ahead::ahead_of;
-use crate::state_hazard_at::state_hazard_at;
 use crate::past::Past;
 use crate::piece_state::found_at;
+use crate::state_hazard_at::state_hazard_at;
 use base::NoMemory;
 use check_access::{NodeAccess, View};
 use std::alloc::Global;

@@ -13,8 +13,8 @@ use crate::chain::{Chain, Chains, clashes_with_loads};
 use crate::listing::Listing;
 use crate::{Flaw, SyncHazard};
 use base::NoMemory;
-use check_order::{Before, before_laws};
 use check_access::{NodeAccess, View};
+use check_order::{Before, before_laws};
 use std::alloc::Global;
 
 impl<'a> Listing<'a> {

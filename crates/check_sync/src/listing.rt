@@ -7,8 +7,8 @@ ghost use Rattle.check_sync.specs.Internal.Places.{node_access_at, Known};
 ghost use Rattle.check_sync.specs.Passing.{Before as IsBefore};
 ghost use Rattle.check_sync.specs.Rows.{Rows};
 
-use check_order::Before;
 use check_access::{NodeAccess, View};
+use check_order::Before;
 use std::marker::Model;
 
 /// The accesses of a program in an order, its view, and what happens before what.

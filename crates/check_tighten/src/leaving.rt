@@ -8,9 +8,9 @@ use crate::own::{SINGLE_STAGES, fitted, single_stage, without_stage};
 use crate::place::{Place, Standing, wait_at};
 use crate::trial::{Trial, replaced, without};
 use base::NoMemory;
-use vk::Stages;
 use program::Program;
 use std::alloc::Global;
+use vk::Stages;
 
 // Without a wait, if there is one and the program passes without it.
 fn leave_wait(alloc: Global, program: Program, place: Place) -> Result<Trial, NoMemory>

@@ -4,10 +4,10 @@ ghost use Rattle.std.specs.Prelude.{◌≡◌, ◌<◌, slice_get, Some};
 ghost use Rattle.vk.specs.Stages.{expand};
 ghost use Rattle.check_tighten.specs.Own.{fitted, own_part, own_stages, single_stages, with_stages, without_stage};
 
-use bitflags::Flags;
 use base::Family;
-use vk::{Stages, family_number, on_family};
+use bitflags::Flags;
 use program::WaitFor;
+use vk::{Stages, family_number, on_family};
 
 /// How many stages stand for themselves alone.
 pub const SINGLE_STAGES: u32 = 5;

@@ -10,11 +10,11 @@ ghost use Rattle.program.specs.declared.program.Queue.{Queue};
 ghost use Rattle.program.specs.declared.program.WaitFor as waits;
 
 use crate::own::own_stages;
-use bitflags::Flags;
 use base::{Family, List, NoMemory};
-use vk::Stages;
+use bitflags::Flags;
 use program::{Batch, Program, WaitFor};
 use std::alloc::Global;
+use vk::Stages;
 
 /// The numbers of a queue, a batch of it, and a wait of that.
 #[derive(Clone, Copy)]

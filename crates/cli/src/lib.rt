@@ -2,8 +2,8 @@
 #![tactic(auto)]
 
 mod command;
-mod line_options;
 mod line;
+mod line_options;
 mod matching;
 mod number;
 mod options;

@@ -13,8 +13,8 @@ use crate::options::run_options;
 use crate::persist::persist_in;
 use crate::word::{Word, word_of};
 use crate::{Command, FrameCommand, SubmissionCommand};
-use clap::ArgMatches;
 use base::{List, Name, NoMemory};
+use clap::ArgMatches;
 use std::alloc::Global;
 
 #[tactic(auto, using(crate::proofs::Bounds::bounded_lines))]

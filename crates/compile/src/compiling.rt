@@ -14,9 +14,9 @@ ghost use Rattle.frame_cull.specs.Culled.{AreKept};
 use crate::laws::compile_law;
 use base::NoMemory;
 use check_program::{Checked, proved_sound};
-use frame::ValidFrame;
 use compile_heap::Placement;
 use compile_record::{Recorded, record};
+use frame::ValidFrame;
 use frame_cull::Kept;
 use std::alloc::Global;
 

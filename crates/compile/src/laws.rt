@@ -3,9 +3,8 @@
 ghost use Rattle.compile.specs.Right.{IsRightFor};
 ghost use Rattle.compile_record.specs.Recorded.{OfRecorded};
 
+use law_meaning::{declared_laws, meaning_laws};
 use law_sound::sound_program_law;
-use law_meaning::declared_laws;
-use law_meaning::meaning_laws;
 use law_valid::faultless_law;
 
 /// What is compiled of a good frame's kept passes is right for the frame: it breaks no rule, is sound, and leaves the bytes

@@ -7,8 +7,8 @@ ghost use Rattle.compile_barriers.specs.declared.prologue.PrologueKind.TheVarian
 
 use crate::masks::{barrier_masks, entry_masks};
 use crate::{Prologue, PrologueKind};
-use vk::{Accesses, Masks, Stages};
 use compile_groups::Use;
+use vk::{Accesses, Masks, Stages};
 
 fn first_kind(is_reused: bool, is_image: bool) -> PrologueKind
     ensures { result ≡ first_kind is_reused is_image }

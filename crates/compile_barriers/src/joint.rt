@@ -4,8 +4,8 @@ ghost use Rattle.std.specs.Prelude.{◌≡◌, if◌then◌else◌, ◌==◌};
 ghost use Rattle.compile_barriers.specs.Internal.Joints.{joined};
 ghost use Rattle.compile_barriers.specs.Unions.{joint_on, is_elsewhere};
 
-use vk::{Accesses, Stages};
 use compile_groups::Use;
+use vk::{Accesses, Stages};
 
 /// Stages and accesses of several uses, and those of the accesses that write.
 #[derive(Clone, Copy, Debug, PartialEq, Eq)]

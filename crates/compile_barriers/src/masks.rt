@@ -4,8 +4,8 @@ ghost use Rattle.std.specs.Prelude.{◌≡◌};
 ghost use Rattle.compile_barriers.specs.Masks.{barrier_masks, release_masks, entry_masks};
 
 use crate::joint::{is_elsewhere, joint_on};
-use vk::{Accesses, Masks, Stages};
 use compile_groups::Use;
+use vk::{Accesses, Masks, Stages};
 
 /// Of a barrier between uses on a queue.
 pub(crate) fn barrier_masks(before: &[Use], after: &[Use], queue: u32) -> Masks

@@ -6,8 +6,8 @@ ghost use Rattle.compile_barriers.specs.Prologues.{first, next_kind, prologue_be
 
 use crate::masks::{barrier_masks, entry_masks, release_masks};
 use crate::{Prologue, PrologueKind};
-use vk::family_number;
 use compile_groups::{Groups, Use};
+use vk::family_number;
 
 // Whether two queues may both use a unit without a transfer of ownership.
 fn shares(groups: &Groups, unit: u32, p: u32, q: u32) -> bool

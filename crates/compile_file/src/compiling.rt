@@ -5,9 +5,9 @@ ghost use Rattle.frame.specs.Numbered.{numbered};
 ghost use Rattle.compile_file.specs.Compiles.{Compiles};
 
 use base::NoMemory;
+use check_tighten::tighten;
 use compile::{Compiled, compile};
 use frame::ValidFrame;
-use check_tighten::tighten;
 use law_tight::wait_laws;
 use std::alloc::Global;
 

@@ -4,9 +4,9 @@ ghost use Rattle.file_frame.specs.Files.{FrameGives};
 ghost use Rattle.compile_file.specs.Files.{frame_file, program_file};
 ghost use Rattle.file_program.specs.Files.{ProgramGives};
 
-use frame::{FrameError, ValidFrame, validate_frame};
 use file_frame::{FrameReadError, read_frame};
 use file_program::{ProgramReadError, read_program};
+use frame::{FrameError, ValidFrame, validate_frame};
 use program::{ProgramError, ValidProgram, validate_program};
 use std::alloc::Global;
 

@@ -10,8 +10,8 @@ ghost use Rattle.compile_groups.specs.Placed.{is_import, placed, sizes};
 use crate::buckets::Buckets;
 use crate::{Command, Grouping, Use, UseAt};
 use base::{Family, List, Shape};
-use vk::Sharing;
 use std::marker::Model;
+use vk::Sharing;
 
 /// What the commands of a kept frame use, in which groups.
 #[derive(Drop)]

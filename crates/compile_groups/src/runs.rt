@@ -7,8 +7,8 @@ ghost use Rattle.compile_groups.specs.Groups.{joins, runs};
 use crate::Use;
 use crate::joining::joins;
 use base::{Family, List, NoMemory};
-use vk::Sharing;
 use std::alloc::Global;
+use vk::Sharing;
 
 // The use joins the last one of a group.
 fn joins_last(run: &List<Use>, families: &[Family], sharings: &[Sharing], one: Use) -> bool

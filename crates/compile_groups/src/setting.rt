@@ -8,9 +8,9 @@ ghost use Rattle.compile_groups.specs.Commands.{all_shapes};
 ghost use Rattle.compile_groups.specs.Groups.{sharings_in, imports_in};
 
 use base::{Family, List, NoMemory, Shape, shape_at};
-use vk::Sharing;
 use frame::ValidFrame;
 use std::alloc::Global;
+use vk::Sharing;
 
 // The buffer that the host reads a unit of this shape from.
 fn readback_of(shape: Shape) -> Shape

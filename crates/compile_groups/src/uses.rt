@@ -9,8 +9,8 @@ ghost use Rattle.compile_groups.specs.Uses.{role_writes, role_accesses, use_of, 
 
 use crate::{Command, Use};
 use base::{List, NoMemory, Op, Role, Shape, Touch, shape_at};
-use vk::{Accesses, layout_wanted, load_access, role_stage, store_access};
 use std::alloc::Global;
+use vk::{Accesses, layout_wanted, load_access, role_stage, store_access};
 
 fn role_writes(role: Role) -> Accesses
     ensures { result.0 ≡ role_writes role }

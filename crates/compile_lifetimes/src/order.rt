@@ -11,9 +11,9 @@ ghost use Rattle.base_reach.specs.Pairs.{has as reaches};
 use crate::lifetime::{Lifetime, lifetimes_of};
 use crate::reach::reach_of;
 use base::NoMemory;
+use base_reach::Rows;
 use compile_groups::{Groups, Use};
 use compile_heap::Pairs;
-use base_reach::Rows;
 use std::alloc::Global;
 
 fn reaches_each(rows: &Rows, from: u32, others: &[Use]) -> bool

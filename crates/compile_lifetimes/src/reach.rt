@@ -9,8 +9,8 @@ ghost use Rattle.base_reach.specs.Pairs.{has};
 ghost use Rattle.base_reach.specs.Paths.{Path};
 
 use base::NoMemory;
-use compile_groups::{Command, Groups, Use};
 use base_reach::Rows;
+use compile_groups::{Command, Groups, Use};
 use std::alloc::Global;
 
 // ALONG QUEUES

@@ -4,8 +4,8 @@ ghost use Rattle.std.specs.Prelude.{◌≡◌, slice_index_or};
 ghost use Rattle.compile_queues.specs.Internal.Spans.{joined, moved};
 
 use base::Family;
-use vk::Sharing;
 use compile_groups::{Use, joins};
+use vk::Sharing;
 
 fn queue_at(queues: &[u32], command: u32) -> u32
     ensures { result ≡ slice_index_or queues.now command 0 }

@@ -41,7 +41,11 @@ fn push_kept(
 }
 
 #[tactic(auto, using(crate::proofs::Walking::owner_more, crate::proofs::Walking::owners_all))]
-fn kept_owners(alloc: Global, frame: &ValidFrame, kept: &Kept) -> Result<List<Option<u32>>, NoMemory>
+fn kept_owners(
+    alloc: Global,
+    frame: &ValidFrame,
+    kept: &Kept,
+) -> Result<List<Option<u32>>, NoMemory>
     requires { length kept.now ≡ length (numbered frame.now).passes }
     ensures { IfOk result (λ list. list ≡ kept_owners 0 (numbered frame.now).passes kept.now) }
 {

@@ -9,7 +9,7 @@ ghost use Rattle.frame.specs.Numbered.{numbered};
 ghost use Rattle.frame_cull.specs.Versions.{pass_at};
 
 use base::{Family, List, Name, NoMemory, Op, op_runs};
-use frame::{Frame, ValidFrame, Pass, QueueDecl};
+use frame::{Frame, Pass, QueueDecl, ValidFrame};
 use std::alloc::Global;
 
 fn all_run(ops: &[Op<u32>], family: Family) -> bool

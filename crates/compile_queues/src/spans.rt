@@ -5,9 +5,9 @@ ghost use Rattle.compile_queues.specs.Internal.Spans.{AreWithin, joined, next_sp
 
 use crate::joins::joined;
 use base::{Family, List, NoMemory};
-use vk::Sharing;
 use compile_groups::Use;
 use std::alloc::Global;
+use vk::Sharing;
 
 /// The uses from one number up to another. They stand by unit, and then by command.
 #[derive(Clone, Copy, Debug)]

@@ -12,11 +12,11 @@ ghost use Rattle.compile_groups.specs.Laws.{flat};
 
 use crate::owners::owners;
 use base::{Family, List, NoMemory, Op, Shape, shape_at};
-use vk::Sharing;
-use frame::ValidFrame;
 use compile_groups::{Command, Groups, Use, groups_of};
+use frame::ValidFrame;
 use frame_cull::{Kept, cull, versions_of};
 use std::alloc::Global;
+use vk::Sharing;
 
 /// The commands of a frame with all that does not depend on queues.
 #[derive(Drop)]

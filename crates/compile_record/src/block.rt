@@ -15,17 +15,17 @@ ghost use Rattle.compile_barriers.specs.Prologues.{first, last, prologue_of, pro
 ghost use Rattle.compile_barriers.specs.Under.{Heap};
 ghost use Rattle.compile_barriers.specs.Unions.{on};
 
-use crate::items::{piece_of, push_release, push_prologue};
+use crate::items::{piece_of, push_prologue, push_release};
 use crate::needs::{need_elsewhere, need_first, need_prologue};
 use crate::resource::Resource;
 use crate::used::groups_used;
 use crate::{Mark, Marked};
 use base::{List, NoMemory, Op};
-use vk::{Accesses, Masks, Stages};
+use compile_barriers::Prologue;
 use compile_groups::{Command, Groups, Use};
 use program::Item;
-use compile_barriers::Prologue;
 use std::alloc::Global;
+use vk::{Accesses, Masks, Stages};
 
 // What stands before group g.
 fn prologue_of(groups: &Groups, prologues: &[Prologue], g: u32) -> Prologue
@@ -131,7 +131,12 @@ fn push_prologue_of(
     ensures { OnOk result (script.new ≡ script.old ++ use_prologues groups.now heap command g) }
 {
     if begins(groups, g, command) {
-        push_prologue(script, groups, resources, &prologue_of(groups, prologues, g))
+        push_prologue(
+            script,
+            groups,
+            resources,
+            &prologue_of(groups, prologues, g),
+        )
     } else {
         Ok(())
     }

@@ -15,10 +15,10 @@ ghost use Rattle.compile_barriers.specs.declared.prologue.PrologueKind.TheVarian
 use crate::resource::Resource;
 use crate::{Mark, Marked};
 use base::{Family, List, NoMemory};
-use vk::{Accesses, Layout, Layouts, Masks};
+use compile_barriers::{Prologue, PrologueKind};
 use compile_groups::{Groups, Use};
 use program::{Item, Transfer};
-use compile_barriers::{Prologue, PrologueKind};
+use vk::{Accesses, Layout, Layouts, Masks};
 
 /// The number of the piece of a resource.
 pub(crate) fn piece_of(groups: &Groups, resources: &[Resource], r: u32) -> u32
@@ -187,7 +187,10 @@ pub(crate) fn push_prologue(
             script.push(does_prologue(prologue, Item::Acquire(transfer)))
         }
         PrologueKind::Alias => script.push(does_prologue(prologue, Item::Global(prologue.masks))),
-        PrologueKind::Init => script.push(does_prologue(prologue, init(groups, resources, prologue))),
+        PrologueKind::Init => script.push(does_prologue(
+            prologue,
+            init(groups, resources, prologue),
+        )),
         PrologueKind::AliasInit => push_alias_init(script, groups, resources, prologue),
     }
 }

@@ -7,13 +7,13 @@ mod laws;
 mod mark;
 mod needs;
 mod pieces;
-mod whole_program;
 mod recording;
 mod resource;
 mod script;
 mod steps;
 mod table;
 mod used;
+mod whole_program;
 
 pub use laws::script_laws;
 pub use mark::{Mark, Marked};

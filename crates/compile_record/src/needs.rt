@@ -10,8 +10,8 @@ ghost use Rattle.compile_barriers.specs.Unions.{on};
 
 use crate::{Mark, Marked};
 use base::{List, NoMemory};
-use compile_groups::{Groups, Use};
 use compile_barriers::{Prologue, PrologueKind};
+use compile_groups::{Groups, Use};
 
 fn later_number(found: Option<u32>, one: &Use, queue: usize) -> Option<u32>
     ensures { result ≡ later_number queue found one.now }
@@ -96,7 +96,11 @@ pub(crate) fn need_first(
 }
 
 /// The need of `queue` before the first member of a group on it, where another queue has the prologue.
-pub(crate) fn need_prologue(script: &mut List<Marked>, queue: u32, prologue: &Prologue) -> Result<(), NoMemory>
+pub(crate) fn need_prologue(
+    script: &mut List<Marked>,
+    queue: u32,
+    prologue: &Prologue,
+) -> Result<(), NoMemory>
     ensures { OnOk result (script.new ≡ script.old ++ map (Needs queue) (wanted_further prologue.now)) }
 {
     match prologue.kind {

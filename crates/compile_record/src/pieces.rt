@@ -12,12 +12,12 @@ ghost use Rattle.compile_record.specs.Pieces.{has_piece, has_memory, is_readback
 
 use crate::resource::Resource;
 use base::{List, NoMemory, shape_at};
-use vk::Sharing;
-use frame::ValidFrame;
 use compile_groups::Groups;
 use compile_heap::Placement;
+use frame::ValidFrame;
 use program::{Memory, Piece};
 use std::alloc::Global;
+use vk::Sharing;
 
 fn resource_at(groups: &Groups, resources: &[Resource], r: u32) -> Resource
     requires r { r < length groups.now.shapes }
@@ -121,7 +121,12 @@ fn imported(frame: &ValidFrame, r: u32) -> Option<&[u8]>
     }
 }
 
-fn own_memory(alloc: Global, frame: &ValidFrame, groups: &Groups, r: u32) -> Result<Memory, NoMemory>
+fn own_memory(
+    alloc: Global,
+    frame: &ValidFrame,
+    groups: &Groups,
+    r: u32,
+) -> Result<Memory, NoMemory>
     requires r { r < length groups.now.shapes }
     requires small { bytes_of (shape_at groups.now.shapes r) < 2 ^ 32 }
     ensures { IfOk result (λ memory. memory ≡ own_memory groups.now r (imported (numbered frame.now) r)) }

@@ -13,12 +13,12 @@ ghost use Rattle.frame_cull.specs.Versions.{numbers_of};
 
 use crate::whole_program::program_of;
 use base::NoMemory;
-use frame::ValidFrame;
 use compile_groups::{Groups, groups_of};
-use compile_lifetimes::ordered;
 use compile_heap::{Pairs, Placement, place};
-use program::Program;
+use compile_lifetimes::ordered;
+use frame::ValidFrame;
 use frame_cull::{Kept, Versions, cull, versions_of};
+use program::Program;
 use std::alloc::Global;
 
 /// What is recorded of a frame, with what was decided on the way.

@@ -11,8 +11,8 @@ use crate::Marked;
 use crate::block::push_block;
 use crate::resource::Resource;
 use base::{List, NoMemory};
-use compile_groups::Groups;
 use compile_barriers::Prologue;
+use compile_groups::Groups;
 use std::alloc::Global;
 
 /// What is recorded for the commands of a frame, one command after another.

@@ -17,12 +17,12 @@ use crate::resource::{Resource, all_resources};
 use crate::script::script;
 use crate::steps::steps_of;
 use base::{List, NoMemory};
-use frame::ValidFrame;
+use compile_barriers::prologues;
 use compile_groups::Groups;
 use compile_heap::{Pairs, Placement};
-use program::{Program, Queue};
 use compile_timeline::{Step, batches};
-use compile_barriers::prologues;
+use frame::ValidFrame;
+use program::{Program, Queue};
 use std::alloc::Global;
 
 // What all queues do and need, in the order of recording.

@@ -8,10 +8,10 @@ ghost use Rattle.compile_timeline.specs.Parts as part;
 use crate::needs::Needs;
 use crate::signals::Signals;
 use base::{List, NoMemory};
-use vk::Stages;
 use program::{Batch, Item, Signal, WaitFor};
 use std::alloc::Global;
 use std::mem;
+use vk::Stages;
 
 /// What is submitted to a queue: the batches that are ended, and the waits and items of the next one.
 #[derive(Debug, Drop)]

@@ -77,7 +77,12 @@ pub enum Landed {
 }
 
 impl Job {
-    pub(crate) fn new(command: Command, work: Work, room: Room, program: Arc<ValidProgram, Global>) -> Job
+    pub(crate) fn new(
+        command: Command,
+        work: Work,
+        room: Room,
+        program: Arc<ValidProgram, Global>,
+    ) -> Job
         requires work { IsWork command.shapes command.op command.loaded work }
         requires loads { LoadsIn (arc_value program) command.node command.loaded }
         requires room { room ≡ no_old command.shapes command.op }

@@ -15,11 +15,11 @@ ghost use Rattle.check_access.specs.Views.{piece_at};
 
 use crate::buffer::Buffer;
 use crate::pending::{Pending, none_pending};
-use bytes::Bytes;
 use base::{Event, List, NoMemory, Shape};
+use bytes::Bytes;
+use check_access::View;
 use device_cache::{Contents, Segments};
 use program::{Memory, Piece, Program};
-use check_access::View;
 use std::alloc::Global;
 
 fn opened(alloc: Global, memory: &Memory, fill: u8) -> Result<Contents, NoMemory>

@@ -2,8 +2,8 @@
 
 ghost use Rattle.std.specs.Prelude.{◌≡◌, length, replicate, IfOk};
 
-use bytes::BytesMut;
 use base::{NoMemory, Op};
+use bytes::BytesMut;
 use kernel_simd::{Target, helpers_for};
 use std::alloc::Global;
 use std::marker::Model;

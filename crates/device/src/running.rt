@@ -11,13 +11,12 @@ ghost use Rattle.device.specs.Internal.Loads.{IsRunnable, LeadsOn};
 ghost use Rattle.device_model.specs.Outputs.{no_old, stored_by};
 
 use crate::room::Room;
-use bytes::{Bytes, BytesMut};
 use base::{Op, Shape, shape_at};
+use bytes::{Bytes, BytesMut};
 use device_cache::Contents;
 use device_clear::cleared;
-use kernel::draw;
+use kernel::{apply, draw, whole_leaves_nothing_old};
 use kernel_simd::{Target, apply_fast};
-use kernel::{apply, whole_leaves_nothing_old};
 use std::thread::Threads;
 
 // How many sources an operation has.

@@ -13,9 +13,9 @@ ghost use Rattle.check_access.specs.ValidView.{ValidView};
 ghost use Rattle.check_access.specs.Views.{accesses_of, effect_at};
 
 use crate::agents::has_agent;
+use check_access::{Access, Scope, View};
 use device_cache::Segments;
 use device_nodes::Control;
-use check_access::{Access, Scope, View};
 
 /// What becomes of lines: dirty ones go to main and become clean, or clean ones go away.
 #[derive(Clone, Copy)]

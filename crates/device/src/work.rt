@@ -4,8 +4,8 @@ ghost use Rattle.std.specs.Prelude.{◌≡◌, ◌<◌, ℕ, length, Some, None,
 ghost use Rattle.device_clear.specs.Simpler.{left_of};
 ghost use Rattle.device.specs.Internal.Loads.{IsRunnable, IsWork, op_in};
 
-use bytes::Bytes;
 use base::{List, NoMemory, Op, Shape};
+use bytes::Bytes;
 use device_cache::Contents;
 use device_clear::{Simpler, simplified};
 use std::alloc::Global;

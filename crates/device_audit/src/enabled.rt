@@ -12,9 +12,9 @@ ghost use Rattle.device_model.specs.Steps.{may_move};
 ghost use Rattle.program.specs.Limits.{memory_bytes};
 
 use base::Event;
+use check_order::Kind;
 use device::Device;
 use device_drive::size_of;
-use check_order::Kind;
 use program::Program;
 
 /// Whether the node is a command that may begin.

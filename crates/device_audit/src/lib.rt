@@ -6,12 +6,12 @@ mod follower;
 mod following;
 mod judging;
 mod law;
-mod trace_lines;
 mod making;
 mod numbers;
 mod places;
 mod recording;
 mod trace;
+mod trace_lines;
 mod undone;
 mod verdict;
 

@@ -4,8 +4,8 @@ ghost use Rattle.std.specs.Prelude.{◌≡◌, ◌<◌, ◌≤◌, ◌+◌, ◌*
 ghost use Rattle.device_cache.specs.Internal.Contents.{bytes_of};
 ghost use Rattle.device_cache.specs.Repeats.{byte_of, repeated};
 
-use bytes::{Bytes, BytesMut};
 use base::NoMemory;
+use bytes::{Bytes, BytesMut};
 use std::alloc::Global;
 use std::marker::Model;
 

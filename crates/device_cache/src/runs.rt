@@ -12,8 +12,8 @@ use crate::contents::Contents;
 use crate::part::Part;
 use crate::row::Row;
 use crate::segment::{Segment, place_of};
-use bytes::Bytes;
 use base::NoMemory;
+use bytes::Bytes;
 use std::alloc::Global;
 
 // The part that the agent sees, or main's where no agent is named.

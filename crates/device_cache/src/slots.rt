@@ -5,8 +5,8 @@ ghost use Rattle.device_cache.specs.Internal.Uses.{count_at, Counts};
 ghost use Rattle.device_cache.specs.Tables.{slot_at};
 
 use crate::contents::Contents;
-use bytes::BytesMut;
 use base::NoMemory;
+use bytes::BytesMut;
 
 // Less memory than this is had anew as quickly as it is found.
 const LEAST: usize = 4096;

@@ -18,8 +18,8 @@ use crate::part::Part;
 use crate::runs::{copy_out, seen_bytes};
 use crate::segment::{Segment, change_all, cut_at, place_of};
 use crate::slots::{empty_slot, share_all, spare_slot, store_in};
-use bytes::BytesMut;
 use base::{List, NoMemory};
+use bytes::BytesMut;
 use std::alloc::Global;
 use std::marker::Model;
 

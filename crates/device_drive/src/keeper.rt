@@ -10,8 +10,8 @@ ghost use Rattle.program.specs.Obeys.{IsSmall};
 use crate::moves::make_move;
 use crate::sizes::sizes_of;
 use base::{Event, List, NoMemory};
-use device_cache::Tender;
 use device::Device;
+use device_cache::Tender;
 use program::Program;
 use std::alloc::Global;
 

@@ -10,8 +10,8 @@ ghost use Rattle.device_model.specs.Rounds.{MayGo, Round};
 
 use crate::keeper::Keeper;
 use base::NoMemory;
-use device::{Device, Landed};
 use check_order::Kind;
+use device::{Device, Landed};
 use device_model::device_laws;
 use std::alloc::Global;
 use std::thread::Threads;

@@ -7,9 +7,9 @@ ghost use Rattle.device_model.specs.Histories.{moves_in};
 
 use crate::keeper::Keeper;
 use base::{Event, NoMemory};
-use device_cache::MOVES;
 use check_program::Checked;
 use device::Device;
+use device_cache::MOVES;
 use device_model::is_move;
 use std::alloc::Global;
 

@@ -4,8 +4,8 @@ ghost use Rattle.std.specs.Prelude.{◌≡◌};
 ghost use Rattle.device_model.specs.Ready.{is_wrong};
 ghost use Rattle.device_model.specs.Steps.{layout_by};
 
-use vk::Layout;
 use check_access::AccessKind;
+use vk::Layout;
 
 /// Whether a layout is wanted, and another one is there.
 pub fn is_wrong(wanted: Option<Layout>, layout: Layout) -> bool

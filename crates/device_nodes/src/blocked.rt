@@ -6,8 +6,8 @@ ghost use Rattle.device_nodes.specs.Internal.Blocked.{is_blocked};
 ghost use Rattle.check_order.specs.Edges.{is_signal, is_sync};
 
 use bitflags::Flags;
-use vk::Stages;
 use check_order::Node;
+use vk::Stages;
 
 /// What the nodes of a queue that are not done block, up to some number.
 #[derive(Clone, Copy)]

@@ -12,24 +12,24 @@ ghost use Rattle.device_model.specs.Steps.{begun, ended, synced, hosted};
 ghost use Rattle.check_access.specs.ValidView.{ValidView};
 ghost use Rattle.check_access.specs.Views.{view_of, queue_at};
 
+use crate::blocked::Blocked;
 use crate::fresh::Fresh;
 use crate::going::{may_go, might_go};
-use crate::blocked::Blocked;
 use crate::lasts::last_signals;
 use crate::marks::{hits_running, mark};
 use crate::needs::Needs;
 use crate::pieces::{lay, own};
 use crate::running::Running;
 use crate::spans::{Spans, finish};
-use crate::undefined::loads_undefined;
 use crate::timeline::raise;
+use crate::undefined::loads_undefined;
 use base::{List, NoMemory};
-use vk::Layout;
+use check_access::{Access, View, view_of};
 use device_model::{Owner, Phase};
 use program::ValidProgram;
-use check_access::{Access, View, view_of};
 use std::alloc::Global;
 use std::marker::Model;
+use vk::Layout;
 
 /// How far each node is and whether it is marked, the layout and the owner of each piece, and the timelines. It holds no bytes.
 /// Only `new` takes memory.

@@ -7,10 +7,10 @@ ghost use Rattle.device_model.specs.declared.owner.Owner.TheVariants.{Unused};
 ghost use Rattle.device_model.specs.declared.phase.Phase.TheVariants.{Idle};
 
 use base::{List, NoMemory};
-use vk::Layout;
-use device_model::{Owner, Phase};
 use check_access::View;
+use device_model::{Owner, Phase};
 use std::alloc::Global;
+use vk::Layout;
 
 /// Nodes, pieces and timelines before anything has run.
 #[derive(Drop)]

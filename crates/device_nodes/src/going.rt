@@ -11,8 +11,8 @@ ghost use Rattle.check_access.specs.Views.{queue_at};
 
 use crate::blocked::Blocked;
 use crate::lasts::{is_open, none_open};
-use device_model::{Phase, has_reached};
 use check_access::View;
+use device_model::{Phase, has_reached};
 
 // Whether nothing blocks node n: what its queue blocks before it, the signal that meets it, and for a host read the last
 // signals.
@@ -27,7 +27,13 @@ fn is_free(view: &View, phases: &[Phase], lasts: &[Option<usize>], blocked: Bloc
 }
 
 // Whether each node with a direct edge to node n is done.
-fn follows_done(view: &View, phases: &[Phase], lasts: &[Option<usize>], blocked: Blocked, n: u32) -> bool
+fn follows_done(
+    view: &View,
+    phases: &[Phase],
+    lasts: &[Option<usize>],
+    blocked: Blocked,
+    n: u32,
+) -> bool
     requires shaped { ValidView view.now }
     requires n { n < length view.now.nodes }
     requires lasts { AreLast view.now lasts.now }

@@ -7,8 +7,8 @@ ghost use Rattle.device_model.specs.declared.phase.Phase.TheVariants.{Idle};
 ghost use Rattle.check_access.specs.ValidView.{ValidView};
 
 use base::{List, NoMemory};
-use device_model::Phase;
 use check_access::View;
+use device_model::Phase;
 use std::alloc::Global;
 
 // Goes past node n.

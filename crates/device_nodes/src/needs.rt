@@ -3,11 +3,11 @@
 ghost use Rattle.std.specs.Prelude.{◌≡◌, ◌<◌, ◌+◌, ℕ, length, IfOk, IsTrue};
 ghost use Rattle.device_nodes.specs.Internal.Needs.{AreNodes, BlockAll, IsListed, LooseBelow, Needed, NeedsBelow};
 
-use bitflags::Flags;
 use base::{List, NoMemory};
-use vk::Stages;
+use bitflags::Flags;
 use check_access::View;
 use std::alloc::Global;
+use vk::Stages;
 
 /// Stages at which some node of a queue waits for earlier ones.
 #[derive(Clone, Copy, Debug)]

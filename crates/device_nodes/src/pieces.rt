@@ -8,9 +8,9 @@ ghost use Rattle.check_access.specs.ValidView.{ValidView};
 ghost use Rattle.check_access.specs.Views.{accesses_of};
 
 use base::List;
-use vk::Layout;
-use device_model::{Owner, layout_after};
 use check_access::View;
+use device_model::{Owner, layout_after};
+use vk::Layout;
 
 /// The layouts after node n's accesses.
 pub(crate) fn lay(layouts: &mut List<Layout>, view: &View, n: u32)

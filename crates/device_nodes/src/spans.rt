@@ -8,8 +8,8 @@ ghost use Rattle.device_model.specs.declared.phase.Phase.TheVariants.{Idle, Done
 ghost use Rattle.check_access.specs.Views.{queue_at};
 
 use base::{List, NoMemory};
-use device_model::Phase;
 use check_access::View;
+use device_model::Phase;
 use std::alloc::Global;
 
 /// Of each queue, host reads being one more, the numbers between which it has nodes that are not done. With it a search for the

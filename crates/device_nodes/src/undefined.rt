@@ -10,10 +10,10 @@ ghost use Rattle.check_access.specs.Views.{family_at, node_access};
 
 use crate::marks::is_torn;
 use crate::running::Running;
-use vk::Layout;
+use check_access::{Access, NodeAccess, View};
 use check_state::needs_owner;
 use device_model::{Owner, is_wrong};
-use check_access::{Access, NodeAccess, View};
+use vk::Layout;
 
 /// Whether node n does not find the bytes that it loads by the access: a begun command stores to them, or the piece is in
 /// another layout or another family's.

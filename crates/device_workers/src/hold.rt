@@ -3,8 +3,8 @@
 ghost use Rattle.std.specs.Prelude.{◌≡◌, IfOk, OnErr, Option, Some, None};
 ghost use Rattle.device_workers.specs.Holds.{StepsTo, LandsTo, TendsTo};
 
-use crate::tending::tend_once;
 use crate::step::{WorkerStep, take_step};
+use crate::tending::tend_once;
 use base::{Event, NoMemory};
 use device::{Device, Finished};
 use std::alloc::Global;

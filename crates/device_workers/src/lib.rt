@@ -3,12 +3,12 @@
 
 mod hold;
 mod run;
-mod tending;
 mod step;
+mod tending;
 mod worker;
 
 pub use hold::{Alone, Holder, Shared};
 pub use run::run_workers;
-pub use tending::{moves_of, tend_once, tend_through};
 pub use step::{WorkerStep, take_step};
+pub use tending::{moves_of, tend_once, tend_through};
 pub use worker::{work, work_through};

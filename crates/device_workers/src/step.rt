@@ -6,9 +6,9 @@ ghost use Rattle.device_drive.specs.Firsts.{NothingReady};
 ghost use Rattle.device_workers.specs.WorkerSteps.{IsChosen, Goes, WorkerSteps};
 
 use base::NoMemory;
+use check_order::Kind;
 use device::{Device, Job};
 use device_drive::{next_node, readback_of};
-use check_order::Kind;
 use device_model::event_laws;
 use std::alloc::Global;
 

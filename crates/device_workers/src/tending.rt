@@ -5,8 +5,8 @@ ghost use Rattle.device_workers.specs.Holds.{Tends, TendsAll};
 
 use crate::hold::Holder;
 use base::Event;
-use device_cache::{MOVES, Tender};
 use device::Device;
+use device_cache::{MOVES, Tender};
 use device_drive::{is_move_of, make_move, move_laws};
 use device_model::history_laws;
 

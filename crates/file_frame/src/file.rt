@@ -8,7 +8,7 @@ ghost use Rattle.serde_json.specs.View.{view};
 
 use crate::whole_frame::FrameForm;
 use base::{Leg, List, NoMemory, Path};
-use file_json::{JsonError, NumberForm, Location, ReadError, Reader, object, read_json, required};
+use file_json::{JsonError, Location, NumberForm, ReadError, Reader, object, read_json, required};
 use frame::{Frame, FrameFault};
 use serde_json::Value;
 use std::alloc::Global;

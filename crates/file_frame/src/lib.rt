@@ -3,7 +3,6 @@
 
 mod file;
 mod flag;
-mod whole_frame;
 mod pass;
 mod queue;
 mod resource;
@@ -11,6 +10,7 @@ mod resource_members;
 mod spot;
 mod text;
 mod typed;
+mod whole_frame;
 mod write;
 
 pub use file::{FrameReadError, read_frame};

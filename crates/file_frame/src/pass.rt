@@ -7,11 +7,11 @@ use crate::spot::SpotForm;
 use crate::write::WriteForm;
 use base::List;
 use file_json::{
-    ListForm, NameForm, Location, ReadError, Reader, Writer, object, optional, others, required,
+    ListForm, Location, NameForm, ReadError, Reader, Writer, object, optional, others, required,
     with_form, with_member,
 };
-use frame::Pass;
 use file_ops::OpForm;
+use frame::Pass;
 use serde_json::{Map, Value};
 use std::alloc::{AllocError, Global};
 

@@ -3,10 +3,10 @@
 ghost use Rattle.file_frame.specs.Queues.{queue_at, queue_data, FitsQueue};
 
 use file_json::{
-    NameForm, Location, ReadError, Reader, TextForm, Writer, object, others, required, with_form,
+    Location, NameForm, ReadError, Reader, TextForm, Writer, object, others, required, with_form,
 };
-use frame::QueueDecl;
 use file_shapes::FamilyWord;
+use frame::QueueDecl;
 use serde_json::{Map, Value};
 use std::alloc::{AllocError, Global};
 

@@ -8,9 +8,11 @@ ghost use Rattle.serde_json.specs.View.{view};
 
 use crate::resource_members::resource_members;
 use base::{List, Shape};
-use file_json::{NameForm, Location, ReadError, Reader, Writer, object, optional, others, required};
-use frame::Resource;
+use file_json::{
+    Location, NameForm, ReadError, Reader, Writer, object, optional, others, required,
+};
 use file_shapes::{HexForm, read_body, read_sharing};
+use frame::Resource;
 use serde_json::Value;
 use std::alloc::{AllocError, Global};
 

@@ -7,8 +7,8 @@ ghost use Rattle.serde_json.specs.View.{view, members_view};
 
 use base::{List, Shape};
 use file_json::{Members, NameForm, TextForm, Writer, with_form, with_member};
-use frame::{Resource, Sharing};
 use file_shapes::{HexForm, SharingWord, TexelWord};
+use frame::{Resource, Sharing};
 use serde_json::{Map, Value, json};
 use std::alloc::{AllocError, Global};
 

@@ -4,7 +4,7 @@ ghost use Rattle.std.specs.Prelude.{◌≡◌, Some, IfOk, IfSome, string_bytes}
 ghost use Rattle.file_frame.specs.Spots.{spot_at, spot_data, with_layer, spot_of, layered_spot, layer_of, FitsSpot};
 
 use base::Name;
-use file_json::{NameForm, Location, ReadError, Reader, Writer};
+use file_json::{Location, NameForm, ReadError, Reader, Writer};
 use frame::Spot;
 use serde_json::Value;
 use std::alloc::{AllocError, Global};

@@ -2,16 +2,16 @@
 
 ghost use Rattle.file_frame.specs.Typed.{IsTypedSpot, IsTypedQueue, IsTypedResource, IsTypedWrite, IsTypedPass, IsTypedFrame};
 
-use crate::whole_frame::FrameForm;
 use crate::pass::PassForm;
 use crate::queue::QueueForm;
 use crate::resource::ResourceForm;
 use crate::spot::SpotForm;
+use crate::whole_frame::FrameForm;
 use crate::write::WriteForm;
 use file_json::{ListForm, NameForm, Typed};
-use frame::{Frame, Pass, QueueDecl, Resource, Spot, Write};
 use file_ops::OpForm;
 use file_shapes::HexForm;
+use frame::{Frame, Pass, QueueDecl, Resource, Spot, Write};
 
 impl<const FORMAT: u32> Typed for SpotForm<FORMAT> {
     type Of = Spot;

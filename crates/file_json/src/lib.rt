@@ -6,9 +6,9 @@
 
 mod json;
 mod list;
+mod location;
 mod members;
 mod number;
-mod location;
 mod read_error;
 mod reader;
 mod text;
@@ -18,9 +18,9 @@ mod written;
 
 pub use json::{JsonError, read_json, write_json};
 pub use list::ListForm;
+pub use location::Location;
 pub use members::{object, optional, others, required};
 pub use number::{NumberForm, RangeForm};
-pub use location::Location;
 pub use read_error::ReadError;
 pub use reader::Reader;
 pub use text::{NameForm, NameWord, TextForm, Word};

@@ -57,7 +57,12 @@ pub fn optional<F: Reader>(
 
 /// Tests that an object has no members but those that are known. The first unknown one in byte order is refused at its
 /// path. A value that is no object passes: `object` tests that.
-pub fn others(alloc: Global, at: &Location<'_>, known: &[&str], value: &Value) -> Result<(), ReadError>
+pub fn others(
+    alloc: Global,
+    at: &Location<'_>,
+    known: &[&str],
+    value: &Value,
+) -> Result<(), ReadError>
     ensures { Gives result (others_at (map (λ name. name.now) known.now) (legs at.now) (view value.now)) }
 {
     match value {

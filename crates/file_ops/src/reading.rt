@@ -9,14 +9,18 @@ ghost use Rattle.serde_json.specs.View.{view};
 
 use crate::{FunForm, Kind, KindForm, RectForm};
 use base::Op;
-use file_json::{ListForm, NumberForm, Location, ReadError, Reader, optional, required};
+use file_json::{ListForm, Location, NumberForm, ReadError, Reader, optional, required};
 use serde_json::Value;
 use std::alloc::Global;
 
 /// An operation whose object may have further members: its word under `op`, and then its other members in order.
 /// That the value is an object, and that it has no unknown member, is for the caller to test, by `members`.
 #[tactic(auto, unfolding(crate::specs::OpReading::parts_at))]
-pub fn parts<F: Reader>(alloc: Global, at: &Location<'_>, json: &Value) -> Result<Op<F::Out>, ReadError>
+pub fn parts<F: Reader>(
+    alloc: Global,
+    at: &Location<'_>,
+    json: &Value,
+) -> Result<Op<F::Out>, ReadError>
     ensures gives { Gives result (parts_at F.reads (legs at.now) (view json.now)) }
     ensures fits { IfOk result (FitsOp F.Fits) }
 {
@@ -112,7 +116,11 @@ fn copy_buffer<F: Reader>(
 }
 
 #[tactic(auto, unfolding(crate::specs::OpReading::copy_image_at))]
-fn copy_image<F: Reader>(alloc: Global, at: &Location<'_>, json: &Value) -> Result<Op<F::Out>, ReadError>
+fn copy_image<F: Reader>(
+    alloc: Global,
+    at: &Location<'_>,
+    json: &Value,
+) -> Result<Op<F::Out>, ReadError>
     ensures gives { Gives result (copy_image_at F.reads (legs at.now) (view json.now)) }
     ensures fits { IfOk result (FitsOp F.Fits) }
 {
@@ -196,7 +204,11 @@ fn map<F: Reader>(alloc: Global, at: &Location<'_>, json: &Value) -> Result<Op<F
 }
 
 #[tactic(auto, unfolding(crate::specs::OpReading::combine_at))]
-fn combine<F: Reader>(alloc: Global, at: &Location<'_>, json: &Value) -> Result<Op<F::Out>, ReadError>
+fn combine<F: Reader>(
+    alloc: Global,
+    at: &Location<'_>,
+    json: &Value,
+) -> Result<Op<F::Out>, ReadError>
     ensures gives { Gives result (combine_at F.reads (legs at.now) (view json.now)) }
     ensures fits { IfOk result (FitsOp F.Fits) }
 {
@@ -208,7 +220,11 @@ fn combine<F: Reader>(alloc: Global, at: &Location<'_>, json: &Value) -> Result<
 }
 
 #[tactic(auto, unfolding(crate::specs::OpReading::select_at))]
-fn select<F: Reader>(alloc: Global, at: &Location<'_>, json: &Value) -> Result<Op<F::Out>, ReadError>
+fn select<F: Reader>(
+    alloc: Global,
+    at: &Location<'_>,
+    json: &Value,
+) -> Result<Op<F::Out>, ReadError>
     ensures gives { Gives result (select_at F.reads (legs at.now) (view json.now)) }
     ensures fits { IfOk result (FitsOp F.Fits) }
 {
@@ -220,7 +236,11 @@ fn select<F: Reader>(alloc: Global, at: &Location<'_>, json: &Value) -> Result<O
 }
 
 #[tactic(auto, unfolding(crate::specs::OpReading::convert_at))]
-fn convert<F: Reader>(alloc: Global, at: &Location<'_>, json: &Value) -> Result<Op<F::Out>, ReadError>
+fn convert<F: Reader>(
+    alloc: Global,
+    at: &Location<'_>,
+    json: &Value,
+) -> Result<Op<F::Out>, ReadError>
     ensures gives { Gives result (convert_at F.reads (legs at.now) (view json.now)) }
     ensures fits { IfOk result (FitsOp F.Fits) }
 {
@@ -250,7 +270,11 @@ fn halve<F: Reader>(alloc: Global, at: &Location<'_>, json: &Value) -> Result<Op
 }
 
 #[tactic(auto, unfolding(crate::specs::OpReading::histogram_at))]
-fn histogram<F: Reader>(alloc: Global, at: &Location<'_>, json: &Value) -> Result<Op<F::Out>, ReadError>
+fn histogram<F: Reader>(
+    alloc: Global,
+    at: &Location<'_>,
+    json: &Value,
+) -> Result<Op<F::Out>, ReadError>
     ensures gives { Gives result (histogram_at F.reads (legs at.now) (view json.now)) }
     ensures fits { IfOk result (FitsOp F.Fits) }
 {

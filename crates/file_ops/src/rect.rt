@@ -5,7 +5,7 @@ ghost use Rattle.file_ops.specs.Rects.{rect_at, rect_data, FitsRect};
 use crate::MixForm;
 use base::{Mix, Rect};
 use file_json::{
-    NumberForm, Location, ReadError, Reader, Typed, Writer, object, optional, others, required,
+    Location, NumberForm, ReadError, Reader, Typed, Writer, object, optional, others, required,
     with_form,
 };
 use serde_json::{Map, Value};

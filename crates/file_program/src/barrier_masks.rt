@@ -7,10 +7,10 @@ ghost use Rattle.file_program.specs.BarrierMasks.{masks_at, mask_members, piece_
 ghost use Rattle.serde_json.specs.View.{view, members_view};
 
 use crate::mask::{AccessesForm, StagesForm};
-use vk::Masks;
-use file_json::{Members, Location, ReadError, required, with_form, with_member, with_text};
+use file_json::{Location, Members, ReadError, required, with_form, with_member, with_text};
 use serde_json::{Map, Value};
 use std::alloc::{AllocError, Global};
+use vk::Masks;
 
 /// The four masks of a barrier's object. That the value is an object, and that it has no unknown member, is for the
 /// caller to test.

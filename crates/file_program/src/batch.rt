@@ -6,7 +6,9 @@ use crate::item::ItemForm;
 use crate::signal::SignalForm;
 use crate::wait::WaitForm;
 use base::List;
-use file_json::{ListForm, Location, ReadError, Reader, Writer, object, optional, others, with_form};
+use file_json::{
+    ListForm, Location, ReadError, Reader, Writer, object, optional, others, with_form,
+};
 use program::Batch;
 use serde_json::{Map, Value};
 use std::alloc::{AllocError, Global};

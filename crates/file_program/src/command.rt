@@ -8,7 +8,7 @@ ghost use Rattle.file_program.specs.Items.{command_at, command_data, FitsItem};
 ghost use Rattle.serde_json.specs.View.{view};
 
 use base::{NoMemory, Op};
-use file_json::{NumberForm, Location, ReadError, Writer, others, with_text};
+use file_json::{Location, NumberForm, ReadError, Writer, others, with_text};
 use file_ops::{Kind, OpForm, members, op_kind, parts};
 use program::Item;
 use serde_json::Value;

@@ -8,7 +8,7 @@ ghost use Rattle.file_json.specs.Reading.{Gives};
 ghost use Rattle.file_program.specs.Pieces.{piece_after, behind, row_of, members_of, entry_at, pieces_at, flat, FitsPiece};
 
 use base::{List, NoMemory, Shape};
-use file_json::{ListForm, NumberForm, Location, ReadError, Reader, object, others, required};
+use file_json::{ListForm, Location, NumberForm, ReadError, Reader, object, others, required};
 use file_shapes::{read_body, read_sharing};
 use program::Piece;
 use serde_json::Value;
@@ -59,7 +59,12 @@ fn push_behind(
 }
 
 // A piece for each of so many layers.
-fn row(alloc: Global, at: &Location<'_>, piece: Piece, layers: u32) -> Result<List<Piece>, ReadError>
+fn row(
+    alloc: Global,
+    at: &Location<'_>,
+    piece: Piece,
+    layers: u32,
+) -> Result<List<Piece>, ReadError>
     ensures gives { Gives result (or_at (legs at.now) (row_of layers piece)) }
     ensures fits { FitsPiece piece → IfOk result (AllByRecursion FitsPiece) }
 {

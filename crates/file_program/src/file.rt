@@ -28,7 +28,9 @@ fn program_in(alloc: Global, json: &Value) -> Result<Program, ProgramReadError>
     match ProgramForm::read(alloc, &Location::Top, json) {
         Ok(program) => Ok(program),
         Err(ReadError::NoMemory) => Err(ProgramReadError::NoMemory),
-        Err(ReadError::Refused(path)) => Err(ProgramReadError::Refused(ProgramFault::misshapen(path))),
+        Err(ReadError::Refused(path)) => Err(ProgramReadError::Refused(ProgramFault::misshapen(
+            path,
+        ))),
     }
 }
 

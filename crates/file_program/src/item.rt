@@ -10,11 +10,13 @@ use crate::barrier_masks::{mask_members, piece_members, read_masks};
 use crate::command::{command_value, read_command};
 use crate::item_kind::{ItemKind, ItemKindForm};
 use crate::transfer::{read_both, read_transfer, transfer_value, with_both};
-use vk::{Layouts, Masks};
-use file_json::{NumberForm, Location, ReadError, Reader, Writer, object, others, required, with_text};
+use file_json::{
+    Location, NumberForm, ReadError, Reader, Writer, object, others, required, with_text,
+};
 use program::Item;
 use serde_json::Value;
 use std::alloc::{AllocError, Global};
+use vk::{Layouts, Masks};
 
 /// An entry of `items`.
 pub struct ItemForm;
@@ -84,7 +86,12 @@ fn image(alloc: Global, at: &Location<'_>, json: &Value) -> Result<Item, ReadErr
 }
 
 #[tactic(auto, unfolding(crate::specs::Items::kind_at))]
-fn of_kind(alloc: Global, at: &Location<'_>, kind: ItemKind, json: &Value) -> Result<Item, ReadError>
+fn of_kind(
+    alloc: Global,
+    at: &Location<'_>,
+    kind: ItemKind,
+    json: &Value,
+) -> Result<Item, ReadError>
     ensures gives { Gives result (kind_at kind (legs at.now) (view json.now)) }
     ensures fits { IfOk result FitsItem }
 {

@@ -4,8 +4,8 @@ ghost use Rattle.std.specs.Prelude.{⊤};
 ghost use Rattle.vk.specs.Layouts.{layout_name, layout_of};
 ghost use Rattle.file_program.specs.LayoutWords.{layout_again};
 
-use vk::Layout;
 use file_json::{TextForm, Word};
+use vk::Layout;
 
 /// The words of layouts.
 pub struct LayoutWord;

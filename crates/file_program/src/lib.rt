@@ -12,7 +12,6 @@ mod layout;
 mod mask;
 mod memory;
 mod piece;
-mod whole_program;
 mod queue;
 mod signal;
 mod text;
@@ -20,6 +19,7 @@ mod transfer;
 mod typed;
 mod value;
 mod wait;
+mod whole_program;
 
 pub use file::{ProgramReadError, read_program};
 pub use text::write_program;

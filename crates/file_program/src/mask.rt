@@ -5,11 +5,11 @@ ghost use Rattle.vk.specs.Texts.{joined};
 ghost use Rattle.file_json.specs.Leaves.{text_at, text_data};
 ghost use Rattle.file_program.specs.Masks.{stages_of, names_of_stages, FitsStages, accesses_of, names_of_accesses, FitsAccesses};
 
-use vk::{Accesses, Stages};
 use file_json::{Location, ReadError, Reader, Writer};
 use serde_json::Value;
 use std::alloc::{AllocError, Global};
 use std::marker::PhantomData;
+use vk::{Accesses, Stages};
 
 /// A set that a text of names stands for.
 pub trait Mask {

@@ -6,7 +6,9 @@ ghost use Rattle.file_json.specs.Reading.{Gives};
 ghost use Rattle.file_program.specs.Memories.{plain_at, import_at, is_plain, memory_at, memory_data, FitsMemory};
 ghost use Rattle.serde_json.specs.View.{view};
 
-use file_json::{NumberForm, Location, ReadError, Reader, Writer, object, others, required, with_form};
+use file_json::{
+    Location, NumberForm, ReadError, Reader, Writer, object, others, required, with_form,
+};
 use file_shapes::HexForm;
 use program::Memory;
 use serde_json::{Map, Value};

@@ -5,12 +5,12 @@ ghost use Rattle.file_program.specs.Pieces.{buffer_data, image_data, piece_data}
 ghost use Rattle.serde_json.specs.View.{view};
 
 use base::{Shape, Texel};
-use vk::Sharing;
 use file_json::{NumberForm, TextForm, Writer, with_form, with_member, with_text};
 use file_shapes::TexelWord;
 use program::Piece;
 use serde_json::{Map, Value, json};
 use std::alloc::{AllocError, Global};
+use vk::Sharing;
 
 /// A piece as an entry of its own. `sharing` is written where it is concurrent, and `layers` never.
 pub struct PieceForm;

@@ -4,7 +4,9 @@ ghost use Rattle.file_program.specs.Timelines.{signal_at, signal_data, FitsSigna
 
 use crate::mask::StagesForm;
 use crate::value::ValueForm;
-use file_json::{Location, ReadError, Reader, Writer, object, others, required, with_form, with_member};
+use file_json::{
+    Location, ReadError, Reader, Writer, object, others, required, with_form, with_member,
+};
 use program::Signal;
 use serde_json::{Map, Value};
 use std::alloc::{AllocError, Global};

@@ -9,12 +9,12 @@ ghost use Rattle.serde_json.specs.View.{view, members_view};
 use crate::barrier_masks::{piece_members, read_masks};
 use crate::layout::LayoutForm;
 use base::Family;
-use vk::Layouts;
-use file_json::{Members, NumberForm, Location, ReadError, TextForm, others, required, with_form};
+use file_json::{Location, Members, NumberForm, ReadError, TextForm, others, required, with_form};
 use file_shapes::FamilyWord;
 use program::Transfer;
 use serde_json::Value;
 use std::alloc::{AllocError, Global};
+use vk::Layouts;
 
 /// The members `from` and `to`, which both have to be there.
 #[tactic(auto, unfolding(crate::specs::Transfers::both_at))]

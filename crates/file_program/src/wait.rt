@@ -5,7 +5,8 @@ ghost use Rattle.file_program.specs.Timelines.{wait_at, wait_data, FitsWait};
 use crate::mask::StagesForm;
 use crate::value::ValueForm;
 use file_json::{
-    NumberForm, Location, ReadError, Reader, Writer, object, others, required, with_form, with_member,
+    Location, NumberForm, ReadError, Reader, Writer, object, others, required, with_form,
+    with_member,
 };
 use program::WaitFor;
 use serde_json::{Map, Value};

@@ -11,7 +11,7 @@ use crate::memory::MemoryForm;
 use crate::piece::PieceForm;
 use crate::queue::QueueForm;
 use file_json::{
-    ListForm, NumberForm, Location, RangeForm, ReadError, Reader, Writer, object, others, required,
+    ListForm, Location, NumberForm, RangeForm, ReadError, Reader, Writer, object, others, required,
     with_form, with_member,
 };
 use program::Program;
@@ -23,7 +23,11 @@ pub struct ProgramForm;
 
 // The members after `format`, in a file of this format.
 #[tactic(auto, unfolding(crate::specs::Programs::parts_at))]
-fn parts<const FORMAT: u32>(alloc: Global, at: &Location<'_>, json: &Value) -> Result<Program, ReadError>
+fn parts<const FORMAT: u32>(
+    alloc: Global,
+    at: &Location<'_>,
+    json: &Value,
+) -> Result<Program, ReadError>
     ensures gives { Gives result (parts_at FORMAT (legs at.now) (view json.now)) }
     ensures fits { IfOk result FitsProgram }
 {

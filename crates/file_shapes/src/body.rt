@@ -27,7 +27,11 @@ fn is_buffer(json: &Value) -> bool
     json.get("buffer").is_some() || json.get("image").is_none()
 }
 
-fn layers<const FORMAT: u32>(alloc: Global, at: &Location<'_>, json: &Value) -> Result<u32, ReadError>
+fn layers<const FORMAT: u32>(
+    alloc: Global,
+    at: &Location<'_>,
+    json: &Value,
+) -> Result<u32, ReadError>
     ensures gives { Gives result (layers_at FORMAT (legs at.now) (view json.now)) }
     ensures fits { IfOk result (FitsRange 1 8) }
 {
@@ -38,7 +42,11 @@ fn layers<const FORMAT: u32>(alloc: Global, at: &Location<'_>, json: &Value) -> 
     Ok(layers.unwrap_or(1))
 }
 
-fn image<const FORMAT: u32>(alloc: Global, at: &Location<'_>, json: &Value) -> Result<Body, ReadError>
+fn image<const FORMAT: u32>(
+    alloc: Global,
+    at: &Location<'_>,
+    json: &Value,
+) -> Result<Body, ReadError>
     ensures gives { Gives result (image_at FORMAT (legs at.now) (view json.now)) }
     ensures fits { IfOk result FitsBody }
 {

@@ -6,10 +6,10 @@ ghost use Rattle.file_json.specs.Reading.{Gives};
 ghost use Rattle.file_shapes.specs.Sharings.{sharing_of, sharing_text, sharing_again, sharing_at};
 ghost use Rattle.serde_json.specs.View.{view};
 
-use vk::Sharing;
 use file_json::{Location, ReadError, TextForm, Word, optional};
 use serde_json::Value;
 use std::alloc::Global;
+use vk::Sharing;
 
 /// The words of sharing modes.
 pub struct SharingWord;

@@ -6,7 +6,7 @@ ghost use Rattle.flight.specs.Alone.{first_bytes, import_under};
 
 use crate::holders::holder_in;
 use base::{List, Name, NoMemory};
-use frame::{ValidFrame, Resource};
+use frame::{Resource, ValidFrame};
 use std::alloc::Global;
 
 fn import_of(alloc: Global, resource: &Resource) -> Result<List<u8>, NoMemory>

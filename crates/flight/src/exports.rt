@@ -10,7 +10,7 @@ ghost use Rattle.law_window.specs.Passes.{renamed_spot};
 
 use crate::spots::renamed_spots;
 use base::{List, Name, NoMemory};
-use frame::{ValidFrame, Spot};
+use frame::{Spot, ValidFrame};
 use std::alloc::Global;
 
 fn exports_of(alloc: Global, i: usize, good: &ValidFrame) -> Result<List<Spot>, NoMemory>

@@ -8,7 +8,7 @@ ghost use Rattle.law_window.specs.Declared.{holder_in};
 
 use crate::names::numbered_name;
 use base::{List, Name, NoMemory};
-use frame::{ValidFrame, Resource};
+use frame::{Resource, ValidFrame};
 use std::alloc::Global;
 
 fn place_of(resources: &[Resource], name: Name) -> Option<usize>

@@ -79,7 +79,13 @@ pub(crate) fn window_at(
     ensures { IfOk result (λ frame. frame ≡ window_at frames.now persist.now depth persisted.now w) }
 {
     let queues = &frames[0].frame().queues;
-    window(alloc, queues, frames_of(frames, depth, w), persist, persisted)
+    window(
+        alloc,
+        queues,
+        frames_of(frames, depth, w),
+        persist,
+        persisted,
+    )
 }
 
 fn too_large(

@@ -12,7 +12,7 @@ use crate::joins::{add_join, carries_by};
 use crate::names::numbered_name;
 use crate::spots::{renamed_spot, renamed_spots};
 use base::{List, Name, NoMemory, Op};
-use frame::{Frame, ValidFrame, Pass, Spot, Write, frame_laws};
+use frame::{Frame, Pass, Spot, ValidFrame, Write, frame_laws};
 use std::alloc::Global;
 
 fn renamed_writes(

@@ -13,7 +13,7 @@ ghost use Rattle.law_window.specs.Window.{others};
 use crate::holders::holder_in;
 use crate::limits::frames_of;
 use base::Name;
-use frame::{ValidFrame, Resource};
+use frame::{Resource, ValidFrame};
 
 // How many units a frame exports.
 fn export_count(good: &ValidFrame) -> u32

@@ -9,7 +9,7 @@ use crate::fault::FlightFault;
 use crate::holders::holder_in;
 use crate::joins::size_of;
 use base::{Family, Name};
-use frame::{ValidFrame, QueueDecl, Resource, frame_laws};
+use frame::{QueueDecl, Resource, ValidFrame, frame_laws};
 
 fn same_family(a: Family, b: Family) -> bool
     ensures { result ≡ same_family a b }

@@ -11,7 +11,7 @@ use crate::holders::{holders_of, left_after, nothing_left};
 use crate::passes::add_passes;
 use crate::resources::{append, resources_by};
 use base::{List, Name, NoMemory};
-use frame::{Frame, ValidFrame, Pass, QueueDecl, Resource, Spot};
+use frame::{Frame, Pass, QueueDecl, Resource, Spot, ValidFrame};
 use std::alloc::Global;
 
 fn resources_of(

@@ -7,16 +7,16 @@ ghost use Rattle.flight_file.specs.Flights.{Flies};
 ghost use Rattle.frame.specs.Numbered.{numbered};
 ghost use Rattle.device_run.specs.FrameRuns.{RunsOn};
 
-use crate::persisted::hold;
 use crate::outcome::Outcome;
+use crate::persisted::hold;
 use crate::plan::FlightPlan;
 use crate::print::add_window;
 use base::{Event, List, NoMemory, RunOptions, Text};
 use base_io::Gate;
 use device::Device;
+use device_run::run_good;
 use flight::{Windows, flight_laws};
 use frame::ValidFrame;
-use device_run::run_good;
 use std::alloc::Global;
 use std::sync::Wait;
 use std::thread::Threads;

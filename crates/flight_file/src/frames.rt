@@ -8,9 +8,9 @@ ghost use Rattle.flight_file.specs.declared.frames.FlightFileError.TheVariants a
 
 use crate::refusal::Refusal;
 use base::{List, NoMemory};
-use frame::ValidFrame;
-use file_frame::FrameReadError;
 use compile_file::valid_frame;
+use file_frame::FrameReadError;
+use frame::ValidFrame;
 use std::alloc::Global;
 
 /// Why there are no frames.

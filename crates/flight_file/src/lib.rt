@@ -4,9 +4,9 @@
 mod file;
 mod flying;
 mod frames;
-mod persisted;
 mod lines;
 mod outcome;
+mod persisted;
 mod plan;
 mod print;
 mod refusal;

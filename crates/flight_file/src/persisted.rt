@@ -9,8 +9,8 @@ ghost use Rattle.device_run.specs.Runs.{read_by};
 
 use base::{List, NoMemory};
 use device::Device;
-use flight::Windows;
 use device_run::bytes_of;
+use flight::Windows;
 use std::alloc::Global;
 
 /// Holds what window `w` has left on its device, for each persisting name that a frame of the window has.

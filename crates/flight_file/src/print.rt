@@ -10,10 +10,10 @@ ghost use Rattle.compile_file.specs.Exports.{exports_text};
 
 use base::{NoMemory, Text};
 use device::Device;
+use device_run::bytes_of;
 use flight::Windows;
 use frame::ValidFrame;
 use report::{FlightLine, export_text, flight_text};
-use device_run::bytes_of;
 
 // The line of frame `i`, and its exports, as the device has left them.
 fn add_frame(

@@ -3,8 +3,8 @@
 ghost use Rattle.std.specs.Prelude.{◌≡◌, IfOk};
 
 use base::{Family, List, Name, NoMemory, Op, Shape};
-use vk::Sharing;
 use std::alloc::Global;
+use vk::Sharing;
 
 /// A buffer, a whole image, or one layer of an image: a location where a resource is named. Without a layer it stands for
 /// all layers of its resource.

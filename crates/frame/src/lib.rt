@@ -3,26 +3,26 @@
 
 mod fault;
 mod frame;
-mod valid;
 mod laws;
 mod limits;
+mod location;
 mod members;
 mod numbered;
 mod numbers;
 mod path;
-mod location;
 mod repeats;
 mod rule;
 mod table;
 mod units;
 mod unknowns;
 mod uses;
+mod valid;
 mod written;
 
-pub use fault::FrameFault;
 pub use base::{Limit, Path};
-pub use vk::Sharing;
+pub use fault::FrameFault;
 pub use frame::{Frame, Pass, QueueDecl, Resource, Spot, Write};
-pub use valid::{FrameError, ValidFrame, faultless, validate_frame};
 pub use laws::frame_laws;
 pub use numbered::NumberedPass;
+pub use valid::{FrameError, ValidFrame, faultless, validate_frame};
+pub use vk::Sharing;

@@ -12,7 +12,10 @@ ghost use Rattle.base.specs.Rooms.{first_over, room_after};
 use crate::location::Location;
 use crate::rule::Rule;
 use crate::{Frame, Pass, Resource, Spot};
-use base::{Broken, Limit, MAX_EXPORTS, MAX_LAYERS, MAX_OPS, MAX_PASSES, MAX_QUEUES, MAX_RECTS, MAX_RESOURCE_BYTES, MAX_UNITS, Op, first_over};
+use base::{
+    Broken, Limit, MAX_EXPORTS, MAX_LAYERS, MAX_OPS, MAX_PASSES, MAX_QUEUES, MAX_RECTS,
+    MAX_RESOURCE_BYTES, MAX_UNITS, Op, first_over,
+};
 
 fn over(limit: Limit, location: Location) -> Broken<Rule, Location>
     ensures { result ≡ over limit location }

@@ -6,7 +6,7 @@ ghost use Rattle.base.specs.declared.path.Leg.TheVariants.{Member};
 ghost use Rattle.frame.specs.Paths.{operand_name, in_op, path_of, fault_of};
 
 use crate::FrameFault;
-use crate::location::{Operand, Location};
+use crate::location::{Location, Operand};
 use crate::rule::Rule;
 use base::{Broken, List, NoMemory, Path};
 use std::alloc::Global;
@@ -84,7 +84,10 @@ fn path_of(alloc: Global, location: Location) -> Result<Path, NoMemory>
 }
 
 /// The fault as it is printed.
-pub(crate) fn fault_of(alloc: Global, broken: Broken<Rule, Location>) -> Result<FrameFault, NoMemory>
+pub(crate) fn fault_of(
+    alloc: Global,
+    broken: Broken<Rule, Location>,
+) -> Result<FrameFault, NoMemory>
     ensures { IfOk result (λ fault. fault ≡ fault_of broken) }
 {
     Ok(FrameFault {

@@ -6,8 +6,8 @@ ghost use Rattle.base.specs.Walks.{first_in};
 ghost use Rattle.frame.specs.Members.{member_at};
 ghost use Rattle.frame.specs.Unknowns.{queue_at, has_queue, is_known, unknown_at, unknown_operand, unknown_in, unknown_by};
 
-use crate::members::member_at;
 use crate::location::Location;
+use crate::members::member_at;
 use crate::table::Table;
 use crate::{Frame, Pass, Spot, Write};
 use base::{Name, Op, first_in};

@@ -10,9 +10,9 @@ ghost use Rattle.frame.specs.Numbered.{IsWithin};
 ghost use Rattle.frame.specs.Units.{units_in};
 ghost use Rattle.frame.specs.Uses.{family_of, stranger_in, writes_it, reads_it, undeclared_at, undeclared_operand, stores_whole, starts_whole, is_partial, not_whole_at, import_fits, misfit_import, misfit_at, in_place_in, read_new_in, use_at, first_use};
 
+use crate::location::{Location, Operand};
 use crate::members::member_at;
 use crate::numbered::{NumberedPass, Span, Stored, Uses};
-use crate::location::{Operand, Location};
 use crate::rule::Rule;
 use crate::{Frame, Resource};
 use base::{Family, Op, Shape, first_in, op_fits, op_in_place, op_runs};

@@ -10,10 +10,10 @@ ghost use Rattle.frame.specs.Resolved.{resolved_of};
 ghost use Rattle.frame.specs.Units.{numbering, owners, unit_spots};
 
 use crate::limits::limit_broken;
+use crate::location::Location;
 use crate::numbered::{NumberedPass, Span, Uses};
 use crate::numbers::{all_units, all_uses, spans};
 use crate::path::fault_of;
-use crate::location::Location;
 use crate::repeats::table_of;
 use crate::rule::Rule;
 use crate::table::Table;

@@ -7,8 +7,8 @@ ghost use Rattle.frame.specs.Numbered.{IsWithin};
 ghost use Rattle.frame.specs.Uses.{is_there, is_marked, is_missing, unwritten_in, unwritten_at, unwritten};
 
 use crate::Write;
-use crate::numbered::{Span, Stored, Uses};
 use crate::location::Location;
+use crate::numbered::{Span, Stored, Uses};
 use base::List;
 
 fn is_marked(marks: &[bool], unit: u32) -> bool
@@ -82,7 +82,11 @@ fn mark(marks: List<bool>, writes: &[Write<u32>]) -> List<bool>
 
 // The units that are there after these passes, or the first location where one is missing.
 #[tactic(auto, using(crate::proofs::Marks::there_on, crate::proofs::Marks::there_none, crate::proofs::Marks::missing_on, crate::proofs::Marks::same_place))]
-fn after_passes(imported: List<bool>, queues: usize, passes: &[Uses]) -> Result<List<bool>, Location>
+fn after_passes(
+    imported: List<bool>,
+    queues: usize,
+    passes: &[Uses],
+) -> Result<List<bool>, Location>
     requires { All (λ uses. IsWithin queues (length imported) uses.pass) passes.now }
     ensures missing { IfErr result (λ location. first_in (unwritten_at imported passes.now) 0 passes.now ≡ Some location) }
     ensures none { IfOk result (λ marks. first_in (unwritten_at imported passes.now) 0 passes.now ≡ None) }

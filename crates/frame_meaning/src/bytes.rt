@@ -15,9 +15,8 @@ ghost use Rattle.frame_meaning.specs.Internal.Sizes.{AreSized, IsRunnable};
 use crate::spare::{Spare, zeros};
 use crate::stored::destination;
 use base::{List, NoMemory, Op, Shape};
-use kernel::draw;
 use frame::ValidFrame;
-use kernel::apply;
+use kernel::{apply, draw};
 use std::alloc::Global;
 use std::marker::Model;
 use std::mem;
@@ -46,7 +45,11 @@ pub(crate) fn shape_of(frame: &ValidFrame, unit: u32) -> Shape
 }
 
 /// What a unit holds before the first pass.
-pub(crate) fn first_bytes(alloc: Global, frame: &ValidFrame, unit: u32) -> Result<List<u8>, NoMemory>
+pub(crate) fn first_bytes(
+    alloc: Global,
+    frame: &ValidFrame,
+    unit: u32,
+) -> Result<List<u8>, NoMemory>
     requires { unit < length (numbered frame.now).units }
     ensures { IfOk result (λ bytes. IfSome (slice_get (numbered frame.now).units unit) (λ u. bytes ≡ first_bytes u)) }
 {

@@ -3,10 +3,10 @@
 
 use base::NoMemory;
 use base_io::{CountTap, IdleGate, ReadSource, Tap, WriteSink};
-use top::{Ended, Status, framec};
 use std::process::ExitCode;
 use std::rt::Env;
 use std::{env, io};
+use top::{Ended, Status, framec};
 
 // The words after the program's name. Where one of them is no text there are none, which is no command line.
 fn words_of<R: Env + AllocGlobal>(rt: &R) -> Result<Vec<String>, NoMemory> {

@@ -11,8 +11,8 @@ ghost use Rattle.kernel.specs.Bands.{HasRows};
 ghost use Rattle.kernel.specs.Rects.{IsWithin};
 
 use crate::mix::mixed_with;
-use base::{Grid, Op, Rect, Shape};
 use crate::{Area, canvas, clear_rows, cut, repaint};
+use base::{Grid, Op, Rect, Shape};
 
 /// Draws into an image: with `clear` each texel is first that value, then the rectangles change theirs, in order.
 pub fn draw(shape: Shape, clear: Option<u32>, rects: &[Rect], out: &mut [u8])

@@ -10,8 +10,8 @@ ghost use Rattle.kernel.specs.Sources.{source_bytes, is_draw};
 use crate::draw::{clear, draw_over};
 use crate::target::Target;
 use crate::whole;
-use bytes::BytesMut;
 use base::{Op, Shape, shape_at};
+use bytes::BytesMut;
 use kernel::apply;
 use std::thread::Threads;
 

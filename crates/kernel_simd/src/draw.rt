@@ -10,10 +10,9 @@ ghost use Rattle.kernel.specs.Bands.{HasRows};
 
 use crate::bands::paint_rows;
 use crate::target::Target;
-use bytes::BytesMut;
 use base::{Op, Rect, Shape};
-use kernel::draw;
-use kernel::{canvas, clear_rows};
+use bytes::BytesMut;
+use kernel::{canvas, clear_rows, draw};
 use std::thread::Threads;
 
 /// One number everywhere.

@@ -5,8 +5,8 @@ ghost use Rattle.base.specs.Shapes.{texel_bytes};
 ghost use Rattle.kernel_simd.specs.Internal.Painters.{AcceptsBands, ArePainted, FollowPainted};
 
 use crate::rows::size_of;
-use bytes::BytesMut;
 use base::Texel;
+use bytes::BytesMut;
 
 /// About how many bytes a strip has, so that they stay in the processor's nearest cache until they are copied.
 const STRIP: usize = 1 << 13;

@@ -15,8 +15,8 @@ use crate::map::map_rows;
 use crate::ramp::ramp_rows;
 use crate::select::select_rows;
 use crate::target::Target;
-use bytes::BytesMut;
 use base::{Fun, Op, Shape};
+use bytes::BytesMut;
 use kernel::{box3_rows, canvas, convert_rows, halve_rows};
 use std::thread::Threads;
 

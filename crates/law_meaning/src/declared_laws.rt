@@ -11,9 +11,9 @@ ghost use Rattle.compile_record.specs.Recorded.{IsCompiled, OfRecorded};
 ghost use Rattle.program.specs.FirstFault.{first_fault};
 ghost use Rattle.program.specs.declared.program.Program.{Program};
 
-use law_schedule::cut_laws;
 use crate::meaning_laws;
 use compile_record::script_laws;
+use law_schedule::cut_laws;
 
 /// The nodes of a program that is compiled of a good frame have an order in which its commands stand as the frame declares them
 /// (`ordered`). So a compiled program that has no fault and is sound gives the host what its frame means, in whatever order its

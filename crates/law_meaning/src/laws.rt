@@ -14,8 +14,8 @@ ghost use Rattle.program.specs.declared.program.Program.{Program};
 ghost use Rattle.frame_cull.specs.Culled.{AreKept};
 
 use compile_groups::group_laws;
-use kernel::whole_leaves_nothing_old;
 use device_model::{device_laws, event_laws, round_laws};
+use kernel::whole_leaves_nothing_old;
 
 /// What a compiled program does is what its frame means. In any two orders that the nodes of a sound program may run in, the
 /// host reads the same bytes. Passes that are not kept may be left out: each exported unit comes to the same bytes. After all

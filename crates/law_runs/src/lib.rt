@@ -3,4 +3,4 @@
 
 mod laws;
 
-pub use laws::{run_laws, device_run_laws};
+pub use laws::{device_run_laws, run_laws};

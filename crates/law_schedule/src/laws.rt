@@ -9,8 +9,8 @@ ghost use Rattle.law_schedule.specs.Standing.{AllStand, AreThese, ReadsAreLast};
 ghost use Rattle.program.specs.declared.program.Program.{Program};
 ghost use Rattle.compile_timeline.specs.declared.step.Step.{Step};
 
-use law_plan::leveled_laws;
 use compile_timeline::timeline_laws;
+use law_plan::leveled_laws;
 
 /// Of a program whose queues are cut from steps: each wait, item, signal and host read stands at its number (`stand`), there is
 /// no other node (`all`), and host reads come last (`reads`). Signals and waits are of all commands (`full`), and commands and

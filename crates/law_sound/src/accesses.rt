@@ -5,10 +5,10 @@ ghost use Rattle.law_sound.specs.Served.{ServeEarlier};
 ghost use Rattle.law_plan.specs.Masks.{Masks};
 ghost use Rattle.law_plan.specs.Spots.{Spots};
 
-use law_schedule::cut_laws;
 use compile_groups::group_laws;
 use compile_record::script_laws;
 use compile_timeline::timeline_laws;
+use law_schedule::cut_laws;
 
 /// Each access of a compiled program is of a group: of its prologue, a member, its release or its host read (`spots`). On one queue
 /// the masks of barriers serve the accesses of the groups round them (`masks`), and alias barriers those of the units that had

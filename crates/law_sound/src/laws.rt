@@ -3,12 +3,12 @@
 ghost use Rattle.law_sound.specs.Laws.{OfCompiled, IsGrouped, AreOrdered, HaveBarriers, ComeBefore, AreUnreleased, ImportsAreAlone, IsSoundWith};
 ghost use Rattle.law_plan.specs.Nodes.{Places, Roles};
 
-use law_plan::crossing_laws;
-use law_schedule::cut_laws;
+use check_access::view_law;
 use compile_groups::group_laws;
 use compile_record::script_laws;
+use law_plan::crossing_laws;
+use law_schedule::cut_laws;
 use law_valid::faultless_law;
-use check_access::view_law;
 
 /// Of each program that is compiled of a good frame: the groups of its plan stand by their pieces (`grouped`). Commands, prologues,
 /// releases and host reads are what they are called (`roles`), and a prologue comes after the commands before it and before its

@@ -3,10 +3,10 @@
 ghost use Rattle.law_sound.specs.Laws.{OfCompiled};
 ghost use Rattle.law_plan.specs.States.{Laid, Owned, Handed};
 
-use law_schedule::cut_laws;
 use compile_groups::group_laws;
 use compile_record::script_laws;
 use compile_timeline::timeline_laws;
+use law_schedule::cut_laws;
 
 /// The layout of each group is the one that its members want, and prologues set it (`laid`). Nodes of a group are on queues of its
 /// family (`owned`), and each change of the family is handed over (`handed`). It does nothing.

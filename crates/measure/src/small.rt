@@ -5,8 +5,8 @@ ghost use Rattle.measure.specs.Internal.Tables.{row, HoldsRow};
 
 use crate::stopped::Stopped;
 use crate::table::{STORES, row, zeros};
-use bytes::BytesMut;
 use base::NoMemory;
+use bytes::BytesMut;
 use device_cache::{Contents, Segments};
 use std::alloc::Global;
 

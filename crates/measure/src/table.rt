@@ -6,8 +6,8 @@ ghost use Rattle.base.specs.Maxima.{max_nodes};
 ghost use Rattle.measure.specs.Internal.Tables.{image, row, HoldsImage, HoldsRow};
 
 use crate::ranges::{IMAGE, place};
-use bytes::BytesMut;
 use base::{List, NoMemory};
+use bytes::BytesMut;
 use device_cache::{Contents, Segments};
 use std::alloc::Global;
 

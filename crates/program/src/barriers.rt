@@ -4,8 +4,8 @@ ghost use Rattle.std.specs.Prelude.{◌≡◌};
 ghost use Rattle.program.specs.Barriers.{masks_of, masks_are, has_stages, both_have_stages, nothing_ignored, both_supported, both_on_family, on_queue};
 
 use crate::Item;
-use bitflags::Flags;
 use base::Family;
+use bitflags::Flags;
 use vk::{Masks, Stages, family_number, on_family, supports};
 
 // A barrier's masks. Release and acquire are barriers.

@@ -14,7 +14,10 @@ use crate::location::Location;
 use crate::range::memory_bytes;
 use crate::rule::Rule;
 use crate::{Batch, Item, Memory, Piece, Program, Queue};
-use base::{Broken, Limit, MAX_MEMORIES, MAX_MEMORY_BYTES, MAX_NODES, MAX_PIECES, MAX_QUEUES, MAX_READBACKS, MAX_RECTS, first_over, spend_in};
+use base::{
+    Broken, Limit, MAX_MEMORIES, MAX_MEMORY_BYTES, MAX_NODES, MAX_PIECES, MAX_QUEUES,
+    MAX_READBACKS, MAX_RECTS, first_over, spend_in,
+};
 
 fn over(limit: Limit, location: Location) -> Broken<Rule, Location>
     ensures { result ≡ over limit location }

@@ -37,7 +37,10 @@ fn path_of(alloc: Global, location: Location) -> Result<Path, NoMemory>
 }
 
 /// The fault as it is printed.
-pub(crate) fn fault_of(alloc: Global, broken: Broken<Rule, Location>) -> Result<ProgramFault, NoMemory>
+pub(crate) fn fault_of(
+    alloc: Global,
+    broken: Broken<Rule, Location>,
+) -> Result<ProgramFault, NoMemory>
     ensures { IfOk result (λ fault. fault ≡ fault_of broken) }
 {
     Ok(ProgramFault {

@@ -4,8 +4,8 @@ ghost use Rattle.std.specs.Prelude.{◌≡◌, IfOk};
 ghost use Rattle.program.specs.Rules.{shapes_of};
 
 use base::{Family, List, NoMemory, Op, Shape};
-use vk::{Layouts, Masks, Sharing, Stages};
 use std::alloc::Global;
+use vk::{Layouts, Masks, Sharing, Stages};
 
 /// Device memory. An import holds bytes that the host wrote before submission.
 #[derive(Debug, Drop)]

@@ -10,9 +10,9 @@ ghost use Rattle.program.specs.declared.rule.Rule.{Rule};
 
 use crate::entry::entry_at;
 use crate::limits::{limit_broken, queue_nodes};
+use crate::location::Location;
 use crate::nodes::{NodeAt, nodes_of};
 use crate::path::fault_of;
-use crate::location::Location;
 use crate::rule::Rule;
 use crate::walk::broken_at;
 use crate::{Entry, Program, ProgramFault};
@@ -99,7 +99,10 @@ fn rules_broken(program: &Program, shapes: &[Shape]) -> Option<Broken<Rule, Loca
 }
 
 // The limits come first, so that the shapes are few.
-fn first_broken(alloc: Global, program: &Program) -> Result<Option<Broken<Rule, Location>>, NoMemory>
+fn first_broken(
+    alloc: Global,
+    program: &Program,
+) -> Result<Option<Broken<Rule, Location>>, NoMemory>
     ensures { IfOk result (λ found. found ≡ first_broken program.now) }
 {
     if let Some(broken) = limit_broken(program) {

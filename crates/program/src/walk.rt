@@ -9,8 +9,8 @@ ghost use Rattle.program.specs.Timelines.{value_of};
 use crate::barriers::{
     has_stages, item_has_stages, item_on_queue, item_supported, nothing_ignored, on_queue,
 };
-use crate::numbers::{has_piece, item_known};
 use crate::location::Location;
+use crate::numbers::{has_piece, item_known};
 use crate::range::{is_buffer, item_in_range, piece_in_range};
 use crate::rule::Rule;
 use crate::{Batch, Item, Memory, Piece, Program, Queue, Signal, WaitFor};

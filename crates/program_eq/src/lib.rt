@@ -3,7 +3,7 @@
 
 mod op;
 mod parts;
-mod whole_program;
 mod same;
+mod whole_program;
 
 pub use same::{Same, same_all};

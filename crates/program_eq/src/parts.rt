@@ -4,8 +4,8 @@ ghost use Rattle.std.specs.Prelude.{◌≡◌, ◌↔◌, IsTrue};
 
 use crate::Same;
 use base::Rect;
-use vk::Masks;
 use program::{Piece, Transfer, WaitFor};
+use vk::Masks;
 
 impl Same for Rect {
     fn same(&self, other: &Rect) -> bool {

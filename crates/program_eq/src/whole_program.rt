@@ -6,8 +6,8 @@ ghost use Rattle.program.specs.declared.program.Memory.TheVariants as memories;
 
 use crate::Same;
 use base::{List, Op};
-use vk::{Layouts, Masks};
 use program::{Batch, Item, Memory, Program, Queue, Transfer};
+use vk::{Layouts, Masks};
 
 impl Same for Memory {
     fn same(&self, other: &Memory) -> bool {

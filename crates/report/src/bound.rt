@@ -8,9 +8,9 @@ ghost use Rattle.report.specs.BoundLines.{bound_line, bound_text, name_line, nam
 
 use crate::unit::add_unit;
 use base::{List, NoMemory, Text};
-use frame::ValidFrame;
-use compile_groups::Groups;
 use base_text::Lines;
+use compile_groups::Groups;
+use frame::ValidFrame;
 use std::alloc::Global;
 
 fn add_bound(text: &mut Text, least: u64, heap: u32) -> Result<(), NoMemory>

@@ -7,8 +7,8 @@ ghost use Rattle.report.specs.Exports.{export_lines, export_text};
 
 use crate::unit::add_spot;
 use base::{NoMemory, Text};
-use frame::{ValidFrame, Spot};
 use base_text::{Lines, cut_back};
+use frame::{Spot, ValidFrame};
 
 // Where memory runs out, some of the lines may have been added.
 #[tactic(auto, using(crate::proofs::Begun::begun, crate::proofs::Begun::begun_more))]
@@ -26,7 +26,12 @@ pub(crate) fn add_export(text: &mut Text, unit: &Spot, bytes: &[u8]) -> Result<(
 
 /// Adds export number `k`: its unit, how many bytes it has, and the bytes. Where there is no memory for all of it, the
 /// text is as before.
-pub fn export_text(text: &mut Text, frame: &ValidFrame, k: u32, bytes: &[u8]) -> Result<(), NoMemory>
+pub fn export_text(
+    text: &mut Text,
+    frame: &ValidFrame,
+    k: u32,
+    bytes: &[u8],
+) -> Result<(), NoMemory>
     requires { k < length (numbered frame.now).exports }
     ensures ok { OnOk result (text.new ≡ text.old ++ export_text frame.now k bytes.now) }
     ensures err { OnErr result (text.new ≡ text.old) }

@@ -5,8 +5,8 @@ ghost use Rattle.report.specs.Faults.{limit_text, fault_text, frame_fault_text, 
 
 use crate::path::add_path;
 use base::{Leg, Limit, List, NoMemory, Text};
-use frame::FrameFault;
 use base_text::Lines;
+use frame::FrameFault;
 use program::ProgramFault;
 use std::alloc::Global;
 

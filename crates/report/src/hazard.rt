@@ -4,8 +4,8 @@ ghost use Rattle.std.specs.Prelude.{◌≡◌, ◌++◌, OnOk, IfOk};
 ghost use Rattle.report.specs.Hazards.{owner_name, field, number_field, two_numbers, hazard_number, hazard_fields, hazard_text, check_text};
 
 use base::{Family, List, NoMemory, Text};
-use check_program::Hazard;
 use base_text::Lines;
+use check_program::Hazard;
 use std::alloc::Global;
 
 fn owner_name(owner: Option<Family>) -> &'static [u8]

@@ -4,8 +4,8 @@ ghost use Rattle.std.specs.Prelude.{◌≡◌, ◌≤◌, ◌++◌, OnOk, IfOk, 
 ghost use Rattle.report.specs.KeptLines.{kept_line, pass_line, state_of, pass_lines, listed, run_text, cull_text};
 
 use base::{List, NoMemory, Text};
-use frame::{ValidFrame, Pass};
 use base_text::Lines;
+use frame::{Pass, ValidFrame};
 use frame_cull::Kept;
 use std::alloc::Global;
 
@@ -71,7 +71,12 @@ fn add_passes(
 }
 
 #[tactic(auto, using(crate::proofs::Passes::few))]
-fn listed(alloc: Global, listing: Listing, frame: &ValidFrame, kept: &Kept) -> Result<Text, NoMemory>
+fn listed(
+    alloc: Global,
+    listing: Listing,
+    frame: &ValidFrame,
+    kept: &Kept,
+) -> Result<Text, NoMemory>
     requires { length kept.now ≡ length frame.now.passes }
     ensures { IfOk result (λ text. text ≡ listed listing frame.now kept.now) }
 {

@@ -9,10 +9,10 @@ ghost use Rattle.report.specs.PlaceLines.{heap_line, place_line, place_lines, pl
 
 use crate::unit::add_unit;
 use base::{List, NoMemory, Text};
-use frame::ValidFrame;
-use compile_groups::Groups;
 use base_text::Lines;
+use compile_groups::Groups;
 use compile_heap::Placement;
+use frame::ValidFrame;
 use std::alloc::Global;
 
 /// The sum of sizes that are at most 256 MiB together.

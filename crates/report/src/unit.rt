@@ -6,8 +6,8 @@ ghost use Rattle.base_text.specs.Starts.{Starts};
 ghost use Rattle.report.specs.UnitNames.{spot_text, unit_text};
 
 use base::{NoMemory, Text};
-use frame::{ValidFrame, Spot};
 use base_text::Lines;
+use frame::{Spot, ValidFrame};
 
 /// Adds the name of a unit, and after a stroke its layer where it is one of several.
 #[tactic(auto, using(crate::proofs::Begun::begun, crate::proofs::Begun::begun_more))]

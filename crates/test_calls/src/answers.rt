@@ -3,10 +3,10 @@
 use crate::call::status_of;
 use base::{List, NoMemory};
 use base_io::{Gate, IdleGate, MemorySink, Source, SteadySource};
-use top::Status;
 use std::alloc::Global;
 use std::sync::Wait;
 use std::thread::Threads;
+use top::Status;
 
 // A file is read seven bytes at a time, and a text written thirteen at a time.
 const READ: u32 = 7;

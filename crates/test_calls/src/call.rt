@@ -2,10 +2,10 @@
 
 use base::NoMemory;
 use base_io::{Gate, Sink, Source, Tap};
-use top::{Ended, Status, framec};
 use std::alloc::Global;
 use std::sync::Wait;
 use std::thread::Threads;
+use top::{Ended, Status, framec};
 
 /// The words of a command line.
 pub fn words_of(alloc: Global, line: &str) -> Result<Vec<String>, NoMemory> {

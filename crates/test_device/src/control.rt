@@ -1,9 +1,9 @@
-use device_nodes::Control;
 use check_order::Kind;
-use test_sketch::{SketchError, sketched_program};
+use device_nodes::Control;
 use program::{Program, ValidProgram, validate_program};
 use std::alloc::Global;
 use std::test::Fail;
+use test_sketch::{SketchError, sketched_program};
 
 // A program, what its first two queues have ready, and the first one after the second has gone on once, how far the second then
 // has signalled, and whether all nodes go on, each time the least ready one of the first queue that has one.

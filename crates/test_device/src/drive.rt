@@ -3,15 +3,15 @@ ghost use Rattle.check_program.specs.Sound.{IsSound};
 ghost use Rattle.device_model.specs.Devices.{NoneBegun};
 
 use base::{Event, NoMemory};
-use device_cache::MOVES;
 use check_program::{Checked, check};
 use device::Device;
+use device_cache::MOVES;
 use device_drive::{drive, tended};
-use test_sketch::{SketchError, sketched_program};
 use program::{Program, ValidProgram, validate_program};
 use std::alloc::Global;
 use std::test::Fail;
 use std::thread::Threads;
+use test_sketch::{SketchError, sketched_program};
 
 // A fill on one queue; the other waits for it, and copies what it stored for the host.
 const LINE: &str =

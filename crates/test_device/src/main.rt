@@ -5,8 +5,8 @@
 #[cfg(test)]
 mod control;
 #[cfg(test)]
-mod running;
-#[cfg(test)]
 mod drive;
+#[cfg(test)]
+mod running;
 
 fn main() {}

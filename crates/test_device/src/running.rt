@@ -7,14 +7,14 @@ ghost use Rattle.device_model.specs.Steps.{may_move};
 ghost use Rattle.program.specs.Limits.{memory_bytes};
 
 use base::{List, NoMemory};
-use device::{Device, Finished, Landed};
 use check_order::Kind;
-use test_sketch::{SketchError, sketched_program};
+use device::{Device, Finished, Landed};
 use program::{Memory, Program, ValidProgram, validate_program};
 use std::alloc::Global;
 use std::sync::Arc;
 use std::test::Fail;
 use std::thread::Threads;
+use test_sketch::{SketchError, sketched_program};
 
 // The first kernel reads what the copy stores, and nothing orders them.
 const UNORDERED: &str =

@@ -1,8 +1,8 @@
 //! Files that differ from a good one in one piece, each with the place of its first fault, by hand from the format.
 
 use base::{Leg, Path};
-use frame::FrameFault;
 use file_frame::{FrameReadError, read_frame};
+use frame::FrameFault;
 use std::alloc::{AllocError, Global};
 use std::process::Abort;
 use std::test::Fail;

@@ -1,7 +1,7 @@
 //! Operations over names, by texts written out by hand.
 
 use base::{Leg, Path};
-use file_json::{NameForm, Location, ReadError, Reader, Typed, Writer};
+use file_json::{Location, NameForm, ReadError, Reader, Typed, Writer};
 use file_ops::OpForm;
 use serde_json::Value;
 use std::alloc::{AllocError, Global};

@@ -3,15 +3,15 @@
 use base::{Event, Leg, Limit, List, Name, NoMemory, Text};
 use check_program::Hazard;
 use frame::{FrameFault, ValidFrame, validate_frame};
+use program::ProgramFault;
 use report::{
     FlightLine, check_text, cost_text, export_text, flight_text, frame_fault_text, hazard_text,
-    readback_text, program_fault_text, trace_text,
+    program_fault_text, readback_text, trace_text,
 };
-use test_sketch::{SketchError, sketched_frame};
-use program::ProgramFault;
 use std::alloc::Global;
 use std::process::Abort;
 use std::test::Fail;
+use test_sketch::{SketchError, sketched_frame};
 
 // The line of a fault at a member of pass 12.
 fn line(alloc: Global, number: u8, limit: Option<Limit>, key: &[u8]) -> Result<Text, NoMemory> {

@@ -1,10 +1,10 @@
 use base::{Family, List, Shape, Texel};
-use vk::Sharing;
 use file_json::{Location, Reader, TextForm, Typed, Writer};
 use file_shapes::{Body, FamilyWord, HexForm, SharingWord, TexelWord, read_body, read_sharing};
 use serde_json::Value;
 use std::alloc::Global;
 use std::test::Fail;
+use vk::Sharing;
 
 const IMAGE: Shape = Shape::Image {
     width: 2,

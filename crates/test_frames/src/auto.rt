@@ -1,8 +1,8 @@
 ghost use Rattle.std.specs.Prelude.{◌≡◌, length};
 
 use crate::sketched::good;
-use compile_queues::{Choice, choose};
 use base::NoMemory;
+use compile_queues::{Choice, choose};
 use frame::ValidFrame;
 use frame_gen::generate;
 use frame_meaning::{Exports, exports_of};
@@ -119,7 +119,11 @@ fn has_exports(
     Ok(are_same(&exports, wanted, count))
 }
 
-fn have_same_exports(alloc: Global, one: &ValidFrame, other: &ValidFrame) -> Result<bool, NoMemory> {
+fn have_same_exports(
+    alloc: Global,
+    one: &ValidFrame,
+    other: &ValidFrame,
+) -> Result<bool, NoMemory> {
     let exports = exports_of(alloc, one)?;
     has_exports(alloc, other, &exports, one.unit_count())
 }

@@ -1,10 +1,10 @@
 use crate::sketched::good;
 use base::Leg;
 use frame::{Frame, FrameError, FrameFault, ValidFrame, validate_frame};
-use test_sketch::sketched_frame;
 use std::alloc::{AllocError, Global};
 use std::process::Abort;
 use std::test::Fail;
+use test_sketch::sketched_frame;
 
 fn add_leg(alloc: Global, text: &mut Vec<u8>, leg: &Leg) -> Result<(), AllocError> {
     match leg {

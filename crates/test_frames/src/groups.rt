@@ -1,8 +1,8 @@
 use crate::sketched::{good, groups};
-use vk::Sharing;
 use compile_groups::{Groups, Use};
 use std::process::Abort;
 use std::test::Fail;
+use vk::Sharing;
 
 // Frames, and for each of their groups the unit and the command of each use.
 const ROWS: [(&str, &[&[(u32, u32)]]); 5] = [

@@ -1,10 +1,10 @@
 use crate::sketched::{good, groups};
-use frame::ValidFrame;
-use compile_lifetimes::ordered;
 use compile_heap::Pairs;
-use test_sketch::SketchError;
+use compile_lifetimes::ordered;
+use frame::ValidFrame;
 use std::alloc::Global;
 use std::test::Fail;
+use test_sketch::SketchError;
 
 // Frames, and which of their placed units are before which.
 const ROWS: [(&str, &[(u32, u32)]); 3] = [

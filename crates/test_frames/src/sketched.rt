@@ -1,10 +1,10 @@
 //! Good frames for these tests, each sketched by a line of words.
 
-use frame::{ValidFrame, validate_frame};
 use compile_groups::{Groups, groups_of};
-use test_sketch::{SketchError, sketched_frame};
+use frame::{ValidFrame, validate_frame};
 use frame_cull::{cull, versions_of};
 use std::alloc::Global;
+use test_sketch::{SketchError, sketched_frame};
 
 /// The frame of a line. One that is refused is no sketch.
 pub fn good(alloc: Global, line: &str) -> Result<ValidFrame, SketchError> {

@@ -134,7 +134,11 @@ const STEADY: [(ReadResult, &str); 3] = [
     (ReadResult::End, ""),
 ];
 
-const FAILING: [(ReadResult, &str); 3] = [(ReadResult::Failed, ""), (ReadResult::Got(1), "r"), (ReadResult::End, "")];
+const FAILING: [(ReadResult, &str); 3] = [
+    (ReadResult::Failed, ""),
+    (ReadResult::Got(1), "r"),
+    (ReadResult::End, ""),
+];
 
 fn sources(rt: &impl Abort, alloc: Global) -> Result<(), NoMemory> {
     let mut source = MemorySource::new(bytes(alloc, b"hello")?, 2, calls(alloc, &[2])?);

@@ -4,8 +4,8 @@ ghost use Rattle.device_cache.specs.Internal.Kept.{Knows};
 
 use crate::caches_plain::{Byte, Plain};
 use crate::caches_step::{Call, Step};
-use bytes::BytesMut;
 use base::{Event, List, NoMemory};
+use bytes::BytesMut;
 use device_cache::{Contents, Segments, Tender};
 use std::alloc::Global;
 use std::process::Abort;

@@ -1,9 +1,9 @@
 ghost use Rattle.std.specs.Prelude.{◌≡◌, ◌≤◌, length, IfOk};
 
-use bytes::BytesMut;
 use base::{Fun, Op, Shape, Texel};
-use kernel_simd::{Target, apply_fast};
+use bytes::BytesMut;
 use kernel::apply;
+use kernel_simd::{Target, apply_fast};
 use std::alloc::{AllocError, Global};
 use std::thread::Threads;
 

@@ -1,9 +1,9 @@
 use crate::sketched::shaped;
 use check_program::{CheckError, Hazard, check, sound};
-use test_sketch::SketchError;
 use program::ValidProgram;
 use std::alloc::Global;
 use std::test::Fail;
+use test_sketch::SketchError;
 
 // Programs, and their hazards.
 const ROWS: [(&str, Option<Hazard>); 5] = [

@@ -13,13 +13,13 @@ mod sketched;
 #[cfg(test)]
 mod steps;
 #[cfg(test)]
-mod validating;
-#[cfg(test)]
 mod ties;
 #[cfg(test)]
 mod tight;
 #[cfg(test)]
 mod timeline;
+#[cfg(test)]
+mod validating;
 #[cfg(test)]
 mod view;
 

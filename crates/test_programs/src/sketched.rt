@@ -1,9 +1,9 @@
 //! Programs for these tests, each sketched by a line of words.
 
-use test_sketch::{SketchError, sketched_program};
 use program::{ValidProgram, validate_program};
 use std::alloc::Global;
 use std::test::Fail;
+use test_sketch::{SketchError, sketched_program};
 
 /// The shaped program of a line. One that is refused is no sketch.
 pub fn shaped(alloc: Global, line: &str) -> Result<ValidProgram, SketchError> {

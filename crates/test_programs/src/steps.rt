@@ -1,8 +1,8 @@
 use base::Family;
-use vk::{Layout, Layouts};
+use check_access::{AccessKind, Agent, Handover};
 use check_order::Kind;
 use device_model::*;
-use check_access::{AccessKind, Agent, Handover};
+use vk::{Layout, Layouts};
 
 const LOAD: AccessKind = AccessKind::Load {
     agent: Agent::Of { queue: 0, bit: 1 },

@@ -1,9 +1,9 @@
 use crate::sketched::shaped;
 use base::NoMemory;
-use check_order::{Drain, before_of, drain_of};
-use program::ValidProgram;
-use check_sync::*;
 use check_access::{node_accesses_of, view_of};
+use check_order::{Drain, before_of, drain_of};
+use check_sync::*;
+use program::ValidProgram;
 use std::alloc::Global;
 use std::test::Fail;
 

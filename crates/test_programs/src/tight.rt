@@ -1,12 +1,12 @@
 use crate::sketched::shaped;
 use base::{List, NoMemory};
-use vk::Stages;
 use check_program::{CheckError, Checked, check};
-use test_sketch::SketchError;
-use program::{Entry, ValidProgram};
 use check_tighten::tighten;
+use program::{Entry, ValidProgram};
 use std::alloc::Global;
 use std::test::Fail;
+use test_sketch::SketchError;
+use vk::Stages;
 
 // Three graphics queues: a fill, a copy of what it filled, and a copy back over it. The last queue's first wait is not needed,
 // since its second one is for a queue that waited for the same.

@@ -1,10 +1,10 @@
 use base::{Family, List, NoMemory};
-use vk::{Accesses, Masks, Stages};
-use program::{Batch, Item, Queue};
 use compile_timeline::*;
+use program::{Batch, Item, Queue};
 use std::alloc::Global;
 use std::process::Abort;
 use std::test::Fail;
+use vk::{Accesses, Masks, Stages};
 
 // The queue of a step, and the step that it needs, if it is no item.
 type Row = (u32, Option<u32>);

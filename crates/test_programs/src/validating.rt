@@ -1,10 +1,10 @@
 use crate::sketched::shaped;
 use base::NoMemory;
-use test_sketch::sketched_program;
 use program::*;
 use std::alloc::Global;
 use std::process::Abort;
 use std::test::Fail;
+use test_sketch::sketched_program;
 
 // Programs over two buffers, and the number of the first broken rule, 0 where none is: no queue, a value that is signalled
 // twice, and as many queues as there may be.

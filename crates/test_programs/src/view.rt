@@ -1,8 +1,8 @@
 use crate::sketched::shaped;
 use base::{List, NoMemory};
+use check_access::*;
 use check_order::{Drain, drain_of};
 use program::ValidProgram;
-use check_access::*;
 use std::alloc::Global;
 use std::test::Fail;
 

@@ -3,11 +3,11 @@
 use crate::executing::{FILL, FILL_TEXT};
 use base::{List, NoMemory};
 use base_io::IdleGate;
-use test_calls::{Status, answer_of, gives};
 use std::alloc::Global;
 use std::sync::Wait;
 use std::test::Fail;
 use std::thread::Threads;
+use test_calls::{Status, answer_of, gives};
 
 // A fill, a copy into a read-back, a barrier after each, and a run of them.
 const RUN: &str =

@@ -2,11 +2,11 @@
 
 use base::NoMemory;
 use base_io::IdleGate;
-use test_calls::{Status, answer_of};
 use std::alloc::Global;
 use std::sync::Wait;
 use std::test::Fail;
 use std::thread::Threads;
+use test_calls::{Status, answer_of};
 
 fn gives_text<R: Threads + Wait + Sync>(
     rt: &R,

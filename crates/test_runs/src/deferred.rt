@@ -3,12 +3,12 @@
 use crate::auditing::is_audited;
 use base::NoMemory;
 use base_io::IdleGate;
-use test_calls::{Status, answer_of, gives};
 use std::alloc::{AllocError, Global};
 use std::process::Abort;
 use std::sync::Wait;
 use std::test::Fail;
 use std::thread::Threads;
+use test_calls::{Status, answer_of, gives};
 
 const DEFERRED: &str =
     r#"{"format":1,"queues":[{"name":"g","family":"graphics"},{"name":"c","family":"compute"},{"name":"t","family":"transfer"}],

@@ -2,11 +2,11 @@
 
 use base::NoMemory;
 use base_io::IdleGate;
-use test_calls::{Status, answer_of, gives};
 use std::alloc::Global;
 use std::sync::Wait;
 use std::test::Fail;
 use std::thread::Threads;
+use test_calls::{Status, answer_of, gives};
 
 // A fill of one buffer.
 pub(crate) const ONE_FILL: &str =

@@ -1,8 +1,8 @@
 //! Frames that fly, and files of frames that do not.
 
-use test_calls::{Status, gives};
 use std::alloc::{AllocError, Global};
 use std::test::Fail;
+use test_calls::{Status, gives};
 
 // A frame that adds one to what `b` holds, and exports it.
 const COUNTS: &str =

@@ -2,13 +2,13 @@
 
 use base::NoMemory;
 use base_io::IdleGate;
-use test_calls::{Status, answer_of};
-use test_gate::Meeting;
 use std::alloc::Global;
 use std::str;
 use std::sync::Wait;
 use std::test::Fail;
 use std::thread::Threads;
+use test_calls::{Status, answer_of};
+use test_gate::Meeting;
 
 // A ramp on each of two queues, which need nothing of each other: nodes 0 and 5 of what they are compiled to.
 const FRAME: &str =

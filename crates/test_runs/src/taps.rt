@@ -2,15 +2,14 @@
 
 use crate::executing::{FILL, ONE_FILL};
 use base::{Event, List, NoMemory};
-use base_io::{IdleGate, SteadySink, SteadySource, Tap, Tell};
-use test_calls::{Ended, framec, words_of};
-use base_io::ListTap;
+use base_io::{IdleGate, ListTap, SteadySink, SteadySource, Tap, Tell};
 use std::alloc::Global;
 use std::cell::Cell;
 use std::rc::Rc;
 use std::sync::Wait;
 use std::test::Fail;
 use std::thread::Threads;
+use test_calls::{Ended, framec, words_of};
 
 // Is finished at an event with this number, from 1. What it heard before is counted outside.
 #[derive(Drop)]

@@ -23,9 +23,9 @@ use crate::SketchError;
 use crate::op::op;
 use crate::words::Word;
 use base::{Family, List, Name, Op, Shape, Texel};
-use vk::Sharing;
 use frame::{Frame, Pass, QueueDecl, Resource, Spot, Write};
 use std::alloc::Global;
+use vk::Sharing;
 
 fn name(text: &str) -> Result<Name, SketchError> {
     Name::read(text.as_bytes()).ok_or(SketchError::Word)

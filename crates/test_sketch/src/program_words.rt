@@ -16,9 +16,9 @@ use crate::SketchError;
 use crate::op::op;
 use crate::words::{Word, families, family, layouts, masks, stages, texel};
 use base::{List, Shape};
-use vk::{Layouts, Sharing, Stages};
 use program::{Batch, Item, Memory, Piece, Program, Queue, Signal, Transfer, WaitFor};
 use std::alloc::Global;
+use vk::{Layouts, Sharing, Stages};
 
 fn ones(alloc: Global, count: u32) -> Result<List<u8>, SketchError> {
     let mut bytes = List::new(alloc);

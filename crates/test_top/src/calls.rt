@@ -2,11 +2,11 @@
 
 use base::{List, NoMemory, ReadResult};
 use base_io::{IdleGate, MemorySink, Source, SteadySource};
-use test_calls::{Status, answer_from, at_rest, gives, words_of};
 use std::alloc::Global;
 use std::sync::Wait;
 use std::test::Fail;
 use std::thread::Threads;
+use test_calls::{Status, answer_from, at_rest, gives, words_of};
 
 pub(crate) const FILL: &str =
     "{\"format\":1,\"queues\":[{\"name\":\"g\",\"family\":\"graphics\"}],\"resources\":[{\"name\":\"b\",\"buffer\":16}],\"passes\":[{\"name\":\"p\",\"queue\":\"g\",\"writes\":[{\"new\":\"b\"}],\"ops\":[{\"op\":\"fill_buffer\",\"dst\":\"b\",\"offset\":0,\"size\":16,\"word\":7}]}],\"exports\":[\"b\"]}";

@@ -1,7 +1,7 @@
 //! Submissions, checked.
 
-use test_calls::{Status, gives};
 use std::test::Fail;
+use test_calls::{Status, gives};
 
 // Two pieces over the same memory, one of its own, an import and an image.
 const FILE: &str =

@@ -5,11 +5,11 @@ ghost use Rattle.std.specs.Prelude.{◌<◌};
 use crate::calls::{FILL, FILL_TEXT};
 use base::{List, NoMemory, ReadResult};
 use base_io::{IdleGate, MemorySink, MemorySource, Put, Sink, Source, SteadySink, SteadySource};
-use test_calls::{Status, status_of};
 use std::alloc::Global;
 use std::sync::Wait;
 use std::test::Fail;
 use std::thread::Threads;
+use test_calls::{Status, status_of};
 
 // How many bytes a read or write moves, and which one fails.
 type Calls = (u32, u32);

@@ -1,7 +1,7 @@
 //! Where transient resources lie, and how much memory they need at least.
 
-use test_calls::{Status, gives};
 use std::test::Fail;
+use test_calls::{Status, gives};
 
 // Frames, and the lines of `place` and of `bound`.
 const FRAMES: [(&str, &str, &str); 6] = [

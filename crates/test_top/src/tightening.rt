@@ -1,7 +1,7 @@
 //! Submissions without the waits that they do not need.
 
-use test_calls::{Status, gives};
 use std::test::Fail;
+use test_calls::{Status, gives};
 
 // An image goes from a compute queue to a graphics queue.
 const RAMP_AND_MAP: &str =

@@ -3,9 +3,9 @@
 use crate::outcome::{Outcome, seen};
 use base::{Event, NoMemory};
 use base_io::IdleGate;
-use device_cache::MOVES;
 use check_program::Checked;
 use device::Device;
+use device_cache::MOVES;
 use device_workers::{Alone, tend_through, work_through};
 use std::alloc::Global;
 use std::sync::Wait;

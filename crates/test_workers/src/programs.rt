@@ -1,8 +1,8 @@
 use check_program::{Checked, check};
 use device::Device;
-use test_sketch::{SketchError, sketched_program};
 use program::{Program, ValidProgram, validate_program};
 use std::alloc::Global;
+use test_sketch::{SketchError, sketched_program};
 
 // Two fills on two queues, which wait for nothing.
 pub const APART: &str =

@@ -4,11 +4,11 @@ use crate::programs::{APART, BEHIND, CHAINED, checked};
 use base::{Event, NoMemory};
 use base_io::IdleGate;
 use check_program::Checked;
-use test_gate::Meeting;
 use std::alloc::Global;
 use std::sync::Wait;
 use std::test::Fail;
 use std::thread::Threads;
+use test_gate::Meeting;
 
 // One worker takes the nodes of its own queue first, then those of the other, and the host reads last.
 const ALONE: [Event; 10] = [

@@ -15,14 +15,14 @@ ghost use Rattle.top.specs.Texts.{readbacks_text};
 
 use crate::readbacks::add_readbacks;
 use answer::{Answer, Status, checked, done, program_refusal};
-use device_audit::{TraceError, Verdict, audit, read_trace, recording_in};
 use base::{Event, NoMemory};
 use check_program::Checked;
-use device::Device;
-use report::{AuditLine, audit_text};
 use compile_file::valid_program;
+use device::Device;
+use device_audit::{TraceError, Verdict, audit, read_trace, recording_in};
 use file_program::ProgramReadError;
 use program::ValidProgram;
+use report::{AuditLine, audit_text};
 use std::alloc::Global;
 use std::thread::Threads;
 

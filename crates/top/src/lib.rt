@@ -18,8 +18,8 @@ mod telling;
 mod top;
 mod totals;
 
-pub use ended::Ended;
 pub use answer::Status;
+pub use ended::Ended;
 pub use reply::Reply;
 pub use rest::at_rest;
 pub use top::framec;

@@ -10,10 +10,10 @@ ghost use Rattle.top.specs.Texts.{readbacks_text, traced};
 
 use base::{List, NoMemory, Text};
 use device::Device;
-use frame::ValidFrame;
-use report::{export_text, readback_text, run_text, trace_text};
 use device_run::bytes_of;
+use frame::ValidFrame;
 use frame_cull::Kept;
+use report::{export_text, readback_text, run_text, trace_text};
 use std::alloc::Global;
 
 /// The read-backs of a device that has run to its end, one after another.

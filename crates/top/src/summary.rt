@@ -19,15 +19,15 @@ use crate::totals::{Total, total_of};
 use base::{NoMemory, RunOptions, Text};
 use base_io::Gate;
 use compile::Compiled;
-use device::Device;
-use law_meaning::meaning_laws;
-use frame::ValidFrame;
-use frame_gen::generate;
-use compile_groups::groups_of;
-use report::{sum_of_sizes, summary_text};
-use device_run::run_program;
 use compile_file::compiled;
+use compile_groups::groups_of;
+use device::Device;
+use device_run::run_program;
+use frame::ValidFrame;
 use frame_cull::{Kept, versions_of};
+use frame_gen::generate;
+use law_meaning::meaning_laws;
+use report::{sum_of_sizes, summary_text};
 use std::alloc::Global;
 use std::sync::Wait;
 use std::thread::Threads;
@@ -63,7 +63,12 @@ fn exported(good: &ValidFrame, made: &Compiled, device: &Device, options: RunOpt
     total_of(device, good.exports().len() as u32)
 }
 
-fn text_of(alloc: Global, good: &ValidFrame, made: &Compiled, total: Total) -> Result<Text, NoMemory>
+fn text_of(
+    alloc: Global,
+    good: &ValidFrame,
+    made: &Compiled,
+    total: Total,
+) -> Result<Text, NoMemory>
     requires kept { AreKept (numbered good.now) made.now.kept }
     ensures { IfOk result (λ text. text ≡ summary_with (numbered good.now) made.now.kept made.now.placement made.now.program.program total.bytes total.sum) }
 {

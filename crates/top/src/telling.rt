@@ -10,8 +10,7 @@ use crate::output::put;
 use crate::reply::Reply;
 use crate::{Ended, Status};
 use base::{Event, List, NoMemory};
-use base_io::{Sink, Tap};
-use base_io::serve_all;
+use base_io::{Sink, Tap, serve_all};
 use std::alloc::Global;
 
 /// No tap is spent.

@@ -4,8 +4,8 @@ ghost use Rattle.std.specs.Prelude.{◌≡◌};
 ghost use Rattle.vk.specs.Families.{on_family, stages_of, family_number};
 
 use crate::Stages;
-use bitflags::Flags;
 use base::Family;
+use bitflags::Flags;
 
 /// The number by which masks know a queue family.
 pub fn family_number(family: Family) -> u32

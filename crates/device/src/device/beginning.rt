@@ -19,17 +19,17 @@ ghost use Rattle.check_access.specs.Views.{loads_of};
 
 use super::Device;
 use crate::agents::{agent_of, store_of};
-use crate::pending::{Pending, put_pending};
 use crate::job::{Command, Job};
 use crate::nodes::op_of;
+use crate::pending::{Pending, put_pending};
 use crate::room::Room;
 use crate::work::Work;
-use bytes::BytesMut;
 use base::{Event, List, NoMemory};
+use bytes::BytesMut;
+use check_access::Access;
 use device_cache::{Contents, Segments};
 use device_model::event_laws;
 use program::{Piece, ValidProgram};
-use check_access::Access;
 use std::alloc::Global;
 use std::sync::Arc;
 

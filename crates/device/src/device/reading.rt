@@ -13,10 +13,10 @@ use super::Device;
 use crate::buffer::{Buffer, junk_if};
 use crate::nodes::read_node;
 use base::Event;
+use check_access::{Access, AccessKind, Agent};
 use device_cache::Segments;
 use device_model::event_laws;
 use program::Piece;
-use check_access::{Access, AccessKind, Agent};
 
 // The bytes of main at a piece, or junk.
 fn read_piece(reads: &mut Vec<Buffer>, k: u32, junk: Option<u8>, table: &Segments, from: Piece)
