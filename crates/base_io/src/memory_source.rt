@@ -4,8 +4,8 @@ ghost use Rattle.std.specs.Prelude.{◌≡◌, ◌≤◌, ◌<◌, ◌+◌, ◌-
 ghost use Rattle.base_io.specs.Memory.{next_read, after_read};
 ghost use Rattle.base_io.specs.Reads.{IsWithin, ReadsBytes, CountsFault};
 
-use crate::Source;
-use base::{List, ReadResult};
+use crate::{ReadResult, Source};
+use base::List;
 use std::marker::Model;
 
 /// A source over bytes. A clause sees what is left and which reads fail.

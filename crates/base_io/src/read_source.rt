@@ -5,8 +5,7 @@ ghost use Rattle.base_io.specs.Memory.{one_fault_more};
 ghost use Rattle.base_io.specs.Reads.{IsWithin, ReadsBytes, CountsFault};
 ghost use Rattle.base_io.specs.declared.source.ReadResult.TheVariants as taken;
 
-use crate::Source;
-use base::ReadResult;
+use crate::{ReadResult, Source};
 use std::io::Read;
 
 /// A reader whose failures are counted. It tells of its bytes what the reader tells.

@@ -4,9 +4,9 @@ ghost use Rattle.std.specs.Prelude.{◌≡◌, ◌≤◌, ◌<◌, ◌+◌, ◌-
 ghost use Rattle.base_io.specs.Memory.{given};
 ghost use Rattle.base_io.specs.Reads.{IsWithin, ReadsBytes};
 
-use crate::Source;
 use crate::memory_source::fill_front;
-use base::{List, ReadResult};
+use crate::{ReadResult, Source};
+use base::List;
 use std::marker::Model;
 
 /// A source over bytes whose count of faults is always 0. A clause sees what is left and how much a read gives.

@@ -1,4 +1,4 @@
-//! Only sound programs are proved_sound.
+//! Only sound programs are taken.
 
 ghost use Rattle.std.specs.Prelude.{◌≡◌, ◌↔◌, None, true, IfOk, IfErr};
 ghost use Rattle.check_program.specs.Sound.{IsSound, Sound};
@@ -15,7 +15,7 @@ use std::alloc::Global;
 use std::sync::Arc;
 use thiserror::Error;
 
-/// Why a program was not proved_sound.
+/// Why a program was not taken.
 #[derive(Debug, Drop, Error)]
 pub enum CheckError {
     /// The first hazard, and the program itself.

@@ -1,4 +1,4 @@
--- What the tables hold is what an access finds, and that decides whether it is state_valid.
+-- What the tables hold is what an access finds, and that decides whether its state is valid.
 use Rattle.std.proofs.Common.{◌≡◌, ◌↔◌, ℕ, Bool, ◌<◌, true, false, List, length, get_or, take, Option, Some, None, arith, IsTrue, refl, sym, ap, ◌∙◌, subst}
 use Rattle.std.specs.Option.{option_map_or}
 use Rattle.vk.specs.declared.layout.Layout.{Layout}

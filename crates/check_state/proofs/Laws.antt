@@ -1,4 +1,4 @@
--- An access with something wrong is not state_valid, or not initialized.
+-- An access with something wrong finds no valid state, or bytes that are not initialized.
 use Rattle.std.proofs.Common.{ℕ, List, Option, Some, None, sym, ◌∙◌, subst, ap}
 use Rattle.check_access.specs.Views.{View, family_at}
 use Rattle.check_access.specs.declared.node_access.NodeAccess.{NodeAccess}

@@ -1,4 +1,4 @@
-//! What a load that is not initialized has wrong.
+//! What is wrong with the bytes that a load finds.
 
 /// What is wrong with the bytes that a node loads of a piece.
 #[derive(Clone, Copy, Debug, PartialEq, Eq)]

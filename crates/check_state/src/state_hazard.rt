@@ -1,4 +1,4 @@
-//! What an access that is not state_valid has wrong.
+//! What is wrong with the state that an access finds.
 
 use base::Family;
 use vk::Layout;

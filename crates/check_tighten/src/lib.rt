@@ -1,4 +1,4 @@
-//! Programs whose waits are as few, and hold back as little, as soundness allows.
+//! Programs whose waits are as few, and hold back as little, as soundness allows. Its law: `law_tight`.
 #![tactic(auto)]
 
 mod edit;

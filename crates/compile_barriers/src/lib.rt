@@ -1,4 +1,5 @@
-//! What stands round the groups of a unit: barriers, transfers of ownership, and barriers on bytes that units share.
+//! What stands round the groups of a unit: barriers, transfers of ownership, and barriers on bytes that units share. Its laws:
+//! `law_plan`; `accesses_law` and `states_law` of `law_sound`.
 #![tactic(auto)]
 
 mod first;

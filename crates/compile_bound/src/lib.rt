@@ -1,4 +1,5 @@
-//! How many bytes no heap is smaller than in which transient resources share memory, with resources that show it.
+//! How many bytes no heap is smaller than in which transient resources share memory, with resources that show it. Its law: its
+//! own clause `holds`, over every legal placement.
 #![tactic(auto)]
 
 mod bound;

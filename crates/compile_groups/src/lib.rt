@@ -1,4 +1,5 @@
-//! The commands of a kept frame, what they use, and the groups of uses that need no order among themselves.
+//! The commands of a kept frame, what they use, and the groups of uses that need no order among themselves. Its law:
+//! `group_laws`, its own, on which `law_sound` stands.
 #![tactic(auto)]
 
 mod buckets;

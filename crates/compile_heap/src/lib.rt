@@ -1,4 +1,5 @@
-//! Where transient resources lie in one heap, so that those that are used one after another share memory.
+//! Where transient resources lie in one heap, so that those that are used one after another share memory. Its laws: its own
+//! clauses `legal` and `least`; `places_law` and `aliases_law` of `law_sound`.
 #![tactic(auto)]
 
 mod falling;

@@ -1,4 +1,5 @@
-//! Which transient resources are used one after another, so that they may lie in the same bytes.
+//! Which transient resources are used one after another, so that they may lie in the same bytes. Its law: `aliases_law` of
+//! `law_sound`: units that share bytes are ordered.
 #![tactic(auto)]
 
 mod lifetime;

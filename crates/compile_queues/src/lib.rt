@@ -1,4 +1,5 @@
-//! A choice of queues: passes move to where that makes the longest chain of work shorter.
+//! A choice of queues: passes move to where that makes the longest chain of work shorter. Its law: `auto_laws`, its own: no
+//! byte changes.
 #![tactic(auto)]
 
 mod best;

@@ -1,4 +1,5 @@
-//! The submissions of a frame: from its kept passes to memories, pieces, and what each queue waits for, does and signals.
+//! The submissions of a frame: from its kept passes to memories, pieces, and what each queue waits for, does and signals. Its
+//! laws: `law_valid`, `law_sound`, `law_meaning`.
 #![tactic(auto)]
 
 mod block;

@@ -13,7 +13,7 @@ pub enum Mark {
     Release(u32),
 }
 
-/// What is recorded in prologue, for all queues together.
+/// What is recorded in turn, for all queues together.
 #[derive(Debug, Drop)]
 pub enum Marked {
     /// The queue does this after its earlier items. Nothing needs an item without a mark.

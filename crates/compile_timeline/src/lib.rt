@@ -1,4 +1,5 @@
-//! A list of steps, cut into the batches of queues, with the waits and signals of timeline semaphores that the steps need.
+//! A list of steps, cut into the batches of queues, with the waits and signals of timeline semaphores that the steps need. Its
+//! law: `law_schedule`.
 #![tactic(auto)]
 
 mod laws;

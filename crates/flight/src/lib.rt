@@ -1,4 +1,5 @@
-//! Frames in flight: several frames in one, with bytes that persist from one to the next.
+//! Frames in flight: several frames in one, with bytes that persist from one to the next. Its laws: `law_window`, and
+//! `flight_laws`, its own.
 #![tactic(auto)]
 
 mod begun;

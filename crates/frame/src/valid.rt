@@ -200,7 +200,7 @@ fn collected(
     })
 }
 
-// A frame's resolved, or the first rule that it breaks.
+// What is resolved of a frame, or the first rule that it breaks.
 #[tactic(auto, using(crate::proofs::Small::few_queues, crate::proofs::Small::uses_by, crate::proofs::Small::spans_by))]
 fn resolved_of(
     alloc: Global,
@@ -264,7 +264,7 @@ fn known_names(alloc: Global, frame: &Frame) -> Result<Table, NoMemory>
     }
 }
 
-// A frame's resolved, and no rule judged.
+// What is resolved of a frame, and no rule judged.
 #[tactic(auto, using(crate::proofs::Small::few_queues, crate::proofs::Small::uses_by, crate::proofs::Small::spans_by))]
 fn unjudged_resolved(alloc: Global, frame: &Frame, table: &Table) -> Result<Resolved, NoMemory>
     requires named { name_broken frame.now ≡ None }

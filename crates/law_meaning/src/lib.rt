@@ -1,4 +1,4 @@
-//! The laws by which a compiled program does what its frame means; its commands stand in the order in which the frame declares them.
+//! Law of `compile`: what is compiled of a frame leaves, in every order of its nodes, the bytes that the frame means.
 #![tactic(auto)]
 
 mod declared_laws;

@@ -1,4 +1,5 @@
-//! Laws of recorded programs: what is needed crosses from queue to queue, and facts of single groups make a program sound.
+//! Law of `compile_barriers` and `compile_record`, told of any plan of groups: facts of single groups, commands and barriers
+//! make a program sound.
 #![tactic(auto)]
 
 mod laws;

@@ -1,4 +1,5 @@
-//! The law of single accesses.
+//! Law of `device_model`: whatever single accesses come and whatever caches do, a sound program leaves what its commands leave
+//! one after another.
 #![tactic(auto)]
 
 mod laws;

@@ -1,4 +1,4 @@
-//! What holds of the nodes of a program whose queues are cut from a list of steps.
+//! Law of `compile_timeline`: what holds of the nodes of every program whose queues are cut from a list of steps.
 #![tactic(auto)]
 
 mod laws;

@@ -1,4 +1,4 @@
-//! What holds of every program that is compiled of a good frame.
+//! Law of `compile_record`: what is recorded of the kept passes of a valid frame is sound.
 #![tactic(auto)]
 
 mod accesses;

@@ -1,4 +1,4 @@
-//! Laws of programs that differ in their waits alone.
+//! Law of `check_tighten`: what a program reads back does not depend on which waits keep it sound.
 #![tactic(auto)]
 
 mod laws;

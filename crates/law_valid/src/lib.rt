@@ -1,4 +1,4 @@
-//! What is submitted for a frame breaks no rule of programs.
+//! Law of `compile_record`: what is recorded of a valid frame breaks no rule of programs, and goes over no limit.
 #![tactic(auto)]
 
 mod laws;

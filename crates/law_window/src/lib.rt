@@ -1,4 +1,4 @@
-//! Windows: frames that are compiled together mean what they mean one after another, by numbers and as declared frames that break no rule.
+//! Law of `flight`: frames that are compiled together as one mean what they mean one after another.
 #![tactic(auto)]
 
 mod laws;

@@ -15,14 +15,14 @@ use test_sketch::{SketchError, sketched_frame};
 
 // The line of a fault at a member of pass 12.
 fn line(alloc: Global, number: u8, limit: Option<Limit>, key: &[u8]) -> Result<Text, NoMemory> {
-    let mut place = List::new(alloc);
-    place.push(Leg::Member(List::from_slice(alloc, b"passes")?))?;
-    place.push(Leg::Position(12))?;
-    place.push(Leg::Member(List::from_slice(alloc, key)?))?;
+    let mut location = List::new(alloc);
+    location.push(Leg::Member(List::from_slice(alloc, b"passes")?))?;
+    location.push(Leg::Position(12))?;
+    location.push(Leg::Member(List::from_slice(alloc, key)?))?;
     let fault = FrameFault {
         number,
         limit,
-        place,
+        location,
     };
     frame_fault_text(alloc, &fault)
 }

@@ -1,7 +1,7 @@
 //! The worked rows of the top call, over sources and sinks in memory.
 
-use base::{List, NoMemory, ReadResult};
-use base_io::{IdleGate, MemorySink, Source, SteadySource};
+use base::{List, NoMemory};
+use base_io::{IdleGate, MemorySink, ReadResult, Source, SteadySource};
 use std::alloc::Global;
 use std::sync::Wait;
 use std::test::Fail;

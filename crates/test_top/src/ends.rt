@@ -3,8 +3,10 @@
 ghost use Rattle.std.specs.Prelude.{◌<◌};
 
 use crate::calls::{FILL, FILL_TEXT};
-use base::{List, NoMemory, ReadResult};
-use base_io::{IdleGate, MemorySink, MemorySource, Put, Sink, Source, SteadySink, SteadySource};
+use base::{List, NoMemory};
+use base_io::{
+    IdleGate, MemorySink, MemorySource, Put, ReadResult, Sink, Source, SteadySink, SteadySource,
+};
 use std::alloc::Global;
 use std::sync::Wait;
 use std::test::Fail;

@@ -4,8 +4,8 @@ ghost use Rattle.std.specs.Prelude.{◌≡◌, ◌<◌, ◌+◌, ◌^◌, length
 ghost use Rattle.top.specs.Internal.Intakes.{IsIntake, IsStep};
 ghost use Rattle.top.specs.Outcomes.{TakesAtMost};
 
-use base::{NoMemory, ReadResult};
-use base_io::Source;
+use base::NoMemory;
+use base_io::{ReadResult, Source};
 use std::alloc::Global;
 
 // How many bytes are asked for at once.
