@@ -12,7 +12,7 @@ Looked at are README.md, HACKING.md, docs/ and the README.md of each crate, outs
   that a crate of the product hands out has to be named there. In the page's text a clause, or a field of one, has to be there.
 - A sentence of README.md that says "proved" has to name a clause of docs/PROMISES.md.
 - The tables of docs/ARCHITECTURE.md have to have one row for each crate of crates.txt: the crate, and what it does.
-- docs/MODEL.md has to name each file of definitions but those in a folder Code; files of its reading lists have to be there, with as
+- docs/MODEL.md has to name each file of definitions but those in a folder Internal; files of its reading lists have to be there, with as
   many lines as it says, without imports, and the sum of each list, in tens, stands there and in README.md. --count writes the
   lines, and prints the sums.
 """
@@ -84,7 +84,7 @@ def crates_in(line):
 
 def is_file(name, crates, page):
     """Whether a file is there by its path from the top, from crates/, from a crate or from the page, or by its name in one of these crates."""
-    if "*" in name or "NAME" in name or BUILT.search(name) or name in ("specs/", "specs/Code/", "src/", "proofs/"):
+    if "*" in name or "NAME" in name or BUILT.search(name) or name in ("specs/", "specs/Internal/", "src/", "proofs/"):
         return True
     if any((top / name).exists() for top in (TOP, TOP / "crates", page.parent, *(TOP / "crates" / crate for crate in crates))):
         return True
@@ -203,7 +203,7 @@ def look_at_model():
             last = set(crates_in(f"{word}`")) or last
             named |= {(crate, word) for crate in last if word.endswith(".antt")}
     for source in SOURCES:
-        if source.parent.name == "specs" and source.suffix == ".antt" and source.stem not in ("Lib", "Code"):
+        if source.parent.name == "specs" and source.suffix == ".antt" and source.stem not in ("Lib", "Internal"):
             defines = re.search(r"^(?:pub )?(?:abbrev|record|data)\b", TEXTS[source], re.M)
             if defines and (crate_of(source), source.name) not in named:
                 problem(path, 1, f"{source.relative_to(TOP)} is not named")
