@@ -281,7 +281,30 @@ def byte():
     return picture
 
 
-PICTURES = {"byte": byte, "deferred": passes, "passed": passed, "pipeline": pipeline, "transfer": transfer}
+def stages():
+    """A draw whose two stages two barriers hold apart: no way leads through it."""
+    picture = Picture(1010, 216)
+    picture.box(14, 62, 130, 56, ["copy to T"], "rose")
+    picture.box(186, 57, 168, 66, ["barrier", "COPY to", "FRAGMENT_SHADER"], "amber")
+    picture.box(400, 20, 210, 140, ["", "", "", "", "", "", "", "a draw"], "none")
+    picture.box(412, 32, 186, 42, ["vertex stage: loads V"], "green")
+    picture.box(412, 88, 186, 42, ["fragment stage: loads T"], "green")
+    picture.box(656, 57, 168, 66, ["barrier", "VERTEX_SHADER", "to COPY"], "amber")
+    picture.box(866, 62, 130, 56, ["copy to V"], "rose")
+    picture.line([(144, 90), (184, 90)])
+    picture.line([(354, 96), (410, 109)])
+    picture.line([(598, 53), (654, 78)])
+    picture.line([(824, 90), (864, 90)])
+    notes = [
+        "The copy to T is before what the fragment stage does, and what the vertex stage does is before the copy to V.",
+        "The two copies are in no order: the draw joins nothing, as on a device, where its vertex stage need not wait.",
+    ]
+    for k, note in enumerate(notes):
+        picture.text(12, 186 + 20 * k, note, anchor="start", size=12)
+    return picture
+
+
+PICTURES = {"byte": byte, "deferred": passes, "passed": passed, "pipeline": pipeline, "stages": stages, "transfer": transfer}
 
 
 def main():
