@@ -1,5 +1,7 @@
 """Random submissions of format 3: actions with uses of all roles, and the dependencies that they need."""
 
+from roles import ROLES
+
 STORAGE_ROLES = ["storage_read", "storage_write", "storage"]
 COPY_ROLES = ["copy_read", "copy_write"]
 BUFFER_ROLES = ["indirect", "index", "vertex", "uniform", "sampled", *STORAGE_ROLES, *COPY_ROLES, "clear_write"]
@@ -8,8 +10,6 @@ DEPTH_ROLES = ["sampled", "depth", "depth_read", "copy_read", "copy_write"]
 SAMPLES_ROLES = ["color", "resolve_read"]
 TARGET_ROLES = ["color", "resolve_write", "blit_read"]
 COMPUTE_ROLES = {"indirect", "uniform", "sampled", "storage_read", "storage_write", "storage", "copy_read", "copy_write", "clear_write"}
-SHADERS = {"uniform", "sampled", "storage_read", "storage_write", "storage"}
-STORES = {"storage_write", "storage", "color", "depth", "copy_write", "blit_write", "resolve_write", "clear_write"}
 LAYOUTS = {
     "sampled": "SHADER_READ_ONLY_OPTIMAL",
     "input": "SHADER_READ_ONLY_OPTIMAL",
@@ -26,27 +26,6 @@ LAYOUTS = {
     "storage_read": "GENERAL",
     "storage_write": "GENERAL",
     "storage": "GENERAL",
-}
-READS = {
-    "indirect": ("DRAW_INDIRECT", "INDIRECT_COMMAND_READ"),
-    "index": ("INDEX_INPUT", "INDEX_READ"),
-    "vertex": ("VERTEX_ATTRIBUTE_INPUT", "VERTEX_ATTRIBUTE_READ"),
-    "uniform": (None, "UNIFORM_READ"),
-    "sampled": (None, "SHADER_SAMPLED_READ"),
-    "input": ("FRAGMENT_SHADER", "INPUT_ATTACHMENT_READ"),
-    "storage_read": (None, "SHADER_STORAGE_READ"),
-    "storage_write": (None, "SHADER_STORAGE_WRITE"),
-    "storage": (None, "SHADER_STORAGE_READ|SHADER_STORAGE_WRITE"),
-    "color": ("COLOR_ATTACHMENT_OUTPUT", "COLOR_ATTACHMENT_READ|COLOR_ATTACHMENT_WRITE"),
-    "depth": ("EARLY_FRAGMENT_TESTS|LATE_FRAGMENT_TESTS", "DEPTH_STENCIL_ATTACHMENT_READ|DEPTH_STENCIL_ATTACHMENT_WRITE"),
-    "depth_read": ("EARLY_FRAGMENT_TESTS|LATE_FRAGMENT_TESTS", "DEPTH_STENCIL_ATTACHMENT_READ"),
-    "copy_read": ("COPY", "TRANSFER_READ"),
-    "copy_write": ("COPY", "TRANSFER_WRITE"),
-    "blit_read": ("BLIT", "TRANSFER_READ"),
-    "blit_write": ("BLIT", "TRANSFER_WRITE"),
-    "resolve_read": ("RESOLVE", "TRANSFER_READ"),
-    "resolve_write": ("RESOLVE", "TRANSFER_WRITE"),
-    "clear_write": ("CLEAR", "TRANSFER_WRITE"),
 }
 WRITING = {"SHADER_STORAGE_WRITE", "COLOR_ATTACHMENT_WRITE", "DEPTH_STENCIL_ATTACHMENT_WRITE", "TRANSFER_WRITE"}
 
@@ -127,10 +106,10 @@ class Writer:
             return None
         role = rng.choice(roles)
         use = {"piece": part.number, "as": role}
-        if role in SHADERS:
+        if ROLES[role].stage is None:
             graphics = family == "graphics" and rng.random() < 0.8
             use["stage"] = rng.choice(["VERTEX_SHADER", "FRAGMENT_SHADER"]) if graphics else "COMPUTE_SHADER"
-        if role in STORES and role not in ("storage", "storage_write"):
+        if ROLES[role].writes and role not in ("storage", "storage_write"):
             use["keeps"] = part.full and rng.random() < 0.5
         loads = use.get("keeps", role != "storage_write")
         return use if part.full or not loads else None
@@ -150,22 +129,23 @@ class Writer:
 
     def prepare(self, queue, part, use):
         """What has to stand between the last uses of the piece and this one."""
-        stages, accesses = READS[use["as"]]
-        stages = stages or use["stage"]
+        role = ROLES[use["as"]]
+        stages = role.stage or use["stage"]
+        accesses = united(role.reads or "", role.writes or "")
         if not use.get("keeps", True):
             accesses = written(accesses) or accesses
         layout = LAYOUTS[use["as"]] if part.is_image() else part.layout
         if part.queue is not None and part.queue != queue:
             self.wait(queue, part.queue)
             part.stages, part.accesses = "ALL_COMMANDS", ""
-        reads = use["as"] not in STORES and not written(part.accesses)
+        reads = not role.writes and not written(part.accesses)
         if layout != part.layout or (part.stages and not (reads and part.queue == queue)):
             self.barrier(queue, part, stages, accesses, layout)
             part.stages, part.accesses = stages, accesses
         else:
             part.stages, part.accesses = united(part.stages, stages), united(part.accesses, accesses)
         part.layout, part.queue = layout, queue
-        part.full = part.full or use["as"] in STORES
+        part.full = part.full or bool(role.writes)
 
     def barrier(self, queue, part, stages, accesses, layout):
         items = self.batches[queue][-1]["items"]

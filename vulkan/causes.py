@@ -1,80 +1,17 @@
 """Why `check` and the validation layer part on a submission, computed from the file."""
 
 import collections
+import json
+import pathlib
 
 # `right`: whose word the standard supports; `both` where each names a fault of the file, `open` where no sentence of it was found.
+# `where`: a paragraph of Vulkan 1.3 by its number, a rule of valid usage by its name, or a section by its title and anchor.
 Cause = collections.namedtuple("Cause", "name text where right")
+CAUSES = {entry["name"]: Cause(**entry) for entry in json.loads((pathlib.Path(__file__).parent / "causes.json").read_text())}
 
-SYNCHRONIZATION = "Vulkan 1.3, chapter Synchronization and Cache Control"
-MEMORY = "Vulkan 1.3, chapter Resource Creation, section Memory Aliasing"
 ATTACHMENTS = {"COLOR_ATTACHMENT_OUTPUT", "EARLY_FRAGMENT_TESTS", "LATE_FRAGMENT_TESTS"}
 TESTS = {"EARLY_FRAGMENT_TESTS", "LATE_FRAGMENT_TESTS"}
-
-LAYOUT = Cause(
-    "layout",
-    "the layer tests no layout of an attachment under dynamic rendering, and none of an image that is resolved",
-    "VUID-vkCmdBeginRendering-pRenderingInfo-09588 and -09592, VUID-vkCmdResolveImage-srcImageLayout-00260 and -dstImageLayout-00262",
-    "check",
-)
-OWNER = Cause("owner", "the layer does not follow which family owns a piece", "7.7.4", "check")
-HALF = Cause("half", "a release whose acquire is not in the file, which Vulkan allows", "7.7.4", "layer")
-CONTENTS = Cause("contents", "the layer does not follow which bytes are stored or thrown away", MEMORY, "check")
-RELEASED = Cause(
-    "released",
-    "a command touches what was released: an owner to `check`, to the layer a transition in no order",
-    "7.7.4",
-    "both",
-)
-
-AT_RELEASE = Cause(
-    "at release",
-    "the layer has the transition of a transfer at the release too, where the store is not available; the profile has it at the acquire",
-    "7.7.4",
-    "layer",
-)
-
-HOST = Cause("host", "the layer knows no reads by the host", SYNCHRONIZATION, "check")
-OUTSIDE = Cause("outside", "the layer does not know who takes a piece over behind the file", "the file alone says it", "check")
-ALIAS = Cause("alias", "the layer does not see that an image shares memory with another piece", MEMORY, "check")
-PARTS = Cause("parts", "the commands touch other bytes of one piece, and the profile takes pieces whole", SYNCHRONIZATION, "layer")
-TRANSFER = Cause("transfer", "to the layer a transfer of a buffer, or one without a change of layout, is no access", "7.7.4", "open")
-STORAGE = Cause("storage", "the layer reports no storage write after a storage write of the same stage", SYNCHRONIZATION, "check")
-READ_AND_WRITE = Cause(
-    "read and write",
-    "the layer tests the write alone where a shader reads and writes a resource",
-    SYNCHRONIZATION,
-    "check",
-)
-BETWEEN = Cause(
-    "between",
-    "the layer tests against the last write and the reads since then, and others touched the bytes between the two",
-    SYNCHRONIZATION,
-    "check",
-)
-OTHER_QUEUE = Cause("other queue", "the layer misses what another queue reads after it waited for this one", SYNCHRONIZATION, "check")
-DEPTH = Cause("depth", "the layer keeps no read of a depth test in LATE, and tests a store in LATE against the load alone", "8.6", "check")
-ATTACHED = Cause(
-    "attached",
-    "the layer takes attachment accesses of one queue as ordered; the standard those of one rendering",
-    "Vulkan 1.3, chapter Render Pass",
-    "check",
-)
-TURNS = Cause("turns", "two transitions of one image on one queue are in submission order by the standard", "7.1.1", "layer")
-SIGNAL = Cause(
-    "signal",
-    "a signal makes all in its scope available, logically earlier stages too; the layer takes the named ones",
-    "7.4.1",
-    "check",
-)
-WAIT = Cause("wait", "a wait makes memory visible to logically later stages too; the layer has it so for reads alone", "7.4.2", "check")
-AFTER_HOST = Cause(
-    "after host",
-    "a signal comes after what leads to HOST by the profile, and after its own stages alone by the standard",
-    "7.4.1",
-    "layer",
-)
-
-OF_STATE = {"H6": OWNER, "H8": CONTENTS, "H9": CONTENTS}
+OF_STATE = {"H6": "owner", "H8": "contents", "H9": "contents"}
 
 
 def names(mask):
@@ -186,21 +123,21 @@ def by_other_queue(pair):
     return first.queue != second.queue and any(waited) and pair.any(lambda one, other: not one.stores)
 
 
+# The causes of silence with what shows them, in the order in which they are tried.
 SILENT = [
-    (HOST, by_host),
-    (OUTSIDE, by_outside),
-    (ALIAS, by_alias),
-    (PARTS, by_parts),
-    (TRANSFER, by_transfer),
-    (TURNS, by_turns),
-    (STORAGE, by_storage),
-    (DEPTH, by_depth),
-    (ATTACHED, by_attached),
-    (READ_AND_WRITE, by_read_and_write),
-    (OTHER_QUEUE, by_other_queue),
-    (BETWEEN, by_between),
+    ("host", by_host),
+    ("outside", by_outside),
+    ("alias", by_alias),
+    ("parts", by_parts),
+    ("transfer", by_transfer),
+    ("turns", by_turns),
+    ("storage", by_storage),
+    ("depth", by_depth),
+    ("attached", by_attached),
+    ("read and write", by_read_and_write),
+    ("other queue", by_other_queue),
+    ("between", by_between),
 ]
-
 
 UNTESTED_LAYOUTS = ("color", "depth", "depth_read", "resolve_read", "resolve_write")
 
@@ -213,12 +150,16 @@ def renders(item, piece):
 
 def of_silence(submission, verdict):
     """Why the layer says nothing where `check` names a hazard; None where no cause is found."""
+    return CAUSES.get(silence(submission, verdict))
+
+
+def silence(submission, verdict):
     number, *fields = verdict.split()[1:]
     if number == "H5":
         node = submission.nodes[int(fields[0])]
-        return LAYOUT if node.kind == "command" and renders(node.value, int(fields[1])) else None
+        return "layout" if node.kind == "command" and renders(node.value, int(fields[1])) else None
     if number == "H7":
-        return HALF if submission.nodes[int(fields[0])].kind == "release" else None
+        return "half" if submission.nodes[int(fields[0])].kind == "release" else None
     if number in OF_STATE:
         return OF_STATE[number]
     pair = Pair(submission, int(fields[0]), int(fields[1]))
@@ -242,16 +183,20 @@ def semaphores(submission, kind):
 
 def of_message(submission, verdict):
     """Why the layer reports a hazard where `check` finds none of H2 to H4; None where no cause is found."""
+    return CAUSES.get(message(submission, verdict))
+
+
+def message(submission, verdict):
     if verdict.startswith("hazard") and touches_released(submission, int(verdict.split()[2])):
-        return RELEASED
+        return "released"
     if releases_unavailable(submission):
-        return AT_RELEASE
+        return "at release"
     if leads_to_host(submission):
-        return AFTER_HOST
+        return "after host"
     if submission.wide and semaphores(submission, "signal"):
-        return SIGNAL
+        return "signal"
     if submission.wide and semaphores(submission, "wait"):
-        return WAIT
+        return "wait"
     return None
 
 

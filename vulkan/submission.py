@@ -2,36 +2,14 @@
 
 import collections
 
+from roles import ROLES, loads_old_bytes, stages_of
+
 Access = collections.namedtuple("Access", "node piece stage access stores first end")
 Node = collections.namedtuple("Node", "kind queue batch item value")
 
 COPIES = ("copy_buffer", "copy_image", "buffer_to_image", "image_to_buffer")
 # Sources, and whether the destination is loaded where not all is stored.
 SOURCES = {"select": ["mask", "a", "b"], "combine": ["a", "b"]}
-SHADERS = ("VERTEX_SHADER", "FRAGMENT_SHADER", "COMPUTE_SHADER")
-READS = {
-    "indirect": ("DRAW_INDIRECT", "INDIRECT_COMMAND_READ"),
-    "index": ("INDEX_INPUT", "INDEX_READ"),
-    "vertex": ("VERTEX_ATTRIBUTE_INPUT", "VERTEX_ATTRIBUTE_READ"),
-    "uniform": (None, "UNIFORM_READ"),
-    "sampled": (None, "SHADER_SAMPLED_READ"),
-    "storage_read": (None, "SHADER_STORAGE_READ"),
-    "storage": (None, "SHADER_STORAGE_READ"),
-    "input": ("FRAGMENT_SHADER", "INPUT_ATTACHMENT_READ"),
-    "copy_read": ("COPY", "TRANSFER_READ"),
-    "blit_read": ("BLIT", "TRANSFER_READ"),
-    "resolve_read": ("RESOLVE", "TRANSFER_READ"),
-    "present": ("COPY", "TRANSFER_READ"),
-}
-WRITES = {
-    "storage_write": (None, "SHADER_STORAGE_WRITE"),
-    "storage": (None, "SHADER_STORAGE_WRITE"),
-    "color": ("COLOR_ATTACHMENT_OUTPUT", "COLOR_ATTACHMENT_WRITE"),
-    "copy_write": ("COPY", "TRANSFER_WRITE"),
-    "blit_write": ("BLIT", "TRANSFER_WRITE"),
-    "resolve_write": ("RESOLVE", "TRANSFER_WRITE"),
-    "clear_write": ("CLEAR", "TRANSFER_WRITE"),
-}
 
 
 class Submission:
@@ -155,25 +133,8 @@ class Submission:
         return [*loads, self.whole(k, item["dst"], "COMPUTE_SHADER", "SHADER_STORAGE_WRITE", True)]
 
     def of_use(self, k, use, stores):
-        role, piece = use["as"], use["piece"]
-        if role in ("depth", "depth_read"):
-            return self.of_depth(k, use, stores)
-        keeps = use.get("keeps", role not in ("storage_write",))
-        if stores:
-            found = [WRITES[role]] if role in WRITES else []
-        elif role == "color":
-            found = [("COLOR_ATTACHMENT_OUTPUT", "COLOR_ATTACHMENT_READ")] if keeps else []
-        elif role in READS:
-            found = [READS[role]]
-        else:
-            found = [WRITES[role]] if keeps else []
-        named = [stage for stage in SHADERS if stage in use.get("stage", "").split("|")]
-        return [
-            self.whole(k, piece, one, access, stores) for stage, access in found for one in ([stage] if stage else named)
-        ]
-
-    def of_depth(self, k, use, stores):
-        kind = "WRITE" if stores else "READ"
-        there = use["as"] == "depth" if stores else use["as"] == "depth_read" or use.get("keeps", True)
-        stages = ("EARLY_FRAGMENT_TESTS", "LATE_FRAGMENT_TESTS") if there else ()
-        return [self.whole(k, use["piece"], stage, f"DEPTH_STENCIL_ATTACHMENT_{kind}", stores) for stage in stages]
+        role = ROLES[use["as"]]
+        if not (role.writes if stores else loads_old_bytes(use)):
+            return []
+        access = role.writes if stores else role.reads or role.writes
+        return [self.whole(k, use["piece"], stage, access, stores) for stage in stages_of(use)]

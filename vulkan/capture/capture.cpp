@@ -67,6 +67,7 @@ size_t Capture::queue_of(uint64_t key, FileQueue::Kind kind, const std::string &
         file_queues.push_back({kind, name, family, {}, {}});
         host.push_back(0);
     }
+    file_queues[place->second].family = family;
     return place->second;
 }
 

@@ -2,17 +2,12 @@
 #include <mutex>
 
 #include "capture.hpp"
+#include "loader/loader.hpp"
 #include "table.hpp"
 
-// The next layer's functions of an instance. They are asked for when it is made: later the loader
-// answers with the first layer's.
-struct InstanceLayer {
-    VkInstance instance = VK_NULL_HANDLE;
-    PFN_vkGetInstanceProcAddr next = nullptr;
-    PFN_vkDestroyInstance destroy = nullptr;
+struct InstanceLayer : loader::Instance {
     PFN_vkEnumerateDeviceExtensionProperties extensions = nullptr;
     PFN_vkGetPhysicalDeviceFeatures2 features = nullptr;
-    PFN_vkGetPhysicalDeviceQueueFamilyProperties families = nullptr;
 };
 
 struct Queue {

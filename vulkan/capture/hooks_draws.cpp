@@ -31,14 +31,17 @@ void record_draw(CommandBuffer &buffer, std::vector<Touch> touches) {
     if (!says_the_same) commands.push_back(Draw{std::move(bound), std::move(touches)});
 }
 
-VkDeviceSize indirect_bytes(uint32_t count, uint32_t stride, VkDeviceSize one) {
-    return count == 0 ? 0 : VkDeviceSize{count - 1} * stride + one;
-}
-
 struct Indirect {
     VkBuffer buffer;
     VkDeviceSize offset, bytes;
 };
+
+// So many of the device's structures in a buffer.
+template <class Structure> Indirect structures(VkBuffer buffer, VkDeviceSize offset, uint32_t count, uint32_t stride) {
+    return {buffer, offset, count == 0 ? 0 : VkDeviceSize{count - 1} * stride + sizeof(Structure)};
+}
+
+Indirect count_in(VkBuffer buffer, VkDeviceSize offset) { return {buffer, offset, sizeof(uint32_t)}; }
 
 void draw_indirect(Device &layer, VkCommandBuffer commandBuffer, std::initializer_list<Indirect> read, bool indexed) {
     const auto buffer = buffer_of(layer, commandBuffer);
@@ -94,28 +97,24 @@ void CmdDrawMeshTasksEXT(Device &layer, VkCommandBuffer commandBuffer, uint32_t,
 }
 
 void CmdDrawIndirect(Device &layer, VkCommandBuffer commandBuffer, VkBuffer buffer, VkDeviceSize offset, uint32_t drawCount, uint32_t stride) {
-    draw_indirect(layer, commandBuffer, {{buffer, offset, indirect_bytes(drawCount, stride, sizeof(VkDrawIndirectCommand))}}, false);
+    draw_indirect(layer, commandBuffer, {structures<VkDrawIndirectCommand>(buffer, offset, drawCount, stride)}, false);
 }
 
 void CmdDrawIndexedIndirect(Device &layer, VkCommandBuffer commandBuffer, VkBuffer buffer, VkDeviceSize offset, uint32_t drawCount,
                             uint32_t stride) {
-    draw_indirect(layer, commandBuffer, {{buffer, offset, indirect_bytes(drawCount, stride, sizeof(VkDrawIndexedIndirectCommand))}}, true);
+    draw_indirect(layer, commandBuffer, {structures<VkDrawIndexedIndirectCommand>(buffer, offset, drawCount, stride)}, true);
 }
 
 void CmdDrawIndirectCount(Device &layer, VkCommandBuffer commandBuffer, VkBuffer buffer, VkDeviceSize offset, VkBuffer countBuffer,
                           VkDeviceSize countBufferOffset, uint32_t maxDrawCount, uint32_t stride) {
-    draw_indirect(layer, commandBuffer,
-                  {{buffer, offset, indirect_bytes(maxDrawCount, stride, sizeof(VkDrawIndirectCommand))},
-                   {countBuffer, countBufferOffset, sizeof(uint32_t)}},
-                  false);
+    const auto commands = structures<VkDrawIndirectCommand>(buffer, offset, maxDrawCount, stride);
+    draw_indirect(layer, commandBuffer, {commands, count_in(countBuffer, countBufferOffset)}, false);
 }
 
 void CmdDrawIndexedIndirectCount(Device &layer, VkCommandBuffer commandBuffer, VkBuffer buffer, VkDeviceSize offset, VkBuffer countBuffer,
                                  VkDeviceSize countBufferOffset, uint32_t maxDrawCount, uint32_t stride) {
-    draw_indirect(layer, commandBuffer,
-                  {{buffer, offset, indirect_bytes(maxDrawCount, stride, sizeof(VkDrawIndexedIndirectCommand))},
-                   {countBuffer, countBufferOffset, sizeof(uint32_t)}},
-                  true);
+    const auto commands = structures<VkDrawIndexedIndirectCommand>(buffer, offset, maxDrawCount, stride);
+    draw_indirect(layer, commandBuffer, {commands, count_in(countBuffer, countBufferOffset)}, true);
 }
 
 void CmdDispatch(Device &layer, VkCommandBuffer commandBuffer, uint32_t, uint32_t, uint32_t) { dispatch(layer, commandBuffer, "dispatch"); }

@@ -172,9 +172,11 @@ VkResult submit_and_call(Device &layer, Next next, VkQueue queue, uint32_t infoC
     return result;
 }
 
-size_t presentation_queue(Device &layer, const Ref<Image> &image) {
+// The presentation engine reads an image for the family of the queue that presents it: that one has to own it.
+size_t presentation_queue(Device &layer, const Swapchain &swapchain, const Ref<Image> &image) {
     const std::string name = "swapchain image " + std::to_string(image->swapchain_index);
-    return layer.capture.queue_of(key_of(image.get()), FileQueue::Kind::presentation, name, layer.capture.families.at(0));
+    const VkQueueFlags family = swapchain.family != 0 ? swapchain.family : layer.capture.families.at(0);
+    return layer.capture.queue_of(key_of(image.get()), FileQueue::Kind::presentation, name, family);
 }
 
 void add_presentation_read(Capture &capture, Batch &batch, const Ref<Image> &image) {
@@ -186,7 +188,7 @@ void add_presentation_read(Capture &capture, Batch &batch, const Ref<Image> &ima
     batch.items.push_back(std::move(action));
 }
 
-void present(Device &layer, const VkPresentInfoKHR &info) {
+void present(Device &layer, VkQueue handle, const VkPresentInfoKHR &info) {
     std::vector<Points> waited;
     for (const VkSemaphore handle : std::span(info.pWaitSemaphores, info.waitSemaphoreCount)) {
         const auto semaphore = layer.objects.semaphores.find(handle);
@@ -194,12 +196,13 @@ void present(Device &layer, const VkPresentInfoKHR &info) {
         waited.push_back(semaphore->last);
         semaphore->last.clear();
     }
-    if (!layer.capture.running()) return;
     for (uint32_t place = 0; place < info.swapchainCount; ++place) {
         const auto swapchain = layer.objects.swapchains.find(info.pSwapchains[place]);
-        if (!swapchain || info.pImageIndices[place] >= swapchain->images.size()) continue;
+        if (!swapchain) continue;
+        swapchain->family = family_of(layer, handle);
+        if (!layer.capture.running() || info.pImageIndices[place] >= swapchain->images.size()) continue;
         const auto &image = swapchain->images[info.pImageIndices[place]];
-        const size_t queue = presentation_queue(layer, image);
+        const size_t queue = presentation_queue(layer, *swapchain, image);
         Batch &batch = layer.capture.open_batch(queue);
         for (const Points &points : waited) {
             for (const Point &point : points) batch.waits.push_back({point});
@@ -216,7 +219,7 @@ void acquire(Device &layer, VkResult result, VkSwapchainKHR handle, VkSemaphore 
     Points points;
     if (layer.capture.running() && swapchain && index < swapchain->images.size()) {
         const auto &image = swapchain->images[index];
-        const size_t queue = presentation_queue(layer, image);
+        const size_t queue = presentation_queue(layer, *swapchain, image);
         if (!layer.capture.has_seen(*image)) {
             add_presentation_read(layer.capture, layer.capture.open_batch(queue), image);
             layer.capture.close_batch(queue, VK_PIPELINE_STAGE_2_ALL_COMMANDS_BIT);
@@ -260,7 +263,7 @@ VkResult QueueBindSparse(Device &layer, PFN_vkQueueBindSparse next, VkQueue queu
 VkResult QueuePresentKHR(Device &layer, PFN_vkQueuePresentKHR next, VkQueue queue, const VkPresentInfoKHR *pPresentInfo) {
     if (!layer.capture.recording()) return next(queue, pPresentInfo);
     const std::lock_guard order(layer.submitting);
-    with_state(layer, [&] { present(layer, *pPresentInfo); });
+    with_state(layer, [&] { present(layer, queue, *pPresentInfo); });
     const VkResult result = next(queue, pPresentInfo);
     count_one(layer, Settings::Unit::frames);
     return result;

@@ -85,28 +85,39 @@ struct Images {
     VkImageLayout to_layout;
 };
 
-template <class Region>
-void copy_or_resolve(Device &layer, VkCommandBuffer commandBuffer, const char *name, const Images &images, Role read, Role write,
-                     std::span<const Region> regions) {
-    TransferCall call(layer, name);
-    const auto from = call.find(images.from), to = call.find(images.to);
-    for (const Region &region : regions) {
-        call.image(range_of(from, region.srcSubresource), read, images.from_layout, false);
-        call.image(range_of(to, region.dstSubresource), write, images.to_layout,
-                   covers(to, region.dstSubresource.mipLevel, region.dstOffset, region.extent));
-    }
-    call.record_in(commandBuffer);
+template <class Info> Images images_of(const Info &info) {
+    return {info.srcImage, info.srcImageLayout, info.dstImage, info.dstImageLayout};
+}
+
+// What a command makes of one image in another one.
+struct Kind {
+    const char *name;
+    Role read, write;
+};
+
+constexpr Kind image_copy{"copy of an image", Role::copy_read, Role::copy_write};
+constexpr Kind image_resolve{"resolve", Role::resolve_read, Role::resolve_write};
+constexpr Kind image_blit{"blit", Role::blit_read, Role::blit_write};
+
+// Whether nothing of the old texels of the destination is left behind a copy or resolve of this region, or behind a blit.
+template <class Region> bool fills(const Ref<Image> &image, const Region &region) {
+    return covers(image, region.dstSubresource.mipLevel, region.dstOffset, region.extent);
 }
 
 template <class Region>
-void blit(Device &layer, VkCommandBuffer commandBuffer, const Images &images, std::span<const Region> regions) {
-    TransferCall call(layer, "blit");
+    requires requires(Region region) { region.dstOffsets; }
+bool fills(const Ref<Image> &image, const Region &region) {
+    const VkOffset3D *corners = region.dstOffsets;
+    return covers(image, region.dstSubresource.mipLevel, lower(corners[0], corners[1]), extent_between(corners[0], corners[1]));
+}
+
+template <class Region>
+void image_to_image(Device &layer, VkCommandBuffer commandBuffer, const Kind &kind, const Images &images, std::span<const Region> regions) {
+    TransferCall call(layer, kind.name);
     const auto from = call.find(images.from), to = call.find(images.to);
     for (const Region &region : regions) {
-        const VkOffset3D *corners = region.dstOffsets;
-        call.image(range_of(from, region.srcSubresource), Role::blit_read, images.from_layout, false);
-        call.image(range_of(to, region.dstSubresource), Role::blit_write, images.to_layout,
-                   covers(to, region.dstSubresource.mipLevel, lower(corners[0], corners[1]), extent_between(corners[0], corners[1])));
+        call.image(range_of(from, region.srcSubresource), kind.read, images.from_layout, false);
+        call.image(range_of(to, region.dstSubresource), kind.write, images.to_layout, fills(to, region));
     }
     call.record_in(commandBuffer);
 }
@@ -146,6 +157,8 @@ void clear(Device &layer, VkCommandBuffer commandBuffer, VkImage handle, VkImage
 
 template <class Region> std::span<const Region> regions_of(const Region *regions, uint32_t count) { return {regions, count}; }
 
+template <class Info> auto regions_of(const Info *info) { return regions_of(info->pRegions, info->regionCount); }
+
 }  // namespace
 
 namespace hook {
@@ -156,39 +169,35 @@ void CmdCopyBuffer(Device &layer, VkCommandBuffer commandBuffer, VkBuffer srcBuf
 }
 
 void CmdCopyBuffer2(Device &layer, VkCommandBuffer commandBuffer, const VkCopyBufferInfo2 *info) {
-    copy_buffer(layer, commandBuffer, info->srcBuffer, info->dstBuffer, regions_of(info->pRegions, info->regionCount));
+    copy_buffer(layer, commandBuffer, info->srcBuffer, info->dstBuffer, regions_of(info));
 }
 
 void CmdCopyImage(Device &layer, VkCommandBuffer commandBuffer, VkImage srcImage, VkImageLayout srcImageLayout, VkImage dstImage,
                   VkImageLayout dstImageLayout, uint32_t regionCount, const VkImageCopy *pRegions) {
-    copy_or_resolve(layer, commandBuffer, "copy of an image", {srcImage, srcImageLayout, dstImage, dstImageLayout}, Role::copy_read,
-                    Role::copy_write, regions_of(pRegions, regionCount));
+    image_to_image(layer, commandBuffer, image_copy, {srcImage, srcImageLayout, dstImage, dstImageLayout}, regions_of(pRegions, regionCount));
 }
 
 void CmdCopyImage2(Device &layer, VkCommandBuffer commandBuffer, const VkCopyImageInfo2 *info) {
-    copy_or_resolve(layer, commandBuffer, "copy of an image", {info->srcImage, info->srcImageLayout, info->dstImage, info->dstImageLayout},
-                    Role::copy_read, Role::copy_write, regions_of(info->pRegions, info->regionCount));
+    image_to_image(layer, commandBuffer, image_copy, images_of(*info), regions_of(info));
 }
 
 void CmdResolveImage(Device &layer, VkCommandBuffer commandBuffer, VkImage srcImage, VkImageLayout srcImageLayout, VkImage dstImage,
                      VkImageLayout dstImageLayout, uint32_t regionCount, const VkImageResolve *pRegions) {
-    copy_or_resolve(layer, commandBuffer, "resolve", {srcImage, srcImageLayout, dstImage, dstImageLayout}, Role::resolve_read,
-                    Role::resolve_write, regions_of(pRegions, regionCount));
+    image_to_image(layer, commandBuffer, image_resolve, {srcImage, srcImageLayout, dstImage, dstImageLayout},
+                   regions_of(pRegions, regionCount));
 }
 
 void CmdResolveImage2(Device &layer, VkCommandBuffer commandBuffer, const VkResolveImageInfo2 *info) {
-    copy_or_resolve(layer, commandBuffer, "resolve", {info->srcImage, info->srcImageLayout, info->dstImage, info->dstImageLayout},
-                    Role::resolve_read, Role::resolve_write, regions_of(info->pRegions, info->regionCount));
+    image_to_image(layer, commandBuffer, image_resolve, images_of(*info), regions_of(info));
 }
 
 void CmdBlitImage(Device &layer, VkCommandBuffer commandBuffer, VkImage srcImage, VkImageLayout srcImageLayout, VkImage dstImage,
                   VkImageLayout dstImageLayout, uint32_t regionCount, const VkImageBlit *pRegions, VkFilter) {
-    blit(layer, commandBuffer, {srcImage, srcImageLayout, dstImage, dstImageLayout}, regions_of(pRegions, regionCount));
+    image_to_image(layer, commandBuffer, image_blit, {srcImage, srcImageLayout, dstImage, dstImageLayout}, regions_of(pRegions, regionCount));
 }
 
 void CmdBlitImage2(Device &layer, VkCommandBuffer commandBuffer, const VkBlitImageInfo2 *info) {
-    blit(layer, commandBuffer, {info->srcImage, info->srcImageLayout, info->dstImage, info->dstImageLayout},
-         regions_of(info->pRegions, info->regionCount));
+    image_to_image(layer, commandBuffer, image_blit, images_of(*info), regions_of(info));
 }
 
 void CmdCopyBufferToImage(Device &layer, VkCommandBuffer commandBuffer, VkBuffer srcBuffer, VkImage dstImage, VkImageLayout dstImageLayout,
@@ -197,8 +206,7 @@ void CmdCopyBufferToImage(Device &layer, VkCommandBuffer commandBuffer, VkBuffer
 }
 
 void CmdCopyBufferToImage2(Device &layer, VkCommandBuffer commandBuffer, const VkCopyBufferToImageInfo2 *info) {
-    buffer_to_image(layer, commandBuffer, info->srcBuffer, info->dstImage, info->dstImageLayout,
-                    regions_of(info->pRegions, info->regionCount));
+    buffer_to_image(layer, commandBuffer, info->srcBuffer, info->dstImage, info->dstImageLayout, regions_of(info));
 }
 
 void CmdCopyImageToBuffer(Device &layer, VkCommandBuffer commandBuffer, VkImage srcImage, VkImageLayout srcImageLayout, VkBuffer dstBuffer,
@@ -207,8 +215,7 @@ void CmdCopyImageToBuffer(Device &layer, VkCommandBuffer commandBuffer, VkImage 
 }
 
 void CmdCopyImageToBuffer2(Device &layer, VkCommandBuffer commandBuffer, const VkCopyImageToBufferInfo2 *info) {
-    image_to_buffer(layer, commandBuffer, info->srcImage, info->srcImageLayout, info->dstBuffer,
-                    regions_of(info->pRegions, info->regionCount));
+    image_to_buffer(layer, commandBuffer, info->srcImage, info->srcImageLayout, info->dstBuffer, regions_of(info));
 }
 
 void CmdFillBuffer(Device &layer, VkCommandBuffer commandBuffer, VkBuffer dstBuffer, VkDeviceSize dstOffset, VkDeviceSize size, uint32_t) {

@@ -1,10 +1,6 @@
 // How the loader finds the layer, and what it does at instances and devices.
 
-#include <vulkan/vk_layer.h>
-
 #include <algorithm>
-#include <cstring>
-#include <shared_mutex>
 #include <string_view>
 
 #include "device.hpp"
@@ -12,32 +8,8 @@
 
 namespace {
 
-// An instance and its physical devices share the first word of what their handles point to; a
-// device, its queues and its command buffers do too.
-void *key_word(const void *dispatchable) { return *static_cast<void *const *>(dispatchable); }
-
-std::shared_mutex tables;
-std::unordered_map<void *, InstanceLayer> instances;
-std::unordered_map<void *, std::unique_ptr<Device>> devices;
-
-InstanceLayer instance_of(const void *dispatchable) {
-    const std::shared_lock lock(tables);
-    const auto found = instances.find(key_word(dispatchable));
-    return found == instances.end() ? InstanceLayer{} : found->second;
-}
-
-InstanceLayer layer_of(VkInstance instance, PFN_vkGetInstanceProcAddr next) {
-    InstanceLayer layer{instance, next, nullptr, nullptr, nullptr, nullptr};
-    const auto find = [&]<class Function>(Function &function, const char *name) {
-        if (function == nullptr) function = reinterpret_cast<Function>(next(instance, name));
-    };
-    find(layer.destroy, "vkDestroyInstance");
-    find(layer.extensions, "vkEnumerateDeviceExtensionProperties");
-    find(layer.features, "vkGetPhysicalDeviceFeatures2");
-    find(layer.features, "vkGetPhysicalDeviceFeatures2KHR");
-    find(layer.families, "vkGetPhysicalDeviceQueueFamilyProperties");
-    return layer;
-}
+loader::Table<InstanceLayer> instances;
+loader::Table<Device> devices;
 
 // Extensions whose use cannot be seen: descriptors and commands in plain memory, and the host
 // in the memory of images.
@@ -49,37 +21,20 @@ bool is_hidden(const VkExtensionProperties &extension) {
     return std::ranges::find(hidden_extensions, std::string_view(extension.extensionName)) != std::end(hidden_extensions);
 }
 
-template <class Info> Info *chain_link(const void *create_info, VkStructureType type) {
-    for (auto *next = static_cast<const VkBaseInStructure *>(create_info)->pNext; next != nullptr; next = next->pNext) {
-        auto *info = reinterpret_cast<Info *>(const_cast<VkBaseInStructure *>(next));
-        if (next->sType == type && info->function == VK_LAYER_LINK_INFO) return info;
-    }
-    return nullptr;
-}
-
 VKAPI_ATTR VkResult VKAPI_CALL CreateInstance(const VkInstanceCreateInfo *info, const VkAllocationCallbacks *allocator,
                                               VkInstance *instance) {
-    auto *link = chain_link<VkLayerInstanceCreateInfo>(info, VK_STRUCTURE_TYPE_LOADER_INSTANCE_CREATE_INFO);
-    if (link == nullptr) return VK_ERROR_INITIALIZATION_FAILED;
-    const PFN_vkGetInstanceProcAddr next = link->u.pLayerInfo->pfnNextGetInstanceProcAddr;
-    link->u.pLayerInfo = link->u.pLayerInfo->pNext;
-    const auto create = reinterpret_cast<PFN_vkCreateInstance>(next(nullptr, "vkCreateInstance"));
-    const VkResult result = create(info, allocator, instance);
-    if (result == VK_SUCCESS) {
-        const std::unique_lock lock(tables);
-        instances[key_word(*instance)] = layer_of(*instance, next);
-    }
-    return result;
+    auto made = std::make_unique<InstanceLayer>();
+    const VkResult result = loader::make_instance(info, allocator, instance, *made);
+    if (result != VK_SUCCESS) return result;
+    made->find(made->extensions, "vkEnumerateDeviceExtensionProperties");
+    made->find(made->features, "vkGetPhysicalDeviceFeatures2");
+    made->find(made->features, "vkGetPhysicalDeviceFeatures2KHR");
+    instances.keep(*instance, std::move(made));
+    return VK_SUCCESS;
 }
 
 VKAPI_ATTR void VKAPI_CALL DestroyInstance(VkInstance instance, const VkAllocationCallbacks *allocator) {
-    if (instance == nullptr) return;
-    const auto destroy = instance_of(instance).destroy;
-    {
-        const std::unique_lock lock(tables);
-        instances.erase(key_word(instance));
-    }
-    destroy(instance, allocator);
+    if (instance != nullptr) instances.take(instance)->destroy(instance, allocator);
 }
 
 std::vector<VkQueueFlags> families_of(const InstanceLayer &layer, VkPhysicalDevice physical) {
@@ -94,34 +49,25 @@ std::vector<VkQueueFlags> families_of(const InstanceLayer &layer, VkPhysicalDevi
 
 VKAPI_ATTR VkResult VKAPI_CALL CreateDevice(VkPhysicalDevice physical, const VkDeviceCreateInfo *info,
                                             const VkAllocationCallbacks *allocator, VkDevice *device) {
-    auto *link = chain_link<VkLayerDeviceCreateInfo>(info, VK_STRUCTURE_TYPE_LOADER_DEVICE_CREATE_INFO);
+    const VkLayerDeviceLink *link = loader::link_of(*info);
     if (link == nullptr) return VK_ERROR_INITIALIZATION_FAILED;
-    const PFN_vkGetInstanceProcAddr next_instance = link->u.pLayerInfo->pfnNextGetInstanceProcAddr;
-    const PFN_vkGetDeviceProcAddr next_device = link->u.pLayerInfo->pfnNextGetDeviceProcAddr;
-    link->u.pLayerInfo = link->u.pLayerInfo->pNext;
-    const InstanceLayer instance = instance_of(physical);
-    const auto create = reinterpret_cast<PFN_vkCreateDevice>(next_instance(instance.instance, "vkCreateDevice"));
+    const InstanceLayer &instance = instances.of(physical);
+    const auto create = reinterpret_cast<PFN_vkCreateDevice>(link->pfnNextGetInstanceProcAddr(instance.handle, "vkCreateDevice"));
     const VkResult result = create(physical, info, allocator, device);
     if (result != VK_SUCCESS) return result;
     auto made = std::make_unique<Device>();
     made->handle = *device;
     made->physical = physical;
     made->capture.families = families_of(instance, physical);
-    fill_table(made->next, *device, next_device);
-    made->next_proc = next_device;
-    const std::unique_lock lock(tables);
-    devices[key_word(*device)] = std::move(made);
-    return result;
+    fill_table(made->next, *device, link->pfnNextGetDeviceProcAddr);
+    made->next_proc = link->pfnNextGetDeviceProcAddr;
+    devices.keep(*device, std::move(made));
+    return VK_SUCCESS;
 }
 
 VKAPI_ATTR void VKAPI_CALL DestroyDevice(VkDevice device, const VkAllocationCallbacks *allocator) {
     if (device == nullptr) return;
-    std::unique_ptr<Device> gone;
-    {
-        const std::unique_lock lock(tables);
-        gone = std::move(devices[key_word(device)]);
-        devices.erase(key_word(device));
-    }
+    std::unique_ptr<Device> gone = devices.take(device);
     const PFN_vkDestroyDevice destroy = gone->next.DestroyDevice;
     gone.reset();
     destroy(device, allocator);
@@ -129,7 +75,7 @@ VKAPI_ATTR void VKAPI_CALL DestroyDevice(VkDevice device, const VkAllocationCall
 
 VKAPI_ATTR VkResult VKAPI_CALL EnumerateDeviceExtensionProperties(VkPhysicalDevice physical, const char *layer_name,
                                                                   uint32_t *count, VkExtensionProperties *properties) {
-    const auto ask = instance_of(physical).extensions;
+    const auto ask = instances.of(physical).extensions;
     if (layer_name != nullptr) return ask(physical, layer_name, count, properties);
     uint32_t all = 0;
     VkResult result = ask(physical, nullptr, &all, nullptr);
@@ -171,7 +117,7 @@ void hide_features(void *chain) {
 }
 
 VKAPI_ATTR void VKAPI_CALL GetPhysicalDeviceFeatures2(VkPhysicalDevice physical, VkPhysicalDeviceFeatures2 *features) {
-    instance_of(physical).features(physical, features);
+    instances.of(physical).features(physical, features);
     hide_features(features->pNext);
 }
 
@@ -208,8 +154,8 @@ VKAPI_ATTR PFN_vkVoidFunction VKAPI_CALL GetDeviceProcAddr(VkDevice device, cons
 VKAPI_ATTR PFN_vkVoidFunction VKAPI_CALL GetInstanceProcAddr(VkInstance instance, const char *name) {
     const PFN_vkVoidFunction own = own_instance_function(name);
     if (instance == nullptr) return own;
-    const InstanceLayer layer = instance_of(instance);
-    const PFN_vkVoidFunction next = layer.next(layer.instance, name);
+    const InstanceLayer &layer = instances.of(instance);
+    const PFN_vkVoidFunction next = layer.next(layer.handle, name);
     if (next == nullptr) return nullptr;
     if (own != nullptr) return own;
     const PFN_vkVoidFunction wrapped = settings() ? wrapper_of(name) : nullptr;
@@ -218,18 +164,9 @@ VKAPI_ATTR PFN_vkVoidFunction VKAPI_CALL GetInstanceProcAddr(VkInstance instance
 
 }  // namespace
 
-Device &device_of(const void *dispatchable) {
-    const std::shared_lock lock(tables);
-    return *devices.at(key_word(dispatchable));
-}
+Device &device_of(const void *dispatchable) { return devices.of(dispatchable); }
 
 extern "C" __attribute__((visibility("default"))) VKAPI_ATTR VkResult VKAPI_CALL
 vkNegotiateLoaderLayerInterfaceVersion(VkNegotiateLayerInterface *interface) {
-    constexpr uint32_t version = 2;
-    if (interface->loaderLayerInterfaceVersion < version) return VK_ERROR_INITIALIZATION_FAILED;
-    interface->loaderLayerInterfaceVersion = version;
-    interface->pfnGetInstanceProcAddr = GetInstanceProcAddr;
-    interface->pfnGetDeviceProcAddr = GetDeviceProcAddr;
-    interface->pfnGetPhysicalDeviceProcAddr = nullptr;
-    return VK_SUCCESS;
+    return loader::negotiate(*interface, GetInstanceProcAddr, GetDeviceProcAddr);
 }

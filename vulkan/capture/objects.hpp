@@ -96,6 +96,8 @@ struct Swapchain {
     VkExtent2D extent{};
     uint32_t layers = 1;
     bool concurrent = false;
+    // What the family can do that presents its images, once one has.
+    VkQueueFlags family = 0;
     std::string name;
 };
 

@@ -13,9 +13,12 @@ void set_signal(const SemaphoreUse &signal, const Points &points) {
     }
 }
 
+VkQueueFlags family_of(Device &layer, VkQueue handle) {
+    const auto queue = layer.objects.queues.find(handle);
+    return layer.capture.families.at(queue ? queue->family : 0);
+}
+
 size_t device_queue(Device &layer, VkQueue handle) {
     const auto queue = layer.objects.queues.find(handle);
-    const uint32_t family = queue ? queue->family : 0;
-    const std::string name = queue ? queue->name : "";
-    return layer.capture.queue_of(key_of(handle), FileQueue::Kind::device, name, layer.capture.families.at(family));
+    return layer.capture.queue_of(key_of(handle), FileQueue::Kind::device, queue ? queue->name : "", family_of(layer, handle));
 }

@@ -1,7 +1,6 @@
 // How the loader meets this layer: one exported function, from which it gets all others.
 #include "families.hpp"
 
-#include <cstring>
 #include <string_view>
 
 namespace families {
@@ -13,47 +12,23 @@ PFN_vkVoidFunction VKAPI_CALL device_function(VkDevice device, const char *name)
 
 template <typename Function> PFN_vkVoidFunction plain(Function function) { return reinterpret_cast<PFN_vkVoidFunction>(function); }
 
-template <typename Function> Function found(const InstanceTable &table, const char *name) {
-    return reinterpret_cast<Function>(table.next(table.instance, name));
-}
-
 template <typename Function> Function found(const DeviceTable &table, const char *name) {
     return reinterpret_cast<Function>(table.next(table.device, name));
 }
 
-// The loader's structure of this kind in a chain, which each layer advances for the next one.
-template <typename Info> Info *loader_info(const void *chain, VkStructureType type, VkLayerFunction function) {
-    for (auto *one = static_cast<const VkBaseInStructure *>(chain); one != nullptr; one = one->pNext) {
-        auto *info = reinterpret_cast<Info *>(const_cast<VkBaseInStructure *>(one));
-        if (one->sType == type && info->function == function)
-            return info;
-    }
-    return nullptr;
-}
-
 VkResult VKAPI_CALL create_instance(const VkInstanceCreateInfo *info, const VkAllocationCallbacks *allocator, VkInstance *instance) {
-    auto *link = loader_info<VkLayerInstanceCreateInfo>(info->pNext, VK_STRUCTURE_TYPE_LOADER_INSTANCE_CREATE_INFO, VK_LAYER_LINK_INFO);
-    if (link == nullptr)
-        return VK_ERROR_INITIALIZATION_FAILED;
-    auto table = std::make_unique<InstanceTable>();
-    table->next = link->u.pLayerInfo->pfnNextGetInstanceProcAddr;
-    link->u.pLayerInfo = link->u.pLayerInfo->pNext;
-    const auto create = reinterpret_cast<PFN_vkCreateInstance>(table->next(VK_NULL_HANDLE, "vkCreateInstance"));
-    const VkResult result = create(info, allocator, instance);
+    auto made = std::make_unique<InstanceTable>();
+    const VkResult result = loader::make_instance(info, allocator, instance, *made);
     if (result != VK_SUCCESS)
         return result;
-    table->instance = *instance;
-    table->destroy_instance = found<PFN_vkDestroyInstance>(*table, "vkDestroyInstance");
-    table->queue_families = found<PFN_vkGetPhysicalDeviceQueueFamilyProperties>(*table, "vkGetPhysicalDeviceQueueFamilyProperties");
-    keep(std::move(table));
+    made->find(made->surface_support, "vkGetPhysicalDeviceSurfaceSupportKHR");
+    instances.keep(*instance, std::move(made));
     return VK_SUCCESS;
 }
 
 void VKAPI_CALL destroy_instance(VkInstance instance, const VkAllocationCallbacks *allocator) {
-    if (instance == VK_NULL_HANDLE)
-        return;
-    const auto table = forget_instance(instance);
-    table->destroy_instance(instance, allocator);
+    if (instance != VK_NULL_HANDLE)
+        instances.take(instance)->destroy(instance, allocator);
 }
 
 void fill(DeviceTable &table) {
@@ -62,11 +37,13 @@ void fill(DeviceTable &table) {
     table.submit = found<PFN_vkQueueSubmit>(table, "vkQueueSubmit");
     table.submit2 = found<PFN_vkQueueSubmit2>(table, "vkQueueSubmit2");
     table.wait_idle = found<PFN_vkQueueWaitIdle>(table, "vkQueueWaitIdle");
+    table.present = found<PFN_vkQueuePresentKHR>(table, "vkQueuePresentKHR");
     table.create_pool = found<PFN_vkCreateCommandPool>(table, "vkCreateCommandPool");
     table.destroy_pool = found<PFN_vkDestroyCommandPool>(table, "vkDestroyCommandPool");
     table.allocate = found<PFN_vkAllocateCommandBuffers>(table, "vkAllocateCommandBuffers");
     table.create_buffer = found<PFN_vkCreateBuffer>(table, "vkCreateBuffer");
     table.create_image = found<PFN_vkCreateImage>(table, "vkCreateImage");
+    table.barrier = found<PFN_vkCmdPipelineBarrier>(table, "vkCmdPipelineBarrier");
     table.barrier2 = found<PFN_vkCmdPipelineBarrier2>(table, "vkCmdPipelineBarrier2");
 }
 
@@ -83,36 +60,34 @@ void make_queues(DeviceTable &table, PFN_vkSetDeviceLoaderData set_loader_data) 
 
 VkResult VKAPI_CALL create_device(VkPhysicalDevice physical, const VkDeviceCreateInfo *info, const VkAllocationCallbacks *allocator,
                                   VkDevice *device) {
-    constexpr auto type = VK_STRUCTURE_TYPE_LOADER_DEVICE_CREATE_INFO;
-    auto *link = loader_info<VkLayerDeviceCreateInfo>(info->pNext, type, VK_LAYER_LINK_INFO);
-    auto *data = loader_info<VkLayerDeviceCreateInfo>(info->pNext, type, VK_LOADER_DATA_CALLBACK);
+    const VkLayerDeviceLink *link = loader::link_of(*info);
+    const auto *data =
+        loader::info_of<VkLayerDeviceCreateInfo>(info, VK_STRUCTURE_TYPE_LOADER_DEVICE_CREATE_INFO, VK_LOADER_DATA_CALLBACK);
     if (link == nullptr || data == nullptr)
         return VK_ERROR_INITIALIZATION_FAILED;
-    const auto next_instance = link->u.pLayerInfo->pfnNextGetInstanceProcAddr;
     auto table = std::make_unique<DeviceTable>();
-    table->next = link->u.pLayerInfo->pfnNextGetDeviceProcAddr;
-    link->u.pLayerInfo = link->u.pLayerInfo->pNext;
+    table->next = link->pfnNextGetDeviceProcAddr;
     const float priority = 1.0F;
     const VkDeviceQueueCreateInfo queue{VK_STRUCTURE_TYPE_DEVICE_QUEUE_CREATE_INFO, nullptr, 0, 0, 1, &priority};
     VkDeviceCreateInfo below = *info;
     below.queueCreateInfoCount = 1;
     below.pQueueCreateInfos = &queue;
-    const auto create =
-        reinterpret_cast<PFN_vkCreateDevice>(next_instance(instance_of(physical).instance, "vkCreateDevice"));
+    const VkInstance instance = instances.of(physical).handle;
+    const auto create = reinterpret_cast<PFN_vkCreateDevice>(link->pfnNextGetInstanceProcAddr(instance, "vkCreateDevice"));
     const VkResult result = create(physical, &below, allocator, device);
     if (result != VK_SUCCESS)
         return result;
     table->device = *device;
     fill(*table);
     make_queues(*table, data->u.pfnSetDeviceLoaderData);
-    keep(std::move(table));
+    devices.keep(*device, std::move(table));
     return VK_SUCCESS;
 }
 
 void VKAPI_CALL destroy_device(VkDevice device, const VkAllocationCallbacks *allocator) {
     if (device == VK_NULL_HANDLE)
         return;
-    const auto table = forget_device(device);
+    const auto table = devices.take(device);
     table->destroy_device(device, allocator);
 }
 
@@ -147,11 +122,13 @@ PFN_vkVoidFunction own_device_function(std::string_view name) {
         {"vkQueueSubmit2", plain(submit2)},
         {"vkQueueSubmit2KHR", plain(submit2)},
         {"vkQueueWaitIdle", plain(wait_idle)},
+        {"vkQueuePresentKHR", plain(present)},
         {"vkCreateCommandPool", plain(create_pool)},
         {"vkDestroyCommandPool", plain(destroy_pool)},
         {"vkAllocateCommandBuffers", plain(allocate)},
         {"vkCreateBuffer", plain(create_buffer)},
         {"vkCreateImage", plain(create_image)},
+        {"vkCmdPipelineBarrier", plain(barrier)},
         {"vkCmdPipelineBarrier2", plain(barrier2)},
         {"vkCmdPipelineBarrier2KHR", plain(barrier2)},
         {"vkCmdDrawIndirect", plain(draw_nothing_indirect)},
@@ -166,7 +143,7 @@ PFN_vkVoidFunction own_device_function(std::string_view name) {
 }
 
 PFN_vkVoidFunction VKAPI_CALL device_function(VkDevice device, const char *name) {
-    const PFN_vkVoidFunction below = device_of(device).next(device, name);
+    const PFN_vkVoidFunction below = devices.of(device).next(device, name);
     const PFN_vkVoidFunction own = own_device_function(name);
     // What the layers below do not have must not seem to be there.
     return own != nullptr && below != nullptr ? own : below;
@@ -175,9 +152,15 @@ PFN_vkVoidFunction VKAPI_CALL device_function(VkDevice device, const char *name)
 PFN_vkVoidFunction VKAPI_CALL instance_function(VkInstance instance, const char *name) {
     if (const auto own = own_instance_function(name))
         return own;
-    if (const auto own = own_device_function(name))
-        return own;
-    return instance == VK_NULL_HANDLE ? nullptr : instance_of(instance).next(instance, name);
+    if (instance == VK_NULL_HANDLE)
+        return nullptr;
+    const PFN_vkVoidFunction below = instances.of(instance).next(instance, name);
+    if (below == nullptr)
+        return nullptr;
+    if (std::string_view(name) == "vkGetPhysicalDeviceSurfaceSupportKHR")
+        return plain(surface_support);
+    const PFN_vkVoidFunction own = own_device_function(name);
+    return own != nullptr ? own : below;
 }
 
 } // namespace
@@ -186,11 +169,5 @@ PFN_vkVoidFunction VKAPI_CALL instance_function(VkInstance instance, const char 
 
 extern "C" __attribute__((visibility("default"))) VkResult VKAPI_CALL
 vkNegotiateLoaderLayerInterfaceVersion(VkNegotiateLayerInterface *interface) {
-    if (interface->loaderLayerInterfaceVersion < 2)
-        return VK_ERROR_INITIALIZATION_FAILED;
-    interface->loaderLayerInterfaceVersion = 2;
-    interface->pfnGetInstanceProcAddr = families::instance_function;
-    interface->pfnGetDeviceProcAddr = families::device_function;
-    interface->pfnGetPhysicalDeviceProcAddr = nullptr;
-    return VK_SUCCESS;
+    return loader::negotiate(*interface, families::instance_function, families::device_function);
 }

@@ -1,13 +1,9 @@
 // The functions of the next layer, or of the driver, for each instance and each device.
 #pragma once
 
-#include <vulkan/vk_layer.h>
-#include <vulkan/vulkan.h>
+#include "loader/loader.hpp"
 
 #include <array>
-#include <memory>
-#include <mutex>
-#include <unordered_map>
 
 namespace families {
 
@@ -21,13 +17,6 @@ struct Queue {
     struct DeviceTable *device = nullptr;
 };
 
-struct InstanceTable {
-    VkInstance instance = VK_NULL_HANDLE;
-    PFN_vkGetInstanceProcAddr next = nullptr;
-    PFN_vkDestroyInstance destroy_instance = nullptr;
-    PFN_vkGetPhysicalDeviceQueueFamilyProperties queue_families = nullptr;
-};
-
 struct DeviceTable {
     VkDevice device = VK_NULL_HANDLE;
     VkQueue queue = VK_NULL_HANDLE;
@@ -37,11 +26,13 @@ struct DeviceTable {
     PFN_vkQueueSubmit submit = nullptr;
     PFN_vkQueueSubmit2 submit2 = nullptr;
     PFN_vkQueueWaitIdle wait_idle = nullptr;
+    PFN_vkQueuePresentKHR present = nullptr;
     PFN_vkCreateCommandPool create_pool = nullptr;
     PFN_vkDestroyCommandPool destroy_pool = nullptr;
     PFN_vkAllocateCommandBuffers allocate = nullptr;
     PFN_vkCreateBuffer create_buffer = nullptr;
     PFN_vkCreateImage create_image = nullptr;
+    PFN_vkCmdPipelineBarrier barrier = nullptr;
     PFN_vkCmdPipelineBarrier2 barrier2 = nullptr;
     std::array<std::array<Queue, queues_of_a_family>, family_count> queues;
     std::mutex lock;
@@ -49,14 +40,11 @@ struct DeviceTable {
     std::unordered_map<VkCommandBuffer, uint32_t> buffer_families;
 };
 
-// An instance and its physical devices begin with one word, and so do a device, its queues and its command buffers.
-inline void *key_of(const void *dispatchable) { return *static_cast<void *const *>(dispatchable); }
+struct InstanceTable : loader::Instance {
+    PFN_vkGetPhysicalDeviceSurfaceSupportKHR surface_support = nullptr;
+};
 
-void keep(std::unique_ptr<InstanceTable> table);
-void keep(std::unique_ptr<DeviceTable> table);
-InstanceTable &instance_of(const void *dispatchable);
-DeviceTable &device_of(const void *dispatchable);
-std::unique_ptr<InstanceTable> forget_instance(VkInstance instance);
-std::unique_ptr<DeviceTable> forget_device(VkDevice device);
+inline loader::Table<InstanceTable> instances;
+inline loader::Table<DeviceTable> devices;
 
 } // namespace families

@@ -2,15 +2,19 @@
 //
 //   capture-calls CASE
 //
+// The case `functions` reads names of commands, and prints for each one that the device has the file that it leads into.
 // Status 2: there is no such case; 3: Vulkan failed.
 
+#include <dlfcn.h>
 #include <vulkan/vulkan.h>
 
 #include <cstdio>
 #include <functional>
+#include <iostream>
 #include <map>
 #include <stdexcept>
 #include <string>
+#include <utility>
 #include <vector>
 
 namespace {
@@ -19,14 +23,19 @@ void need(VkResult result, const char *call) {
     if (result != VK_SUCCESS) throw std::runtime_error(std::string(call) + " failed: " + std::to_string(result));
 }
 
-// An instance and a device with one queue; what is made of it is given back in turn.
+// A queue and what its command buffers come from.
+struct Queue {
+    uint32_t family = 0;
+    VkQueue handle = VK_NULL_HANDLE;
+    VkCommandPool pool = VK_NULL_HANDLE;
+};
+
+// An instance and a device with a queue of each family; what is made of it is given back in turn.
 class Context {
   public:
     Context() {
         make_device();
-        VkCommandPoolCreateInfo info{VK_STRUCTURE_TYPE_COMMAND_POOL_CREATE_INFO, nullptr, 0, 0};
-        need(vkCreateCommandPool(device, &info, nullptr, &pool), "vkCreateCommandPool");
-        at_end([this] { vkDestroyCommandPool(device, pool, nullptr); });
+        queue = queues.front().handle;
     }
     Context(const Context &) = delete;
     Context &operator=(const Context &) = delete;
@@ -86,8 +95,9 @@ class Context {
         return made;
     }
 
-    VkCommandBuffer commands(VkCommandBufferLevel level = VK_COMMAND_BUFFER_LEVEL_PRIMARY) {
-        VkCommandBufferAllocateInfo info{VK_STRUCTURE_TYPE_COMMAND_BUFFER_ALLOCATE_INFO, nullptr, pool, level, 1};
+    VkCommandBuffer commands(VkCommandBufferLevel level = VK_COMMAND_BUFFER_LEVEL_PRIMARY) { return commands(queues.front(), level); }
+    VkCommandBuffer commands(const Queue &on, VkCommandBufferLevel level = VK_COMMAND_BUFFER_LEVEL_PRIMARY) {
+        VkCommandBufferAllocateInfo info{VK_STRUCTURE_TYPE_COMMAND_BUFFER_ALLOCATE_INFO, nullptr, on.pool, level, 1};
         VkCommandBuffer made;
         need(vkAllocateCommandBuffers(device, &info, &made), "vkAllocateCommandBuffers");
         VkCommandBufferInheritanceInfo inherited{};
@@ -99,11 +109,14 @@ class Context {
 
     void submit(VkCommandBuffer commands, VkFence fence = VK_NULL_HANDLE, const void *chain = nullptr, VkSemaphore wait = VK_NULL_HANDLE,
                 VkSemaphore signal = VK_NULL_HANDLE) {
+        submit(queues.front(), commands, fence, chain, wait, signal);
+    }
+    void submit(const Queue &on, VkCommandBuffer commands, VkFence fence, const void *chain, VkSemaphore wait, VkSemaphore signal) {
         need(vkEndCommandBuffer(commands), "vkEndCommandBuffer");
         const VkPipelineStageFlags stage = VK_PIPELINE_STAGE_TRANSFER_BIT;
         const VkSubmitInfo info{VK_STRUCTURE_TYPE_SUBMIT_INFO, chain,   wait != VK_NULL_HANDLE, &wait, &stage, 1, &commands,
                                 signal != VK_NULL_HANDLE,      &signal};
-        need(vkQueueSubmit(queue, 1, &info, fence), "vkQueueSubmit");
+        need(vkQueueSubmit(on.handle, 1, &info, fence), "vkQueueSubmit");
     }
 
     VkFence fence() {
@@ -114,8 +127,8 @@ class Context {
         return made;
     }
 
-    VkSemaphore timeline() {
-        VkSemaphoreTypeCreateInfo type{VK_STRUCTURE_TYPE_SEMAPHORE_TYPE_CREATE_INFO, nullptr, VK_SEMAPHORE_TYPE_TIMELINE, 0};
+    VkSemaphore semaphore(VkSemaphoreType kind) {
+        VkSemaphoreTypeCreateInfo type{VK_STRUCTURE_TYPE_SEMAPHORE_TYPE_CREATE_INFO, nullptr, kind, 0};
         VkSemaphoreCreateInfo info{VK_STRUCTURE_TYPE_SEMAPHORE_CREATE_INFO, &type, 0};
         VkSemaphore made;
         need(vkCreateSemaphore(device, &info, nullptr, &made), "vkCreateSemaphore");
@@ -130,6 +143,13 @@ class Context {
     static constexpr VkImageSubresourceRange whole{VK_IMAGE_ASPECT_COLOR_BIT, 0, 1, 0, 1};
     VkDevice device = VK_NULL_HANDLE;
     VkQueue queue = VK_NULL_HANDLE;
+    // One of each family of the device.
+    std::vector<Queue> queues;
+
+    const Queue &queue_of_family(uint32_t family) const {
+        if (family >= queues.size()) throw std::runtime_error("the device has too few queue families");
+        return queues[family];
+    }
 
   private:
     void make_device() {
@@ -142,18 +162,31 @@ class Context {
         VkPhysicalDevice physical;
         vkEnumeratePhysicalDevices(instance, &count, &physical);
         if (count == 0) throw std::runtime_error("there is no Vulkan device");
+        uint32_t families = 0;
+        vkGetPhysicalDeviceQueueFamilyProperties(physical, &families, nullptr);
         const float priority = 1;
-        VkDeviceQueueCreateInfo queue_info{VK_STRUCTURE_TYPE_DEVICE_QUEUE_CREATE_INFO, nullptr, 0, 0, 1, &priority};
+        std::vector<VkDeviceQueueCreateInfo> wanted;
+        for (uint32_t family = 0; family < families; ++family) {
+            wanted.push_back({VK_STRUCTURE_TYPE_DEVICE_QUEUE_CREATE_INFO, nullptr, 0, family, 1, &priority});
+        }
         VkPhysicalDeviceVulkan12Features features{};
         features.sType = VK_STRUCTURE_TYPE_PHYSICAL_DEVICE_VULKAN_1_2_FEATURES;
         features.timelineSemaphore = VK_TRUE;
-        VkDeviceCreateInfo info{VK_STRUCTURE_TYPE_DEVICE_CREATE_INFO, &features, 0, 1, &queue_info, 0, nullptr, 0, nullptr, nullptr};
+        VkDeviceCreateInfo info{VK_STRUCTURE_TYPE_DEVICE_CREATE_INFO, &features, 0, families, wanted.data(), 0, nullptr, 0, nullptr, nullptr};
         need(vkCreateDevice(physical, &info, nullptr, &device), "vkCreateDevice");
         at_end([this] { vkDestroyDevice(device, nullptr); });
-        vkGetDeviceQueue(device, 0, 0, &queue);
+        for (uint32_t family = 0; family < families; ++family) add_queue(family);
     }
 
-    VkCommandPool pool = VK_NULL_HANDLE;
+    void add_queue(uint32_t family) {
+        Queue made{family, VK_NULL_HANDLE, VK_NULL_HANDLE};
+        vkGetDeviceQueue(device, family, 0, &made.handle);
+        const VkCommandPoolCreateInfo info{VK_STRUCTURE_TYPE_COMMAND_POOL_CREATE_INFO, nullptr, 0, family};
+        need(vkCreateCommandPool(device, &info, nullptr, &made.pool), "vkCreateCommandPool");
+        at_end([this, made] { vkDestroyCommandPool(device, made.pool, nullptr); });
+        queues.push_back(made);
+    }
+
     std::vector<std::function<void()>> ends;
 };
 
@@ -231,7 +264,7 @@ void two_submissions(Context &context, const std::function<void(VkFence)> &betwe
 
 void timeline(Context &context, uint64_t waited) {
     const auto one = context.buffer(), other = context.buffer();
-    const auto semaphore = context.timeline();
+    const auto semaphore = context.semaphore(VK_SEMAPHORE_TYPE_TIMELINE);
     const uint64_t signalled = 5;
     const VkTimelineSemaphoreSubmitInfo signals{VK_STRUCTURE_TYPE_TIMELINE_SEMAPHORE_SUBMIT_INFO, nullptr, 0, nullptr, 1, &signalled};
     const VkTimelineSemaphoreSubmitInfo waits{VK_STRUCTURE_TYPE_TIMELINE_SEMAPHORE_SUBMIT_INFO, nullptr, 1, &waited, 0, nullptr};
@@ -304,9 +337,7 @@ void subpasses(Context &context, bool ordered) {
 }
 
 // An image is cleared in the layout that it is brought to, or in another one.
-void layouts(Context &context, VkImageLayout brought) {
-    const auto image = context.image();
-    const auto commands = context.commands();
+void clear_in_layout(VkCommandBuffer commands, VkImage image, VkImageLayout brought) {
     VkImageMemoryBarrier change{};
     change.sType = VK_STRUCTURE_TYPE_IMAGE_MEMORY_BARRIER;
     change.dstAccessMask = VK_ACCESS_TRANSFER_WRITE_BIT;
@@ -317,7 +348,126 @@ void layouts(Context &context, VkImageLayout brought) {
     vkCmdPipelineBarrier(commands, VK_PIPELINE_STAGE_TOP_OF_PIPE_BIT, VK_PIPELINE_STAGE_TRANSFER_BIT, 0, 0, nullptr, 0, nullptr, 1, &change);
     const VkClearColorValue color{};
     vkCmdClearColorImage(commands, image, VK_IMAGE_LAYOUT_TRANSFER_DST_OPTIMAL, &color, 1, &Context::whole);
+}
+
+void layouts(Context &context, VkImageLayout brought) {
+    const auto commands = context.commands();
+    clear_in_layout(commands, context.image(), brought);
     context.submit(commands);
+}
+
+// What of a transfer between two families is made.
+struct Halves {
+    bool release = true, acquire = true, wait = true;
+    VkImageLayout acquired = VK_IMAGE_LAYOUT_TRANSFER_SRC_OPTIMAL;
+};
+
+constexpr uint32_t owner = 0, taker = 2;
+
+template <class Barrier> Barrier half(VkStructureType type, VkAccessFlags src, VkAccessFlags dst) {
+    Barrier made{};
+    made.sType = type;
+    made.srcAccessMask = src;
+    made.dstAccessMask = dst;
+    made.srcQueueFamilyIndex = owner;
+    made.dstQueueFamilyIndex = taker;
+    return made;
+}
+
+// A transfer of a buffer, or of an image whose layout changes with it. A release makes available what was stored; an acquire
+// makes it visible.
+void transfer(VkCommandBuffer commands, bool releases, VkBuffer buffer) {
+    auto made = half<VkBufferMemoryBarrier>(VK_STRUCTURE_TYPE_BUFFER_MEMORY_BARRIER, releases ? VK_ACCESS_TRANSFER_WRITE_BIT : 0,
+                                            releases ? 0 : VK_ACCESS_TRANSFER_READ_BIT);
+    made.buffer = buffer;
+    made.size = VK_WHOLE_SIZE;
+    vkCmdPipelineBarrier(commands, VK_PIPELINE_STAGE_TRANSFER_BIT, VK_PIPELINE_STAGE_TRANSFER_BIT, 0, 0, nullptr, 1, &made, 0, nullptr);
+}
+
+void transfer(VkCommandBuffer commands, bool releases, VkImage image, VkImageLayout to) {
+    auto made = half<VkImageMemoryBarrier>(VK_STRUCTURE_TYPE_IMAGE_MEMORY_BARRIER, releases ? VK_ACCESS_TRANSFER_WRITE_BIT : 0,
+                                           releases ? 0 : VK_ACCESS_TRANSFER_READ_BIT);
+    made.oldLayout = VK_IMAGE_LAYOUT_TRANSFER_DST_OPTIMAL;
+    made.newLayout = to;
+    made.image = image;
+    made.subresourceRange = Context::whole;
+    vkCmdPipelineBarrier(commands, VK_PIPELINE_STAGE_TRANSFER_BIT, VK_PIPELINE_STAGE_TRANSFER_BIT, 0, 0, nullptr, 0, nullptr, 1, &made);
+}
+
+// One family stores, another one copies from it.
+template <class Store, class Load> void two_families(Context &context, const Halves &halves, Store store, Load load) {
+    const Queue &from = context.queue_of_family(owner), &to = context.queue_of_family(taker);
+    const auto signal = context.semaphore(VK_SEMAPHORE_TYPE_BINARY);
+    auto commands = context.commands(from);
+    store(commands);
+    context.submit(from, commands, VK_NULL_HANDLE, nullptr, VK_NULL_HANDLE, signal);
+    commands = context.commands(to);
+    load(commands);
+    context.submit(to, commands, VK_NULL_HANDLE, nullptr, halves.wait ? signal : VK_NULL_HANDLE, VK_NULL_HANDLE);
+}
+
+void buffer_for_another_family(Context &context, const Halves &halves) {
+    const auto one = context.buffer(), other = context.buffer();
+    const auto store = [&](VkCommandBuffer commands) {
+        fill(commands, one);
+        if (halves.release) transfer(commands, true, one);
+    };
+    const auto load = [&](VkCommandBuffer commands) {
+        if (halves.acquire) transfer(commands, false, one);
+        copy(commands, one, other);
+    };
+    two_families(context, halves, store, load);
+}
+
+void image_for_another_family(Context &context, const Halves &halves) {
+    const auto image = context.image();
+    const auto other = context.buffer();
+    const auto store = [&](VkCommandBuffer commands) {
+        clear_in_layout(commands, image, VK_IMAGE_LAYOUT_TRANSFER_DST_OPTIMAL);
+        transfer(commands, true, image, VK_IMAGE_LAYOUT_TRANSFER_SRC_OPTIMAL);
+    };
+    const auto load = [&](VkCommandBuffer commands) {
+        transfer(commands, false, image, halves.acquired);
+        const VkBufferImageCopy region{0, 0, 0, {VK_IMAGE_ASPECT_COLOR_BIT, 0, 0, 1}, {0, 0, 0}, {Context::side, Context::side, 1}};
+        vkCmdCopyImageToBuffer(commands, image, VK_IMAGE_LAYOUT_TRANSFER_SRC_OPTIMAL, other, 1, &region);
+    };
+    two_families(context, halves, store, load);
+}
+
+// There and back again: the first family stores it anew.
+void there_and_back(Context &context, bool back) {
+    const auto one = context.buffer(), other = context.buffer();
+    const Queue &from = context.queue_of_family(owner), &to = context.queue_of_family(taker);
+    const auto there = context.semaphore(VK_SEMAPHORE_TYPE_BINARY), returned = context.semaphore(VK_SEMAPHORE_TYPE_BINARY);
+    const auto returns = [&](VkCommandBuffer commands, VkAccessFlags dst) {
+        auto made = half<VkBufferMemoryBarrier>(VK_STRUCTURE_TYPE_BUFFER_MEMORY_BARRIER, 0, dst);
+        std::swap(made.srcQueueFamilyIndex, made.dstQueueFamilyIndex);
+        made.buffer = one;
+        made.size = VK_WHOLE_SIZE;
+        vkCmdPipelineBarrier(commands, VK_PIPELINE_STAGE_TRANSFER_BIT, VK_PIPELINE_STAGE_TRANSFER_BIT, 0, 0, nullptr, 1, &made, 0, nullptr);
+    };
+    auto commands = context.commands(from);
+    fill(commands, one);
+    transfer(commands, true, one);
+    context.submit(from, commands, VK_NULL_HANDLE, nullptr, VK_NULL_HANDLE, there);
+    commands = context.commands(to);
+    transfer(commands, false, one);
+    copy(commands, one, other);
+    if (back) returns(commands, 0);
+    context.submit(to, commands, VK_NULL_HANDLE, nullptr, there, returned);
+    commands = context.commands(from);
+    if (back) returns(commands, VK_ACCESS_TRANSFER_WRITE_BIT);
+    fill(commands, one);
+    context.submit(from, commands, VK_NULL_HANDLE, nullptr, returned, VK_NULL_HANDLE);
+}
+
+void functions(Context &context) {
+    for (std::string name; std::cin >> name;) {
+        const auto function = vkGetDeviceProcAddr(context.device, name.c_str());
+        Dl_info found{};
+        if (function == nullptr || dladdr(reinterpret_cast<void *>(function), &found) == 0) continue;
+        std::printf("%s %s\n", name.c_str(), found.dli_fname);
+    }
 }
 
 using Case = std::function<void(Context &)>;
@@ -341,6 +491,16 @@ const std::map<std::string, Case> &cases() {
         {"subpasses-unordered", [](Context &context) { subpasses(context, false); }},
         {"layout", [](Context &context) { layouts(context, VK_IMAGE_LAYOUT_TRANSFER_DST_OPTIMAL); }},
         {"layout-wrong", [](Context &context) { layouts(context, VK_IMAGE_LAYOUT_GENERAL); }},
+        {"functions", functions},
+        {"transfer", [](Context &context) { buffer_for_another_family(context, {}); }},
+        {"transfer-unordered", [](Context &context) { buffer_for_another_family(context, {true, true, false}); }},
+        {"transfer-without-acquire", [](Context &context) { buffer_for_another_family(context, {true, false}); }},
+        {"transfer-without-release", [](Context &context) { buffer_for_another_family(context, {false, true}); }},
+        {"transfer-forgotten", [](Context &context) { buffer_for_another_family(context, {false, false}); }},
+        {"transfer-image", [](Context &context) { image_for_another_family(context, {}); }},
+        {"transfer-image-layouts", [](Context &context) { image_for_another_family(context, {true, true, true, VK_IMAGE_LAYOUT_GENERAL}); }},
+        {"transfer-back", [](Context &context) { there_and_back(context, true); }},
+        {"transfer-back-forgotten", [](Context &context) { there_and_back(context, false); }},
     };
     return all;
 }
