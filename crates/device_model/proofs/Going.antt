@@ -36,7 +36,7 @@ use Rattle.device_model.specs.Agents.{agent_at, agent_of, in_scope, piece_range,
 use Rattle.device_model.specs.Outputs.{stored}
 use Rattle.device_model.specs.Ready.{is_command, kind_at, some_node, ready, stores_over, is_torn, is_wrong, is_foreign, loads_undefined, hits, marked_by}
 use Rattle.device_model.specs.States.{State, opened, is_idle, is_begun, is_done, put, junk_at, junk_bytes}
-use Rattle.device_model.specs.Steps.{used, owner_by, layout_by, owned_after, laid_after, sight, taken, begun, store_of, made, ended, flushed, junks, after_junk, agent_count, synced, host_takes, hosted, written_back, lines_filled, lines_dropped, may_move, step, Told, after}
+use Rattle.device_model.specs.Steps.{used, owner_by, layout_by, owned_after, laid_after, sight, loaded_by, begun, store_of, made, ended, flushed, junks, after_junk, agent_count, synced, host_takes, hosted, written_back, lines_filled, lines_dropped, may_move, step, Told, after}
 use Rattle.device_model.specs.declared.owner.Owner.{Owner}
 use Rattle.device_model.specs.declared.owner.Owner.TheVariants as owners
 use Rattle.device_model.specs.declared.phase.Phase.{Phase}
@@ -335,16 +335,16 @@ module _ (program : Program) (F : Formed (view_of program)) where
       entered : (a : law.Access) → law.Has (law_of program) n a → states.Entered (law_of program) (device_of V s).state n a
       entered a h y e = edges_done V s n r y (sym (ap (λ z. if z then edge V.nodes y n else n == y) cl) ∙ e)
 
-      gets : (k : ℕ) (a : law.Access) → law.At (law_of program) n k a → law.is_load a.doing ≡ true → DeviceLoadsUndefined (law_of program) (device_of V s) n a ⊎ (placed (accesses_of V n) (map (taken V s n junk) (loads_of V n)) k ≡ states.sight (law_of program) (device_of V s).state a)
-      gets k a at l = subst (λ z. DeviceLoadsUndefined (law_of program) (device_of V s) n z ⊎ (placed (accesses_of V n) (map (taken V s n junk) (loads_of V n)) k ≡ states.sight (law_of program) (device_of V s).state z)) (sym f.same) (by (cases_Bool (loads_undefined V s n f.access)))
+      gets : (k : ℕ) (a : law.Access) → law.At (law_of program) n k a → law.is_load a.doing ≡ true → DeviceLoadsUndefined (law_of program) (device_of V s) n a ⊎ (placed (accesses_of V n) (map (loaded_by V s n junk) (loads_of V n)) k ≡ states.sight (law_of program) (device_of V s).state a)
+      gets k a at l = subst (λ z. DeviceLoadsUndefined (law_of program) (device_of V s) n z ⊎ (placed (accesses_of V n) (map (loaded_by V s n junk) (loads_of V n)) k ≡ states.sight (law_of program) (device_of V s).state z)) (sym f.same) (by (cases_Bool (loads_undefined V s n f.access)))
         where
           f : From V n k a
           f = from V (out_of program) n k a at
 
-          got : placed (accesses_of V n) (map (taken V s n junk) (loads_of V n)) k ≡ taken V s n junk (from V (out_of program) n k a at).access
-          got = ap (λ l. placed (accesses_of V n) (map (taken V s n junk) l) k) (sym (takes_loads n cl)) ∙ placed_map (taken V s n junk) (accesses_of V n) k f.access f.at (ap (λ z. law.is_load z.doing) (sym f.same) ∙ l)
+          got : placed (accesses_of V n) (map (loaded_by V s n junk) (loads_of V n)) k ≡ loaded_by V s n junk (from V (out_of program) n k a at).access
+          got = ap (λ l. placed (accesses_of V n) (map (loaded_by V s n junk) l) k) (sym (takes_loads n cl)) ∙ placed_map (loaded_by V s n junk) (accesses_of V n) k f.access f.at (ap (λ z. law.is_load z.doing) (sym f.same) ∙ l)
 
-          by : (loads_undefined V s n f.access ≡ true) ⊎ (loads_undefined V s n f.access ≡ false) → DeviceLoadsUndefined (law_of program) (device_of V s) n (access_of V n f.access) ⊎ (placed (accesses_of V n) (map (taken V s n junk) (loads_of V n)) k ≡ states.sight (law_of program) (device_of V s).state (access_of V n f.access))
+          by : (loads_undefined V s n f.access ≡ true) ⊎ (loads_undefined V s n f.access ≡ false) → DeviceLoadsUndefined (law_of program) (device_of V s) n (access_of V n f.access) ⊎ (placed (accesses_of V n) (map (loaded_by V s n junk) (loads_of V n)) k ≡ states.sight (law_of program) (device_of V s).state (access_of V n f.access))
           by (inl e) = inl (undefined n f.access e)
           by (inr e) = inr (got ∙ ap (λ z. if z then junk_bytes junk (bytes_of (piece_at V f.access.piece).shape) else sight V s f.access) e)
 
@@ -368,7 +368,7 @@ module _ (program : Program) (F : Formed (view_of program)) where
           go (inl t) = absurd (false≢true (sym (plain t.0 t.1).owners ∙ t.2))
           go (inr t) = takes n p (owned_after V n (accesses_of V n) p (s.owner p)) no_host t.0 t.1
 
-      pub begin_goes : Begins (law_of program) (device_of V s) n (placed (accesses_of V n) (map (taken V s n junk) (loads_of V n))) (λ v j. (begun V s n junk).marked v) (λ p. owner_numbered ((begun V s n junk).owner p))
+      pub begin_goes : Begins (law_of program) (device_of V s) n (placed (accesses_of V n) (map (loaded_by V s n junk) (loads_of V n))) (λ v j. (begun V s n junk).marked v) (λ p. owner_numbered ((begun V s n junk).owner p))
       begin_goes = record {
         may = record { within = ready_within V s n r; command = cl; idle = ap (λ z. not z && command_at V n) fresh; fresh = not_started (s.phase n) fresh; entered = entered };
         bytes_are = gets;
@@ -550,12 +550,12 @@ module _ (program : Program) (F : Formed (view_of program)) where
         (λ q. ap (h x) (put_other f n x v q))
         (cases_eq x n)
 
-    begun_device : (n : ℕ) (junk : List ℕ) → command_at V n ≡ true → ready V s n ≡ true → device_of V (begun V s n junk) ≡ did_begin (device_of V s) n (placed (accesses_of V n) (map (taken V s n junk) (loads_of V n))) (λ v j. (begun V s n junk).marked v) (λ p. owner_numbered ((begun V s n junk).owner p))
+    begun_device : (n : ℕ) (junk : List ℕ) → command_at V n ≡ true → ready V s n ≡ true → device_of V (begun V s n junk) ≡ did_begin (device_of V s) n (placed (accesses_of V n) (map (loaded_by V s n junk) (loads_of V n))) (λ v j. (begun V s n junk).marked v) (λ p. owner_numbered ((begun V s n junk).owner p))
     begun_device n junk cl r =
         ap (λ f. at_device (record (device_of V (begun V s n junk)).state { taken = λ x k. f x }) f) (fun_ext started)
         ∙ ap (λ f. at_device (record (device_of V (begun V s n junk)).state { taken = f }) (states.put (is_started V s) n true)) (fun_ext (λ x. all (x == n) x))
-        ∙ ap (λ f. at_device (record (device_of V (begun V s n junk)).state { taken = states.put (λ z k. is_started V s z) n (λ k. true); loaded = f }) (states.put (is_started V s) n true)) (fun_ext (puts (λ x. placed (accesses_of V x)) s.loaded n (map (taken V s n junk) (loads_of V n)) (placed (accesses_of V n) (map (taken V s n junk) (loads_of V n))) refl))
-        ∙ ap (λ f. at_device (record (device_of V (begun V s n junk)).state { taken = states.put (λ z k. is_started V s z) n (λ k. true); loaded = states.put (λ x. placed (accesses_of V x) (s.loaded x)) n (placed (accesses_of V n) (map (taken V s n junk) (loads_of V n))); done = f }) (states.put (is_started V s) n true)) (fun_ext (stays (λ x p. is_done p) s.phase n Begun (sym (not_started (s.phase n) (ready_first V s n r)))))
+        ∙ ap (λ f. at_device (record (device_of V (begun V s n junk)).state { taken = states.put (λ z k. is_started V s z) n (λ k. true); loaded = f }) (states.put (is_started V s) n true)) (fun_ext (puts (λ x. placed (accesses_of V x)) s.loaded n (map (loaded_by V s n junk) (loads_of V n)) (placed (accesses_of V n) (map (loaded_by V s n junk) (loads_of V n))) refl))
+        ∙ ap (λ f. at_device (record (device_of V (begun V s n junk)).state { taken = states.put (λ z k. is_started V s z) n (λ k. true); loaded = states.put (λ x. placed (accesses_of V x) (s.loaded x)) n (placed (accesses_of V n) (map (loaded_by V s n junk) (loads_of V n))); done = f }) (states.put (is_started V s) n true)) (fun_ext (stays (λ x p. is_done p) s.phase n Begun (sym (not_started (s.phase n) (ready_first V s n r)))))
       where
         started : (x : ℕ) → is_started V (begun V s n junk) x ≡ states.put (is_started V s) n true x
         started = puts (λ x p. not (is_idle p) && command_at V x) s.phase n Begun true cl
@@ -645,8 +645,8 @@ module _ (program : Program) (F : Formed (view_of program)) where
       within = λ x b. ⊎_elim (λ e. subst (λ z. z < length V.nodes) (sym e) (ready_within V s n r)) (λ e. Q.within x (ap is_begun (sym (put_other s.phase n x Begun e)) ∙ b)) (cases_eq x n);
       commands = λ x b. ⊎_elim (λ e. ap (command_at V) e ∙ cl) (λ e. Q.commands x (ap is_begun (sym (put_other s.phase n x Begun e)) ∙ b)) (cases_eq x n);
       counted = λ x b. ⊎_elim
-          (λ e. ap length (put_at s.loaded n x (map (taken V s n junk) (loads_of V n)) e) ∙ length-map (loads_of V n) (taken V s n junk) ∙ ap (λ z. length (loads_of V z)) (sym e))
-          (λ e. ap length (put_other s.loaded n x (map (taken V s n junk) (loads_of V n)) e) ∙ Q.counted x (ap is_begun (sym (put_other s.phase n x Begun e)) ∙ b))
+          (λ e. ap length (put_at s.loaded n x (map (loaded_by V s n junk) (loads_of V n)) e) ∙ length-map (loads_of V n) (loaded_by V s n junk) ∙ ap (λ z. length (loads_of V z)) (sym e))
+          (λ e. ap length (put_other s.loaded n x (map (loaded_by V s n junk) (loads_of V n)) e) ∙ Q.counted x (ap is_begun (sym (put_other s.phase n x Begun e)) ∙ b))
           (cases_eq x n);
     }
 

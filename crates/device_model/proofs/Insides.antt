@@ -161,5 +161,5 @@ module _ (program : Program) (none : first_broken program ≡ None) where
 pub lines_within : (d : Device) → first_fault d.program ≡ None → LinesWithin d.program (state_of d)
 unfolding state_of
 lines_within d none =
-    (after_stays d.program (map_none paths.told (first_broken d.program) none) (map (told d.fill) d.history) (opened (opening d.program d.fill))
+    (after_stays d.program (map_none paths.fault_of (first_broken d.program) none) (map (told d.fill) d.history) (opened (opening d.program d.fill))
     (record { commands = λ n h. absurd (false≢true h); lines = λ g m i h. refl })).lines
