@@ -1,4 +1,4 @@
--- Groups that lead to one another by prologues sync_hazard all accesses that clash.
+-- Groups that lead to one another by prologues synchronize all accesses that clash.
 use Rattle.std.proofs.Common.{◌≡◌, ◌⊎◌, inl, inr, ℕ, Bool, true, refl, sym, subst}
 use Rattle.law_plan.proofs.Passing.{Enters, Synchronizes, enters_then, synchronizes_through}
 use Rattle.law_plan.specs.Masks.{Leaves}

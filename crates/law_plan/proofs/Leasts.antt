@@ -186,7 +186,7 @@ module _ (nodes : List Node) where
     once = walk-once N nothing list w.walk;
     all = λ n lt. ⊎_elim (λ e. absurd (false≢true e)) (λ a. a) (placed-split list nothing n (w.whole n lt));
     only = λ n a. walk-small N nothing list w.walk n a;
-    prologues = record {
+    turns = record {
       queue = λ x n a q lt same. earlier x n a (or_right (edge nodes x n) (is_queued nodes n && (((node_at nodes x).queue == (node_at nodes n).queue) && nat_lt x n)) (and_from (is_queued nodes n) (((node_at nodes x).queue == (node_at nodes n).queue) && nat_lt x n) q (and_from ((node_at nodes x).queue == (node_at nodes n).queue) (nat_lt x n) (eq-eqb (node_at nodes x).queue (node_at nodes n).queue same) (lt-ltb x n lt))));
       met = λ n a k.
           let m = is_met (is_wait (node_at nodes n).kind) (meeting nodes (node_at nodes n).kind) (walk-met N nothing list w.walk n a) k in
@@ -205,12 +205,12 @@ module _ (nodes : List Node) where
     earlier : (x n : ℕ) → Among n list → N.needs x n ≡ true → Earlier list x n
     earlier x n a h = ⊎_elim
         (λ e. O.forward x n a e)
-        (λ e. let q = on_queue x n e in O.prologues.queue x n a q.0 q.2 q.1)
+        (λ e. let q = on_queue x n e in O.turns.queue x n a q.0 q.2 q.1)
         (or_cases (edge nodes x n) (is_queued nodes n && (((node_at nodes x).queue == (node_at nodes n).queue) && nat_lt x n)) h)
 
     walked : WholeWalk N list
     walked = record {
-      walk = to_walk N list O.once (λ n a. (O.only n a, never_false (is_wait (node_at nodes n).kind) (meeting nodes (node_at nodes n).kind) (λ k. let m = O.prologues.met n a k in (m.0, m.1)))) earlier;
+      walk = to_walk N list O.once (λ n a. (O.only n a, never_false (is_wait (node_at nodes n).kind) (meeting nodes (node_at nodes n).kind) (λ k. let m = O.turns.met n a k in (m.0, m.1)))) earlier;
       whole = λ n lt. placed-in list nothing n (O.all n lt);
     }
 

@@ -130,7 +130,7 @@ leveled_order nodes level L = record {
   once = distinct level (by_level level (length nodes)) sorted;
   all = all level (length nodes);
   only = below level (length nodes);
-  prologues = record {
+  turns = record {
     queue = λ x n a q l s. let t = below level (length nodes) n a in before x n (omega (arith, l, t)) a (lifted level x n (L.queue x n q l t s) l);
     met = λ n a w. let m = L.met n (below level (length nodes) n a) w in (m.0, m.1, before m.0 n m.2 a (inl m.3));
   };

@@ -1,5 +1,5 @@
 use Rattle.law_meaning.proofs.DeclaredCompiled.{compiled_order}
-use Rattle.law_meaning.proofs.declared_laws.declared_laws.Goals as goal
+use Rattle.law_meaning.proofs.in_order.declared_laws.Goals as goal
 
 pub returns-clause-ordered : goal.returns-clause-ordered
 returns-clause-ordered c = compiled_order c.cut_laws.ensures.stand c.cut_laws.ensures.all c.cut_laws.ensures.order c.script_laws.ensures.in_turn c.script_laws.ensures.standing

@@ -1,7 +1,7 @@
 use Rattle.law_window.proofs.Faultless.{declared_good, declared_means, declared_numbered, declared_together}
 use Rattle.law_window.proofs.Persisting.{held_by_names}
 use Rattle.law_window.proofs.Turns.{declared_in_turn, each_declared}
-use Rattle.law_window.proofs.named_laws.named_laws.Goals as goal
+use Rattle.law_window.proofs.by_name.named_laws.Goals as goal
 
 pub returns-clause-persisted : goal.returns-clause-persisted
 returns-clause-persisted c = held_by_names
