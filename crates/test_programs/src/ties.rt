@@ -43,7 +43,7 @@ fn sync_hazard(alloc: Global, shaped: &ValidProgram) -> Result<Option<SyncHazard
     }
 }
 
-// The copy and the fill that a flaw leaves sync_hazard.
+// The copy and the fill that a flaw leaves unsynchronized.
 fn after_fill(flaw: Option<Flaw>) -> Option<SyncHazard> {
     match flaw {
         Some(flaw) => Some(SyncHazard {
