@@ -13,8 +13,8 @@ Looked at are README.md, HACKING.md, docs/ and the README.md of each crate, outs
 - A sentence of README.md that says "proved" has to name a clause of docs/PROMISES.md.
 - The tables of docs/ARCHITECTURE.md have to have one row for each crate of crates.txt: the crate, and what it does.
 - docs/MODEL.md has to name each file of definitions but those in a folder Internal; files of its reading lists have to be there, with as
-  many lines as it says, without imports, and the sum of each list, in tens, stands there and in README.md. --count writes the
-  lines, and prints the sums.
+  many lines as it says, without imports. The sum of each list, in tens, stands in its table of lists, and that of all in README.md. --count
+  writes the lines, and prints the sums.
 """
 
 import re
@@ -229,11 +229,12 @@ def look_at_reading():
             totals[heading] = totals.get(heading, 0) + lines
             if lines != int(found.group(2)):
                 problem(path, number, f"{found.group(1)} has {lines} lines")
-    tens = [str((total + 5) // 10 * 10) for total in totals.values()]
-    for page in (path, TOP / "README.md"):
-        told = re.search(r"some \d+ lines for [^.]*", page.read_text(encoding="utf-8"))
-        if not told or re.findall(r"\d+", told.group()) != tens:
-            problem(page, 1, f"the reading lists have {', '.join(tens)} lines")
+    tens = [f"{heading.removeprefix('### For ')} | {(total + 5) // 10 * 10}" for heading, total in totals.items()]
+    if re.findall(r"^\| (.*? \| \d+) \|", path.read_text(encoding="utf-8").split("| list | lines |", 1)[-1].split("\n\n", 1)[0], re.M) != tens:
+        problem(path, 1, f"the reading lists have these lines: {'; '.join(tens)}")
+    whole = f"{(sum(totals.values()) + 5) // 10 * 10:,}"
+    if f"some {whole} lines" not in (TOP / "README.md").read_text(encoding="utf-8"):
+        problem(TOP / "README.md", 1, f"the reading lists together have some {whole} lines")
 
 
 def count():
