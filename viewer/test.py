@@ -24,6 +24,7 @@ sys.path.insert(0, str(Path(__file__).resolve().parent))
 sys.path.insert(0, str(Path(__file__).resolve().parent.parent / "tools/lib"))
 import browser
 import made
+import view
 from arguments import Arguments, path_of
 from repository import FRAMES, PROFILE, SUBMISSIONS, TOP
 from sides import answer
@@ -113,12 +114,12 @@ class Wanted:
 
     def drained(self):
         """The nodes in their order as far as the queues go."""
-        left, order = [list(own) for own in self.queues], []
+        left, order = [list(reversed(own)) for own in self.queues], {}
         while True:
-            ready = [own for own in left if own and (own[0] not in self.meets or self.meets[own[0]] in order)]
+            ready = [own for own in left if own and (own[-1] not in self.meets or self.meets[own[-1]] in order)]
             if not ready:
-                return order + [n for own in left for n in own]
-            order.append(ready[0].pop(0))
+                return [*order, *(n for own in left for n in reversed(own))]
+            order[ready[0].pop()] = True
 
     def halves(self):
         """Releases with their acquires."""
@@ -141,6 +142,17 @@ def marked_of(line):
         return []
     numbers = found[2].split()
     return [int(word) for word in {"H1": numbers[1:2], "H2": numbers[:2], "H3": numbers[:2], "H4": numbers[:2]}.get(found[1], numbers[:1])]
+
+
+def is_begun(text, name):
+    """Whether a text in a box is a name, or its beginning."""
+    return name.startswith(text[:-1]) if text.endswith("…") else text == name
+
+
+def count(program):
+    """How many nodes a submission has."""
+    batches = [batch for queue in program["queues"] for batch in queue["batches"]]
+    return sum(len(batch.get("waits", [])) + len(batch.get("items", [])) + ("signal" in batch) for batch in batches) + len(program["readbacks"])
 
 
 class Looks(Tally):
@@ -204,7 +216,7 @@ class Looks(Tally):
         self.is_so(f"{name}: transfers", sorted(drawn["transfers"]), wanted.transfers)
         self.is_so(f"{name}: pieces", sorted(drawn["pieces"]), list(range(wanted.pieces)))
         self.is_so(f"{name}: marked", sorted(drawn["marked"]), sorted(marked_of(line)))
-        self.is_so(f"{name}: verdict", line in page.evaluate("document.getElementById('verdict').textContent"), bool(line))
+        self.holds(f"{name}: {line or 'not checked'} is told", (line or "not checked") in page.evaluate("document.getElementById('verdict').textContent"))
         return drawn
 
     def submission(self, page, path):
@@ -245,7 +257,7 @@ class Looks(Tally):
         operations = [one["name"] for one in frame["passes"] if one["name"] in kept for _ in one.get("ops", [])]
         self.is_so(f"{name}: names of commands", sorted(one for one in named if not one.endswith(".readback")), sorted(operations))
         self.is_so(f"{name}: copies of exports", sum(one.endswith(".readback") for one in named), len(compiled["readbacks"]))
-        self.is_so(f"{name}: names in boxes", {one for one in kept if one in operations} - {one.rstrip("…") for one in drawn["names"]} - set(self.begun(kept, drawn["names"])), set())
+        self.is_so(f"{name}: passes without a name in a box", [one for one in operations if not any(is_begun(text, one) for text in drawn["names"])], [])
         rects = page.evaluate(RECTS)
         heap, *places = self.printed("place", text).splitlines()
         placed = sorted((int(offset), int(size), unit) for offset, size, unit in (line.split() for line in places))
@@ -258,11 +270,6 @@ class Looks(Tally):
             page.key("0")
             page.screenshot(self.folder / f"{shot}.png")
         self.ended(name, page)
-
-    @staticmethod
-    def begun(names, drawn):
-        """The names of which a box has the beginning."""
-        return [name for name in names if any(one.endswith("…") and name.startswith(one[:-1]) for one in drawn)]
 
     @staticmethod
     def overlaps(rects):
@@ -446,14 +453,9 @@ class Looks(Tally):
     def large(self, nodes, format):
         """So many nodes are there within a second, and each picture of them takes a small part of one."""
         value = made.large(nodes, format=format)
-        path = self.room / f"large{nodes}.html"
-        sys.path.insert(0, str(HERE))
-        import view
-
-        path.write_text(view.page("large", {"submission": json.dumps(value)}), encoding="utf-8")
-        page = self.opened(path)
+        page = self.opened(self.written(f"large{nodes}.html", view.page("large", {"submission": json.dumps(value)}).encode()))
         took, clock = page.seconds(), page.evaluate("Viewer.firstPicture") / 1000
-        self.is_so(f"{nodes} nodes", page.evaluate("Viewer.page.picture.scene.program.nodes.length"), len(Wanted(value).kinds) if nodes <= 20000 else page.evaluate("Viewer.page.picture.scene.program.nodes.length"))
+        self.is_so("nodes", page.evaluate("Viewer.page.picture.scene.program.nodes.length"), count(value))
         told = [f"{nodes} nodes: first picture after {took:.2f} s of the page's thread, {clock:.2f} s by the clock"]
         if nodes <= 20000:
             self.holds(f"{nodes} nodes are there within a second: {took:.2f}", min(took, clock) < 1)
