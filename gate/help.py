@@ -4,8 +4,8 @@
     gate/help.py
 
 Each command of README.md's table has a help text, which begins with its usage and tells just the options that the table of
-options in docs/FORMATS.md gives it, in the usage and in a line each; `--help` names each command; and what is no such line is left
-to the program. The status is 1 where one does not hold.
+options in docs/FORMATS.md gives it, in the usage and in a line each; so has `view`, which is the script's own; `--help` names each
+command; and what is no such line is left to the program. The status is 1 where one does not hold.
 """
 
 import re
@@ -63,6 +63,7 @@ def main():
         known, whole = options(), helped("--help") or ""
         for command in commands():
             look_at(tally, command, known.get(command, set()), whole)
+        look_at(tally, "view", {"--trace"}, whole)
         for words in (["--help", "check"], ["nothing", "--help"], ["check", "--version"], ["all", "--help"]):
             tally.look()
             if helped(*words) is not None:
