@@ -45,8 +45,8 @@ CRATES = set(crates())
 TEXTS = {path: path.read_text(encoding="utf-8") for path in SOURCES}
 WORDS = set(re.findall(r"\w+", "\n".join(TEXTS.values()))) | set(re.findall(r"\w+", (TOP / "crates.txt").read_text(encoding="utf-8"))) | FOREIGN
 WORDS |= {path.name for path in TOP.iterdir()}
-for source in TOP.glob("vulkan/**/*"):
-    if source.suffix in (".cpp", ".hpp", ".py", ".sh"):
+for source in (*TOP.glob("vulkan/**/*"), *TOP.glob("viewer/*")):
+    if source.suffix in (".cpp", ".hpp", ".py", ".sh", ".js", ".html"):
         WORDS |= set(re.findall(r"\w+", source.read_text(encoding="utf-8")))
 for example in TOP.glob("examples/*/*.json"):
     WORDS |= set(re.findall(r"\w+", example.read_text(encoding="utf-8")))
