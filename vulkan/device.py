@@ -12,7 +12,8 @@ PACKAGES = {
     "usr/bin": ("glslangValidator", "glslang-tools"),
 }
 PLACE = "opt/framec-vulkan"
-LIMIT = 300
+# Seconds after which a replay counts as hung. On a busy machine one may get no processor for minutes.
+LIMIT = 3600
 
 
 class Missing(Exception):

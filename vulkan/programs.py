@@ -10,6 +10,8 @@ sys.path.insert(0, str(pathlib.Path(__file__).resolve().parent.parent / "tools/l
 
 from makers import Frame  # noqa: E402
 
+from device import LIMIT  # noqa: E402
+
 MASKS = ("src_stage", "src_access", "dst_stage", "dst_access")
 
 
@@ -20,7 +22,7 @@ class Compiler:
         self.program = program
 
     def ask(self, words, text):
-        done = subprocess.run([self.program, *words], input=text, stdout=subprocess.PIPE, stderr=subprocess.DEVNULL, timeout=300)
+        done = subprocess.run([self.program, *words], input=text, stdout=subprocess.PIPE, stderr=subprocess.DEVNULL, timeout=LIMIT)
         return done.returncode, done.stdout.decode()
 
     def check(self, text):

@@ -122,27 +122,19 @@ void image_to_image(Device &layer, VkCommandBuffer commandBuffer, const Kind &ki
     call.record_in(commandBuffer);
 }
 
-template <class Region>
-void buffer_to_image(Device &layer, VkCommandBuffer commandBuffer, VkBuffer from, VkImage to, VkImageLayout layout,
-                     std::span<const Region> regions) {
-    TransferCall call(layer, "copy of a buffer to an image");
-    const auto image = call.find(to);
-    for (const Region &region : regions) {
-        call.buffer(from, region.bufferOffset, bytes_of(image, region), Role::copy_read);
-        call.image(range_of(image, region.imageSubresource), Role::copy_write, layout,
-                   covers(image, region.imageSubresource.mipLevel, region.imageOffset, region.imageExtent));
-    }
-    call.record_in(commandBuffer);
-}
+// A copy between a buffer and an image, one way or the other.
+enum class To { image, buffer };
 
 template <class Region>
-void image_to_buffer(Device &layer, VkCommandBuffer commandBuffer, VkImage from, VkImageLayout layout, VkBuffer to,
-                     std::span<const Region> regions) {
-    TransferCall call(layer, "copy of an image to a buffer");
-    const auto image = call.find(from);
+void buffer_and_image(Device &layer, VkCommandBuffer commandBuffer, To to, VkBuffer buffer, VkImage handle, VkImageLayout layout,
+                      std::span<const Region> regions) {
+    const bool into = to == To::image;
+    TransferCall call(layer, into ? "copy of a buffer to an image" : "copy of an image to a buffer");
+    const auto image = call.find(handle);
     for (const Region &region : regions) {
-        call.image(range_of(image, region.imageSubresource), Role::copy_read, layout, false);
-        call.buffer(to, region.bufferOffset, bytes_of(image, region), Role::copy_write);
+        const bool whole = into && covers(image, region.imageSubresource.mipLevel, region.imageOffset, region.imageExtent);
+        call.buffer(buffer, region.bufferOffset, bytes_of(image, region), into ? Role::copy_read : Role::copy_write);
+        call.image(range_of(image, region.imageSubresource), into ? Role::copy_write : Role::copy_read, layout, whole);
     }
     call.record_in(commandBuffer);
 }
@@ -202,20 +194,20 @@ void CmdBlitImage2(Device &layer, VkCommandBuffer commandBuffer, const VkBlitIma
 
 void CmdCopyBufferToImage(Device &layer, VkCommandBuffer commandBuffer, VkBuffer srcBuffer, VkImage dstImage, VkImageLayout dstImageLayout,
                           uint32_t regionCount, const VkBufferImageCopy *pRegions) {
-    buffer_to_image(layer, commandBuffer, srcBuffer, dstImage, dstImageLayout, regions_of(pRegions, regionCount));
+    buffer_and_image(layer, commandBuffer, To::image, srcBuffer, dstImage, dstImageLayout, regions_of(pRegions, regionCount));
 }
 
 void CmdCopyBufferToImage2(Device &layer, VkCommandBuffer commandBuffer, const VkCopyBufferToImageInfo2 *info) {
-    buffer_to_image(layer, commandBuffer, info->srcBuffer, info->dstImage, info->dstImageLayout, regions_of(info));
+    buffer_and_image(layer, commandBuffer, To::image, info->srcBuffer, info->dstImage, info->dstImageLayout, regions_of(info));
 }
 
 void CmdCopyImageToBuffer(Device &layer, VkCommandBuffer commandBuffer, VkImage srcImage, VkImageLayout srcImageLayout, VkBuffer dstBuffer,
                           uint32_t regionCount, const VkBufferImageCopy *pRegions) {
-    image_to_buffer(layer, commandBuffer, srcImage, srcImageLayout, dstBuffer, regions_of(pRegions, regionCount));
+    buffer_and_image(layer, commandBuffer, To::buffer, dstBuffer, srcImage, srcImageLayout, regions_of(pRegions, regionCount));
 }
 
 void CmdCopyImageToBuffer2(Device &layer, VkCommandBuffer commandBuffer, const VkCopyImageToBufferInfo2 *info) {
-    image_to_buffer(layer, commandBuffer, info->srcImage, info->srcImageLayout, info->dstBuffer, regions_of(info));
+    buffer_and_image(layer, commandBuffer, To::buffer, info->dstBuffer, info->srcImage, info->srcImageLayout, regions_of(info));
 }
 
 void CmdFillBuffer(Device &layer, VkCommandBuffer commandBuffer, VkBuffer dstBuffer, VkDeviceSize dstOffset, VkDeviceSize size, uint32_t) {

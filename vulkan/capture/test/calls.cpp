@@ -14,7 +14,6 @@
 #include <map>
 #include <stdexcept>
 #include <string>
-#include <utility>
 #include <vector>
 
 namespace {
@@ -362,35 +361,26 @@ struct Halves {
     VkImageLayout acquired = VK_IMAGE_LAYOUT_TRANSFER_SRC_OPTIMAL;
 };
 
+// A half of a transfer. A release makes available what was stored, an acquire makes it visible.
+struct Half {
+    uint32_t from, to;
+    VkAccessFlags src, dst;
+};
+
 constexpr uint32_t owner = 0, taker = 2;
+constexpr Half release{owner, taker, VK_ACCESS_TRANSFER_WRITE_BIT, 0}, acquire{owner, taker, 0, VK_ACCESS_TRANSFER_READ_BIT};
+constexpr Half release_back{taker, owner, 0, 0}, acquire_back{taker, owner, 0, VK_ACCESS_TRANSFER_WRITE_BIT};
 
-template <class Barrier> Barrier half(VkStructureType type, VkAccessFlags src, VkAccessFlags dst) {
-    Barrier made{};
-    made.sType = type;
-    made.srcAccessMask = src;
-    made.dstAccessMask = dst;
-    made.srcQueueFamilyIndex = owner;
-    made.dstQueueFamilyIndex = taker;
-    return made;
-}
-
-// A transfer of a buffer, or of an image whose layout changes with it. A release makes available what was stored; an acquire
-// makes it visible.
-void transfer(VkCommandBuffer commands, bool releases, VkBuffer buffer) {
-    auto made = half<VkBufferMemoryBarrier>(VK_STRUCTURE_TYPE_BUFFER_MEMORY_BARRIER, releases ? VK_ACCESS_TRANSFER_WRITE_BIT : 0,
-                                            releases ? 0 : VK_ACCESS_TRANSFER_READ_BIT);
-    made.buffer = buffer;
-    made.size = VK_WHOLE_SIZE;
+void transfer(VkCommandBuffer commands, const Half &half, VkBuffer buffer) {
+    const VkBufferMemoryBarrier made{VK_STRUCTURE_TYPE_BUFFER_MEMORY_BARRIER, nullptr, half.src, half.dst, half.from, half.to, buffer, 0,
+                                     VK_WHOLE_SIZE};
     vkCmdPipelineBarrier(commands, VK_PIPELINE_STAGE_TRANSFER_BIT, VK_PIPELINE_STAGE_TRANSFER_BIT, 0, 0, nullptr, 1, &made, 0, nullptr);
 }
 
-void transfer(VkCommandBuffer commands, bool releases, VkImage image, VkImageLayout to) {
-    auto made = half<VkImageMemoryBarrier>(VK_STRUCTURE_TYPE_IMAGE_MEMORY_BARRIER, releases ? VK_ACCESS_TRANSFER_WRITE_BIT : 0,
-                                           releases ? 0 : VK_ACCESS_TRANSFER_READ_BIT);
-    made.oldLayout = VK_IMAGE_LAYOUT_TRANSFER_DST_OPTIMAL;
-    made.newLayout = to;
-    made.image = image;
-    made.subresourceRange = Context::whole;
+// The layout of an image changes with its owner.
+void transfer(VkCommandBuffer commands, const Half &half, VkImage image, VkImageLayout to) {
+    const VkImageMemoryBarrier made{VK_STRUCTURE_TYPE_IMAGE_MEMORY_BARRIER, nullptr, half.src, half.dst,
+                                    VK_IMAGE_LAYOUT_TRANSFER_DST_OPTIMAL, to, half.from, half.to, image, Context::whole};
     vkCmdPipelineBarrier(commands, VK_PIPELINE_STAGE_TRANSFER_BIT, VK_PIPELINE_STAGE_TRANSFER_BIT, 0, 0, nullptr, 0, nullptr, 1, &made);
 }
 
@@ -410,10 +400,10 @@ void buffer_for_another_family(Context &context, const Halves &halves) {
     const auto one = context.buffer(), other = context.buffer();
     const auto store = [&](VkCommandBuffer commands) {
         fill(commands, one);
-        if (halves.release) transfer(commands, true, one);
+        if (halves.release) transfer(commands, release, one);
     };
     const auto load = [&](VkCommandBuffer commands) {
-        if (halves.acquire) transfer(commands, false, one);
+        if (halves.acquire) transfer(commands, acquire, one);
         copy(commands, one, other);
     };
     two_families(context, halves, store, load);
@@ -424,10 +414,10 @@ void image_for_another_family(Context &context, const Halves &halves) {
     const auto other = context.buffer();
     const auto store = [&](VkCommandBuffer commands) {
         clear_in_layout(commands, image, VK_IMAGE_LAYOUT_TRANSFER_DST_OPTIMAL);
-        transfer(commands, true, image, VK_IMAGE_LAYOUT_TRANSFER_SRC_OPTIMAL);
+        transfer(commands, release, image, VK_IMAGE_LAYOUT_TRANSFER_SRC_OPTIMAL);
     };
     const auto load = [&](VkCommandBuffer commands) {
-        transfer(commands, false, image, halves.acquired);
+        transfer(commands, acquire, image, halves.acquired);
         const VkBufferImageCopy region{0, 0, 0, {VK_IMAGE_ASPECT_COLOR_BIT, 0, 0, 1}, {0, 0, 0}, {Context::side, Context::side, 1}};
         vkCmdCopyImageToBuffer(commands, image, VK_IMAGE_LAYOUT_TRANSFER_SRC_OPTIMAL, other, 1, &region);
     };
@@ -439,24 +429,17 @@ void there_and_back(Context &context, bool back) {
     const auto one = context.buffer(), other = context.buffer();
     const Queue &from = context.queue_of_family(owner), &to = context.queue_of_family(taker);
     const auto there = context.semaphore(VK_SEMAPHORE_TYPE_BINARY), returned = context.semaphore(VK_SEMAPHORE_TYPE_BINARY);
-    const auto returns = [&](VkCommandBuffer commands, VkAccessFlags dst) {
-        auto made = half<VkBufferMemoryBarrier>(VK_STRUCTURE_TYPE_BUFFER_MEMORY_BARRIER, 0, dst);
-        std::swap(made.srcQueueFamilyIndex, made.dstQueueFamilyIndex);
-        made.buffer = one;
-        made.size = VK_WHOLE_SIZE;
-        vkCmdPipelineBarrier(commands, VK_PIPELINE_STAGE_TRANSFER_BIT, VK_PIPELINE_STAGE_TRANSFER_BIT, 0, 0, nullptr, 1, &made, 0, nullptr);
-    };
     auto commands = context.commands(from);
     fill(commands, one);
-    transfer(commands, true, one);
+    transfer(commands, release, one);
     context.submit(from, commands, VK_NULL_HANDLE, nullptr, VK_NULL_HANDLE, there);
     commands = context.commands(to);
-    transfer(commands, false, one);
+    transfer(commands, acquire, one);
     copy(commands, one, other);
-    if (back) returns(commands, 0);
+    if (back) transfer(commands, release_back, one);
     context.submit(to, commands, VK_NULL_HANDLE, nullptr, there, returned);
     commands = context.commands(from);
-    if (back) returns(commands, VK_ACCESS_TRANSFER_WRITE_BIT);
+    if (back) transfer(commands, acquire_back, one);
     fill(commands, one);
     context.submit(from, commands, VK_NULL_HANDLE, nullptr, returned, VK_NULL_HANDLE);
 }
