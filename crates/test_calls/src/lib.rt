@@ -3,9 +3,7 @@
 
 mod answers;
 mod call;
-mod given;
 
 pub use answers::{Answer, answer_from, answer_of, is_given};
 pub use call::{status_of, words_of};
-pub use given::gives;
 pub use top::{Ended, Status, at_rest, framec};

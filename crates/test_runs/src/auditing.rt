@@ -1,13 +1,14 @@
 //! Recorded runs, judged.
 
 use crate::executing::{FILL, FILL_TEXT};
+use crate::given::gives;
 use base::{List, NoMemory};
 use base_io::IdleGate;
 use std::alloc::Global;
 use std::sync::Wait;
 use std::test::Fail;
 use std::thread::Threads;
-use test_calls::{Status, answer_of, gives};
+use test_calls::{Status, answer_of};
 
 // A fill, a copy into a read-back, a barrier after each, and a run of them.
 const RUN: &str =

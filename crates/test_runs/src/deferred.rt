@@ -1,6 +1,7 @@
 //! A small deferred renderer at 1920 by 1080, with 24 passes on three queues.
 
 use crate::auditing::is_audited;
+use crate::given::gives;
 use base::NoMemory;
 use base_io::IdleGate;
 use std::alloc::{AllocError, Global};
@@ -8,7 +9,7 @@ use std::process::Abort;
 use std::sync::Wait;
 use std::test::Fail;
 use std::thread::Threads;
-use test_calls::{Status, answer_of, gives};
+use test_calls::{Status, answer_of};
 
 const DEFERRED: &str =
     r#"{"format":1,"queues":[{"name":"g","family":"graphics"},{"name":"c","family":"compute"},{"name":"t","family":"transfer"}],

@@ -1,12 +1,13 @@
 //! Frames and submissions, run on a device.
 
+use crate::given::gives;
 use base::NoMemory;
 use base_io::IdleGate;
 use std::alloc::Global;
 use std::sync::Wait;
 use std::test::Fail;
 use std::thread::Threads;
-use test_calls::{Status, answer_of, gives};
+use test_calls::{Status, answer_of};
 
 // A fill of one buffer.
 pub(crate) const ONE_FILL: &str =

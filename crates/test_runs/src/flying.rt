@@ -1,8 +1,9 @@
 //! Frames that fly, and files of frames that do not.
 
+use crate::given::gives;
 use std::alloc::{AllocError, Global};
 use std::test::Fail;
-use test_calls::{Status, gives};
+use test_calls::Status;
 
 // A frame that adds one to what `b` holds, and exports it.
 const COUNTS: &str =

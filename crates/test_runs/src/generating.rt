@@ -1,7 +1,8 @@
 //! Frames from numbers.
 
+use crate::given::gives;
 use std::test::Fail;
-use test_calls::{Status, gives};
+use test_calls::Status;
 
 const ONE_PASS: &str =
     r#"{"exports":["r0"],"format":2,"passes":[{"name":"p0","ops":[{"base":0,"dst":"r0","dx":1,"dy":64,"op":"ramp"}],"queue":"g","reads":[],"side_effect":false,"writes":[{"new":"r0"}]}],"queues":[{"family":"graphics","name":"g"},{"family":"compute","name":"c"},{"family":"transfer","name":"t"}],"resources":[{"image":[64,64],"name":"r0","texel":"r32"}]}

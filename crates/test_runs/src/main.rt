@@ -14,6 +14,7 @@ mod executing;
 mod flying;
 #[cfg(test)]
 mod generating;
+mod given;
 #[cfg(test)]
 #[cfg(test)]
 mod meeting;

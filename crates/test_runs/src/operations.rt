@@ -1,11 +1,12 @@
 //! Frames of every operation, run and meant.
 
+use crate::given::gives;
 use base::NoMemory;
 use std::alloc::{AllocError, Global};
 use std::sync::Wait;
 use std::test::Fail;
 use std::thread::Threads;
-use test_calls::{Status, gives, is_given};
+use test_calls::{Status, is_given};
 
 // A frame, the text of its exports, and what `run` prints before them.
 const FRAMES: [(&str, &str, &str); 12] = [

@@ -1,12 +1,13 @@
 //! The worked rows of the top call, over sources and sinks in memory.
 
+use crate::given::gives;
 use base::{List, NoMemory};
 use base_io::{IdleGate, MemorySink, ReadResult, Source, SteadySource};
 use std::alloc::Global;
 use std::sync::Wait;
 use std::test::Fail;
 use std::thread::Threads;
-use test_calls::{Status, answer_from, at_rest, gives, words_of};
+use test_calls::{Status, answer_from, at_rest, words_of};
 
 pub(crate) const FILL: &str =
     "{\"format\":1,\"queues\":[{\"name\":\"g\",\"family\":\"graphics\"}],\"resources\":[{\"name\":\"b\",\"buffer\":16}],\"passes\":[{\"name\":\"p\",\"queue\":\"g\",\"writes\":[{\"new\":\"b\"}],\"ops\":[{\"op\":\"fill_buffer\",\"dst\":\"b\",\"offset\":0,\"size\":16,\"word\":7}]}],\"exports\":[\"b\"]}";

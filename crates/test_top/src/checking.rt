@@ -1,7 +1,8 @@
 //! Submissions, checked.
 
+use crate::given::gives;
 use std::test::Fail;
-use test_calls::{Status, gives};
+use test_calls::Status;
 
 // Two pieces over the same memory, one of its own, an import and an image.
 const FILE: &str =

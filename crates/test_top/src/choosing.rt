@@ -1,8 +1,9 @@
 //! Passes on the queues that are chosen for them.
 
 use crate::calls::FILL;
+use crate::given::gives;
 use std::test::Fail;
-use test_calls::{Status, gives};
+use test_calls::Status;
 
 // Frames, the lines of `auto --cost`, and the texts of `auto`.
 const FRAMES: [(&str, &str, &str); 2] = [

@@ -1,12 +1,13 @@
 //! What frames are compiled to, and that it is accepted.
 
+use crate::given::gives;
 use base::NoMemory;
 use base_io::IdleGate;
 use std::alloc::Global;
 use std::sync::Wait;
 use std::test::Fail;
 use std::thread::Threads;
-use test_calls::{Status, answer_of, gives};
+use test_calls::{Status, answer_of};
 
 const ONE_FILL: &str =
     r#"{"format":1,"queues":[{"name":"g","family":"graphics"}],"resources":[{"name":"b","buffer":16}],"passes":[{"name":"p","queue":"g","writes":[{"new":"b"}],"ops":[{"op":"fill_buffer","dst":"b","offset":0,"size":16,"word":7}]}],"exports":["b"]}"#;

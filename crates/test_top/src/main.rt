@@ -12,6 +12,7 @@ mod choosing;
 mod compiling;
 #[cfg(test)]
 mod ends;
+mod given;
 #[cfg(test)]
 #[cfg(test)]
 mod placing;

@@ -1,7 +1,8 @@
 //! Where transient resources lie, and how much memory they need at least.
 
+use crate::given::gives;
 use std::test::Fail;
-use test_calls::{Status, gives};
+use test_calls::Status;
 
 // Frames, and the lines of `place` and of `bound`.
 const FRAMES: [(&str, &str, &str); 6] = [

@@ -1,7 +1,8 @@
 //! Submissions without the waits that they do not need.
 
+use crate::given::gives;
 use std::test::Fail;
-use test_calls::{Status, gives};
+use test_calls::Status;
 
 // An image goes from a compute queue to a graphics queue.
 const RAMP_AND_MAP: &str =

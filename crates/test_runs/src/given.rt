@@ -1,14 +1,14 @@
 //! What command lines give.
 
-use crate::{Status, is_given};
 use std::alloc::Global;
 use std::process::Abort;
 use std::sync::Wait;
 use std::test::Fail;
 use std::thread::Threads;
+use test_calls::{Status, is_given};
 
-/// The status and the text of a command line on a file are these.
-pub fn gives(
+// The status and the text of a command line on a file are these.
+pub(crate) fn gives(
     rt: &(impl Threads + Wait + Sync + Abort),
     alloc: Global,
     line: &str,
