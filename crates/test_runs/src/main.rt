@@ -14,8 +14,8 @@ mod executing;
 mod flying;
 #[cfg(test)]
 mod generating;
-mod given;
 #[cfg(test)]
+mod given;
 #[cfg(test)]
 mod meeting;
 #[cfg(test)]

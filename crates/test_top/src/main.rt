@@ -12,8 +12,8 @@ mod choosing;
 mod compiling;
 #[cfg(test)]
 mod ends;
-mod given;
 #[cfg(test)]
+mod given;
 #[cfg(test)]
 mod placing;
 #[cfg(test)]
