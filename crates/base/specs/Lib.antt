@@ -1,6 +1,7 @@
 pub mod Applied
 pub mod Bounds
 pub mod Broken
+pub mod CacheMoves
 pub mod Families
 pub mod Fits
 pub mod InPlace

@@ -2,6 +2,7 @@
 #![tactic(auto)]
 
 mod broken;
+mod cache_move;
 mod event;
 mod fits;
 mod grid;
@@ -10,6 +11,7 @@ mod limit;
 mod list;
 mod mapped;
 mod maxima;
+mod memory_range;
 mod name;
 mod no_memory;
 mod op;
@@ -25,6 +27,7 @@ mod whole;
 mod within;
 
 pub use broken::Broken;
+pub use cache_move::{CacheMove, MoveKind};
 pub use event::Event;
 pub use fits::op_fits;
 pub use grid::Grid;
@@ -36,6 +39,7 @@ pub use maxima::{
     MAX_PIECES, MAX_QUEUES, MAX_READBACKS, MAX_RECTS, MAX_RESOURCE_BYTES, MAX_SIDE, MAX_SIZE,
     MAX_UNITS,
 };
+pub use memory_range::MemoryRange;
 pub use name::Name;
 pub use no_memory::NoMemory;
 pub use op::{Fun, Mix, Op, Rect};

@@ -1,7 +1,7 @@
 -- The table stays that of the program, and its pieces and memories stay cut out.
 use Rattle.std.proofs.Common.{◌≡◌, ℕ, ◌+◌, ◌<◌, ◌≤◌, Bool, true, false, length, if◌then◌else◌, refl, sym, ap, ◌∙◌, subst, arith}
 use Rattle.std.specs.Prelude.{List, slice_index}
-use Rattle.device_cache.specs.Lines.{Range}
+use Rattle.base.specs.declared.memory_range.MemoryRange.{MemoryRange}
 use Rattle.device_cache.specs.Tables.{Table, is_cut, missing, InMemory, Keeps}
 use Rattle.device.specs.Internal.Tables.{IsCutOut, HasCut, FitsProgram, Stays}
 use Rattle.device_model.specs.Agents.{piece_range}
@@ -27,7 +27,7 @@ missing_le t m i n = omega (arith, one_end (is_cut t m i), one_end (is_cut t m (
 pub still_in : (t u : Table) (m i n : ℕ) → Keeps t u → InMemory t m i n → InMemory u m i n
 still_in t u m i n K I = record { there = omega (arith, I.there, K.memories); within = omega (arith, I.within, K.sizes m) }
 
-pub still_cut : (t u : Table) (r : Range) → Keeps t u → IsCutOut t r → IsCutOut u r
+pub still_cut : (t u : Table) (r : MemoryRange) → Keeps t u → IsCutOut t r → IsCutOut u r
 still_cut t u r K C =
     let ends = both_cut (is_cut t r.memory r.start) (is_cut t r.memory (r.start + r.len)) C.cut in
     record {

@@ -5,7 +5,7 @@ use Rattle.std.specs.Prelude.{replicate}
 use Rattle.std.proofs.lemmas.List.{length-replicate}
 use Rattle.std.proofs.lemmas.List.FromFn.{length-map-range_with_len}
 use Rattle.std.proofs.lemmas.Option.{slice_get-get_or}
-use Rattle.device_cache.specs.Lines.{Range}
+use Rattle.base.specs.declared.memory_range.MemoryRange.{MemoryRange}
 use Rattle.base.specs.Shapes.{bytes_of}
 use Rattle.device_cache.specs.Effects.{Caches, load}
 use Rattle.device_nodes.specs.Controls.{phase_of}
@@ -42,7 +42,7 @@ module _ (program : Program) (c : Caches) (s : State) (B : HasBytes program c s)
   host_reads only true e = all_junk fill size ∙ sym (ap (host_takes V s n (fill ∷ [])) only ∙ ap (λ b. if b then junk_bytes (fill ∷ []) size else bytes_in V s.main a.piece) e)
   host_reads only false e = reads_alike program c s B (piece_at V a.piece).memory (piece_at V a.piece).offset size within ∙ sym (ap (host_takes V s n (fill ∷ [])) only ∙ ap (λ b. if b then junk_bytes (fill ∷ []) size else bytes_in V s.main a.piece) e)
 
-pub read_long : (junk : Option ℕ) (r : Range) (c : Caches) → length (read_into junk r c) ≡ r.len
+pub read_long : (junk : Option ℕ) (r : MemoryRange) (c : Caches) → length (read_into junk r c) ≡ r.len
 read_long None r c = length-map-range_with_len (λ k. c.main r.memory (r.start + k)) 0 r.len
 read_long (Some byte) r c = length-replicate r.len byte
 

@@ -4,7 +4,7 @@ ghost use Rattle.std.specs.Prelude.{◌≡◌, ◌<◌, ◌^◌, length, if◌th
 ghost use Rattle.device_cache.specs.Effects.{overwrite};
 ghost use Rattle.device_cache.specs.Tables.{caches_of, junk_of};
 ghost use Rattle.device_nodes.specs.Controls.{Agrees};
-ghost use Rattle.device.specs.Internal.Syncs.{range_of, passes, moved_one, moved_agents, moved_by, junked, synced_caches, IsThere};
+ghost use Rattle.device.specs.Internal.Syncs.{passes, moved_one, moved_agents, moved_by, junked, synced_caches, IsThere};
 ghost use Rattle.device.specs.Internal.Tables.{HasCut, Stays};
 ghost use Rattle.device_model.specs.Agents.{piece_range};
 ghost use Rattle.device_model.specs.States.{State};
@@ -13,6 +13,7 @@ ghost use Rattle.check_access.specs.ValidView.{ValidView};
 ghost use Rattle.check_access.specs.Views.{accesses_of, effect_at};
 
 use crate::agents::has_agent;
+use base::MemoryRange;
 use check_access::{Access, Scope, View};
 use device_cache::Segments;
 use device_nodes::Control;
@@ -31,22 +32,14 @@ pub(crate) struct Agents {
     pub set: u16,
 }
 
-/// Bytes of a memory.
-#[derive(Clone, Copy)]
-pub(crate) struct Extent {
-    pub memory: u32,
-    pub start: u32,
-    pub len: u32,
-}
-
 /// The bytes of a piece.
-pub(crate) fn extent_of(view: &View, piece: u32) -> Extent
+pub(crate) fn range_of(view: &View, piece: u32) -> MemoryRange
     requires there { piece < length view.now.pieces }
     requires short { (piece_range view.now piece).len < 2 ^ 32 }
-    ensures { range_of result ≡ piece_range view.now piece }
+    ensures { result ≡ piece_range view.now piece }
 {
     let piece = view.piece(piece);
-    Extent {
+    MemoryRange {
         memory: piece.memory,
         start: piece.offset,
         len: piece.shape.bytes() as u32,
@@ -67,7 +60,7 @@ fn move_lines(table: &mut Segments, view: &View, kind: Move, agent: u32, scope: 
             Move::DropClean => table.drop_clean_all(agent),
         },
         Scope::Piece(piece) => {
-            let Extent { memory, start, len } = extent_of(view, piece);
+            let MemoryRange { memory, start, len } = range_of(view, piece);
             match kind {
                 Move::WriteBack => table.write_back(agent, memory, start, len),
                 Move::DropClean => table.drop_clean(agent, memory, start, len),
@@ -140,8 +133,8 @@ fn leave_junk_in(table: &mut Segments, control: &Control, node: u32, access: Acc
     ensures stays { Stays table.old table.new }
 {
     if leaves_junk(control, node, access) {
-        let extent = extent_of(control.view(), access.piece);
-        table.junk(extent.memory, extent.start, extent.len);
+        let range = range_of(control.view(), access.piece);
+        table.junk(range.memory, range.start, range.len);
     }
 }
 

@@ -8,15 +8,18 @@ use Rattle.std.proofs.lemmas.Fmt.{decimal_digit, decimal_by_steps, decimal_is_Is
 use Rattle.std.proofs.lemmas.List.{length-append, take_at, drop_at}
 use Rattle.std.proofs.lemmas.Str.Parse.{digit_from_value}
 use Rattle.device_audit.specs.Again.{HasNumbers, HaveNumbers}
-use Rattle.device_audit.specs.TraceLines.{count_of, cut_at, cut_in, place_of, digits_after, event_of, is_digit, longer, number_of, range_of}
+use Rattle.device_audit.specs.TraceLines.{count_of, cut_at, cut_in, place_of, digits_after, event_of, is_digit, longer, number_of, event_named, move_of}
 use Rattle.device_audit.specs.Trace.{Told, after_event, counted_events, events_from, first_event, lined_events, told, trace_of}
 use Rattle.device_audit.specs.declared.trace.TraceError.{TraceError}
 use Rattle.device_audit.specs.declared.trace.TraceError.TheVariants.{Text}
-use Rattle.device_audit.specs.declared.trace_lines.AgentRange.{AgentRange}
+use Rattle.base.specs.CacheMoves.{cache_move}
+use Rattle.base.specs.declared.cache_move.CacheMove.{CacheMove}
+use Rattle.base.specs.declared.cache_move.MoveKind.{MoveKind}
+use Rattle.base.specs.declared.cache_move.MoveKind.TheVariants.{WriteBack, Fill, DropLine}
 use Rattle.base.specs.declared.event.Event.{Event}
-use Rattle.base.specs.declared.event.Event.TheVariants.{Begin, End, Sync, WriteBack, Fill, DropLine, Host}
+use Rattle.base.specs.declared.event.Event.TheVariants.{Begin, End, Sync, Move, Host}
 use Rattle.report.specs.Hazards.{number_field, two_numbers}
-use Rattle.report.specs.Traces.{event_line, node_line, move_line, trace_text}
+use Rattle.report.specs.Traces.{event_line, node_line, move_line, move_word, trace_text}
 
 -- NUMBERS
 
@@ -93,8 +96,8 @@ node_told make n small = ap (option_map make) (number_again n small)
 abbrev four : ℕ → ℕ → ℕ → ℕ → List ℕ
 four a m s l = decimal a ++ 32 ∷ (decimal m ++ 32 ∷ (decimal s ++ 32 ∷ decimal l))
 
-range_again : (a m s l : ℕ) → a < 2 ^ 32 → m < 2 ^ 32 → s < 2 ^ 32 → l < 2 ^ 32 → range_of (four a m s l) ≡ Some (record { agent = a; memory = m; start = s; len = l })
-range_again a m s l sa sm ss sl =
+move_again : (kind : MoveKind) (a m s l : ℕ) → a < 2 ^ 32 → m < 2 ^ 32 → s < 2 ^ 32 → l < 2 ^ 32 → move_of kind (four a m s l) ≡ Some (cache_move kind a m s l)
+move_again kind a m s l sa sm ss sl =
     ap (option_and_then _) (cut_found 32 (decimal a) (decimal m ++ 32 ∷ (decimal s ++ 32 ∷ decimal l)) (number_free 32 a (omega arith) sa))
     ∙ ap (option_and_then _) (cut_found 32 (decimal m) (decimal s ++ 32 ∷ decimal l) (number_free 32 m (omega arith) sm))
     ∙ ap (option_and_then _) (cut_found 32 (decimal s) (decimal l) (number_free 32 s (omega arith) ss))
@@ -109,23 +112,43 @@ words_of (Begin n) = codes "begin" ++ 32 ∷ decimal n
 words_of (End n) = codes "end" ++ 32 ∷ decimal n
 words_of (Sync n) = codes "sync" ++ 32 ∷ decimal n
 words_of (Host n) = codes "host" ++ 32 ∷ decimal n
-words_of (WriteBack a m s l) = codes "writeback" ++ 32 ∷ four a m s l
-words_of (Fill a m s l) = codes "fill" ++ 32 ∷ four a m s l
-words_of (DropLine a m s l) = codes "drop" ++ 32 ∷ four a m s l
+words_of (Move m) = move_word m.kind ++ 32 ∷ four m.agent m.range.memory m.range.start m.range.len
+
+-- no kind's word has a blank ..
+blank_free : (kind : MoveKind) → Free 32 (move_word kind)
+blank_free WriteBack = (refl, (refl, (refl, (refl, (refl, (refl, (refl, (refl, (refl, tt)))))))))
+blank_free Fill = (refl, (refl, (refl, (refl, tt))))
+blank_free DropLine = (refl, (refl, (refl, (refl, tt))))
+
+-- .. or an end of line
+end_free : (kind : MoveKind) → Free 10 (move_word kind)
+end_free WriteBack = (refl, (refl, (refl, (refl, (refl, (refl, (refl, (refl, (refl, tt)))))))))
+end_free Fill = (refl, (refl, (refl, (refl, tt))))
+end_free DropLine = (refl, (refl, (refl, (refl, tt))))
+
+named_again : (kind : MoveKind) (a m s l : ℕ) → a < 2 ^ 32 → m < 2 ^ 32 → s < 2 ^ 32 → l < 2 ^ 32 → event_named (move_word kind) (four a m s l) ≡ Some (Move (cache_move kind a m s l))
+named_again WriteBack a m s l sa sm ss sl = ap (option_map (λ m. Move m)) (move_again WriteBack a m s l sa sm ss sl)
+named_again Fill a m s l sa sm ss sl = ap (option_map (λ m. Move m)) (move_again Fill a m s l sa sm ss sl)
+named_again DropLine a m s l sa sm ss sl = ap (option_map (λ m. Move m)) (move_again DropLine a m s l sa sm ss sl)
 
 event_again : (event : Event) → HasNumbers event → event_of (words_of event) ≡ Some event
 event_again (Begin n) small = rw (cut_found 32 (codes "begin") (decimal n) ((refl, (refl, (refl, (refl, (refl, tt))))))) (node_told Begin n small)
 event_again (End n) small = rw (cut_found 32 (codes "end") (decimal n) ((refl, (refl, (refl, tt))))) (node_told End n small)
 event_again (Sync n) small = rw (cut_found 32 (codes "sync") (decimal n) ((refl, (refl, (refl, (refl, tt)))))) (node_told Sync n small)
 event_again (Host n) small = rw (cut_found 32 (codes "host") (decimal n) ((refl, (refl, (refl, (refl, tt)))))) (node_told Host n small)
-event_again (WriteBack a m s l) (sa, sm, ss, sl) = rw (cut_found 32 (codes "writeback") (four a m s l) ((refl, (refl, (refl, (refl, (refl, (refl, (refl, (refl, (refl, tt))))))))))) (ap (option_map (λ (r : AgentRange). WriteBack r.agent r.memory r.start r.len)) (range_again a m s l sa sm ss sl))
-event_again (Fill a m s l) (sa, sm, ss, sl) = rw (cut_found 32 (codes "fill") (four a m s l) ((refl, (refl, (refl, (refl, tt)))))) (ap (option_map (λ (r : AgentRange). Fill r.agent r.memory r.start r.len)) (range_again a m s l sa sm ss sl))
-event_again (DropLine a m s l) (sa, sm, ss, sl) = rw (cut_found 32 (codes "drop") (four a m s l) ((refl, (refl, (refl, (refl, tt)))))) (ap (option_map (λ (r : AgentRange). DropLine r.agent r.memory r.start r.len)) (range_again a m s l sa sm ss sl))
+event_again (Move m) (sa, sm, ss, sl) =
+    rw (cut_found 32 (move_word m.kind) (four m.agent m.range.memory m.range.start m.range.len) (blank_free m.kind))
+    (named_again m.kind m.agent m.range.memory m.range.start m.range.len sa sm ss sl)
 
 -- LINES
 
-move_words : (word : List ℕ) (a m s l : ℕ) (rest : List ℕ) → move_line word a m s l ++ rest ≡ (word ++ 32 ∷ four a m s l) ++ 10 ∷ rest
-move_words word a m s l rest =
+move_words : (m : CacheMove) (rest : List ℕ) → move_line m ++ rest ≡ words_of (Move m) ++ 10 ∷ rest
+move_words move rest =
+    let word = move_word move.kind in
+    let a = move.agent in
+    let m = move.range.memory in
+    let s = move.range.start in
+    let l = move.range.len in
     append_assoc ((word ++ two_numbers a m) ++ two_numbers s l) (codes "\n") rest
     ∙ ap (λ front. front ++ 10 ∷ rest) (append_assoc word (two_numbers a m) (two_numbers s l) ∙ ap (λ numbers. word ++ numbers) (append_assoc (number_field a) (number_field m) (two_numbers s l)))
 
@@ -137,9 +160,7 @@ line_words (Begin n) rest = node_words (codes "begin") n rest
 line_words (End n) rest = node_words (codes "end") n rest
 line_words (Sync n) rest = node_words (codes "sync") n rest
 line_words (Host n) rest = node_words (codes "host") n rest
-line_words (WriteBack a m s l) rest = move_words (codes "writeback") a m s l rest
-line_words (Fill a m s l) rest = move_words (codes "fill") a m s l rest
-line_words (DropLine a m s l) rest = move_words (codes "drop") a m s l rest
+line_words (Move m) rest = move_words m rest
 
 after_blank : (n : ℕ) → n < 2 ^ 32 → Free 10 (32 ∷ decimal n)
 after_blank n small = (refl, number_free 10 n (omega arith) small)
@@ -152,9 +173,7 @@ one_line (Begin n) small = free_on 10 (codes "begin") (32 ∷ decimal n) (refl, 
 one_line (End n) small = free_on 10 (codes "end") (32 ∷ decimal n) (refl, (refl, (refl, tt))) (after_blank n small)
 one_line (Sync n) small = free_on 10 (codes "sync") (32 ∷ decimal n) (refl, (refl, (refl, (refl, tt)))) (after_blank n small)
 one_line (Host n) small = free_on 10 (codes "host") (32 ∷ decimal n) (refl, (refl, (refl, (refl, tt)))) (after_blank n small)
-one_line (WriteBack a m s l) (sa, sm, ss, sl) = free_on 10 (codes "writeback") (32 ∷ four a m s l) (refl, (refl, (refl, (refl, (refl, (refl, (refl, (refl, (refl, tt))))))))) (four_free a m s l sa sm ss sl)
-one_line (Fill a m s l) (sa, sm, ss, sl) = free_on 10 (codes "fill") (32 ∷ four a m s l) (refl, (refl, (refl, (refl, tt)))) (four_free a m s l sa sm ss sl)
-one_line (DropLine a m s l) (sa, sm, ss, sl) = free_on 10 (codes "drop") (32 ∷ four a m s l) (refl, (refl, (refl, (refl, tt)))) (four_free a m s l sa sm ss sl)
+one_line (Move m) (sa, sm, ss, sl) = free_on 10 (move_word m.kind) (32 ∷ four m.agent m.range.memory m.range.start m.range.len) (end_free m.kind) (four_free m.agent m.range.memory m.range.start m.range.len sa sm ss sl)
 
 line_again : (event : Event) (rest : List ℕ) → HasNumbers event → first_event (event_line event ++ rest) ≡ Some (record { event = event; rest = rest })
 line_again event rest has =

@@ -7,16 +7,16 @@ use Rattle.std.proofs.lemmas.Option.{slice_get-get_or}
 use Rattle.device_audit.specs.Internal.Following.{ends, is_ended}
 use Rattle.device_audit.specs.Verdicts.{ran}
 use Rattle.base.specs.declared.event.Event.{Event}
-use Rattle.base.specs.declared.event.Event.TheVariants.{Begin, End, Sync, WriteBack, Fill, DropLine, Host}
-use Rattle.device_cache.specs.Lines.{range}
+use Rattle.base.specs.declared.event.Event.TheVariants.{Begin, End, Sync, Move, Host}
 use Rattle.device_model.specs.Coming.{is_enabled, left_by, is_enabled_at, AreEnabled}
 use Rattle.device_model.specs.Devices.{state_of}
 use Rattle.device_model.specs.Ready.{is_command, kind_at, ready}
 use Rattle.device_model.specs.States.{is_done, State}
-use Rattle.device_model.specs.Steps.{step, may_move, begun, made, ended, synced, hosted, written_back, lines_filled, lines_dropped}
+use Rattle.device_model.specs.Steps.{step, may_move, begun, made, ended, synced, hosted, lines_moved}
 use Rattle.device_model.specs.declared.phase.Phase.{Phase}
 use Rattle.device_model.specs.declared.phase.Phase.TheVariants.{Done}
 use Rattle.device_model.proofs.Control.{done_begun, idle_not_done, ready_first}
+use Rattle.device_model.proofs.Moving.{lines_alone}
 use Rattle.device_model.proofs.Running.{steps_on}
 use Rattle.program.specs.declared.program.Program.{Program}
 use Rattle.check_access.specs.Views.{view_of}
@@ -53,9 +53,7 @@ module _ (program : Program) (s : State) (junk : List ℕ) (n : ℕ) where
       ap (λ b. is_done ((if b then synced (view_of program) s m junk else s).phase n)) may ∙ done_or (n == m) (s.phase n)
   step_ends (Host m) may =
       ap (λ b. is_done ((if b then hosted (view_of program) s m junk else s).phase n)) may ∙ done_or (n == m) (s.phase n)
-  step_ends (WriteBack agent memory start len) may = stays (written_back s agent (range memory start len)) (may_move program agent (range memory start len)) refl
-  step_ends (Fill agent memory start len) may = stays (lines_filled s agent (range memory start len)) (may_move program agent (range memory start len)) refl
-  step_ends (DropLine agent memory start len) may = stays (lines_dropped s agent (range memory start len)) (may_move program agent (range memory start len)) refl
+  step_ends (Move m) may = stays (lines_moved s m) (may_move program m) (ap (λ s. s.phase) (lines_alone s m))
 
 -- ALL EVENTS
 

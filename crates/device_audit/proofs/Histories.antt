@@ -9,9 +9,9 @@ use Rattle.std.proofs.lemmas.Option.{slice_get-get_or}
 use Rattle.device_audit.specs.Again.{HasNumbers, HaveNumbers, HistoriesAreRead}
 use Rattle.device_audit.proofs.Again.{read_again}
 use Rattle.base.proofs.Absence.{map_none}
+use Rattle.base.specs.declared.cache_move.CacheMove.{CacheMove}
 use Rattle.base.specs.declared.event.Event.{Event}
-use Rattle.base.specs.declared.event.Event.TheVariants.{Begin, End, Sync, WriteBack, Fill, DropLine, Host}
-use Rattle.device_cache.specs.Lines.{range}
+use Rattle.base.specs.declared.event.Event.TheVariants.{Begin, End, Sync, Move, Host}
 use Rattle.device.proofs.Facts.{memory_small}
 use Rattle.device.proofs.Keeping.{begun_is, ready_inside, ready_idle}
 use Rattle.device.proofs.Lefts.{first_events, left_put}
@@ -20,6 +20,7 @@ use Rattle.device.specs.Internal.Rooms.{events_left, left_of}
 use Rattle.check_order.specs.Edges.{is_sync, is_host}
 use Rattle.check_order.specs.Nodes.{entry_node}
 use Rattle.device_model.proofs.Control.{put_other, still_begun}
+use Rattle.device_model.proofs.Moving.{lines_alone}
 use Rattle.device_model.proofs.Running.{goes_on_by, moved_as, moves_by, opens}
 use Rattle.device_model.specs.Coming.{is_enabled, left_by, AreEnabled}
 use Rattle.device_model.specs.Devices.{Device, state_of, did, is_ready}
@@ -107,9 +108,7 @@ module _ (program : Program) (fill : ℕ) (events : List Event) (C : IsCounted p
   counted_more (Host n) may =
       let p = and_parts (is_host (kind_at (view_of program) n)) (is_ready d n) may in
       ended (Host n) n refl p.1 (ap (λ s. s.phase) ((goes_on_by d n).reads p.0 p.1))
-  counted_more (WriteBack agent memory start len) may = moved (WriteBack agent memory start len) refl (ap (λ s. s.phase) ((moves_by d agent memory start len).writes_back may))
-  counted_more (Fill agent memory start len) may = moved (Fill agent memory start len) refl (ap (λ s. s.phase) ((moves_by d agent memory start len).fills may))
-  counted_more (DropLine agent memory start len) may = moved (DropLine agent memory start len) refl (ap (λ s. s.phase) ((moves_by d agent memory start len).drops may))
+  counted_more (Move m) may = moved (Move m) refl (ap (λ s. s.phase) (moves_by d m may ∙ lines_alone (state_of d) m))
 
   -- ITS NUMBERS
 
@@ -120,14 +119,14 @@ module _ (program : Program) (fill : ℕ) (events : List Event) (C : IsCounted p
     ready_small : (n : ℕ) → is_ready d n ≡ true → n < 2 ^ 32
     ready_small n ready = let inside = ready_inside d n ready in let few = count_small in omega (arith, inside, few)
 
-    move_small : (agent memory start len : ℕ) → may_move program agent (range memory start len) ≡ true → (agent < 2 ^ 32) × (memory < 2 ^ 32) × (start < 2 ^ 32) × (len < 2 ^ 32)
-    move_small agent memory start len may =
-        let m : IsMove program agent (range memory start len) = is_move program agent (range memory start len) may in
-        let known = m.known in
-        let there = m.there in
-        let size = ap (λ o. option_map_or memory_bytes o 0) (slice_get-get_or program.memories memory (Plain 0) there) in
-        let within = m.within in
-        let most = memory_small program small memory there in
+    move_small : (m : CacheMove) → may_move program m ≡ true → (m.agent < 2 ^ 32) × (m.range.memory < 2 ^ 32) × (m.range.start < 2 ^ 32) × (m.range.len < 2 ^ 32)
+    move_small m may =
+        let move : IsMove program m = is_move program m may in
+        let known = move.known in
+        let there = move.there in
+        let size = ap (λ o. option_map_or memory_bytes o 0) (slice_get-get_or program.memories m.range.memory (Plain 0) there) in
+        let within = move.within in
+        let most = memory_small program small m.range.memory there in
         let queues = small.queues in
         let memories = small.memories in
         (omega (arith, known, queues), omega (arith, there, memories), omega (arith, within, size, most), omega (arith, within, size, most))
@@ -137,9 +136,7 @@ module _ (program : Program) (fill : ℕ) (events : List Event) (C : IsCounted p
     has_numbers (End n) may = let inside = C.begun n may in let few = count_small in omega (arith, inside, few)
     has_numbers (Sync n) may = ready_small n (and_parts (is_sync (kind_at (view_of program) n)) (is_ready d n) may).1
     has_numbers (Host n) may = ready_small n (and_parts (is_host (kind_at (view_of program) n)) (is_ready d n) may).1
-    has_numbers (WriteBack agent memory start len) may = move_small agent memory start len may
-    has_numbers (Fill agent memory start len) may = move_small agent memory start len may
-    has_numbers (DropLine agent memory start len) may = move_small agent memory start len may
+    has_numbers (Move m) may = move_small m may
 
 -- ALL EVENTS
 

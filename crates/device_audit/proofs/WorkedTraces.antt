@@ -1,5 +1,7 @@
 -- Worked traces.
 use Rattle.std.proofs.Common.{◌≡◌, ℕ, List, [], ◌∷◌, ◌++◌, Some, None, Ok, Err, refl, codes}
+use Rattle.base.specs.CacheMoves.{cache_move}
+use Rattle.base.specs.declared.cache_move.MoveKind.TheVariants.{WriteBack}
 use Rattle.base.specs.declared.event.Event.TheVariants as events
 use Rattle.device_audit.specs.TraceLines.{event_of, number_of}
 use Rattle.device_audit.specs.Trace.{trace_of}
@@ -11,7 +13,7 @@ line text = text ++ 10 ∷ []
 abbrev two : List ℕ
 two = line (codes "events 2") ++ line (codes "begin 0") ++ line (codes "writeback 6 0 0 4")
 
-two_events : trace_of two ≡ Ok (events.Begin 0 ∷ events.WriteBack 6 0 0 4 ∷ [])
+two_events : trace_of two ≡ Ok (events.Begin 0 ∷ events.Move (cache_move WriteBack 6 0 0 4) ∷ [])
 two_events = refl
 
 empty_text : trace_of [] ≡ Err (Text 0)

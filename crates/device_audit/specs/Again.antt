@@ -2,7 +2,7 @@
 use Rattle.std.specs.Prelude.{◌≡◌, ℕ, ◌<◌, ◌≤◌, ◌^◌, List, [], ◌∷◌, length, Option, None, Ok}
 use Rattle.device_audit.specs.Trace.{trace_of}
 use Rattle.base.specs.declared.event.Event.{Event}
-use Rattle.base.specs.declared.event.Event.TheVariants.{Begin, End, Sync, WriteBack, Fill, DropLine, Host}
+use Rattle.base.specs.declared.event.Event.TheVariants.{Begin, End, Sync, Move, Host}
 use Rattle.device_drive.specs.Tended.{tended_moves}
 use Rattle.report.specs.Traces.{trace_text}
 use Rattle.device_model.specs.Coming.{AllCame}
@@ -16,9 +16,7 @@ HasNumbers (Begin node) = node < 2 ^ 32
 HasNumbers (End node) = node < 2 ^ 32
 HasNumbers (Sync node) = node < 2 ^ 32
 HasNumbers (Host node) = node < 2 ^ 32
-HasNumbers (WriteBack agent memory start len) = (agent < 2 ^ 32) × (memory < 2 ^ 32) × (start < 2 ^ 32) × (len < 2 ^ 32)
-HasNumbers (Fill agent memory start len) = (agent < 2 ^ 32) × (memory < 2 ^ 32) × (start < 2 ^ 32) × (len < 2 ^ 32)
-HasNumbers (DropLine agent memory start len) = (agent < 2 ^ 32) × (memory < 2 ^ 32) × (start < 2 ^ 32) × (len < 2 ^ 32)
+HasNumbers (Move m) = (m.agent < 2 ^ 32) × (m.range.memory < 2 ^ 32) × (m.range.start < 2 ^ 32) × (m.range.len < 2 ^ 32)
 
 abbrev pub HaveNumbers : List Event → Type 0
 HaveNumbers [] = Unit {0}

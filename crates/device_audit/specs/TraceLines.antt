@@ -2,9 +2,12 @@
 use Rattle.std.specs.Prelude.{ℕ, List, [], ◌∷◌, ◌+◌, ◌-◌, ◌*◌, ◌==◌, ◌&&◌, nat_le, nat_lt, take, drop, length, codes, Bool, Option, Some, None, option_map, option_and_then, if◌then◌else◌}
 use Rattle.std.specs.List.{position_or_len}
 use Rattle.std.specs.Str.{bytes_eq}
+use Rattle.base.specs.CacheMoves.{cache_move}
+use Rattle.base.specs.declared.cache_move.CacheMove.{CacheMove}
+use Rattle.base.specs.declared.cache_move.MoveKind.{MoveKind}
+use Rattle.base.specs.declared.cache_move.MoveKind.TheVariants.{WriteBack, Fill, DropLine}
 use Rattle.base.specs.declared.event.Event.{Event}
 use Rattle.base.specs.declared.event.Event.TheVariants as events
-use Rattle.device_audit.specs.declared.trace_lines.AgentRange.{AgentRange}
 
 -- NUMBERS
 
@@ -45,15 +48,19 @@ cut_at b text = if nat_lt (place_of b text) (length text) then Some (cut_in (pla
 -- EVENTS
 
 -- four numbers with a space between
-abbrev pub range_of : List ℕ → Option AgentRange
-range_of text =
+abbrev pub move_of : MoveKind → List ℕ → Option CacheMove
+move_of kind text =
     option_and_then (λ (a : Cut). option_and_then (λ (b : Cut). option_and_then (λ (c : Cut).
-    option_and_then (λ agent. option_and_then (λ memory. option_and_then (λ start. option_map (λ len. record { agent = agent; memory = memory; start = start; len = len })
+    option_and_then (λ agent. option_and_then (λ memory. option_and_then (λ start. option_map (λ len. cache_move kind agent memory start len)
     (number_of c.rest)) (number_of c.front)) (number_of b.front)) (number_of a.front))
     (cut_at 32 b.rest)) (cut_at 32 a.rest)) (cut_at 32 text)
 
-abbrev pub moved_by : (ℕ → ℕ → ℕ → ℕ → Event) → List ℕ → Option Event
-moved_by event text = option_map (λ (r : AgentRange). event r.agent r.memory r.start r.len) (range_of text)
+abbrev pub kind_named : List ℕ → Option MoveKind
+kind_named word =
+    if bytes_eq word (codes "writeback") then Some WriteBack
+    else if bytes_eq word (codes "fill") then Some Fill
+    else if bytes_eq word (codes "drop") then Some DropLine
+    else None
 
 abbrev pub event_named : List ℕ → List ℕ → Option Event
 event_named word text =
@@ -61,10 +68,7 @@ event_named word text =
     else if bytes_eq word (codes "end") then option_map (λ node. events.End node) (number_of text)
     else if bytes_eq word (codes "sync") then option_map (λ node. events.Sync node) (number_of text)
     else if bytes_eq word (codes "host") then option_map (λ node. events.Host node) (number_of text)
-    else if bytes_eq word (codes "writeback") then moved_by (λ a m s l. events.WriteBack a m s l) text
-    else if bytes_eq word (codes "fill") then moved_by (λ a m s l. events.Fill a m s l) text
-    else if bytes_eq word (codes "drop") then moved_by (λ a m s l. events.DropLine a m s l) text
-    else None
+    else option_and_then (λ kind. option_map (λ m. events.Move m) (move_of kind text)) (kind_named word)
 
 -- the event of a line
 abbrev pub event_of : List ℕ → Option Event

@@ -127,11 +127,7 @@ impl Follower {
         match *event {
             Event::Begin { node } => self.begin(rt, alloc, node),
             Event::End { node } => Ok(self.end(node)),
-            Event::Sync { .. }
-            | Event::Host { .. }
-            | Event::WriteBack { .. }
-            | Event::Fill { .. }
-            | Event::DropLine { .. } => Ok(self.make(event)),
+            Event::Sync { .. } | Event::Host { .. } | Event::Move(_) => Ok(self.make(event)),
         }
     }
 

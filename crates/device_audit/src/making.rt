@@ -7,7 +7,7 @@ ghost use Rattle.device_model.specs.Devices.{IsComplete};
 ghost use Rattle.device_model.specs.Histories.{is_move};
 
 use crate::enabled::{may_move, may_read, may_sync};
-use base::Event;
+use base::{CacheMove, Event};
 use device::{Device, Finished, Landed};
 use device_drive::readback_of;
 use device_model::{event_laws, round_laws};
@@ -52,37 +52,16 @@ fn host(device: &mut Device, node: u32) -> bool
 }
 
 // A cache move.
-fn move_lines(device: &mut Device, event: &Event) -> bool
-    requires is { is_move event.now ≡ true }
-    requires moves { 0 < device.old.moves }
-    ensures follows { Follows device.old device.new event.now result }
+fn move_lines(device: &mut Device, cache_move: CacheMove) -> bool
+    requires { 0 < device.old.moves }
+    ensures follows { Follows device.old device.new (events.Move cache_move) result }
     ensures quiet { Quiet device.old device.new }
 {
     round_laws();
-    if !may_move(device, event) {
+    if !may_move(device, cache_move) {
         return false;
     }
-    match *event {
-        Event::WriteBack {
-            agent,
-            memory,
-            start,
-            len,
-        } => device.write_back(agent, memory, start, len),
-        Event::Fill {
-            agent,
-            memory,
-            start,
-            len,
-        } => device.fill(agent, memory, start, len),
-        Event::DropLine {
-            agent,
-            memory,
-            start,
-            len,
-        } => device.drop_line(agent, memory, start, len),
-        _ => unreachable!(),
-    }
+    device.move_lines(cache_move);
     true
 }
 
@@ -97,9 +76,7 @@ pub(crate) fn make(device: &mut Device, event: &Event) -> bool
         Event::Begin { .. } | Event::End { .. } => unreachable!(),
         Event::Sync { node } => sync(device, node),
         Event::Host { node } => host(device, node),
-        Event::WriteBack { .. } | Event::Fill { .. } | Event::DropLine { .. } => {
-            move_lines(device, event)
-        }
+        Event::Move(cache_move) => move_lines(device, cache_move),
     }
 }
 

@@ -3,26 +3,16 @@
 ghost use Rattle.std.specs.Prelude.{◌≡◌, ◌==◌, IfSome, IfNone, Some, None};
 ghost use Rattle.std.specs.List.{position};
 ghost use Rattle.std.specs.Str.{bytes_eq};
-ghost use Rattle.device_audit.specs.TraceLines.{count_of, cut_at, event_named, event_of, moved_by, range_of};
-ghost use Rattle.base.specs.declared.event.Event.TheVariants as events;
+ghost use Rattle.device_audit.specs.TraceLines.{count_of, cut_at, event_named, event_of, kind_named, move_of};
 
 use crate::numbers::number_of;
-use base::Event;
+use base::{CacheMove, Event, MemoryRange, MoveKind};
 
 /// What stands before and after a byte.
 #[derive(Clone, Copy)]
 pub(crate) struct Cut<'a> {
     pub front: &'a [u8],
     pub rest: &'a [u8],
-}
-
-/// Bytes of a memory that an agent sees.
-#[derive(Clone, Copy, Debug)]
-pub struct AgentRange {
-    pub agent: u32,
-    pub memory: u32,
-    pub start: u32,
-    pub len: u32,
 }
 
 fn first_place(text: &[u8], at: u8) -> Option<usize>
@@ -51,69 +41,37 @@ fn is_word(text: &[u8], word: &[u8]) -> bool
     text == word
 }
 
-fn range_of(text: &[u8]) -> Option<AgentRange>
-    ensures { result ≡ range_of text.now }
+// The move that an agent, a memory, a start and a length tell.
+fn move_of(kind: MoveKind, text: &[u8]) -> Option<CacheMove>
+    ensures { result ≡ move_of kind text.now }
 {
     let agent = cut_at(text, b' ')?;
     let memory = cut_at(agent.rest, b' ')?;
     let start = cut_at(memory.rest, b' ')?;
-    Some(AgentRange {
+    Some(CacheMove {
+        kind,
         agent: number_of(agent.front)?,
-        memory: number_of(memory.front)?,
-        start: number_of(start.front)?,
-        len: number_of(start.rest)?,
+        range: MemoryRange {
+            memory: number_of(memory.front)?,
+            start: number_of(start.front)?,
+            len: number_of(start.rest)?,
+        },
     })
 }
 
-fn write_back(text: &[u8]) -> Option<Event>
-    ensures { result ≡ moved_by (λ a m s l. events.WriteBack a m s l) text.now }
+fn kind_named(word: &[u8]) -> Option<MoveKind>
+    ensures { result ≡ kind_named word.now }
 {
-    let AgentRange {
-        agent,
-        memory,
-        start,
-        len,
-    } = range_of(text)?;
-    Some(Event::WriteBack {
-        agent,
-        memory,
-        start,
-        len,
-    })
-}
-
-fn fill(text: &[u8]) -> Option<Event>
-    ensures { result ≡ moved_by (λ a m s l. events.Fill a m s l) text.now }
-{
-    let AgentRange {
-        agent,
-        memory,
-        start,
-        len,
-    } = range_of(text)?;
-    Some(Event::Fill {
-        agent,
-        memory,
-        start,
-        len,
-    })
-}
-
-fn drop_line(text: &[u8]) -> Option<Event>
-    ensures { result ≡ moved_by (λ a m s l. events.DropLine a m s l) text.now }
-{
-    let AgentRange {
-        agent,
-        memory,
-        start,
-        len,
-    } = range_of(text)?;
-    Some(Event::DropLine {
-        agent,
-        memory,
-        start,
-        len,
-    })
+    if is_word(word, b"writeback") {
+        return Some(MoveKind::WriteBack);
+    }
+    if is_word(word, b"fill") {
+        return Some(MoveKind::Fill);
+    }
+    if is_word(word, b"drop") {
+        return Some(MoveKind::DropLine);
+    }
+    None
 }
 
 // The event of a word and what follows it.
@@ -140,16 +98,8 @@ fn event_named(word: &[u8], text: &[u8]) -> Option<Event>
             node: number_of(text)?,
         });
     }
-    if is_word(word, b"writeback") {
-        return write_back(text);
-    }
-    if is_word(word, b"fill") {
-        return fill(text);
-    }
-    if is_word(word, b"drop") {
-        return drop_line(text);
-    }
-    None
+    let kind = kind_named(word)?;
+    Some(Event::Move(move_of(kind, text)?))
 }
 
 /// The event that a line tells.

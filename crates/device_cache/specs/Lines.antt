@@ -1,5 +1,6 @@
 -- Lines of caches: for each agent and each byte of a memory at most one, which is clean or dirty.
 use Rattle.std.specs.Prelude.{ℕ, ◌+◌, ◌==◌, ◌&&◌, nat_le, nat_lt, Bool}
+use Rattle.base.specs.declared.memory_range.MemoryRange.{MemoryRange}
 
 pub data Line : Type 0 where
   Absent : Line
@@ -43,13 +44,8 @@ dropped (Clean u) = Absent
 dropped (Dirty u) = Dirty u
 
 -- `len` bytes of a memory, from a start on
-pub record Range : Type 0 where
-  pub memory : ℕ
-  pub start : ℕ
-  pub len : ℕ
-
-abbrev pub range : ℕ → ℕ → ℕ → Range
+abbrev pub range : ℕ → ℕ → ℕ → MemoryRange
 range memory start len = record { memory = memory; start = start; len = len }
 
-abbrev pub is_in : Range → ℕ → ℕ → Bool
+abbrev pub is_in : MemoryRange → ℕ → ℕ → Bool
 is_in range m i = (range.memory == m) && (nat_le range.start i && nat_lt i (range.start + range.len))

@@ -18,7 +18,7 @@ use crate::part::Part;
 use crate::runs::{copy_out, seen_bytes};
 use crate::segment::{Segment, change_all, cut_at, place_of};
 use crate::slots::{empty_slot, share_all, spare_slot, store_in};
-use base::{List, NoMemory};
+use base::{CacheMove, List, MemoryRange, MoveKind, NoMemory};
 use bytes::BytesMut;
 use std::alloc::Global;
 use std::marker::Model;
@@ -355,6 +355,24 @@ impl Segments {
     {
         let _agents = self.agents;
         self.change(agent, memory, start, len, Change::Fill);
+    }
+
+    /// Lines of an agent move.
+    pub fn move_lines(&mut self, cache_move: CacheMove)
+        requires agent { cache_move.agent < self.old.agents }
+        requires within { InMemory self.old cache_move.range.memory cache_move.range.start cache_move.range.len }
+        requires room { missing self.old cache_move.range.memory cache_move.range.start cache_move.range.len ≤ self.old.cuts_left }
+        ensures bytes { caches_of self.new ≡ effects.move_lines cache_move (caches_of self.old) }
+        ensures keeps { Keeps self.old self.new }
+        ensures cuts { self.old.cuts_left ≤ self.new.cuts_left + missing self.old cache_move.range.memory cache_move.range.start cache_move.range.len }
+        ensures stores { self.new.stores_left ≡ self.old.stores_left }
+    {
+        let MemoryRange { memory, start, len } = cache_move.range;
+        match cache_move.kind {
+            MoveKind::WriteBack => self.write_back(cache_move.agent, memory, start, len),
+            MoveKind::Fill => self.fill(cache_move.agent, memory, start, len),
+            MoveKind::DropLine => self.drop_clean(cache_move.agent, memory, start, len),
+        }
     }
 
     /// The junk, from its start, goes on main.

@@ -1,10 +1,10 @@
 //! Random moves of cache lines.
 
 ghost use Rattle.std.specs.Prelude.{◌≡◌, ◌<◌, ◌^◌, length, slice_index_or, IfSome, ◌↔◌, IsSome, if◌then◌else◌, true};
-ghost use Rattle.device_cache.specs.Draws.{seeded, word, later, words_of, after_five, filled, may_draw, kind_of, move_of, drawn, IsMove};
+ghost use Rattle.device_cache.specs.Draws.{seeded, word, later, words_of, after_five, filled, may_draw, kind_of, move_of, drawn, Moves};
 
 use crate::words::Words;
-use base::Event;
+use base::{CacheMove, MemoryRange, MoveKind};
 use rand_core::utils::NextWord;
 use rand_pcg::Pcg32;
 use std::marker::Model;
@@ -40,11 +40,11 @@ impl Tender {
     }
 
     /// The next move, by five words. None, and no word is taken, where there is no agent or no memory has a byte.
-    pub fn next(&mut self, agents: u32, sizes: &[u32]) -> Option<Event>
+    pub fn next(&mut self, agents: u32, sizes: &[u32]) -> Option<CacheMove>
         requires few { length sizes.now < 2 ^ 32 }
         ensures some { IsSome result ↔ (may_draw agents sizes.now ≡ true) }
-        ensures event { IfSome result (λ e. e ≡ drawn agents sizes.now self.old) }
-        ensures inside { IfSome result (λ e. IsMove agents sizes.now e) }
+        ensures drawn { IfSome result (λ m. m ≡ drawn agents sizes.now self.old) }
+        ensures inside { IfSome result (λ m. Moves agents sizes.now m) }
         ensures after { self.new ≡ (if may_draw agents sizes.now then after_five self.old else self.old) }
     {
         if !can_draw(agents, sizes) {
@@ -89,7 +89,7 @@ fn can_draw(agents: u32, sizes: &[u32]) -> bool
 }
 
 // The move of five words.
-fn made(agents: u32, sizes: &[u32], words: Words) -> Event
+fn made(agents: u32, sizes: &[u32], words: Words) -> CacheMove
     requires few { length sizes.now < 2 ^ 32 }
     requires can { may_draw agents sizes.now ≡ true }
     ensures { result ≡ move_of agents sizes.now words }
@@ -97,7 +97,21 @@ fn made(agents: u32, sizes: &[u32], words: Words) -> Event
     let (memory, size) = filled_at(sizes, words.memory % filled_count(sizes));
     let start = words.start % size;
     let len = 1 + words.len % (size - start).min(LONGEST);
-    event(words.kind, words.agent % agents, memory, start, len)
+    CacheMove {
+        kind: kind_of(words.kind),
+        agent: words.agent % agents,
+        range: MemoryRange { memory, start, len },
+    }
+}
+
+fn kind_of(word: u32) -> MoveKind
+    ensures { result ≡ kind_of word }
+{
+    match word % 3 {
+        0 => MoveKind::WriteBack,
+        1 => MoveKind::Fill,
+        _ => MoveKind::DropLine,
+    }
 }
 
 // How many memories have a byte.
@@ -130,29 +144,4 @@ fn filled_at(sizes: &[u32], k: u32) -> (u32, u32)
         rest = others;
     }
     unreachable!()
-}
-
-fn event(kind: u32, agent: u32, memory: u32, start: u32, len: u32) -> Event
-    ensures { result ≡ kind_of kind agent memory start len }
-{
-    match kind % 3 {
-        0 => Event::WriteBack {
-            agent,
-            memory,
-            start,
-            len,
-        },
-        1 => Event::Fill {
-            agent,
-            memory,
-            start,
-            len,
-        },
-        _ => Event::DropLine {
-            agent,
-            memory,
-            start,
-            len,
-        },
-    }
 }

@@ -2,14 +2,15 @@
 
 ghost use Rattle.std.specs.Prelude.{◌≡◌, ◌<◌, ◌+◌, ◌^◌, ℕ, suc, [], ◌∷◌, length, IfOk, IfSome, IfNone, MatchBool};
 ghost use Rattle.std.specs.Option.{option_map};
-ghost use Rattle.device_cache.specs.Draws.{seeded, IsMove};
+ghost use Rattle.device_cache.specs.Draws.{seeded, Moves};
+ghost use Rattle.base.specs.declared.event.Event.TheVariants as events;
 ghost use Rattle.device_drive.specs.Internal.Keepers.{to_come, Advanced, AsksAlike, Calm, Keeps};
 ghost use Rattle.device_drive.specs.Tended.{tended_moves};
 ghost use Rattle.program.specs.Obeys.{IsSmall};
 
 use crate::moves::make_move;
 use crate::sizes::sizes_of;
-use base::{Event, List, NoMemory};
+use base::{CacheMove, List, NoMemory};
 use device::Device;
 use device_cache::Tender;
 use program::Program;
@@ -47,10 +48,10 @@ impl Keeper {
     }
 
     /// The next move of the tender.
-    pub fn next(&mut self) -> Option<Event>
+    pub fn next(&mut self) -> Option<CacheMove>
         requires few { length self.old.sizes < 2 ^ 32 }
-        ensures some { IfSome result (λ event. (left : ℕ) → to_come self.old (suc left) ≡ event ∷ to_come self.new left) }
-        ensures inside { IfSome result (λ event. IsMove self.old.agents self.old.sizes event) }
+        ensures some { IfSome result (λ m. (left : ℕ) → to_come self.old (suc left) ≡ events.Move m ∷ to_come self.new left) }
+        ensures inside { IfSome result (λ m. Moves self.old.agents self.old.sizes m) }
         ensures none { IfNone result ((left : ℕ) → (to_come self.old left ≡ []) × (to_come self.new left ≡ [])) }
         ensures asks { AsksAlike self.old self.new }
     {
@@ -70,10 +71,10 @@ impl Keeper {
         if device.moves_left() == 0 {
             return false;
         }
-        let Some(event) = self.next() else {
+        let Some(cache_move) = self.next() else {
             return false;
         };
-        make_move(device, event);
+        make_move(device, cache_move);
         true
     }
 }

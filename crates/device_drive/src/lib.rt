@@ -8,7 +8,7 @@ mod run;
 mod sizes;
 mod tending;
 
-pub use moves::{is_move_of, make_move, move_laws};
+pub use moves::{has_move, make_move};
 pub use round::{next_node, readback_of};
 pub use run::drive;
 pub use sizes::{size_of, sizes_of};

@@ -10,7 +10,6 @@ use base::{Event, NoMemory};
 use check_program::Checked;
 use device::Device;
 use device_cache::MOVES;
-use device_model::is_move;
 use std::alloc::Global;
 
 // Whether the event is the keeper's next move, or none at all.
@@ -19,15 +18,15 @@ fn takes(keeper: &mut Keeper, left: &mut u32, event: &Event) -> bool
     ensures follows { MatchBool result (Follows event.now keeper.old left.old keeper.new left.new) (Strays event.now keeper.old left.old) }
     ensures few { length keeper.new.sizes < 2 ^ 32 }
 {
-    if !is_move(event) {
+    let Event::Move(cache_move) = event else {
         return true;
-    }
+    };
     if *left == 0 {
         return false;
     }
     *left -= 1;
     match keeper.next() {
-        Some(next) => next == *event,
+        Some(next) => next == *cache_move,
         None => false,
     }
 }

@@ -14,13 +14,16 @@ use Rattle.law_runs.specs.Runs.{reads, WrongLayout, WrongOwner, Takes, StoresAt,
 use Rattle.law_runs.specs.States as states
 use Rattle.law_runs.specs.Systems as law
 use Rattle.base.specs.Shapes.{bytes_of}
+use Rattle.base.specs.declared.cache_move.MoveKind.{MoveKind}
+use Rattle.base.specs.declared.cache_move.MoveKind.TheVariants.{WriteBack, Fill, DropLine}
 use Rattle.base.specs.declared.event.Event.{Event}
-use Rattle.base.specs.declared.event.Event.TheVariants.{Begin, End, Sync, WriteBack, Fill, DropLine, Host}
+use Rattle.base.specs.declared.event.Event.TheVariants.{Begin, End, Sync, Move, Host}
+use Rattle.base.specs.declared.memory_range.MemoryRange.{MemoryRange}
 use Rattle.base.specs.declared.shape.Family.{Family}
 use Rattle.vk.specs.Families.{family_number}
 use Rattle.vk.specs.Layouts.{layout_number}
 use Rattle.vk.specs.declared.layout.Layout.{Layout}
-use Rattle.device_cache.specs.Lines.{Bytes, Dirty, range, dropped, cleaned}
+use Rattle.device_cache.specs.Lines.{Bytes, Dirty, dropped, cleaned}
 use Rattle.check_order.specs.Edges.{edge, is_sync, is_host}
 use Rattle.check_state.specs.PieceStates.{layout_after, owner_after}
 use Rattle.check_state.specs.StateValid.{needs_owner, acquires}
@@ -29,6 +32,7 @@ use Rattle.device_model.proofs.Control.{begun_started, begun_not_done, idle_not_
 use Rattle.device_model.proofs.Finding.{discards_same, lays_same, lays_what, hands_same, hands_what, needs_same}
 use Rattle.device_model.proofs.Flushes.{flushed_to}
 use Rattle.device_model.proofs.Formed.{Formed, At, at_first, at_rest, at_cases, at_none, command_plain, of_change, has_store}
+use Rattle.device_model.proofs.Moving.{lines_alone}
 use Rattle.device_model.proofs.Shared.{covers_place, flush_syncs, show_syncs}
 use Rattle.device_model.proofs.SystemOf.{command_at, doing_of, family_numbered, access_of, clashes, is_taken, picked, placed, fit, store_size, out_of, law_of, owner_numbered, is_started, device_of}
 use Rattle.device_model.proofs.Viewed.{From, from, to_law, clash_turned, clash_same, changes_same}
@@ -36,7 +40,7 @@ use Rattle.device_model.specs.Agents.{agent_at, agent_of, in_scope, piece_range,
 use Rattle.device_model.specs.Outputs.{stored}
 use Rattle.device_model.specs.Ready.{is_command, kind_at, some_node, ready, stores_over, is_torn, is_wrong, is_foreign, loads_undefined, hits, marked_by}
 use Rattle.device_model.specs.States.{State, opened, is_idle, is_begun, is_done, put, junk_at, junk_bytes}
-use Rattle.device_model.specs.Steps.{used, owner_by, layout_by, owned_after, laid_after, sight, loaded_by, begun, store_of, made, ended, flushed, junks, after_junk, agent_count, synced, host_takes, hosted, written_back, lines_filled, lines_dropped, may_move, step, Told, after}
+use Rattle.device_model.specs.Steps.{used, owner_by, layout_by, owned_after, laid_after, sight, loaded_by, begun, store_of, made, ended, flushed, junks, after_junk, agent_count, synced, host_takes, hosted, moved_by, lines_moved, may_move, step, Told, after}
 use Rattle.device_model.specs.declared.owner.Owner.{Owner}
 use Rattle.device_model.specs.declared.owner.Owner.TheVariants as owners
 use Rattle.device_model.specs.declared.phase.Phase.{Phase}
@@ -621,13 +625,16 @@ module _ (program : Program) (F : Formed (view_of program)) where
     either P t true M K = M
     either P t false M K = K
 
+    move_goes : (agent : ℕ) (range : MemoryRange) (kind : MoveKind) → StepsTo (moved_by kind s agent range)
+    move_goes agent range WriteBack = inr (inl (refl, writes_back (device_of V s).state agent range))
+    move_goes agent range Fill = inr (inl (refl, fills (device_of V s).state agent range))
+    move_goes agent range DropLine = inr (inl (refl, drops (device_of V s).state agent range))
+
     pub step_goes : (event : Event) (junk : List ℕ) → StepsTo (step program s event junk)
     step_goes (Begin n) junk = begin_or n junk _ refl
     step_goes (End n) junk = end_or n junk _ refl
     step_goes (Sync n) junk = sync_or n junk _ refl
-    step_goes (WriteBack agent memory start len) junk = either StepsTo _ (may_move program agent (range memory start len)) (inr (inl (refl, writes_back (device_of V s).state agent (range memory start len)))) (inr (inr refl))
-    step_goes (Fill agent memory start len) junk = either StepsTo _ (may_move program agent (range memory start len)) (inr (inl (refl, fills (device_of V s).state agent (range memory start len)))) (inr (inr refl))
-    step_goes (DropLine agent memory start len) junk = either StepsTo _ (may_move program agent (range memory start len)) (inr (inl (refl, drops (device_of V s).state agent (range memory start len)))) (inr (inr refl))
+    step_goes (Move m) junk = either StepsTo (lines_moved s m) (may_move program m) (move_goes m.agent m.range m.kind) (inr (inr refl))
     step_goes (Host n) junk = host_or n junk _ refl
 
     finished : (n : ℕ) (t : State) → t.phase ≡ put s.phase n Done → t.loaded ≡ s.loaded → Carries t
@@ -664,9 +671,7 @@ module _ (program : Program) (F : Formed (view_of program)) where
     step_carries (Begin n) junk = begin_carries n junk _ refl
     step_carries (End n) junk = either Carries _ (is_begun (s.phase n)) (finished n (ended V s n (made program s n junk)) refl refl) Q
     step_carries (Sync n) junk = either Carries _ (is_sync (kind_at V n) && ready V s n) (finished n (synced V s n junk) refl refl) Q
-    step_carries (WriteBack agent memory start len) junk = either Carries _ (may_move program agent (range memory start len)) (moved (written_back s agent (range memory start len)) refl refl) Q
-    step_carries (Fill agent memory start len) junk = either Carries _ (may_move program agent (range memory start len)) (moved (lines_filled s agent (range memory start len)) refl refl) Q
-    step_carries (DropLine agent memory start len) junk = either Carries _ (may_move program agent (range memory start len)) (moved (lines_dropped s agent (range memory start len)) refl refl) Q
+    step_carries (Move m) junk = either Carries (lines_moved s m) (may_move program m) (moved (lines_moved s m) (ap (λ s. s.phase) (lines_alone s m)) (ap (λ s. s.loaded) (lines_alone s m))) Q
     step_carries (Host n) junk = either Carries _ (is_host (kind_at V n) && ready V s n) (finished n (hosted V s n junk) refl refl) Q
 
   -- HISTORIES

@@ -6,15 +6,19 @@ use Rattle.std.proofs.lemmas.Bool.{false≢true, cases_eq, and_parts, and_right,
 use Rattle.std.proofs.lemmas.Option.{slice_get-get_or}
 use Rattle.base.proofs.Absence.{map_none}
 use Rattle.base.proofs.Booleans.{kept_false}
+use Rattle.base.specs.declared.cache_move.CacheMove.{CacheMove}
+use Rattle.base.specs.declared.cache_move.MoveKind.{MoveKind}
+use Rattle.base.specs.declared.cache_move.MoveKind.TheVariants.{WriteBack, Fill, DropLine}
 use Rattle.base.specs.declared.event.Event.{Event}
-use Rattle.base.specs.declared.event.Event.TheVariants.{Begin, End, Sync, WriteBack, Fill, DropLine, Host}
-use Rattle.device_cache.specs.Lines.{Absent, Dirty, Range, range, is_in, cleaned, filled, dropped}
+use Rattle.base.specs.declared.event.Event.TheVariants.{Begin, End, Sync, Move, Host}
+use Rattle.base.specs.declared.memory_range.MemoryRange.{MemoryRange}
+use Rattle.device_cache.specs.Lines.{Absent, Dirty, is_in, cleaned, filled, dropped}
 use Rattle.check_order.specs.Edges.{is_sync, is_host}
 use Rattle.device_model.specs.Agents.{agent_of, piece_range, covers, flushes_at, shows_at}
 use Rattle.device_model.specs.Devices.{Device, opening, told, state_of}
 use Rattle.device_model.specs.Ready.{is_command, kind_at, ready}
 use Rattle.device_model.specs.States.{is_begun, State, opened}
-use Rattle.device_model.specs.Steps.{store_of, begun, made, ended, synced, hosted, written_back, lines_filled, lines_dropped, may_move, step, Told, after}
+use Rattle.device_model.specs.Steps.{store_of, begun, made, ended, synced, hosted, moved_by, lines_moved, may_move, step, Told, after}
 use Rattle.device_model.specs.Within.{is_byte, LinesWithin}
 use Rattle.device_model.specs.declared.phase.Phase.TheVariants.{Begun}
 use Rattle.device_model.proofs.Control.{put_other, still_begun, ready_within}
@@ -50,9 +54,12 @@ module _ (program : Program) (none : first_broken program ≡ None) where
       ap (λ o. option_map_or (λ memory. nat_lt i (memory_bytes memory)) o false) (ap (slice_get program.memories) (sym a.0) ∙ at)
       ∙ lt-ltb i (memory_bytes memory) (omega (arith, room, a.1, a.2))
 
-  range_inside : (agent : ℕ) (range : Range) (m i : ℕ) → may_move program agent range ≡ true → is_in range m i ≡ true → is_byte program m i ≡ true
-  range_inside agent range m i may h = go (slice_get program.memories range.memory) refl (and_parts (nat_lt agent (8 * length program.queues)) _ may).1
+  range_inside : (move : CacheMove) (m i : ℕ) → may_move program move ≡ true → is_in move.range m i ≡ true → is_byte program m i ≡ true
+  range_inside move m i may h = go (slice_get program.memories range.memory) refl (and_parts (nat_lt move.agent (8 * length program.queues)) _ may).1
     where
+      range : MemoryRange
+      range = move.range
+
       go : (o : Option Memory) → slice_get program.memories range.memory ≡ o → option_map_or (λ memory. nat_le (range.start + range.len) (memory_bytes memory)) o false ≡ true → is_byte program m i ≡ true
       go None e k = absurd (false≢true k)
       go (Some memory) e k =
@@ -118,25 +125,18 @@ module _ (program : Program) (none : first_broken program ≡ None) where
     host_or n junk false = K
     host_or n junk true = record { commands = λ x h. K.commands x (still_begun s.phase n x h); lines = K.lines }
 
-    write_back_or : (agent : ℕ) (range : Range) (b : Bool) → Stays (if b then written_back s agent range else s)
-    write_back_or agent range false = K
-    write_back_or agent range true = record {
+    move_stays : (agent : ℕ) (range : MemoryRange) → ((m i : ℕ) → is_in range m i ≡ true → is_byte program m i ≡ true) → (kind : MoveKind) → Stays (moved_by kind s agent range)
+    move_stays agent range inside WriteBack = record {
       commands = K.commands;
       lines = λ g m i h. ap (λ l. if (g == agent) && is_in range m i then cleaned l else l) (K.lines g m i h) ∙ still false ((g == agent) && is_in range m i);
     }
-
-    fill_or : (agent : ℕ) (range : Range) (b : Bool) → may_move program agent range ≡ b → Stays (if b then lines_filled s agent range else s)
-    fill_or agent range false e = K
-    fill_or agent range true e = record {
+    move_stays agent range inside Fill = record {
       commands = K.commands;
       lines = λ g m i h.
-          ap (λ z. if z then filled (s.line g m i) (s.main m i) else s.line g m i) (and_right (g == agent) (is_in range m i) (kept_false (is_in range m i) (is_byte program m i) (range_inside agent range m i e) h))
+          ap (λ z. if z then filled (s.line g m i) (s.main m i) else s.line g m i) (and_right (g == agent) (is_in range m i) (kept_false (is_in range m i) (is_byte program m i) (inside m i) h))
           ∙ K.lines g m i h;
     }
-
-    drop_or : (agent : ℕ) (range : Range) (b : Bool) → Stays (if b then lines_dropped s agent range else s)
-    drop_or agent range false = K
-    drop_or agent range true = record {
+    move_stays agent range inside DropLine = record {
       commands = K.commands;
       lines = λ g m i h. ap (λ l. if (g == agent) && is_in range m i then dropped l else l) (K.lines g m i h) ∙ gone ((g == agent) && is_in range m i);
     }
@@ -145,13 +145,15 @@ module _ (program : Program) (none : first_broken program ≡ None) where
         gone true = refl
         gone false = refl
 
+    move_or : (move : CacheMove) (b : Bool) → may_move program move ≡ b → Stays (if b then lines_moved s move else s)
+    move_or move false e = K
+    move_or move true e = move_stays move.agent move.range (λ m i. range_inside move m i e) move.kind
+
     step_stays : (event : Event) (junk : List ℕ) → Stays (step program s event junk)
     step_stays (Begin n) junk = begin_or n junk _ refl
     step_stays (End n) junk = end_or n (made program s n junk) _ refl
     step_stays (Sync n) junk = sync_or n junk (is_sync (kind_at V n) && ready V s n)
-    step_stays (WriteBack agent memory start len) junk = write_back_or agent (range memory start len) (may_move program agent (range memory start len))
-    step_stays (Fill agent memory start len) junk = fill_or agent (range memory start len) _ refl
-    step_stays (DropLine agent memory start len) junk = drop_or agent (range memory start len) (may_move program agent (range memory start len))
+    step_stays (Move m) junk = move_or m _ refl
     step_stays (Host n) junk = host_or n junk (is_host (kind_at V n) && ready V s n)
 
   after_stays : (told : List Told) (s : State) → Stays s → Stays (after program s told)

@@ -5,7 +5,7 @@ use Rattle.std.proofs.lemmas.List.Quantifiers.{position-Some}
 use Rattle.law_runs.proofs.Devices.{device_progressed}
 use Rattle.law_runs.specs.Device.{MayBegin, MaySynchronize, DeviceGoesOn}
 use Rattle.base.specs.declared.event.Event.{Event}
-use Rattle.base.specs.declared.event.Event.TheVariants.{Begin, End, Sync, WriteBack, Fill, DropLine, Host}
+use Rattle.base.specs.declared.event.Event.TheVariants.{Begin, End, Sync, Move, Host}
 use Rattle.device_cache.specs.Lines.{Bytes, range}
 use Rattle.check_program.specs.Sound.{IsSound}
 use Rattle.check_order.proofs.Bridge.{meets_edge}
@@ -21,12 +21,13 @@ use Rattle.device_model.proofs.Control.{done_of, put_other, put_at, every_node}
 use Rattle.device_model.proofs.Formed.{Formed}
 use Rattle.device_model.proofs.Going.{Carries, step_carries, opened_carries, history}
 use Rattle.device_model.proofs.Lawful.{law_formed, law_sound}
+use Rattle.device_model.proofs.Moving.{lines_alone}
 use Rattle.device_model.proofs.SystemOf.{command_at, out_of, law_of, device_of, access_of}
 use Rattle.device_model.proofs.Viewed.{to_law}
 use Rattle.device_model.specs.Laws.{HoldsImports, AllDone, GoesOn}
 use Rattle.device_model.specs.Ready.{is_command, kind_at, each_node, reached, ready}
 use Rattle.device_model.specs.States.{is_idle, is_begun, is_done, State, opened, put}
-use Rattle.device_model.specs.Steps.{made, begun, ended, raised_by, raised, synced, hosted, may_move, step, Told, after}
+use Rattle.device_model.specs.Steps.{made, begun, ended, raised_by, raised, synced, hosted, lines_moved, may_move, step, Told, after}
 use Rattle.device_model.specs.declared.phase.Phase.{Phase}
 use Rattle.device_model.specs.declared.phase.Phase.TheVariants.{Idle, Begun, Done}
 use Rattle.program.specs.declared.program.Program.{Program}
@@ -115,9 +116,7 @@ module _ (program : Program) (F : Formed (view_of program)) where
     step_counts (Begin n) junk = begin_or n junk (is_command (kind_at V n) && ready V s n)
     step_counts (End n) junk = end_or n junk _ refl
     step_counts (Sync n) junk = sync_or n junk (is_sync (kind_at V n) && ready V s n)
-    step_counts (WriteBack agent memory start len) junk = either _ (may_move program agent (range memory start len)) C
-    step_counts (Fill agent memory start len) junk = either _ (may_move program agent (range memory start len)) C
-    step_counts (DropLine agent memory start len) junk = either _ (may_move program agent (range memory start len)) C
+    step_counts (Move m) junk = either (lines_moved s m) (may_move program m) (subst Counts (sym (lines_alone s m)) C)
     step_counts (Host n) junk = host_or n junk _ refl
 
   after_counts : (told : List Told) (s : State) → Carries program F s → Counts s → Counts (after program s told)

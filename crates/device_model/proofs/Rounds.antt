@@ -3,18 +3,18 @@ use Rattle.std.proofs.Common.{◌≡◌, ℕ, ◌+◌, ◌==◌, Bool, true, fal
 use mathlib.Core.Path.{fun_ext}
 use Rattle.std.proofs.lemmas.Bool.{false≢true, cases_Bool}
 use Rattle.base.specs.declared.event.Event.{Event}
-use Rattle.base.specs.declared.event.Event.TheVariants.{Begin, End, Sync, WriteBack, Fill, DropLine, Host}
-use Rattle.device_cache.specs.Lines.{range}
+use Rattle.base.specs.declared.event.Event.TheVariants.{Begin, End, Sync, Move, Host}
 use Rattle.device_model.specs.Devices.{Device, state_of, did, view_in, is_ready, NoneBegun}
 use Rattle.device_model.specs.Histories.{is_move}
 use Rattle.device_model.specs.Ready.{is_command}
 use Rattle.device_model.specs.Rounds.{left, Round, MayGo, IsRound, IsJob, LeavesPhases, CountsDown}
 use Rattle.device_model.specs.States.{is_begun, is_done, State, put}
-use Rattle.device_model.specs.Steps.{may_move, step}
+use Rattle.device_model.specs.Steps.{lines_moved, may_move, step}
 use Rattle.device_model.specs.declared.phase.Phase.{Phase}
 use Rattle.device_model.specs.declared.phase.Phase.TheVariants.{Begun, Done}
 use Rattle.device_model.proofs.Control.{put_at, still_begun, ready_within, idle_not_done, ready_first}
 use Rattle.device_model.proofs.Left.{left_less, left_most, none_left}
+use Rattle.device_model.proofs.Moving.{lines_alone}
 use Rattle.device_model.proofs.Running.{steps_on, goes_on_by, moved_as, runs}
 use Rattle.program.specs.FirstFault.{first_fault}
 
@@ -36,9 +36,7 @@ pub leaves_phases : (d : Device) (event : Event) → is_move event ≡ true → 
 leaves_phases d event e = ap (λ s. s.phase) (moved_as d event ∙ steps_on d event) ∙ by event e
   where
     by : (event : Event) → is_move event ≡ true → (step d.program (state_of d) event (d.fill ∷ [])).phase ≡ (state_of d).phase
-    by (WriteBack agent memory start len) e = kept (may_move d.program agent (range memory start len)) (state_of d) _ refl
-    by (Fill agent memory start len) e = kept (may_move d.program agent (range memory start len)) (state_of d) _ refl
-    by (DropLine agent memory start len) e = kept (may_move d.program agent (range memory start len)) (state_of d) _ refl
+    by (Move m) e = kept (may_move d.program m) (state_of d) (lines_moved (state_of d) m) (ap (λ s. s.phase) (lines_alone (state_of d) m))
     by event e = absurd (false≢true e)
 
 -- A ROUND

@@ -1,9 +1,11 @@
 -- Runs of two programs on devices opened with the byte 238: a copy and then a map of what it copied, with no barrier between
 -- them, and with one that makes nothing available.
 use Rattle.std.proofs.Common.{◌≡◌, ℕ, List, [], ◌∷◌, Some, None, refl}
+use Rattle.base.specs.CacheMoves.{cache_move}
 use Rattle.base.specs.Texels.{band, low_bytes, texel_at}
+use Rattle.base.specs.declared.cache_move.MoveKind.TheVariants.{WriteBack}
 use Rattle.base.specs.declared.event.Event.{Event}
-use Rattle.base.specs.declared.event.Event.TheVariants.{Begin, End, Sync, WriteBack, Host}
+use Rattle.base.specs.declared.event.Event.TheVariants.{Begin, End, Sync, Move, Host}
 use Rattle.base.specs.declared.op.Fun.TheVariants as funs
 use Rattle.base.specs.declared.op.Op.TheVariants.{CopyBuffer, Map}
 use Rattle.base.specs.declared.shape.Family.TheVariants.{Graphics}
@@ -59,7 +61,7 @@ map_first : host_after unordered (Begin 1 ∷ End 1 ∷ Begin 0 ∷ End 0 ∷ Sy
 unfolding state_of band low_bytes texel_at lib.Count.count_trailing_zeros
 map_first = refl
 
-map_later : host_after unordered (Begin 0 ∷ End 0 ∷ WriteBack 6 0 0 4 ∷ Begin 1 ∷ End 1 ∷ Sync 2 ∷ Host 3 ∷ []) 3 ≡ 2 ∷ 0 ∷ 0 ∷ 0 ∷ []
+map_later : host_after unordered (Begin 0 ∷ End 0 ∷ Move (cache_move WriteBack 6 0 0 4) ∷ Begin 1 ∷ End 1 ∷ Sync 2 ∷ Host 3 ∷ []) 3 ≡ 2 ∷ 0 ∷ 0 ∷ 0 ∷ []
 unfolding state_of band low_bytes texel_at lib.Count.count_trailing_zeros
 map_later = refl
 
@@ -80,6 +82,6 @@ kept_back : host_after unavailable (Begin 0 ∷ End 0 ∷ Sync 1 ∷ Begin 2 ∷
 unfolding state_of band low_bytes texel_at lib.Count.count_trailing_zeros
 kept_back = refl
 
-written_back : host_after unavailable (Begin 0 ∷ End 0 ∷ WriteBack 6 0 0 4 ∷ Sync 1 ∷ Begin 2 ∷ End 2 ∷ Sync 3 ∷ Host 4 ∷ []) 4 ≡ 2 ∷ 0 ∷ 0 ∷ 0 ∷ []
+written_back : host_after unavailable (Begin 0 ∷ End 0 ∷ Move (cache_move WriteBack 6 0 0 4) ∷ Sync 1 ∷ Begin 2 ∷ End 2 ∷ Sync 3 ∷ Host 4 ∷ []) 4 ≡ 2 ∷ 0 ∷ 0 ∷ 0 ∷ []
 unfolding state_of band low_bytes texel_at lib.Count.count_trailing_zeros
 written_back = refl

@@ -3,9 +3,9 @@ use Rattle.std.proofs.Common.{◌≡◌, ◌⊎◌, inl, inr, ℕ, zero, suc, �
 use Rattle.std.specs.Option.{option_map_or}
 use Rattle.std.proofs.lemmas.Bool.{false≢true, and_from}
 use Rattle.std.proofs.lemmas.List.{map-append}
+use Rattle.base.specs.declared.cache_move.CacheMove.{CacheMove}
 use Rattle.base.specs.declared.event.Event.{Event}
-use Rattle.base.specs.declared.event.Event.TheVariants.{Begin, End, Sync, WriteBack, Fill, DropLine, Host}
-use Rattle.device_cache.specs.Lines.{range}
+use Rattle.base.specs.declared.event.Event.TheVariants.{Begin, End, Sync, Move, Host}
 use Rattle.check_program.specs.Sound.{IsSound}
 use Rattle.device_model.specs.Devices.{Device, opening_byte, opening, told, state_of, view_in, fresh, did, is_ready, IsComplete, NoneBegun, NeverStands}
 use Rattle.device_model.specs.Histories.{moved}
@@ -14,7 +14,7 @@ use Rattle.device_model.specs.Moves.{MovesBy}
 use Rattle.device_model.specs.Ready.{is_command, kind_at, read_node}
 use Rattle.device_model.specs.Runs.{StepsOn, GoesOnBy, Runs}
 use Rattle.device_model.specs.States.{State, opened}
-use Rattle.device_model.specs.Steps.{begun, made, ended, synced, hosted, written_back, lines_filled, lines_dropped, step, Told, after}
+use Rattle.device_model.specs.Steps.{begun, made, ended, synced, hosted, lines_moved, step, Told, after}
 use Rattle.device_model.proofs.Control.{ready_within}
 use Rattle.device_model.proofs.Programs.{commands}
 use Rattle.device_model.proofs.Progress.{progressed}
@@ -53,12 +53,8 @@ pub moved_as : (d : Device) (event : Event) → state_of (moved d event) ≡ sta
 unfolding state_of
 moved_as d event = refl
 
-pub moves_by : (d : Device) (agent memory start len : ℕ) → MovesBy d agent memory start len
-moves_by d agent memory start len = record {
-  writes_back = λ may. moved_as d (WriteBack agent memory start len) ∙ steps_on d (WriteBack agent memory start len) ∙ ap (λ b. if b then written_back (state_of d) agent (range memory start len) else state_of d) may;
-  fills = λ may. moved_as d (Fill agent memory start len) ∙ steps_on d (Fill agent memory start len) ∙ ap (λ b. if b then lines_filled (state_of d) agent (range memory start len) else state_of d) may;
-  drops = λ may. moved_as d (DropLine agent memory start len) ∙ steps_on d (DropLine agent memory start len) ∙ ap (λ b. if b then lines_dropped (state_of d) agent (range memory start len) else state_of d) may;
-}
+pub moves_by : (d : Device) (m : CacheMove) → MovesBy d m
+moves_by d m may = moved_as d (Move m) ∙ steps_on d (Move m) ∙ ap (λ b. if b then lines_moved (state_of d) m else state_of d) may
 
 -- THE OPENING
 

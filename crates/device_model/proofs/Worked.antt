@@ -3,9 +3,11 @@ use Rattle.std.proofs.Common.{◌≡◌, ℕ, zero, suc, ◌<◌, ◌||◌, nat_
 use Rattle.std.specs.List.{range_with_len, list_all}
 use Rattle.std.proofs.lemmas.Bool.{false≢true, ltb-true}
 use Rattle.base.proofs.Absence.{some_same}
+use Rattle.base.specs.CacheMoves.{cache_move}
 use Rattle.base.specs.Texels.{band, low_bytes}
+use Rattle.base.specs.declared.cache_move.MoveKind.TheVariants.{WriteBack, Fill}
 use Rattle.base.specs.declared.event.Event.{Event}
-use Rattle.base.specs.declared.event.Event.TheVariants.{Begin, End, Sync, WriteBack, Fill, Host}
+use Rattle.base.specs.declared.event.Event.TheVariants.{Begin, End, Sync, Move, Host}
 use Rattle.base.specs.declared.op.Op.TheVariants.{FillBuffer, CopyBuffer}
 use Rattle.base.specs.declared.shape.Family.TheVariants.{Graphics}
 use Rattle.base.specs.declared.shape.Shape.TheVariants.{Buffer}
@@ -77,11 +79,11 @@ abbrev good : Program
 good = submission (fill ∷ barrier clear transfer_write copy transfer_read ∷ copied ∷ barrier copy transfer_write host host_read ∷ [])
 
 -- a line that is filled too early goes away where the stores are made visible
-reads_sevens : (ran good (Fill 5 0 0 4 ∷ Begin 0 ∷ End 0 ∷ Sync 1 ∷ Begin 2 ∷ [])).loaded 2 ≡ (7 ∷ 0 ∷ 0 ∷ 0 ∷ []) ∷ []
+reads_sevens : (ran good (Move (cache_move Fill 5 0 0 4) ∷ Begin 0 ∷ End 0 ∷ Sync 1 ∷ Begin 2 ∷ [])).loaded 2 ≡ (7 ∷ 0 ∷ 0 ∷ 0 ∷ []) ∷ []
 unfolding band low_bytes lib.Count.count_trailing_zeros
 reads_sevens = refl
 
-host_sevens : (ran good (Begin 0 ∷ End 0 ∷ Sync 1 ∷ WriteBack 7 0 0 4 ∷ Begin 2 ∷ End 2 ∷ Sync 3 ∷ Sync 4 ∷ Host 5 ∷ [])).host 5 ≡ 7 ∷ 0 ∷ 0 ∷ 0 ∷ []
+host_sevens : (ran good (Begin 0 ∷ End 0 ∷ Sync 1 ∷ Move (cache_move WriteBack 7 0 0 4) ∷ Begin 2 ∷ End 2 ∷ Sync 3 ∷ Sync 4 ∷ Host 5 ∷ [])).host 5 ≡ 7 ∷ 0 ∷ 0 ∷ 0 ∷ []
 unfolding band low_bytes lib.Count.count_trailing_zeros
 host_sevens = refl
 
@@ -116,7 +118,7 @@ loads_fives = refl
 abbrev invisible : Program
 invisible = submission (fill ∷ barrier clear transfer_write copy 0 ∷ copied ∷ [])
 
-loads_lines : (ran invisible (Fill 5 0 0 4 ∷ Begin 0 ∷ End 0 ∷ Sync 1 ∷ Begin 2 ∷ [])).loaded 2 ≡ (5 ∷ 5 ∷ 5 ∷ 5 ∷ []) ∷ []
+loads_lines : (ran invisible (Move (cache_move Fill 5 0 0 4) ∷ Begin 0 ∷ End 0 ∷ Sync 1 ∷ Begin 2 ∷ [])).loaded 2 ≡ (5 ∷ 5 ∷ 5 ∷ 5 ∷ []) ∷ []
 unfolding band low_bytes lib.Count.count_trailing_zeros
 loads_lines = refl
 

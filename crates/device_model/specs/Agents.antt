@@ -4,7 +4,8 @@ use Rattle.std.specs.Int.{trailing_zeros}
 use Rattle.std.specs.Int.Width.{w16}
 use Rattle.std.specs.List.{range_with_len}
 use Rattle.base.specs.Shapes.{bytes_of}
-use Rattle.device_cache.specs.Lines.{Bytes, Range, range, is_in}
+use Rattle.base.specs.declared.memory_range.MemoryRange.{MemoryRange}
+use Rattle.device_cache.specs.Lines.{Bytes, range, is_in}
 use Rattle.check_access.specs.Views.{View, effect_at, queue_at, piece_at, has_agent}
 use Rattle.check_access.specs.declared.access.Agent.{Agent}
 use Rattle.check_access.specs.declared.access.Agent.TheVariants as agent
@@ -33,7 +34,7 @@ agent_of (Acquire handover) = 0
 
 -- BYTES OF PIECES
 
-abbrev pub piece_range : View → ℕ → Range
+abbrev pub piece_range : View → ℕ → MemoryRange
 piece_range V p = range (piece_at V p).memory (piece_at V p).offset (bytes_of (piece_at V p).shape)
 
 -- the byte is one of the piece

@@ -2,8 +2,7 @@
 use Rattle.std.specs.Prelude.{◌≡◌, ℕ, ◌<◌, ◌&&◌, List, length, take, slice_get, Bool, true, false}
 use Rattle.std.specs.Option.{option_map_or}
 use Rattle.base.specs.declared.event.Event.{Event}
-use Rattle.base.specs.declared.event.Event.TheVariants.{Begin, End, Sync, WriteBack, Fill, DropLine, Host}
-use Rattle.device_cache.specs.Lines.{range}
+use Rattle.base.specs.declared.event.Event.TheVariants.{Begin, End, Sync, Move, Host}
 use Rattle.check_order.specs.Edges.{is_sync, is_host}
 use Rattle.device_model.specs.Devices.{Device, state_of}
 use Rattle.device_model.specs.Ready.{is_command, kind_at, ready}
@@ -17,9 +16,7 @@ abbrev pub is_enabled : Program → State → Event → Bool
 is_enabled program s (Begin n) = is_command (kind_at (view_of program) n) && ready (view_of program) s n
 is_enabled program s (End n) = is_begun (s.phase n)
 is_enabled program s (Sync n) = is_sync (kind_at (view_of program) n) && ready (view_of program) s n
-is_enabled program s (WriteBack agent memory start len) = may_move program agent (range memory start len)
-is_enabled program s (Fill agent memory start len) = may_move program agent (range memory start len)
-is_enabled program s (DropLine agent memory start len) = may_move program agent (range memory start len)
+is_enabled program s (Move m) = may_move program m
 is_enabled program s (Host n) = is_host (kind_at (view_of program) n) && ready (view_of program) s n
 
 -- what events leave on a device that was opened with this byte

@@ -2,13 +2,11 @@
 use Rattle.std.specs.Prelude.{◌≡◌, ◌<◌, ◌+◌, ◌-◌, List, [], ◌∷◌, ◌++◌, length, Bool, true, false}
 use Rattle.std.specs.List.{filter}
 use Rattle.base.specs.declared.event.Event.{Event}
-use Rattle.base.specs.declared.event.Event.TheVariants.{WriteBack, Fill, DropLine}
+use Rattle.base.specs.declared.event.Event.TheVariants.{Move}
 use Rattle.device_model.specs.Devices.{Device, did}
 
 abbrev pub is_move : Event → Bool
-is_move (WriteBack agent memory start len) = true
-is_move (Fill agent memory start len) = true
-is_move (DropLine agent memory start len) = true
+is_move (Move m) = true
 is_move event = false
 
 -- the cache moves among events

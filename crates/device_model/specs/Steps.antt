@@ -3,12 +3,16 @@ use Rattle.std.specs.Prelude.{ℕ, zero, suc, List, [], ◌∷◌, ◌+◌, ◌*
 use Rattle.std.specs.List.{find}
 use Rattle.std.specs.Option.{option_map_or}
 use Rattle.base.specs.Shapes.{bytes_of}
+use Rattle.base.specs.declared.cache_move.CacheMove.{CacheMove}
+use Rattle.base.specs.declared.cache_move.MoveKind.{MoveKind}
+use Rattle.base.specs.declared.cache_move.MoveKind.TheVariants.{WriteBack, Fill, DropLine}
 use Rattle.base.specs.declared.event.Event.{Event}
-use Rattle.base.specs.declared.event.Event.TheVariants.{Begin, End, Sync, WriteBack, Fill, DropLine, Host}
+use Rattle.base.specs.declared.event.Event.TheVariants.{Begin, End, Sync, Move, Host}
 use Rattle.base.specs.declared.shape.Family.{Family}
 use Rattle.vk.specs.declared.layout.Layout.{Layout}
 use Rattle.device_cache.specs.Effects.{stored_in, wrote_main, wrote_back, filled_from, dropped_in}
-use Rattle.device_cache.specs.Lines.{Line, Lines, Range, range, seen, written, cleaned, dropped}
+use Rattle.base.specs.declared.memory_range.MemoryRange.{MemoryRange}
+use Rattle.device_cache.specs.Lines.{Line, Lines, seen, written, cleaned, dropped}
 use Rattle.device_model.specs.Agents.{agent_of, piece_range, covers, bytes_in, flushes_at, shows_at}
 use Rattle.device_model.specs.Outputs.{stored}
 use Rattle.device_model.specs.Ready.{is_command, kind_at, some_node, ready, loads_undefined, hits, marked_by}
@@ -156,21 +160,30 @@ hosted V s n junk = record s {
 
 -- CACHE MOVES
 
-abbrev pub written_back : State → ℕ → Range → State
+abbrev pub written_back : State → ℕ → MemoryRange → State
 written_back s agent range = record s { main = wrote_main agent range s.line s.main; line = wrote_back agent range s.line }
 
-abbrev pub lines_filled : State → ℕ → Range → State
+abbrev pub lines_filled : State → ℕ → MemoryRange → State
 lines_filled s agent range = record s { line = filled_from agent range s.main s.line }
 
-abbrev pub lines_dropped : State → ℕ → Range → State
+abbrev pub lines_dropped : State → ℕ → MemoryRange → State
 lines_dropped s agent range = record s { line = dropped_in agent range s.line }
+
+abbrev pub moved_by : MoveKind → State → ℕ → MemoryRange → State
+moved_by WriteBack s agent range = written_back s agent range
+moved_by Fill s agent range = lines_filled s agent range
+moved_by DropLine s agent range = lines_dropped s agent range
+
+abbrev pub lines_moved : State → CacheMove → State
+lines_moved s m = moved_by m.kind s m.agent m.range
 
 -- EVENTS
 
 -- the agent is known, and the range is one of a memory
-abbrev pub may_move : Program → ℕ → Range → Bool
-may_move program agent range =
-    nat_lt agent (8 * length program.queues) && option_map_or (λ memory. nat_le (range.start + range.len) (memory_bytes memory)) (slice_get program.memories range.memory) false
+abbrev pub may_move : Program → CacheMove → Bool
+may_move program m =
+    nat_lt m.agent (8 * length program.queues)
+    && option_map_or (λ memory. nat_le (m.range.start + m.range.len) (memory_bytes memory)) (slice_get program.memories m.range.memory) false
 
 -- an event that is not enabled changes nothing
 abbrev pub after_begin : Program → State → ℕ → List ℕ → State
@@ -185,22 +198,14 @@ after_sync program s n junk = if is_sync (kind_at (view_of program) n) && ready 
 abbrev pub after_host : Program → State → ℕ → List ℕ → State
 after_host program s n junk = if is_host (kind_at (view_of program) n) && ready (view_of program) s n then hosted (view_of program) s n junk else s
 
-abbrev pub after_write_back : Program → State → ℕ → Range → State
-after_write_back program s agent range = if may_move program agent range then written_back s agent range else s
-
-abbrev pub after_fill : Program → State → ℕ → Range → State
-after_fill program s agent range = if may_move program agent range then lines_filled s agent range else s
-
-abbrev pub after_drop : Program → State → ℕ → Range → State
-after_drop program s agent range = if may_move program agent range then lines_dropped s agent range else s
+abbrev pub after_move : Program → State → CacheMove → State
+after_move program s m = if may_move program m then lines_moved s m else s
 
 abbrev pub step : Program → State → Event → List ℕ → State
 step program s (Begin n) junk = after_begin program s n junk
 step program s (End n) junk = after_end program s n junk
 step program s (Sync n) junk = after_sync program s n junk
-step program s (WriteBack agent memory start len) junk = after_write_back program s agent (range memory start len)
-step program s (Fill agent memory start len) junk = after_fill program s agent (range memory start len)
-step program s (DropLine agent memory start len) junk = after_drop program s agent (range memory start len)
+step program s (Move m) junk = after_move program s m
 step program s (Host n) junk = after_host program s n junk
 
 -- an event, with the junk of what goes wrong in it

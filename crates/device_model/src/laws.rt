@@ -1,6 +1,7 @@
 //! Laws of devices.
 
 ghost use Rattle.std.specs.Prelude.{◌≡◌, ℕ, None, List, true};
+ghost use Rattle.base.specs.declared.cache_move.CacheMove.{CacheMove};
 ghost use Rattle.base.specs.declared.event.Event.{Event};
 ghost use Rattle.device_model.specs.Devices.{Device, opening, state_of, fresh, NoneBegun};
 ghost use Rattle.device_model.specs.Histories.{is_move, GoesNowhere, GoesOnByNode, GoesOnByMove, Joins};
@@ -28,7 +29,7 @@ pub fn device_laws()
 pub fn event_laws()
     ensures opens { (program : Program) (fill moves : ℕ) → state_of (fresh program fill moves) ≡ opened (opening program fill) }
     ensures nodes { (d : Device) (n : ℕ) → GoesOnBy d n }
-    ensures moves { (d : Device) (agent memory start len : ℕ) → MovesBy d agent memory start len }
+    ensures moves { (d : Device) (m : CacheMove) → MovesBy d m }
     ensures jobs { (d : Device) → first_fault d.program ≡ None → (n : ℕ) → MayGo is_command d n → IsJob d n }
 {}
 

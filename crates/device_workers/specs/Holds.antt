@@ -1,8 +1,8 @@
 -- What holds do to the device of a holder that tells which one it has.
 use Rattle.std.specs.Prelude.{◌≡◌, ◌≤◌, ◌<◌, ◌↔◌, ℕ, Bool, true, List, Option, Some, None, if◌then◌else◌}
-use Rattle.base.specs.declared.event.Event.{Event}
-use Rattle.base.specs.declared.event.Event.TheVariants.{End}
-use Rattle.device_cache.specs.Draws.{IsMove, moves_of}
+use Rattle.base.specs.declared.cache_move.CacheMove.{CacheMove}
+use Rattle.base.specs.declared.event.Event.TheVariants.{End, Move}
+use Rattle.device_cache.specs.Draws.{Moves, moves_of}
 use Rattle.device_drive.specs.Tended.{agents_of, sizes_of}
 use Rattle.device_model.specs.Devices.{Device, state_of, did, IsComplete, NoneBegun}
 use Rattle.device_model.specs.Histories.{moved, Went}
@@ -27,16 +27,16 @@ abbrev pub LandsTo : Option Device → Option Device → ℕ → Type 0
 LandsTo old new n = Both old new (λ d e. Lands d e n)
 
 -- a move is left, and the device has that agent and range
-pub record MayMake (d : Device) (event : Event) : Type 0 where
+pub record MayMake (d : Device) (m : CacheMove) : Type 0 where
   pub left : 0 < d.moves
-  pub move : IsMove (agents_of d.program) (sizes_of d.program) event
+  pub move : Moves (agents_of d.program) (sizes_of d.program) m
 
-pub record Tends (old new : Device) (event : Event) (made : Bool) : Type 0 where
-  pub may : (made ≡ true) ↔ MayMake old event
-  pub effect : new ≡ (if made then moved old event else old)
+pub record Tends (old new : Device) (m : CacheMove) (made : Bool) : Type 0 where
+  pub may : (made ≡ true) ↔ MayMake old m
+  pub effect : new ≡ (if made then moved old (Move m) else old)
 
-abbrev pub TendsTo : Option Device → Option Device → Event → Bool → Type 0
-TendsTo old new event made = Both old new (λ d e. Tends d e event made)
+abbrev pub TendsTo : Option Device → Option Device → CacheMove → Bool → Type 0
+TendsTo old new m made = Both old new (λ d e. Tends d e m made)
 
 -- holds of the worker of a queue, one after another, and no others
 pub data Works (own : ℕ) : Device → Device → Type 0 where

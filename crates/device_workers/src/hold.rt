@@ -5,7 +5,7 @@ ghost use Rattle.device_workers.specs.Holds.{StepsTo, LandsTo, TendsTo};
 
 use crate::step::{WorkerStep, take_step};
 use crate::tending::tend_once;
-use base::{Event, NoMemory};
+use base::{CacheMove, NoMemory};
 use device::{Device, Finished};
 use std::alloc::Global;
 use std::sync::{Condvar, Mutex, Wait};
@@ -27,8 +27,8 @@ pub trait Holder {
 
     /// A hold of a tender: it makes a cache move where the device has that agent and range and a move is left, and tells whether
     /// it did.
-    fn tend(&mut self, event: Event) -> bool
-        ensures { TendsTo (told self.old) (told self.new) event result };
+    fn tend(&mut self, cache_move: CacheMove) -> bool
+        ensures { TendsTo (told self.old) (told self.new) cache_move result };
 }
 
 /// A device under a lock that others share, with a bell at which workers wait. It tells nothing.
@@ -64,9 +64,9 @@ impl<'a, R: Wait> Holder for Shared<'a, R> {
         let _landed = self.device.lock(self.rt).end(done);
     }
 
-    fn tend(&mut self, event: Event) -> bool {
+    fn tend(&mut self, cache_move: CacheMove) -> bool {
         let mut held = self.device.lock(self.rt);
-        tend_once(&mut held, event)
+        tend_once(&mut held, cache_move)
     }
 }
 
@@ -87,7 +87,7 @@ impl Holder for Alone {
         let _landed = self.device.end(done);
     }
 
-    fn tend(&mut self, event: Event) -> bool {
-        tend_once(&mut self.device, event)
+    fn tend(&mut self, cache_move: CacheMove) -> bool {
+        tend_once(&mut self.device, cache_move)
     }
 }

@@ -4,20 +4,20 @@ ghost use Rattle.std.specs.Prelude.{◌≡◌, ◌<◌, ◌^◌, ℕ, Some, None
 ghost use Rattle.device_workers.specs.Holds.{Tends, TendsAll};
 
 use crate::hold::Holder;
-use base::Event;
+use base::CacheMove;
 use device::Device;
 use device_cache::{MOVES, Tender};
-use device_drive::{is_move_of, make_move, move_laws};
+use device_drive::{has_move, make_move};
 use device_model::history_laws;
 
 /// One hold of a tender: it makes the move if one is left and the device has that agent and range, and tells whether it did.
-pub fn tend_once(device: &mut Device, event: Event) -> bool
-    ensures { Tends device.old device.new event result }
+pub fn tend_once(device: &mut Device, cache_move: CacheMove) -> bool
+    ensures { Tends device.old device.new cache_move result }
 {
-    if device.moves_left() == 0 || !is_move_of(device, &event) {
+    if device.moves_left() == 0 || !has_move(device, cache_move) {
         return false;
     }
-    make_move(device, event);
+    make_move(device, cache_move);
     true
 }
 
@@ -39,13 +39,12 @@ pub fn tend_through<H: Holder>(hold: &mut H, seed: u64, agents: u32, sizes: &[u3
     ensures { TendsAll (H.told hold.old) (H.told hold.new) seed agents sizes.now }
 {
     history_laws();
-    move_laws();
     let mut tender = Tender::new(seed);
     for _move in 0..MOVES {
-        let Some(event) = tender.next(agents, sizes) else {
+        let Some(cache_move) = tender.next(agents, sizes) else {
             return;
         };
-        if !hold.tend(event) {
+        if !hold.tend(cache_move) {
             return;
         }
     }

@@ -14,7 +14,8 @@ use Rattle.law_runs.proofs.Nodes.{left_clean, store_ok, turn_ok, spare_ok}
 use Rattle.law_runs.proofs.Shared.{same_bytes}
 use Rattle.law_runs.specs.Lines.{is_dirty}
 use Rattle.device_cache.specs.Effects.{wrote_main, wrote_back, filled_from, dropped_in}
-use Rattle.device_cache.specs.Lines.{Line, Lines, Dirty, Bytes, Range, is_in, cleaned, dropped, written}
+use Rattle.base.specs.declared.memory_range.MemoryRange.{MemoryRange}
+use Rattle.device_cache.specs.Lines.{Line, Lines, Dirty, Bytes, is_in, cleaned, dropped, written}
 use Rattle.law_runs.specs.Orders.{Path, Synchronized}
 use Rattle.law_runs.specs.Runs.{reads, LoadsUndefined, Marks, took, Loads, did_store, Stores, FlushTo, JunkedAt, line_after, did_sync, Syncs}
 use Rattle.law_runs.specs.States.{State, Owner, opened, put, put_at, over, bytes_in, Entered, Meets, MayLoad, MayStore, MaySync}
@@ -460,13 +461,13 @@ module _ (S : System) (F : Formed S) (T : Synchronized S) (rank : ℕ → ℕ) (
       hosts = H.hosts;
     }
 
-    pub drop_holds : (agent : ℕ) (range : Range) → Holds S W found (record s { line = dropped_in agent range s.line })
+    pub drop_holds : (agent : ℕ) (range : MemoryRange) → Holds S W found (record s { line = dropped_in agent range s.line })
     drop_holds agent range = moved s.main (dropped_in agent range s.line) (λ m i. drop_ok S F rank R W s.done m i (λ g. s.line g m i) (s.main m i) (H.bytes m i) (λ g. (g == agent) && is_in range m i))
 
-    pub fill_holds : (agent : ℕ) (range : Range) → Holds S W found (record s { line = filled_from agent range s.main s.line })
+    pub fill_holds : (agent : ℕ) (range : MemoryRange) → Holds S W found (record s { line = filled_from agent range s.main s.line })
     fill_holds agent range = moved s.main (filled_from agent range s.main s.line) (λ m i. fill_ok S F rank R W s.done m i (λ g. s.line g m i) (s.main m i) (H.bytes m i) (λ g. (g == agent) && is_in range m i))
 
-    pub write_back_holds : (agent : ℕ) (range : Range) → Holds S W found (record s { main = wrote_main agent range s.line s.main; line = wrote_back agent range s.line })
+    pub write_back_holds : (agent : ℕ) (range : MemoryRange) → Holds S W found (record s { main = wrote_main agent range s.line s.main; line = wrote_back agent range s.line })
     write_back_holds agent range = moved (wrote_main agent range s.line s.main) (wrote_back agent range s.line) (λ m i. at m i (is_in range m i))
       where
         at : (m i : ℕ) (b : Bool) → ByteOk S s.done m i W (λ g. if (g == agent) && b then cleaned (s.line g m i) else s.line g m i) (if b then written (s.line agent m i) (s.main m i) else s.main m i)

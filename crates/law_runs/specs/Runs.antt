@@ -2,7 +2,8 @@
 use Rattle.std.specs.Prelude.{◌≡◌, ◌⊎◌, ℕ, ◌-◌, List, slice_index, Bool, true, false, Option, Some, if◌then◌else◌}
 use Rattle.law_runs.specs.Lines.{is_dirty}
 use Rattle.device_cache.specs.Effects.{wrote_main, wrote_back, filled_from, dropped_in}
-use Rattle.device_cache.specs.Lines.{Line, Lines, Dirty, Bytes, Range, cleaned, dropped}
+use Rattle.base.specs.declared.memory_range.MemoryRange.{MemoryRange}
+use Rattle.device_cache.specs.Lines.{Line, Lines, Dirty, Bytes, cleaned, dropped}
 use Rattle.law_runs.specs.States.{State, Owner, Unused, Left, put, put_at, bytes_in, sight, Torn, Meets, MayLoad, MayStore, MaySync}
 use Rattle.law_runs.specs.Systems.{Doing, Read, TakeOver, Access, System, At, Has, covers, changes, is_store, is_long, is_discard}
 
@@ -115,9 +116,9 @@ pub data Goes (S : System) : State → State → Type 0 where
 
 -- a move of caches
 pub data Moves : State → State → Type 0 where
-  writes_back : (s : State) (agent : ℕ) (range : Range) → Moves s (record s { main = wrote_main agent range s.line s.main; line = wrote_back agent range s.line })
-  fills : (s : State) (agent : ℕ) (range : Range) → Moves s (record s { line = filled_from agent range s.main s.line })
-  drops : (s : State) (agent : ℕ) (range : Range) → Moves s (record s { line = dropped_in agent range s.line })
+  writes_back : (s : State) (agent : ℕ) (range : MemoryRange) → Moves s (record s { main = wrote_main agent range s.line s.main; line = wrote_back agent range s.line })
+  fills : (s : State) (agent : ℕ) (range : MemoryRange) → Moves s (record s { line = filled_from agent range s.main s.line })
+  drops : (s : State) (agent : ℕ) (range : MemoryRange) → Moves s (record s { line = dropped_in agent range s.line })
 
 pub data Run (S : System) (s : State) : State → Type 0 where
   start : Run S s s

@@ -2,7 +2,9 @@
 use Rattle.std.proofs.Common.{◌≡◌, ℕ, List, [], ◌∷◌, Some, None, codes, refl}
 use Rattle.std.specs.Fmt.{digits}
 use Rattle.hex.proofs.OnLiterals.{hex_on_literals}
-use Rattle.base.specs.declared.event.Event.TheVariants.{Begin, End, Sync, WriteBack, Fill, DropLine, Host}
+use Rattle.base.specs.CacheMoves.{cache_move}
+use Rattle.base.specs.declared.cache_move.MoveKind.TheVariants.{WriteBack, Fill, DropLine}
+use Rattle.base.specs.declared.event.Event.TheVariants.{Begin, End, Sync, Move, Host}
 use Rattle.base.specs.declared.limit.Limit.TheVariants.{Passes, Total}
 use Rattle.base.specs.declared.shape.Shape.TheVariants.{Buffer}
 use Rattle.base.specs.declared.shape.Family.TheVariants.{Graphics, Compute}
@@ -89,11 +91,11 @@ read_back : readback_text 3 (7 ∷ 0 ∷ []) ≡ codes "readback 3 2\n0700\n"
 unfolding digits hex_on_literals
 read_back = refl
 
-traced : trace_text (Begin 0 ∷ WriteBack 6 0 256 4 ∷ End 0 ∷ Sync 1 ∷ Host 2 ∷ []) ≡ codes "events 5\nbegin 0\nwriteback 6 0 256 4\nend 0\nsync 1\nhost 2\n"
+traced : trace_text (Begin 0 ∷ Move (cache_move WriteBack 6 0 256 4) ∷ End 0 ∷ Sync 1 ∷ Host 2 ∷ []) ≡ codes "events 5\nbegin 0\nwriteback 6 0 256 4\nend 0\nsync 1\nhost 2\n"
 unfolding digits
 traced = refl
 
-cache_moves : trace_text (Fill 1 2 3 4 ∷ DropLine 4 3 2 1 ∷ []) ≡ codes "events 2\nfill 1 2 3 4\ndrop 4 3 2 1\n"
+cache_moves : trace_text (Move (cache_move Fill 1 2 3 4) ∷ Move (cache_move DropLine 4 3 2 1) ∷ []) ≡ codes "events 2\nfill 1 2 3 4\ndrop 4 3 2 1\n"
 unfolding digits
 cache_moves = refl
 

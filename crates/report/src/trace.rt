@@ -1,10 +1,10 @@
 //! What a device did.
 
 ghost use Rattle.std.specs.Prelude.{◌≡◌, ◌++◌, OnOk, IfOk};
-ghost use Rattle.report.specs.Traces.{event_line, move_line, node_line, trace_text};
+ghost use Rattle.report.specs.Traces.{event_line, move_line, move_word, node_line, trace_text};
 
 use crate::hazard::{add_number, add_numbers};
-use base::{Event, List, NoMemory, Text};
+use base::{CacheMove, Event, List, MoveKind, NoMemory, Text};
 use base_text::Lines;
 use std::alloc::Global;
 
@@ -16,19 +16,23 @@ fn add_node(text: &mut Text, word: &[u8], node: u32) -> Result<(), NoMemory>
     text.end_line()
 }
 
-fn add_move(
-    text: &mut Text,
-    word: &[u8],
-    agent: u32,
-    memory: u32,
-    start: u32,
-    len: u32,
-) -> Result<(), NoMemory>
-    ensures { OnOk result (text.new ≡ text.old ++ move_line word.now agent memory start len) }
+fn move_word(kind: MoveKind) -> &'static [u8]
+    ensures { result.now ≡ move_word kind }
 {
-    text.word(word)?;
-    add_numbers(text, agent, memory)?;
-    add_numbers(text, start, len)?;
+    match kind {
+        MoveKind::WriteBack => b"writeback",
+        MoveKind::Fill => b"fill",
+        MoveKind::DropLine => b"drop",
+    }
+}
+
+fn add_move(text: &mut Text, cache_move: CacheMove) -> Result<(), NoMemory>
+    ensures { OnOk result (text.new ≡ text.old ++ move_line cache_move) }
+{
+    let range = cache_move.range;
+    text.word(move_word(cache_move.kind))?;
+    add_numbers(text, cache_move.agent, range.memory)?;
+    add_numbers(text, range.start, range.len)?;
     text.end_line()
 }
 
@@ -40,24 +44,7 @@ fn add_event(text: &mut Text, event: &Event) -> Result<(), NoMemory>
         Event::End { node } => add_node(text, b"end", node),
         Event::Sync { node } => add_node(text, b"sync", node),
         Event::Host { node } => add_node(text, b"host", node),
-        Event::WriteBack {
-            agent,
-            memory,
-            start,
-            len,
-        } => add_move(text, b"writeback", agent, memory, start, len),
-        Event::Fill {
-            agent,
-            memory,
-            start,
-            len,
-        } => add_move(text, b"fill", agent, memory, start, len),
-        Event::DropLine {
-            agent,
-            memory,
-            start,
-            len,
-        } => add_move(text, b"drop", agent, memory, start, len),
+        Event::Move(cache_move) => add_move(text, cache_move),
     }
 }
 

@@ -2,7 +2,7 @@ ghost use Rattle.std.specs.Prelude.{IfOk};
 ghost use Rattle.check_program.specs.Sound.{IsSound};
 ghost use Rattle.device_model.specs.Devices.{NoneBegun};
 
-use base::{Event, NoMemory};
+use base::{CacheMove, Event, MemoryRange, MoveKind, NoMemory};
 use check_program::{Checked, check};
 use device::Device;
 use device_cache::MOVES;
@@ -33,19 +33,25 @@ const ALONE: [Event; 9] = [
 
 // With the first two moves of seed 1, by the generator's published C code.
 const MOVED: [Event; 11] = [
-    Event::Fill {
+    Event::Move(CacheMove {
+        kind: MoveKind::Fill,
         agent: 5,
-        memory: 1,
-        start: 10,
-        len: 5,
-    },
+        range: MemoryRange {
+            memory: 1,
+            start: 10,
+            len: 5,
+        },
+    }),
     Event::Begin { node: 0 },
-    Event::WriteBack {
+    Event::Move(CacheMove {
+        kind: MoveKind::WriteBack,
         agent: 8,
-        memory: 0,
-        start: 3,
-        len: 10,
-    },
+        range: MemoryRange {
+            memory: 0,
+            start: 3,
+            len: 10,
+        },
+    }),
     Event::End { node: 0 },
     Event::Sync { node: 1 },
     Event::Sync { node: 2 },

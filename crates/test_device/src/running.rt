@@ -1,12 +1,11 @@
 ghost use Rattle.std.specs.Prelude.{◌≡◌, nat_le, slice_get, true, false, IfSome};
 ghost use Rattle.std.specs.Option.{option_map_or};
-ghost use Rattle.device_cache.specs.Lines.{range};
 ghost use Rattle.device_model.specs.Devices.{view_in, is_ready};
 ghost use Rattle.device_model.specs.Ready.{is_command, kind_at};
 ghost use Rattle.device_model.specs.Steps.{may_move};
 ghost use Rattle.program.specs.Limits.{memory_bytes};
 
-use base::{List, NoMemory};
+use base::{CacheMove, List, MemoryRange, MoveKind, NoMemory};
 use check_order::Kind;
 use device::{Device, Finished, Landed};
 use program::{Memory, Program, ValidProgram, validate_program};
@@ -36,6 +35,17 @@ enum Act {
     // What another device has computed is handed in, before all others. It is not taken.
     Foreign,
 }
+
+// Of the first bytes that copies have stored.
+const WRITE_BACK: CacheMove = CacheMove {
+    kind: MoveKind::WriteBack,
+    agent: 6,
+    range: MemoryRange {
+        memory: 0,
+        start: 0,
+        len: 4,
+    },
+};
 
 const ROWS: [(&str, &[Act], [u8; 4]); 4] = [
     (
@@ -173,17 +183,19 @@ fn ends_within(memories: &[Memory], memory: u32, end: u64) -> bool
     }
 }
 
-fn may_move(program: &ValidProgram, agent: u32, memory: u32, start: u32, len: u32) -> bool
-    ensures { result ≡ may_move program.now agent (range memory start len) }
+fn may_move(program: &ValidProgram, cache_move: CacheMove) -> bool
+    ensures { result ≡ may_move program.now cache_move }
 {
     let program = program.program();
     let queues = program.queues.len() as u32;
-    agent < 8 * queues && ends_within(&program.memories, memory, u64::from(start) + u64::from(len))
+    let range = cache_move.range;
+    let end = u64::from(range.start) + u64::from(range.len);
+    cache_move.agent < 8 * queues && ends_within(&program.memories, range.memory, end)
 }
 
 fn write_back(device: &mut Device) {
-    if device.moves_left() > 0 && may_move(device.program(), 6, 0, 0, 4) {
-        device.write_back(6, 0, 0, 4);
+    if device.moves_left() > 0 && may_move(device.program(), WRITE_BACK) {
+        device.move_lines(WRITE_BACK);
     }
 }
 

@@ -1,6 +1,6 @@
 //! Printed texts: that the calls find memory, and a row of each kind.
 
-use base::{Event, Leg, Limit, List, Name, NoMemory, Text};
+use base::{CacheMove, Event, Leg, Limit, List, MemoryRange, MoveKind, Name, NoMemory, Text};
 use check_program::Hazard;
 use frame::{FrameFault, ValidFrame, validate_frame};
 use program::ProgramFault;
@@ -90,12 +90,15 @@ fn runs(rt: HostRuntime) -> Result<(), Fail> {
     let mut text = List::new(alloc);
     readback_text(&mut text, 1, &[5, 7])?;
     is_printed(&rt, text, b"readback 1 2\n0507\n");
-    let fill = Event::Fill {
+    let fill = Event::Move(CacheMove {
+        kind: MoveKind::Fill,
         agent: 6,
-        memory: 0,
-        start: 256,
-        len: 4,
-    };
+        range: MemoryRange {
+            memory: 0,
+            start: 256,
+            len: 4,
+        },
+    });
     let history = [Event::Begin { node: 0 }, fill, Event::End { node: 0 }];
     let trace = trace_text(alloc, &history)?;
     is_printed(&rt, trace, b"events 3\nbegin 0\nfill 6 0 256 4\nend 0\n");

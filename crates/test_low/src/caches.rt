@@ -4,7 +4,7 @@ ghost use Rattle.device_cache.specs.Internal.Kept.{Knows};
 
 use crate::caches_plain::{Byte, Plain};
 use crate::caches_step::{Call, Step};
-use base::{Event, List, NoMemory};
+use base::{CacheMove, List, MemoryRange, MoveKind, NoMemory};
 use bytes::BytesMut;
 use device_cache::{Contents, Segments, Tender};
 use std::alloc::Global;
@@ -117,7 +117,7 @@ fn drawn(tender: &mut Tender) -> Step
 {
     let sizes = [LARGE, SMALL];
     match tender.next(AGENTS, &sizes) {
-        Some(event) => Step::of(event, AGENTS, &sizes),
+        Some(cache_move) => Step::of(cache_move),
         None => unreachable!(),
     }
 }
@@ -266,33 +266,45 @@ fn table_does_as_single_bytes_do(rt: HostRuntime) -> Result<(), Fail> {
 #[test]
 fn tender_draws_by_words(rt: HostRuntime) {
     let mut tender = Tender::new(42);
-    for event in [
-        Event::WriteBack {
+    for cache_move in [
+        CacheMove {
+            kind: MoveKind::WriteBack,
             agent: 4,
-            memory: 1,
-            start: 1869,
-            len: 1159,
+            range: MemoryRange {
+                memory: 1,
+                start: 1869,
+                len: 1159,
+            },
         },
-        Event::Fill {
+        CacheMove {
+            kind: MoveKind::Fill,
             agent: 1,
-            memory: 4,
-            start: 29318,
-            len: 3345,
+            range: MemoryRange {
+                memory: 4,
+                start: 29318,
+                len: 3345,
+            },
         },
-        Event::DropLine {
+        CacheMove {
+            kind: MoveKind::DropLine,
             agent: 0,
-            memory: 4,
-            start: 52887,
-            len: 863,
+            range: MemoryRange {
+                memory: 4,
+                start: 52887,
+                len: 863,
+            },
         },
-        Event::Fill {
+        CacheMove {
+            kind: MoveKind::Fill,
             agent: 0,
-            memory: 2,
-            start: 25,
-            len: 58,
+            range: MemoryRange {
+                memory: 2,
+                start: 25,
+                len: 58,
+            },
         },
     ] {
-        assert_eq!(rt; tender.next(5, &[0, 5000, 100, 0, 70000]), Some(event));
+        assert_eq!(rt; tender.next(5, &[0, 5000, 100, 0, 70000]), Some(cache_move));
     }
     assert_eq!(rt; tender.next(5, &[0, 0]), None);
 }

@@ -1,9 +1,9 @@
 //! Calls of a table, drawn by a tender.
 
 ghost use Rattle.std.specs.Prelude.{◌≡◌};
-ghost use Rattle.device_cache.specs.Draws.{IsMove, Moves};
+ghost use Rattle.device_cache.specs.Lines.{range};
 
-use base::Event;
+use base::{CacheMove, MemoryRange, MoveKind};
 
 #[derive(Clone, Copy)]
 pub(crate) enum Call {
@@ -28,48 +28,22 @@ pub(crate) struct Step {
 
 impl Step {
     /// The move that a tender drew.
-    pub(crate) fn of(event: Event, agents: u32, sizes: &[u32]) -> Step
-        requires { IsMove agents sizes.now event }
-        ensures { Moves agents sizes.now result.agent result.memory result.start result.len }
+    pub(crate) fn of(cache_move: CacheMove) -> Step
+        ensures agent { result.agent ≡ cache_move.agent }
+        ensures range { range result.memory result.start result.len ≡ cache_move.range }
     {
-        match event {
-            Event::WriteBack {
-                agent,
-                memory,
-                start,
-                len,
-            } => Step {
-                call: Call::WriteBack,
-                agent,
-                memory,
-                start,
-                len,
-            },
-            Event::Fill {
-                agent,
-                memory,
-                start,
-                len,
-            } => Step {
-                call: Call::Fill,
-                agent,
-                memory,
-                start,
-                len,
-            },
-            Event::DropLine {
-                agent,
-                memory,
-                start,
-                len,
-            } => Step {
-                call: Call::DropClean,
-                agent,
-                memory,
-                start,
-                len,
-            },
-            _ => unreachable!(),
+        let MemoryRange { memory, start, len } = cache_move.range;
+        let call = match cache_move.kind {
+            MoveKind::WriteBack => Call::WriteBack,
+            MoveKind::Fill => Call::Fill,
+            MoveKind::DropLine => Call::DropClean,
+        };
+        Step {
+            call,
+            agent: cache_move.agent,
+            memory,
+            start,
+            len,
         }
     }
 

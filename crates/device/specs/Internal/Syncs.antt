@@ -1,9 +1,8 @@
 -- What becomes of main and of lines where a node makes memory available or visible.
 use Rattle.std.specs.Prelude.{ℕ, zero, suc, ◌<◌, List, [], ◌∷◌, length, Bool, if◌then◌else◌}
 use Rattle.device_cache.specs.Effects.{Caches, write_back, write_back_all, drop_clean, drop_clean_all, overwrite}
-use Rattle.device_cache.specs.Lines.{Line, Range, range, cleaned, dropped}
+use Rattle.device_cache.specs.Lines.{Line, cleaned, dropped}
 use Rattle.device.specs.declared.syncing.Agents.{Agents}
-use Rattle.device.specs.declared.syncing.Extent.{Extent}
 use Rattle.device.specs.declared.syncing.Move.{Move}
 use Rattle.device.specs.declared.syncing.Move.TheVariants.{WriteBack, DropClean}
 use Rattle.device_model.specs.Agents.{agent_at, piece_range}
@@ -13,9 +12,6 @@ use Rattle.check_access.specs.Views.{View, accesses_of, effect_at, queue_at, has
 use Rattle.check_access.specs.declared.access.Access.{Access}
 use Rattle.check_access.specs.declared.effect.Scope.{Scope}
 use Rattle.check_access.specs.declared.effect.Scope.TheVariants.{Everywhere, Piece}
-
-abbrev pub range_of : Extent → Range
-range_of e = range e.memory e.start e.len
 
 -- the agent of a number is in a set of agents of a queue
 abbrev pub has_agent_at : ℕ → ℕ → ℕ → Bool

@@ -2,7 +2,7 @@
 use Rattle.std.specs.Prelude.{◌≡◌, ℕ, ◌*◌, ◌^◌, ◌<◌, ◌≤◌, length, slice_get, slice_index}
 use Rattle.std.specs.Option.{option_map_or}
 use Rattle.device_cache.specs.Effects.{Caches}
-use Rattle.device_cache.specs.Lines.{Range}
+use Rattle.base.specs.declared.memory_range.MemoryRange.{MemoryRange}
 use Rattle.device_cache.specs.Tables.{Table, size_of, junk_of, missing, InMemory, Keeps}
 use Rattle.device_model.specs.Agents.{piece_range}
 use Rattle.device_model.specs.States.{State}
@@ -14,7 +14,7 @@ abbrev pub memory_size : Program → ℕ → ℕ
 memory_size program m = option_map_or memory_bytes (slice_get program.memories m) 0
 
 -- the range is one of a memory, and the table is cut at both of its ends
-pub record IsCutOut (t : Table) (r : Range) : Type 0 where
+pub record IsCutOut (t : Table) (r : MemoryRange) : Type 0 where
   pub within : InMemory t r.memory r.start r.len
   pub cut : missing t r.memory r.start r.len ≡ 0
 

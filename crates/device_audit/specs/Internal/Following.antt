@@ -4,7 +4,7 @@ use Rattle.std.specs.List.{list_any, sum_by}
 use Rattle.std.specs.Option.{option_map_or}
 use Rattle.device_model.specs.Coming.{is_enabled}
 use Rattle.base.specs.declared.event.Event.{Event}
-use Rattle.base.specs.declared.event.Event.TheVariants.{Begin, End, Sync, WriteBack, Fill, DropLine, Host}
+use Rattle.base.specs.declared.event.Event.TheVariants.{Begin, End, Sync, Move, Host}
 use Rattle.device.specs.declared.job.Command.{Command}
 use Rattle.device_model.specs.Devices.{Device, state_of, view_in, did}
 use Rattle.device_model.specs.Histories.{is_move, moves_in, moved}
@@ -67,9 +67,7 @@ abbrev pub ended_by : Event → Option ℕ
 ended_by (Begin n) = None
 ended_by (End n) = Some n
 ended_by (Sync n) = Some n
-ended_by (WriteBack agent memory start len) = None
-ended_by (Fill agent memory start len) = None
-ended_by (DropLine agent memory start len) = None
+ended_by (Move m) = None
 ended_by (Host n) = Some n
 
 abbrev pub ends : ℕ → Event → Bool

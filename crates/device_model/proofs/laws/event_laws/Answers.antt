@@ -9,7 +9,7 @@ pub returns-clause-nodes : goal.returns-clause-nodes
 returns-clause-nodes c = λ d n. goes_on_by d n
 
 pub returns-clause-moves : goal.returns-clause-moves
-returns-clause-moves c = λ d agent memory start len. moves_by d agent memory start len
+returns-clause-moves c = λ d m. moves_by d m
 
 pub returns-clause-jobs : goal.returns-clause-jobs
 returns-clause-jobs c = λ d none n may. is_job d none n may

@@ -2,6 +2,7 @@ use Rattle.std.proofs.Common.{◌≡◌, ◌-◌, ℕ, Bool, true, if◌then◌e
 use Rattle.device_cache.specs.Draws.{may_draw, after_five, moves_from}
 use Rattle.device_drive.proofs.Drawing.{none_drawn}
 use Rattle.device_workers.proofs.Moving.{Draws, starts, ends, goes_on, undrawn}
+use Rattle.base.specs.declared.event.Event.TheVariants as events
 use Rattle.device_workers.proofs.tending.tend_through.Goals as goal
 
 pub loop-move-init : goal.loop-move-init
@@ -20,17 +21,16 @@ loop-move-preserved g c =
     let agents = c.args.agents in
     let sizes = c.args.sizes.now in
     let t = c.loop-move.tender in
-    let event = c.in-Some.event in
+    let m = c.in-Some.cache_move in
     let may : may_draw agents sizes ≡ true = c.in-Some.ensures.some.0 refl in
-    let draws : Draws agents sizes t event = record {
+    let draws : Draws agents sizes t m = record {
       may = may;
-      drawn = c.in-Some.ensures.event;
+      drawn = c.in-Some.ensures.drawn;
       inside = c.in-Some.ensures.inside;
-      move = c.move_laws.ensures.drawn agents sizes event c.in-Some.ensures.inside;
     } in
-    goes_on c.args.seed agents sizes (g.H.Holder.told c.args.hold.now) (g.H.Holder.told c.loop-move.hold) (g.H.Holder.told c.tend.new.self) c.loop-move._move t event c.loop-move-test.true draws
+    goes_on c.args.seed agents sizes (g.H.Holder.told c.args.hold.now) (g.H.Holder.told c.loop-move.hold) (g.H.Holder.told c.tend.new.self) c.loop-move._move t m c.loop-move-test.true draws
     c.next.new.self (c.next.ensures.after ∙ ap (λ (b : Bool). if b then after_five t else t) may)
-    (λ d e events. c.history_laws.ensures.cache_move d e events event)
+    (λ d e past. c.history_laws.ensures.cache_move d e past (events.Move m))
     c.tend.result c.if-not-tend.false c.loop-move.invariant c.tend.ensures
 
 pub returns : goal.returns

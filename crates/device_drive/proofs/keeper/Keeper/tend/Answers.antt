@@ -7,4 +7,4 @@ use Rattle.device_model.specs.Devices.{Device}
 pub returns-clause-calm : goal.returns-clause-calm
 returns-clause-calm c =
     let d = c.args.device.now in
-    subst (λ (x : Device). Calm d x) (sym c.make_move.ensures) (calm_move d c.in-Some.event (of_program c.args.self.now d.program c.in-Some.event c.requires.keeps c.in-Some.ensures.inside))
+    subst (λ (x : Device). Calm d x) (sym c.make_move.ensures) (calm_move d c.in-Some.cache_move (of_program c.args.self.now d.program c.in-Some.cache_move c.requires.keeps c.in-Some.ensures.inside))
