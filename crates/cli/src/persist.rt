@@ -1,11 +1,11 @@
 //! Names under which bytes persist from one frame to the next.
 
-ghost use Rattle.std.specs.Prelude.{◌≡◌, ◌==◌, ◌≤◌, IfOk, length, map, option_map};
+ghost use Rattle.std.specs.Prelude.{◌≡◌, ◌==◌, IfOk, map, option_map};
 ghost use Rattle.std.specs.List.{slice_split};
-ghost use Rattle.frame.specs.Repeats.{first_repeat, repeats_at};
 ghost use Rattle.cli.specs.Persist.{all_named, are_different, if_different, names_of, persist_in};
 
 use base::{List, Name, NoMemory};
+use frame::first_repeat;
 use std::alloc::{AllocError, Global};
 
 fn split_at_commas<'a>(alloc: Global, text: &'a str) -> Result<Vec<&'a str>, AllocError>
@@ -28,44 +28,25 @@ fn all_named(alloc: Global, entries: &[&str]) -> Result<Option<List<Name>>, NoMe
     Ok(Some(names))
 }
 
-fn repeats_at(names: &[Name], at: usize, name: &Name) -> Option<usize>
-    requires { at ≤ length names.now }
-    ensures { result ≡ repeats_at names.now at name.now }
+fn are_different(alloc: Global, names: &[Name]) -> Result<bool, NoMemory>
+    ensures { IfOk result (λ different. different ≡ are_different names.now) }
 {
-    if names[..at].contains(name) {
-        Some(at)
-    } else {
-        None
+    if names.len() > 16 {
+        return Ok(false);
     }
+    Ok(first_repeat(alloc, names)?.is_none())
 }
 
-// The first name that stands before it too.
-#[tactic(auto, using(base::proofs::Walks::first_on, base::proofs::Walks::found_on))]
-fn first_repeat(names: &[Name]) -> Option<usize>
-    ensures { result ≡ first_repeat names.now }
+fn if_different(alloc: Global, names: Option<List<Name>>) -> Result<Option<List<Name>>, NoMemory>
+    ensures { IfOk result (λ different. different ≡ if_different names) }
 {
-    for (i, name) in names.iter().enumerate() {
-        if let Some(at) = repeats_at(names, i, name) {
-            return Some(at);
-        }
-    }
-    None
-}
-
-fn are_different(names: &[Name]) -> bool
-    ensures { result ≡ are_different names.now }
-{
-    names.len() <= 16 && first_repeat(names).is_none()
-}
-
-fn if_different(names: Option<List<Name>>) -> Option<List<Name>>
-    ensures { result ≡ if_different names }
-{
-    let names = names?;
-    if are_different(&names) {
-        Some(names)
+    let Some(names) = names else {
+        return Ok(None);
+    };
+    if are_different(alloc, &names)? {
+        Ok(Some(names))
     } else {
-        None
+        Ok(None)
     }
 }
 
@@ -74,7 +55,7 @@ fn names_of(alloc: Global, text: &str) -> Result<Option<List<Name>>, NoMemory>
 {
     let entries = split_at_commas(alloc, text)?;
     let names = all_named(alloc, entries.as_slice())?;
-    Ok(if_different(names))
+    if_different(alloc, names)
 }
 
 /// The names of a word; no names where there is no word, and none at all where the word is not 1 to 16 different names with a comma

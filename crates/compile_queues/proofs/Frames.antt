@@ -1,5 +1,5 @@
 -- A frame with its passes on other queues breaks no rule.
-use Rattle.std.proofs.Common.{◌≡◌, ℕ, zero, suc, ◌-◌, ◌<◌, List, [], ◌∷◌, length, map, get_or, slice_get, nat_le, nat_lt, not, is_some, unwrap_or, Bool, true, false, Option, Some, None, if◌then◌else◌, refl, sym, ap, ap₂, subst, ◌∙◌, arith}
+use Rattle.std.proofs.Common.{◌≡◌, ℕ, zero, suc, ◌-◌, ◌<◌, List, [], ◌∷◌, length, map, get_or, slice_get, nat_le, nat_lt, not, is_some, unwrap_or, Bool, true, false, Option, Some, None, Result, Ok, Err, if◌then◌else◌, refl, sym, ap, ap₂, subst, ◌∙◌, arith}
 use Rattle.std.specs.List.{AllByRecursion, position}
 use Rattle.std.specs.Option.{option_map, option_map_or, option_or}
 use Rattle.std.specs.Str.{bytes_eq}
@@ -8,7 +8,6 @@ use Rattle.base.proofs.Absence.{map_none, or_first, or_second}
 use Rattle.base.specs.Bounds.{is_between}
 use Rattle.base.specs.Broken.{of_rule}
 use Rattle.base.specs.Maxima.{max_exports, max_ops, max_passes, max_queues, max_rects, max_units}
-use Rattle.base.specs.Operands.{rect_count}
 use Rattle.base.specs.Walks.{first_in}
 use Rattle.base.specs.declared.broken.Broken.{Broken}
 use Rattle.base.specs.declared.limit.Limit.TheVariants as limits
@@ -19,9 +18,9 @@ use Rattle.frame.proofs.Sufficient.{no_fault, both_none}
 use Rattle.frame.specs.Clashes.{first_clash}
 use Rattle.frame.specs.FirstFault.{first_fault, name_broken}
 use Rattle.frame.specs.Valid.{IsValid}
-use Rattle.frame.specs.Limits.{exported, layers_allowed, limit_broken, op_count, over, rects_over, size_broken}
+use Rattle.frame.specs.Limits.{exported, layers_allowed, limit_broken, op_count, over, rects_over, size_broken, spend_pass}
 use Rattle.frame.specs.Numbered.{numbered, numbered_pass}
-use Rattle.base.specs.Rooms.{first_over, room_after}
+use Rattle.base.specs.Rooms.{first_over, go_on, not_lasting, spend_in}
 use Rattle.frame.specs.Repeats.{first_repeat, repeated, repeats_in}
 use Rattle.frame.specs.Units.{Numbering, numbering}
 use Rattle.frame.specs.Unknowns.{has_queue, is_known, queue_at, unknown, unknown_in, unknown_operand}
@@ -48,10 +47,14 @@ same_ops [] passes room i = refl
 same_ops (name ∷ names) [] room i = refl
 same_ops (name ∷ names) (pass ∷ passes) room i = ap (λ rest. if nat_lt room (length pass.ops) then Some i else rest) (same_ops names passes (room - length pass.ops) (suc i))
 
-same_rects : (names : List (List ℕ)) (passes : List Pass) (room p : ℕ) → rects_over room p (passes_on names passes) ≡ rects_over room p passes
+same_rects : (names : List (List ℕ)) (passes : List Pass) (room p : ℕ) → spend_in spend_pass room p (passes_on names passes) ≡ spend_in spend_pass room p passes
 same_rects [] passes room p = refl
 same_rects (name ∷ names) [] room p = refl
-same_rects (name ∷ names) (pass ∷ passes) room p = ap (λ rest. option_or (option_map (λ k. at.Rects p k) (first_over rect_count room 0 pass.ops)) rest) (same_rects names passes (room_after rect_count room pass.ops) (suc p))
+same_rects (name ∷ names) (pass ∷ passes) room p = by_left (spend_pass room p pass)
+  where
+    by_left : (left : Result ℕ Location) → go_on (λ rest. spend_in spend_pass rest (suc p) (passes_on names passes)) left ≡ go_on (λ rest. spend_in spend_pass rest (suc p) passes) left
+    by_left (Ok rest) = same_rects names passes rest (suc p)
+    by_left (Err place) = refl
 
 same_names : (names : List (List ℕ)) (passes : List Pass) → map (λ p. p.name) (passes_on names passes) ≡ map (λ p. p.name) passes
 same_names [] passes = refl
@@ -129,8 +132,8 @@ module _ (frame : Frame) (named : name_broken frame ≡ None) where
 
     same_limits : limit_broken (frame_on qs frame) ≡ limit_broken frame
     same_limits =
-        ap₂ (λ count ops. limits_by count ops (rects_over max_rects 0 others)) (same_count names frame.passes) (same_ops names frame.passes max_ops 0)
-        ∙ ap (limits_by (length frame.passes) (first_over op_count max_ops 0 frame.passes)) (same_rects names frame.passes max_rects 0)
+        ap₂ (λ count ops. limits_by count ops (rects_over others)) (same_count names frame.passes) (same_ops names frame.passes max_ops 0)
+        ∙ ap (λ left. limits_by (length frame.passes) (first_over op_count max_ops 0 frame.passes) (not_lasting left)) (same_rects names frame.passes max_rects 0)
 
     same_repeated : repeated (frame_on qs frame) ≡ repeated frame
     same_repeated = ap repeats_by (ap (λ ns. first_in (repeats_in ns) 0 others) (same_names names frame.passes) ∙ same_repeats (map (λ p. p.name) frame.passes) names frame.passes 0)

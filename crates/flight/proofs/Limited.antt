@@ -4,7 +4,7 @@ use Rattle.std.specs.Prelude.{IfSome, is_some, option_and_then}
 use Rattle.std.specs.List.{position}
 use Rattle.std.specs.Option.{option_map, option_or}
 use Rattle.base.specs.Bounds.{is_between, sides_allowed, size_allowed}
-use Rattle.base.specs.Maxima.{max_exports, max_ops, max_passes, max_queues, max_rects, max_resource_bytes, max_units}
+use Rattle.base.specs.Maxima.{max_exports, max_ops, max_passes, max_queues, max_resource_bytes, max_units}
 use Rattle.base.specs.declared.broken.Broken.{Broken}
 use Rattle.base.specs.declared.limit.Limit.{Limit}
 use Rattle.base.specs.declared.limit.Limit.TheVariants as limits
@@ -39,7 +39,7 @@ counts_limited frame =
     (limited_or _ _ (at_place limits.Resources (λ (i : ℕ). at.Resources) (first_over (λ r. r.layers) max_units 0 frame.resources))
     (limited_or _ _ (unless limits.Passes at.Passes (nat_le (length frame.passes) max_passes))
     (limited_or _ _ (at_place limits.Ops (λ p. at.Ops p) (first_over op_count max_ops 0 frame.passes))
-    (limited_or _ _ (at_place limits.Rects (λ place. place) (rects_over max_rects 0 frame.passes))
+    (limited_or _ _ (at_place limits.Rects (λ place. place) (rects_over frame.passes))
     (at_place limits.Exports (λ (i : ℕ). at.Exports) (first_over (exported frame) max_exports 0 frame.exports)))))))
 
 sizes_limited : (rs : List Resource) → IsLimited (size_broken rs)

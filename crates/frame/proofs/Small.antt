@@ -68,7 +68,7 @@ module _ (frame : Frame) (none : limit_broken frame ≡ None) where
   ops = option_map (λ p. over limits.Ops (at.Ops p)) (first_over op_count 256 0 frame.passes)
 
   abbrev rects : Option (Broken Rule Location)
-  rects = option_map (over limits.Rects) (rects_over 4096 0 frame.passes)
+  rects = option_map (over limits.Rects) (rects_over frame.passes)
 
   abbrev exports : Option (Broken Rule Location)
   exports = option_map (λ i. over limits.Exports at.Exports) (first_over (exported frame) 32 0 frame.exports)
@@ -106,8 +106,8 @@ module _ (frame : Frame) (none : limit_broken frame ≡ None) where
   pub ops_none : first_over op_count 256 0 frame.passes ≡ None
   ops_none = map_none (λ p. over limits.Ops (at.Ops p)) (first_over op_count 256 0 frame.passes) (or_first ops (option_or rects exports) (or_second passes others (or_second resources rest after_queues)))
 
-  pub rects_none : rects_over 4096 0 frame.passes ≡ None
-  rects_none = map_none (over limits.Rects) (rects_over 4096 0 frame.passes) (or_first rects exports (or_second ops (option_or rects exports) (or_second passes others (or_second resources rest after_queues))))
+  pub rects_none : rects_over frame.passes ≡ None
+  rects_none = map_none (over limits.Rects) (rects_over frame.passes) (or_first rects exports (or_second ops (option_or rects exports) (or_second passes others (or_second resources rest after_queues))))
 
   abbrev sides : Option (Broken Rule Location)
   sides = option_map (λ i. over limits.Side (at.Resource i)) (position (λ r. not (sides_allowed r.shape)) frame.resources)

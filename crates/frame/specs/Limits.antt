@@ -1,5 +1,5 @@
 -- What a frame may have at most.
-use Rattle.std.specs.Prelude.{ℕ, suc, List, [], ◌∷◌, ◌==◌, ◌*◌, not, nat_le, length, Bool, is_some, Option, Some, None, if◌then◌else◌}
+use Rattle.std.specs.Prelude.{ℕ, List, ◌==◌, ◌*◌, ◌-◌, not, nat_le, nat_lt, length, Bool, is_some, Option, Some, None, Result, Ok, Err, if◌then◌else◌}
 use Rattle.std.specs.List.{position, find}
 use Rattle.std.specs.Option.{option_or, option_map, option_map_or}
 use Rattle.std.specs.Str.{bytes_eq}
@@ -11,7 +11,8 @@ use Rattle.base.specs.Shapes.{bytes_of, is_buffer}
 use Rattle.base.specs.declared.broken.Broken.{Broken}
 use Rattle.base.specs.declared.limit.Limit.{Limit}
 use Rattle.base.specs.declared.limit.Limit.TheVariants as limits
-use Rattle.base.specs.Rooms.{first_over, room_after}
+use Rattle.base.specs.declared.op.Op.{Op}
+use Rattle.base.specs.Rooms.{spend_in, not_lasting, first_over}
 use Rattle.frame.specs.declared.frame.Frame.{Frame}
 use Rattle.frame.specs.declared.frame.Pass.{Pass}
 use Rattle.frame.specs.declared.frame.Resource.{Resource}
@@ -34,10 +35,16 @@ all_bytes r = r.layers * bytes_of r.shape
 abbrev pub op_count : Pass → ℕ
 op_count pass = length pass.ops
 
--- the first draw with which the rectangles are more than the room
-abbrev pub rects_over : ℕ → ℕ → List Pass → Option Location
-rects_over room p [] = None
-rects_over room p (pass ∷ passes) = option_or (option_map (λ k. at.Rects p k) (first_over rect_count room 0 pass.ops)) (rects_over (room_after rect_count room pass.ops) (suc p) passes)
+-- what is left of a room of rectangles after an operation, a pass
+abbrev pub spend_op : ℕ → ℕ → ℕ → Op Spot → Result ℕ Location
+spend_op p room k op = if nat_lt room (rect_count op) then Err (at.Rects p k) else Ok (room - rect_count op)
+
+abbrev pub spend_pass : ℕ → ℕ → Pass → Result ℕ Location
+spend_pass room p pass = spend_in (spend_op p) room 0 pass.ops
+
+-- the first draw with which the rectangles are more than a frame may have
+abbrev pub rects_over : List Pass → Option Location
+rects_over passes = not_lasting (spend_in spend_pass max_rects 0 passes)
 
 -- how many units an export stands for: with a layer, or where nothing has its name, one
 abbrev pub exported : Frame → Spot → ℕ
@@ -51,7 +58,7 @@ count_broken frame =
     (option_or (option_map (λ i. over limits.Resources at.Resources) (first_over (λ r. r.layers) max_units 0 frame.resources))
     (option_or (if nat_le (length frame.passes) max_passes then None else Some (over limits.Passes at.Passes))
     (option_or (option_map (λ p. over limits.Ops (at.Ops p)) (first_over op_count max_ops 0 frame.passes))
-    (option_or (option_map (over limits.Rects) (rects_over max_rects 0 frame.passes))
+    (option_or (option_map (over limits.Rects) (rects_over frame.passes))
     (option_map (λ i. over limits.Exports at.Exports) (first_over (exported frame) max_exports 0 frame.exports)))))))
 
 -- the limits on each resource, and on all bytes together

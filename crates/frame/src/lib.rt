@@ -24,5 +24,6 @@ pub use fault::FrameFault;
 pub use frame::{Frame, Pass, QueueDecl, Resource, Spot, Write};
 pub use laws::frame_laws;
 pub use numbered::NumberedPass;
+pub use repeats::first_repeat;
 pub use valid::{FrameError, ValidFrame, faultless, validate_frame};
 pub use vk::Sharing;

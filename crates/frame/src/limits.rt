@@ -1,20 +1,19 @@
 //! The limits of a frame.
 
-ghost use Rattle.std.specs.Prelude.{◌≡◌, not, IfOk, IfErr, Some, None, option_copied};
+ghost use Rattle.std.specs.Prelude.{◌≡◌, not, option_copied};
 ghost use Rattle.std.specs.List.{position, find};
 ghost use Rattle.std.specs.Str.{bytes_eq};
 ghost use Rattle.base.specs.Bounds.{sides_allowed, size_allowed};
-ghost use Rattle.frame.specs.Limits.{over, layers_allowed, all_bytes, op_count, rects_over, exported, count_broken, size_broken, limit_broken};
-ghost use Rattle.base.specs.Maxima.{max_units, max_ops, max_rects, max_exports, max_resource_bytes};
-ghost use Rattle.base.specs.Operands.{rect_count};
-ghost use Rattle.base.specs.Rooms.{first_over, room_after};
+ghost use Rattle.frame.specs.Limits.{over, layers_allowed, all_bytes, op_count, spend_op, spend_pass, rects_over, exported, count_broken, size_broken, limit_broken};
+ghost use Rattle.base.specs.Maxima.{max_units, max_ops, max_exports, max_resource_bytes};
+ghost use Rattle.base.specs.Rooms.{first_over};
 
 use crate::location::Location;
 use crate::rule::Rule;
 use crate::{Frame, Pass, Resource, Spot};
 use base::{
     Broken, Limit, MAX_EXPORTS, MAX_LAYERS, MAX_OPS, MAX_PASSES, MAX_QUEUES, MAX_RECTS,
-    MAX_RESOURCE_BYTES, MAX_UNITS, Op, first_over,
+    MAX_RESOURCE_BYTES, MAX_UNITS, Op, first_over, spend_in,
 };
 
 fn over(limit: Limit, location: Location) -> Broken<Rule, Location>
@@ -73,33 +72,30 @@ fn ops_over(passes: &[Pass]) -> Option<usize>
     first_over(passes, MAX_OPS as u128, |pass| pass.ops.len() as u128)
 }
 
-// The room that the rectangles leave, or the first draw with which they are more.
-fn rects_in(most: usize, ops: &[Op<Spot>]) -> Result<usize, usize>
-    ensures within { IfOk result (λ left. (first_over rect_count most 0 ops.now ≡ None) × (left ≡ room_after rect_count most ops.now)) }
-    ensures over { IfErr result (λ k. first_over rect_count most 0 ops.now ≡ Some k) }
+fn spend_op(p: usize, room: usize, k: usize, op: &Op<Spot>) -> Result<usize, Location>
+    ensures { result ≡ spend_op p room k op.now }
 {
-    let mut room = most;
-    for (k, op) in ops.iter().enumerate() {
-        let count = op.rect_count();
-        if count > room {
-            return Err(k);
-        }
-        room -= count;
+    let count = op.rect_count();
+    if room < count {
+        Err(Location::Rects(p, k))
+    } else {
+        Ok(room - count)
     }
-    Ok(room)
+}
+
+fn spend_pass(room: usize, p: usize, pass: &Pass) -> Result<usize, Location>
+    ensures { result ≡ spend_pass room p pass.now }
+{
+    spend_in(&pass.ops, room, |left, k, op| spend_op(p, left, k, op))
 }
 
 fn rects_over(passes: &[Pass]) -> Option<Location>
-    ensures { result ≡ rects_over max_rects 0 passes.now }
+    ensures { result ≡ rects_over passes.now }
 {
-    let mut room = MAX_RECTS;
-    for (p, pass) in passes.iter().enumerate() {
-        match rects_in(room, &pass.ops) {
-            Ok(left) => room = left,
-            Err(k) => return Some(Location::Rects(p, k)),
-        }
+    match spend_in(passes, MAX_RECTS, |left, p, pass| spend_pass(left, p, pass)) {
+        Ok(_) => None,
+        Err(location) => Some(location),
     }
-    None
 }
 
 fn named<'a>(frame: &'a Frame, spot: &Spot) -> Option<&'a Resource>

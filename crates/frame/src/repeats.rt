@@ -17,7 +17,8 @@ use base::{List, Name, NoMemory};
 use indexmap::IndexSet;
 use std::alloc::Global;
 
-fn first_repeat(alloc: Global, names: &[Name]) -> Result<Option<usize>, NoMemory>
+/// The position of the first name that stands before it too. Want of memory is its one refusal.
+pub fn first_repeat(alloc: Global, names: &[Name]) -> Result<Option<usize>, NoMemory>
     ensures { IfOk result (λ location. location ≡ first_repeat names.now) }
 {
     match distinct(alloc, names)? {

@@ -1,5 +1,5 @@
 -- A generated frame goes over no limit, and breaks no rule on names.
-use Rattle.std.proofs.Common.{◌≡◌, ℕ, suc, ◌+◌, ◌-◌, ◌*◌, ◌/◌, ◌%◌, ◌==◌, ◌^◌, ◌<◌, ◌≤◌, nat_le, nat_lt, not, Bool, true, false, List, [], ◌∷◌, length, map, get_or, cond, Option, Some, None, is_some, if◌then◌else◌, refl, sym, ap, ap₂, ◌∙◌, subst, arith}
+use Rattle.std.proofs.Common.{◌≡◌, ℕ, suc, ◌+◌, ◌-◌, ◌*◌, ◌/◌, ◌%◌, ◌==◌, ◌^◌, ◌<◌, ◌≤◌, nat_le, nat_lt, not, Bool, true, false, List, [], ◌∷◌, length, map, get_or, cond, Option, Some, None, Result, Ok, Err, is_some, if◌then◌else◌, refl, sym, ap, ap₂, ◌∙◌, subst, arith}
 use Rattle.std.specs.List.{All, find, position, range_with_len, sum_by}
 use Rattle.std.specs.Option.{option_or, option_map, option_map_or}
 use Rattle.std.specs.Str.{bytes_eq}
@@ -18,9 +18,9 @@ use Rattle.base.specs.Walks.{first_in}
 use Rattle.base.specs.declared.limit.Limit.TheVariants as limits
 use Rattle.frame.proofs.Sufficient.{none_found, none_in}
 use Rattle.frame.specs.FirstFault.{name_broken}
-use Rattle.frame.specs.Limits.{over, layers_allowed, all_bytes, op_count, rects_over, exported as units_exported, limit_broken}
+use Rattle.frame.specs.Limits.{over, layers_allowed, all_bytes, op_count, spend_pass, exported as units_exported, limit_broken}
 use Rattle.frame.specs.Members.{member_at}
-use Rattle.base.specs.Rooms.{first_over}
+use Rattle.base.specs.Rooms.{first_over, go_on, not_lasting, spend_in}
 use Rattle.frame.specs.Repeats.{first_repeat, repeats_at, repeats_in, repeated}
 use Rattle.frame.specs.Unknowns.{has_queue, is_known, is_known_unit, unknown_at, unknown_in, unknown_operand, unknown}
 use Rattle.frame.specs.declared.frame.Frame.{Frame}
@@ -28,6 +28,7 @@ use Rattle.frame.specs.declared.frame.Pass.{Pass}
 use Rattle.frame.specs.declared.frame.Resource.{Resource}
 use Rattle.frame.specs.declared.frame.Spot.{Spot}
 use Rattle.frame.specs.declared.frame.Write.{Write}
+use Rattle.frame.specs.declared.location.Location.{Location}
 use Rattle.frame.specs.declared.location.Location.TheVariants as at
 use Rattle.frame.specs.declared.rule.Rule.TheVariants as rules
 use Rattle.frame_gen.specs.Generated.{pass_name, spot, resource, resource_name, queues, queue_by, pass_by, exported, generated}
@@ -56,16 +57,16 @@ one_layer test (i ∷ is) = by_test (test (resource i)) (one_layer test is)
     by_test true rest = refl
     by_test false rest = rest
 
-rects_none : (number room p : ℕ) (is : List ℕ) → rects_over room p (map (λ i. pass_by (drawn number i) i) is) ≡ None
-rects_none number room p [] = refl
-rects_none number room p (i ∷ is) =
+rects_spent : (number room p : ℕ) (is : List ℕ) → spend_in spend_pass room p (map (λ i. pass_by (drawn number i) i) is) ≡ Ok room
+rects_spent number room p [] = refl
+rects_spent number room p (i ∷ is) =
     let w = drawn number i in
-    let passes = map (λ i. pass_by (drawn number i) i) is in
     let none = no_rects (kind_of w i) (few_kinds w i) w (spot (first_source w i)) (spot (second_source w i)) (spot i) in
-    let here : room - 0 ≡ room = omega arith in
-    ap₂ option_or
-    (ap (λ k. option_map (λ j. at.Rects p j) (if nat_lt room k then Some 0 else None)) none ∙ ap (λ t. option_map (λ j. at.Rects p j) (if t then Some 0 else None)) (le-ltb room 0 (omega arith)))
-    (ap (λ k. rects_over (room - k) (suc p) passes) none ∙ ap (λ m. rects_over m (suc p) passes) here ∙ rects_none number room (suc p) is)
+    let left : ◌≡◌ {A = Result ℕ Location} (Ok (room - 0)) (Ok room) = (let same : room - 0 ≡ room = omega arith in ap (λ m. Ok m) same) in
+    let step = λ (r : Result ℕ Location). go_on (λ m. spend_in spend_pass m (suc p) (map (λ i. pass_by (drawn number i) i) is)) (go_on (λ m. Ok m) r) in
+    ap (λ k. step (if nat_lt room k then Err (at.Rects p 0) else Ok (room - k))) none
+    ∙ ap (λ t. step (if t then Err (at.Rects p 0) else Ok (room - 0))) (le-ltb room 0 (omega arith))
+    ∙ ap step left ∙ rects_spent number room (suc p) is
 
 module _ (number n : ℕ) (few : n ≤ 256) where
   abbrev frame : Frame
@@ -113,7 +114,7 @@ module _ (number n : ℕ) (few : n ≤ 256) where
       (ap₂ option_or (ap (option_map (λ i. over limits.Resources at.Resources)) few_resources)
       (ap₂ option_or (ap (λ t. if t then None else Some (over limits.Passes at.Passes)) few_passes)
       (ap₂ option_or (ap (option_map (λ p. over limits.Ops (at.Ops p))) few_ops)
-      (ap₂ option_or (ap (option_map (over limits.Rects)) (rects_none number 4096 0 all)) (ap (option_map (λ i. over limits.Exports at.Exports)) few_exports))))))
+      (ap₂ option_or (ap (λ left. option_map (over limits.Rects) (not_lasting left)) (rects_spent number 4096 0 all)) (ap (option_map (λ i. over limits.Exports at.Exports)) few_exports))))))
       (ap₂ option_or (ap (option_map (λ i. over limits.Side (at.Resource i))) (all_resources (λ r. sides_allowed r.shape) (λ i. refl)))
       (ap₂ option_or (ap (option_map (λ i. over limits.Size (at.Resource i))) (all_resources (λ r. size_allowed r.shape) (λ i. refl))) (ap (option_map (λ i. over limits.Total (at.Resource i))) few_bytes)))
 

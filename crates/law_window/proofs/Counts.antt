@@ -19,6 +19,6 @@ small_by_limits frame none =
       bytes = subst (λ m. m ≤ 268435456) (sym (bytes_same frame.resources)) (all_fit all_bytes frame.resources 268435456 0 (total_none frame none));
       passes = subst (λ m. m ≤ 256) (sym (length-map frame.passes (numbered_pass frame n))) (passes_few frame none);
       ops = subst (λ m. m ≤ 256) (sym (ops_same frame n frame.passes)) (all_fit op_count frame.passes 256 0 (ops_none frame none));
-      rects = subst (λ m. m ≤ 4096) (sym (all_rects_same frame n frame.passes)) (rects_fit frame.passes 4096 0 (rects_none frame none));
+      rects = subst (λ m. m ≤ 4096) (sym (all_rects_same frame n frame.passes)) (rects_fit frame.passes (rects_none frame none));
       exports = within_room (exported frame) (units_of n) (few_each frame) frame.exports 32 0 (exports_none frame none);
     }
