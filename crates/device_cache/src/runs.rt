@@ -1,7 +1,7 @@
 //! Bytes are copied out of a table, a segment at a time.
 
 ghost use Rattle.std.specs.Prelude.{◌≡◌, ◌<◌, ◌≤◌, ◌+◌, ◌^◌, ℕ, length, slice_index, IfSome, IfOk};
-ghost use Rattle.device_cache.specs.Internal.Rows.{seen_part, HasLine};
+ghost use Rattle.device_cache.specs.Internal.Rows.{seen_byte, seen_part, HasLine};
 ghost use Rattle.device_cache.specs.Places.{place, row_at};
 ghost use Rattle.device_cache.specs.Internal.Segments.{Ascending};
 ghost use Rattle.device_cache.specs.Tables.{slot_at, byte_in};
@@ -79,7 +79,7 @@ pub(crate) fn copy_out(
     requires there { (x : ℕ) → from ≤ x → x < from + length out.old → IsThere slots.now segments.now x }
     requires agent { Knows 32 agent }
     requires within { from + length out.old < 2 ^ 32 }
-    ensures { (k : ℕ) → k < length out.old → slice_index out.new k ≡ byte_in slots.now (seen_part (row_at segments.now (from + k)) agent) (from + k) }
+    ensures { (k : ℕ) → k < length out.old → slice_index out.new k ≡ seen_byte slots.now segments.now agent (from + k) }
 {
     let to = from + out.len() as u32;
     let mut index = place_of(segments, from);
@@ -133,7 +133,7 @@ fn shared_bytes(
     requires within { from + len < 2 ^ 32 }
     requires some { 0 < len }
     ensures len { IfSome result (λ bytes. length bytes ≡ len) }
-    ensures bytes { IfSome result (λ bytes. (k : ℕ) → k < len → slice_index bytes k ≡ byte_in slots.now (seen_part (row_at segments.now (from + k)) agent) (from + k)) }
+    ensures bytes { IfSome result (λ bytes. (k : ℕ) → k < len → slice_index bytes k ≡ seen_byte slots.now segments.now agent (from + k)) }
 {
     let part = one_part(segments, agent, from, from + len)?;
     slots[part.slot as usize].part((from - part.start) as usize, len as usize)
@@ -153,7 +153,7 @@ fn copied_bytes(
     requires agent { Knows 32 agent }
     requires within { from + len < 2 ^ 32 }
     ensures len { IfOk result (λ bytes. length bytes ≡ len) }
-    ensures bytes { IfOk result (λ bytes. (k : ℕ) → k < len → slice_index bytes k ≡ byte_in slots.now (seen_part (row_at segments.now (from + k)) agent) (from + k)) }
+    ensures bytes { IfOk result (λ bytes. (k : ℕ) → k < len → slice_index bytes k ≡ seen_byte slots.now segments.now agent (from + k)) }
 {
     let mut out = vec![in alloc; 0; len as usize]?;
     copy_out(segments, slots, agent, from, &mut out);
@@ -174,7 +174,7 @@ pub(crate) fn seen_bytes(
     requires agent { Knows 32 agent }
     requires within { from + len < 2 ^ 32 }
     ensures len { IfOk result (λ bytes. length bytes ≡ len) }
-    ensures bytes { IfOk result (λ bytes. (k : ℕ) → k < len → slice_index bytes k ≡ byte_in slots.now (seen_part (row_at segments.now (from + k)) agent) (from + k)) }
+    ensures bytes { IfOk result (λ bytes. (k : ℕ) → k < len → slice_index bytes k ≡ seen_byte slots.now segments.now agent (from + k)) }
 {
     if len != 0 {
         if let Some(bytes) = shared_bytes(segments, slots, agent, from, len) {

@@ -1,7 +1,7 @@
 //! Slots of bytes.
 
 ghost use Rattle.std.specs.Prelude.{◌≡◌, ◌≢◌, ◌<◌, ◌≤◌, ◌+◌, ◌^◌, ◌++◌, ◌∷◌, [], ℕ, length, IfSome, vec_len, vec_capacity};
-ghost use Rattle.device_cache.specs.Internal.Uses.{count_at, Counts};
+ghost use Rattle.device_cache.specs.Internal.Uses.{count_at, Counts, IsFree};
 ghost use Rattle.device_cache.specs.Tables.{slot_at};
 
 use crate::contents::Contents;
@@ -17,7 +17,7 @@ const SPARE: usize = 1 << 26;
 // The least slot after slot 0 that no part names and whose memory is not worth keeping.
 fn idle_slot(slots: &[Contents], counts: &[u32]) -> Option<usize>
     requires { length counts.now ≡ length slots.now }
-    ensures { IfSome result (λ t. (0 < t) × ((t < length slots.now) × (count_at counts.now t ≡ 0))) }
+    ensures { IfSome result (IsFree counts.now slots.now) }
 {
     for slot in 1..slots.len() {
         if counts[slot] == 0 && !slots[slot].has_memory(LEAST) {
@@ -30,7 +30,7 @@ fn idle_slot(slots: &[Contents], counts: &[u32]) -> Option<usize>
 // The least slot after slot 0 that no part names and whose memory is more than those before it left to keep.
 fn surplus_slot(slots: &[Contents], counts: &[u32]) -> Option<usize>
     requires { length counts.now ≡ length slots.now }
-    ensures { IfSome result (λ t. (0 < t) × ((t < length slots.now) × (count_at counts.now t ≡ 0))) }
+    ensures { IfSome result (IsFree counts.now slots.now) }
 {
     let mut left = SPARE;
     for slot in 1..slots.len() {
@@ -47,7 +47,7 @@ fn surplus_slot(slots: &[Contents], counts: &[u32]) -> Option<usize>
 // A slot that no part names: one whose memory is not worth keeping, or is more than is kept.
 fn free_slot(slots: &[Contents], counts: &[u32]) -> Option<usize>
     requires { length counts.now ≡ length slots.now }
-    ensures { IfSome result (λ t. (0 < t) × ((t < length slots.now) × (count_at counts.now t ≡ 0))) }
+    ensures { IfSome result (IsFree counts.now slots.now) }
 {
     match idle_slot(slots, counts) {
         Some(slot) => Some(slot),
@@ -59,7 +59,7 @@ fn free_slot(slots: &[Contents], counts: &[u32]) -> Option<usize>
 /// search.
 pub(crate) fn spare_slot(slots: &[Contents], counts: &[u32], len: usize) -> Option<usize>
     requires { length counts.now ≡ length slots.now }
-    ensures { IfSome result (λ t. (0 < t) × ((t < length slots.now) × (count_at counts.now t ≡ 0))) }
+    ensures { IfSome result (IsFree counts.now slots.now) }
 {
     if len < LEAST {
         return None;

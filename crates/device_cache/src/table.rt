@@ -5,7 +5,7 @@ ghost use Rattle.std.specs.List.{All, sum_by};
 ghost use Rattle.base.specs.Maxima.{max_memories, max_memory_bytes, max_nodes};
 ghost use Rattle.device_cache.specs.Lines.{range, is_in};
 ghost use Rattle.device_cache.specs.Effects as effects;
-ghost use Rattle.device_cache.specs.Internal.Rows.{changed, seen_part};
+ghost use Rattle.device_cache.specs.Internal.Rows.{changed, changed_if, seen_byte};
 ghost use Rattle.device_cache.specs.Places.{row_at, cut_in};
 ghost use Rattle.device_cache.specs.Internal.Segments.{within};
 ghost use Rattle.device_cache.specs.Internal.Uses.{uses};
@@ -232,7 +232,7 @@ impl Segments {
         requires to { cut_in self.old.segments to ≡ true }
         requires fits { ChangeFits self.old.slots change from to }
         ensures same { self.new ≡ record self.old { segments = self.new.segments } }
-        ensures rows { (x : ℕ) → x < self.old.total → row_at self.new.segments x ≡ (if within from to x then changed agent change (row_at self.old.segments x) else row_at self.old.segments x) }
+        ensures rows { (x : ℕ) → x < self.old.total → row_at self.new.segments x ≡ changed_if (within from to x) agent change (row_at self.old.segments x) }
         ensures cuts { (x : ℕ) → cut_in self.new.segments x ≡ cut_in self.old.segments x }
     {
         let first = place_of(&self.segments, from);
@@ -268,7 +268,7 @@ impl Segments {
         ensures left { self.old.cuts_left ≤ self.new.cuts_left + missing self.old memory start len }
         ensures cuts { (x : ℕ) → cut_in self.old.segments x ≡ true → cut_in self.new.segments x ≡ true }
         ensures lines { (m i : ℕ) → i < size_of self.old m → agent < length (row_at self.old.segments (address self.old m i)).lines }
-        ensures rows { (m i : ℕ) → i < size_of self.old m → row_at self.new.segments (address self.old m i) ≡ (if is_in (range memory start len) m i then changed agent change (row_at self.old.segments (address self.old m i)) else row_at self.old.segments (address self.old m i)) }
+        ensures rows { (m i : ℕ) → i < size_of self.old m → row_at self.new.segments (address self.old m i) ≡ changed_if (is_in (range memory start len) m i) agent change (row_at self.old.segments (address self.old m i)) }
     {
         let _total = self.total;
         let from = self.first_address(memory, start, len);
@@ -514,7 +514,7 @@ impl Segments {
         requires within { InMemory self.now memory start len }
         ensures len { IfOk result (λ bytes. length bytes ≡ len) }
         ensures inside { (k : ℕ) → k < len → start + k < size_of self.now memory }
-        ensures bytes { IfOk result (λ bytes. (k : ℕ) → k < len → slice_index bytes k ≡ byte_in self.now.slots (seen_part (row_at self.now.segments (address self.now memory (start + k))) (Some agent)) (address self.now memory (start + k))) }
+        ensures bytes { IfOk result (λ bytes. (k : ℕ) → k < len → slice_index bytes k ≡ seen_byte self.now.slots self.now.segments (Some agent) (address self.now memory (start + k))) }
     {
         let _agents = self.agents;
         let from = self.first_address(memory, start, len);
@@ -543,7 +543,7 @@ impl Segments {
         requires agent { Knows self.now.agents agent }
         requires within { InMemory self.now memory start (length out.old) }
         ensures inside { (k : ℕ) → k < length out.old → start + k < size_of self.now memory }
-        ensures bytes { (k : ℕ) → k < length out.old → slice_index out.new k ≡ byte_in self.now.slots (seen_part (row_at self.now.segments (address self.now memory (start + k))) agent) (address self.now memory (start + k)) }
+        ensures bytes { (k : ℕ) → k < length out.old → slice_index out.new k ≡ seen_byte self.now.slots self.now.segments agent (address self.now memory (start + k)) }
     {
         let _agents = self.agents;
         let len = self.checked_len(memory, start, out.len());

@@ -1,10 +1,10 @@
 //! Bytes and rectangles that go across.
 
-ghost use Rattle.std.specs.Prelude.{◌≡◌, ◌+◌, ◌-◌, ◌^◌, ◌<◌, ◌≤◌, length, slice_range, if◌then◌else◌};
+ghost use Rattle.std.specs.Prelude.{◌≡◌, ◌+◌, ◌-◌, ◌^◌, ◌<◌, ◌≤◌, length, slice_range};
 ghost use Rattle.base.specs.Applied.{replaced};
-ghost use Rattle.base.specs.Kernels.{is_inside};
 ghost use Rattle.base.specs.Texels.{picture, painted};
 ghost use Rattle.kernel.specs.Bands.{HasRows};
+ghost use Rattle.kernel.specs.Pictures.{inside_else, moved};
 
 use crate::repainting::{Area, repaint};
 use crate::texels::pick;
@@ -35,7 +35,7 @@ pub fn copy_area(
     requires src_rows { src_y + area.height ≤ from.height }
     requires columns { area.left + area.width ≤ to.width }
     requires rows { area.top + area.height ≤ to.height }
-    ensures { out.new ≡ painted to (λ x y. if is_inside area.left area.top area.width area.height x y then picture from src.now (src_x + (x - area.left)) (src_y + (y - area.top)) else picture to out.old x y) }
+    ensures { out.new ≡ painted to (inside_else area (moved src_x src_y area.left area.top (picture from src.now)) (picture to out.old)) }
 {
     repaint(
         to,
@@ -43,7 +43,7 @@ pub fn copy_area(
         out,
         |_old: u32, x: u32, y: u32| -> u32
             requires { HasRows from from.height src.now × (from.width < 2 ^ 32) × (from.height < 2 ^ 32) × (area.left ≤ x) × (src_x + (x - area.left) < from.width) × (area.top ≤ y) × (src_y + (y - area.top) < from.height) }
-            ensures { result ≡ picture from src.entry.now (src_x + (x - area.left)) (src_y + (y - area.top)) }
+            ensures { result ≡ moved src_x src_y area.left area.top (picture from src.entry.now) x y }
         { pick(from, src, src_x + (x - area.left), src_y + (y - area.top)) },
     );
 }

@@ -5,6 +5,7 @@ ghost use Rattle.base.specs.Kernels.{fun_of};
 ghost use Rattle.base.specs.Texels.{modulus, picture, band};
 ghost use Rattle.base.specs.declared.shape.Texel.TheVariants.{R8};
 ghost use Rattle.kernel.specs.Bands.{HasRows};
+ghost use Rattle.kernel.specs.Pictures.{all_combined};
 
 use crate::constants::{by_function, by_texel};
 use crate::function::{cut, fun_at};
@@ -17,7 +18,7 @@ fn map_by(grid: Grid, fun: Fun, value: u32, src: &[u8], first: u32, count: u32, 
     requires src { HasRows grid grid.height src.now }
     requires out { HasRows grid count out.old }
     requires rows { first + count ≤ grid.height }
-    ensures { out.new ≡ band grid.texel grid.width first count (λ x y. fun_of grid.texel fun (picture grid src.now x y) (value % modulus grid.texel)) }
+    ensures { out.new ≡ band grid.texel grid.width first count (all_combined grid.texel fun (picture grid src.now) (λ x y. value % modulus grid.texel)) }
 {
     let value = cut(grid.texel, value);
     paint(
@@ -40,7 +41,7 @@ fn map_bytes(grid: Grid, fun: Fun, value: u8, src: &[u8], first: u32, count: u32
     requires src { HasRows grid grid.height src.now }
     requires out { HasRows grid count out.old }
     requires rows { first + count ≤ grid.height }
-    ensures { out.new ≡ band grid.texel grid.width first count (λ x y. fun_of grid.texel fun (picture grid src.now x y) value) }
+    ensures { out.new ≡ band grid.texel grid.width first count (all_combined grid.texel fun (picture grid src.now) (λ x y. value)) }
 {
     by_function!(map_by(grid, fun, u32::from(value), src, first, count, out))
 }
@@ -58,7 +59,7 @@ pub fn map_rows(
     requires src { HasRows grid grid.height src.now }
     requires out { HasRows grid count out.old }
     requires rows { first + count ≤ grid.height }
-    ensures { out.new ≡ band grid.texel grid.width first count (λ x y. fun_of grid.texel fun (picture grid src.now x y) (value % modulus grid.texel)) }
+    ensures { out.new ≡ band grid.texel grid.width first count (all_combined grid.texel fun (picture grid src.now) (λ x y. value % modulus grid.texel)) }
 {
     match grid.texel {
         Texel::R8 => map_bytes(grid, fun, (value % 256) as u8, src, first, count, out),

@@ -1,9 +1,9 @@
 //! One loop over the texels of a rectangle.
 
-ghost use Rattle.std.specs.Prelude.{◌≡◌, ℕ, ◌+◌, ◌*◌, ◌≤◌, ◌<◌, if◌then◌else◌};
-ghost use Rattle.base.specs.Kernels.{is_inside};
+ghost use Rattle.std.specs.Prelude.{◌≡◌, ℕ, ◌+◌, ◌*◌, ◌≤◌, ◌<◌};
 ghost use Rattle.base.specs.Texels.{modulus, painted, picture};
 ghost use Rattle.kernel.specs.Bands.{HasRows};
+ghost use Rattle.kernel.specs.Pictures.{inside_else};
 ghost use Rattle.kernel.specs.Closures.{ChangesOnly};
 
 use crate::texels::{get, put};
@@ -25,7 +25,7 @@ pub fn repaint<F: Fn(u32, u32, u32) -> u32>(grid: Grid, area: Area, out: &mut [u
     requires columns { area.left + area.width ≤ grid.width }
     requires rows { area.top + area.height ≤ grid.height }
     requires calls { (old x y : ℕ) → old < modulus grid.texel → x < area.width → y < area.height → F.pre f old (area.left + x) (area.top + y) }
-    ensures { (p : ℕ → ℕ → ℕ) → ChangesOnly (F.post f) grid area out.old p → out.new ≡ painted grid (λ x y. if is_inside area.left area.top area.width area.height x y then p x y else picture grid out.old x y) }
+    ensures { (p : ℕ → ℕ → ℕ) → ChangesOnly (F.post f) grid area out.old p → out.new ≡ painted grid (inside_else area p (picture grid out.old)) }
 {
     for row in 0..area.height {
         for column in 0..area.width {

@@ -1,8 +1,9 @@
 //! A choice between the texels of two sources.
 
-ghost use Rattle.std.specs.Prelude.{◌≡◌, ◌==◌, ◌+◌, ◌<◌, ◌≤◌, if◌then◌else◌};
+ghost use Rattle.std.specs.Prelude.{◌≡◌, ◌+◌, ◌%◌, ◌<◌, ◌≤◌};
 ghost use Rattle.base.specs.Texels.{picture, band};
 ghost use Rattle.kernel.specs.Bands.{HasRows};
+ghost use Rattle.kernel.specs.Pictures.{all_selected};
 
 use crate::painting::paint;
 use crate::texels::pick;
@@ -23,7 +24,7 @@ pub fn select_rows(
     requires b { HasRows grid grid.height b.now }
     requires out { HasRows grid count out.old }
     requires rows { first + count ≤ grid.height }
-    ensures { out.new ≡ band grid.texel grid.width first count (λ x y. if picture grid mask.now x y == 0 then picture grid b.now x y else picture grid a.now x y) }
+    ensures { out.new ≡ band grid.texel grid.width first count (all_selected (picture grid mask.now) (picture grid a.now) (picture grid b.now)) }
 {
     paint(
         grid.texel,
@@ -33,7 +34,7 @@ pub fn select_rows(
         count,
         |x: u32, y: u32| -> u32
             requires { HasRows grid grid.height mask.now × HasRows grid grid.height a.now × HasRows grid grid.height b.now × (x < grid.width) × (y < grid.height) }
-            ensures { result ≡ (if picture grid mask.entry.now x y == 0 then picture grid b.entry.now x y else picture grid a.entry.now x y) }
+            ensures { result ≡ all_selected (picture grid mask.entry.now) (picture grid a.entry.now) (picture grid b.entry.now) x y }
         {
             let (other, own) = (pick(grid, b, x, y), pick(grid, a, x, y));
             if pick(grid, mask, x, y) == 0 {

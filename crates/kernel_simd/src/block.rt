@@ -1,11 +1,10 @@
 //! Blocks of bytes, whose texels are computed at once.
 
-ghost use Rattle.std.specs.Prelude.{◌≡◌, ◌==◌, ℕ, ◌+◌, ◌*◌, ◌<◌, length, slice_index, if◌then◌else◌};
-ghost use Rattle.base.specs.Kernels.{fun_of};
+ghost use Rattle.std.specs.Prelude.{◌≡◌, ℕ, ◌+◌, ◌*◌, ◌<◌, length, slice_index};
 ghost use Rattle.base.specs.Texels.{texel_at};
 ghost use Rattle.base.specs.declared.shape.Texel.{Texel};
 ghost use Rattle.base.specs.declared.shape.Texel.TheVariants.{R32};
-ghost use Rattle.kernel_simd.specs.Internal.Blocks.{block_texels, AreTexels, IsPlace};
+ghost use Rattle.kernel_simd.specs.Internal.Blocks.{block_texels, combined, selected, AreTexels, IsPlace};
 
 use crate::byte_lanes::{choose_bytes, fun_bytes, rising_bytes};
 use crate::word_lanes::{choose_words, fun_words, rising_words};
@@ -88,7 +87,7 @@ pub(crate) fn rising_block(texel: Texel, start: u32, step: u32) -> u8x32
 /// The function of each two texels.
 #[inline(always)]
 pub(crate) fn fun_block(texel: Texel, fun: Fun, a: u8x32, b: u8x32) -> u8x32
-    ensures { AreTexels texel result (block_texels texel) (λ j. fun_of texel fun (texel_at texel a j) (texel_at texel b j)) }
+    ensures { AreTexels texel result (block_texels texel) (combined texel fun (texel_at texel a) (texel_at texel b)) }
 {
     match texel {
         Texel::R8 => fun_bytes(fun, a, b),
@@ -102,7 +101,7 @@ pub(crate) fn fun_block(texel: Texel, fun: Fun, a: u8x32, b: u8x32) -> u8x32
 /// The texel of `b` where that of the mask is 0, and else that of `a`.
 #[inline(always)]
 pub(crate) fn choose_block(texel: Texel, mask: u8x32, a: u8x32, b: u8x32) -> u8x32
-    ensures { AreTexels texel result (block_texels texel) (λ j. if texel_at texel mask j == 0 then texel_at texel b j else texel_at texel a j) }
+    ensures { AreTexels texel result (block_texels texel) (selected (texel_at texel mask) (texel_at texel a) (texel_at texel b)) }
 {
     match texel {
         Texel::R8 => choose_bytes(mask, a, b),

@@ -1,11 +1,10 @@
 //! A function of the texels of two sources.
 
-ghost use Rattle.std.specs.Prelude.{◌≡◌, ℕ, ◌+◌, ◌*◌, ◌/◌, ◌≤◌, length};
-ghost use Rattle.base.specs.Kernels.{fun_of};
-ghost use Rattle.base.specs.Shapes.{texel_bytes};
+ghost use Rattle.std.specs.Prelude.{◌≡◌, ℕ, ◌+◌, ◌*◌, ◌≤◌, length};
 ghost use Rattle.base.specs.Texels.{texel_at, picture, band};
-ghost use Rattle.kernel_simd.specs.Internal.Blocks.{block_texels, AreTexels, IsPlace};
+ghost use Rattle.kernel_simd.specs.Internal.Blocks.{block_texels, block_at, combined, AreTexels, Fills, IsPlace};
 ghost use Rattle.kernel.specs.Bands.{HasRows};
+ghost use Rattle.kernel.specs.Pictures.{all_combined};
 
 use crate::block::{fun_block, load};
 use crate::constants::{by_function, by_texel};
@@ -18,13 +17,13 @@ use std::simd::prelude::*;
 fn combine_by(texel: Texel, fun: Fun, a: &[u8], b: &[u8], out: &mut [u8])
     requires a { length a.now ≡ length out.old }
     requires b { length b.now ≡ length out.old }
-    ensures { AreTexels texel out.new (length out.old / texel_bytes texel) (λ k. fun_of texel fun (texel_at texel a.now k) (texel_at texel b.now k)) }
+    ensures { Fills texel out.old out.new (combined texel fun (texel_at texel a.now) (texel_at texel b.now)) }
 {
     lay(
         out,
         |at: usize, is_last: bool| -> u8x32
             requires { IsPlace at is_last (length a.now) × IsPlace at is_last (length b.now) }
-            ensures { (n : ℕ) → at ≡ 32 * n → AreTexels texel result (block_texels texel) (λ j. fun_of texel fun (texel_at texel a.entry.now (block_texels texel * n + j)) (texel_at texel b.entry.now (block_texels texel * n + j))) }
+            ensures { (n : ℕ) → at ≡ 32 * n → AreTexels texel result (block_texels texel) (combined texel fun (block_at texel n a.entry.now) (block_at texel n b.entry.now)) }
         { fun_block(texel, fun, load(a, at, is_last), load(b, at, is_last)) },
     );
 }
@@ -33,7 +32,7 @@ fn combine_by(texel: Texel, fun: Fun, a: &[u8], b: &[u8], out: &mut [u8])
 fn combine_all(texel: Texel, fun: Fun, a: &[u8], b: &[u8], out: &mut [u8])
     requires a { length a.now ≡ length out.old }
     requires b { length b.now ≡ length out.old }
-    ensures { AreTexels texel out.new (length out.old / texel_bytes texel) (λ k. fun_of texel fun (texel_at texel a.now k) (texel_at texel b.now k)) }
+    ensures { Fills texel out.old out.new (combined texel fun (texel_at texel a.now) (texel_at texel b.now)) }
 {
     by_function!(combine_by(texel, fun, a, b, out))
 }
@@ -52,7 +51,7 @@ pub(crate) fn combine_rows(
     requires b { HasRows grid grid.height b.now }
     requires out { HasRows grid count out.old }
     requires rows { first + count ≤ grid.height }
-    ensures { out.new ≡ band grid.texel grid.width first count (λ x y. fun_of grid.texel fun (picture grid a.now x y) (picture grid b.now x y)) }
+    ensures { out.new ≡ band grid.texel grid.width first count (all_combined grid.texel fun (picture grid a.now) (picture grid b.now)) }
 {
     let a = rows_of(grid, a, first, count);
     let b = rows_of(grid, b, first, count);

@@ -1,11 +1,10 @@
 //! A function of each texel and one number.
 
-ghost use Rattle.std.specs.Prelude.{◌≡◌, ℕ, ◌+◌, ◌*◌, ◌/◌, ◌%◌, ◌≤◌, length};
-ghost use Rattle.base.specs.Kernels.{fun_of};
-ghost use Rattle.base.specs.Shapes.{texel_bytes};
+ghost use Rattle.std.specs.Prelude.{◌≡◌, ℕ, ◌+◌, ◌*◌, ◌%◌, ◌≤◌, length};
 ghost use Rattle.base.specs.Texels.{modulus, texel_at, picture, band};
-ghost use Rattle.kernel_simd.specs.Internal.Blocks.{block_texels, AreTexels, IsPlace};
+ghost use Rattle.kernel_simd.specs.Internal.Blocks.{block_texels, block_at, combined, AreTexels, Fills, IsPlace};
 ghost use Rattle.kernel.specs.Bands.{HasRows};
+ghost use Rattle.kernel.specs.Pictures.{all_combined};
 
 use crate::block::{fun_block, load, splat_block};
 use crate::constants::{by_function, by_texel};
@@ -17,13 +16,13 @@ use std::simd::prelude::*;
 #[inline(always)]
 fn map_by(texel: Texel, fun: Fun, value: u32, src: &[u8], out: &mut [u8])
     requires { length src.now ≡ length out.old }
-    ensures { AreTexels texel out.new (length out.old / texel_bytes texel) (λ k. fun_of texel fun (texel_at texel src.now k) (value % modulus texel)) }
+    ensures { Fills texel out.old out.new (combined texel fun (texel_at texel src.now) (λ k. value % modulus texel)) }
 {
     lay(
         out,
         |at: usize, is_last: bool| -> u8x32
             requires { IsPlace at is_last (length src.now) }
-            ensures { (n : ℕ) → at ≡ 32 * n → AreTexels texel result (block_texels texel) (λ j. fun_of texel fun (texel_at texel src.entry.now (block_texels texel * n + j)) (value % modulus texel)) }
+            ensures { (n : ℕ) → at ≡ 32 * n → AreTexels texel result (block_texels texel) (combined texel fun (block_at texel n src.entry.now) (λ j. value % modulus texel)) }
         {
             fun_block(
                 texel,
@@ -38,7 +37,7 @@ fn map_by(texel: Texel, fun: Fun, value: u32, src: &[u8], out: &mut [u8])
 // Texels of `map`, all of them, by blocks.
 fn map_all(texel: Texel, fun: Fun, value: u32, src: &[u8], out: &mut [u8])
     requires { length src.now ≡ length out.old }
-    ensures { AreTexels texel out.new (length out.old / texel_bytes texel) (λ k. fun_of texel fun (texel_at texel src.now k) (value % modulus texel)) }
+    ensures { Fills texel out.old out.new (combined texel fun (texel_at texel src.now) (λ k. value % modulus texel)) }
 {
     by_function!(map_by(texel, fun, value, src, out))
 }
@@ -56,7 +55,7 @@ pub(crate) fn map_rows(
     requires src { HasRows grid grid.height src.now }
     requires out { HasRows grid count out.old }
     requires rows { first + count ≤ grid.height }
-    ensures { out.new ≡ band grid.texel grid.width first count (λ x y. fun_of grid.texel fun (picture grid src.now x y) (value % modulus grid.texel)) }
+    ensures { out.new ≡ band grid.texel grid.width first count (all_combined grid.texel fun (picture grid src.now) (λ x y. value % modulus grid.texel)) }
 {
     map_all(
         grid.texel,

@@ -1,10 +1,10 @@
 //! A choice between the texels of two sources.
 
-ghost use Rattle.std.specs.Prelude.{◌≡◌, ◌==◌, ℕ, ◌+◌, ◌*◌, ◌/◌, ◌≤◌, length, if◌then◌else◌};
-ghost use Rattle.base.specs.Shapes.{texel_bytes};
+ghost use Rattle.std.specs.Prelude.{◌≡◌, ℕ, ◌+◌, ◌*◌, ◌≤◌, length};
 ghost use Rattle.base.specs.Texels.{texel_at, picture, band};
-ghost use Rattle.kernel_simd.specs.Internal.Blocks.{block_texels, AreTexels, IsPlace};
+ghost use Rattle.kernel_simd.specs.Internal.Blocks.{block_texels, block_at, selected, AreTexels, Fills, IsPlace};
 ghost use Rattle.kernel.specs.Bands.{HasRows};
+ghost use Rattle.kernel.specs.Pictures.{all_selected};
 
 use crate::block::{choose_block, load};
 use crate::constants::by_texel;
@@ -18,13 +18,13 @@ fn select_by(texel: Texel, mask: &[u8], a: &[u8], b: &[u8], out: &mut [u8])
     requires mask { length mask.now ≡ length out.old }
     requires a { length a.now ≡ length out.old }
     requires b { length b.now ≡ length out.old }
-    ensures { AreTexels texel out.new (length out.old / texel_bytes texel) (λ k. if texel_at texel mask.now k == 0 then texel_at texel b.now k else texel_at texel a.now k) }
+    ensures { Fills texel out.old out.new (selected (texel_at texel mask.now) (texel_at texel a.now) (texel_at texel b.now)) }
 {
     lay(
         out,
         |at: usize, is_last: bool| -> u8x32
             requires { IsPlace at is_last (length mask.now) × IsPlace at is_last (length a.now) × IsPlace at is_last (length b.now) }
-            ensures { (n : ℕ) → at ≡ 32 * n → AreTexels texel result (block_texels texel) (λ j. if texel_at texel mask.entry.now (block_texels texel * n + j) == 0 then texel_at texel b.entry.now (block_texels texel * n + j) else texel_at texel a.entry.now (block_texels texel * n + j)) }
+            ensures { (n : ℕ) → at ≡ 32 * n → AreTexels texel result (block_texels texel) (selected (block_at texel n mask.entry.now) (block_at texel n a.entry.now) (block_at texel n b.entry.now)) }
         {
             choose_block(
                 texel,
@@ -41,7 +41,7 @@ fn select_all(texel: Texel, mask: &[u8], a: &[u8], b: &[u8], out: &mut [u8])
     requires mask { length mask.now ≡ length out.old }
     requires a { length a.now ≡ length out.old }
     requires b { length b.now ≡ length out.old }
-    ensures { AreTexels texel out.new (length out.old / texel_bytes texel) (λ k. if texel_at texel mask.now k == 0 then texel_at texel b.now k else texel_at texel a.now k) }
+    ensures { Fills texel out.old out.new (selected (texel_at texel mask.now) (texel_at texel a.now) (texel_at texel b.now)) }
 {
     by_texel!(select_by(texel, mask, a, b, out))
 }
@@ -61,7 +61,7 @@ pub(crate) fn select_rows(
     requires b { HasRows grid grid.height b.now }
     requires out { HasRows grid count out.old }
     requires rows { first + count ≤ grid.height }
-    ensures { out.new ≡ band grid.texel grid.width first count (λ x y. if picture grid mask.now x y == 0 then picture grid b.now x y else picture grid a.now x y) }
+    ensures { out.new ≡ band grid.texel grid.width first count (all_selected (picture grid mask.now) (picture grid a.now) (picture grid b.now)) }
 {
     let mask = rows_of(grid, mask, first, count);
     let a = rows_of(grid, a, first, count);

@@ -1,12 +1,13 @@
 //! Each kernel over all rows, band by band.
 
-ghost use Rattle.std.specs.Prelude.{◌≡◌, ◌==◌, ℕ, ◌+◌, ◌*◌, ◌%◌, ◌≤◌, true, [], length, if◌then◌else◌};
+ghost use Rattle.std.specs.Prelude.{◌≡◌, ℕ, ◌+◌, ◌*◌, ◌%◌, ◌≤◌, true, [], length};
 ghost use Rattle.base.specs.Applied.{effect};
 ghost use Rattle.base.specs.Fits.{fits};
-ghost use Rattle.base.specs.Kernels.{fun_of, box3, halved};
+ghost use Rattle.base.specs.Kernels.{box3, halved};
 ghost use Rattle.base.specs.Shapes.{bytes_of};
 ghost use Rattle.base.specs.Texels.{modulus, picture, band};
 ghost use Rattle.kernel.specs.Bands.{HasRows};
+ghost use Rattle.kernel.specs.Pictures.{all_combined, all_selected};
 
 use crate::bands::{paint_bands, paint_rows};
 use crate::combine::combine_rows;
@@ -89,7 +90,7 @@ pub(crate) fn map<R: Threads + Sync>(
         out,
         |first: u32, count: u32, rows: &mut [u8]|
             requires { HasRows grid grid.height src.now × HasRows grid count rows.old × (first + count ≤ grid.height) }
-            ensures { rows.new ≡ band grid.texel grid.width first count (λ x y. fun_of grid.texel fun (picture grid src.entry.now x y) (value % modulus grid.texel)) }
+            ensures { rows.new ≡ band grid.texel grid.width first count (all_combined grid.texel fun (picture grid src.entry.now) (λ x y. value % modulus grid.texel)) }
         { map_rows(grid, fun, value, src, first, count, rows) },
     )
 }
@@ -122,7 +123,7 @@ pub(crate) fn combine<R: Threads + Sync>(
         out,
         |first: u32, count: u32, rows: &mut [u8]|
             requires { HasRows grid grid.height a.now × HasRows grid grid.height b.now × HasRows grid count rows.old × (first + count ≤ grid.height) }
-            ensures { rows.new ≡ band grid.texel grid.width first count (λ x y. fun_of grid.texel fun (picture grid a.entry.now x y) (picture grid b.entry.now x y)) }
+            ensures { rows.new ≡ band grid.texel grid.width first count (all_combined grid.texel fun (picture grid a.entry.now) (picture grid b.entry.now)) }
         { combine_rows(grid, fun, a, b, first, count, rows) },
     )
 }
@@ -156,7 +157,7 @@ pub(crate) fn select<R: Threads + Sync>(
         out,
         |first: u32, count: u32, rows: &mut [u8]|
             requires { HasRows grid grid.height mask.now × HasRows grid grid.height a.now × HasRows grid grid.height b.now × HasRows grid count rows.old × (first + count ≤ grid.height) }
-            ensures { rows.new ≡ band grid.texel grid.width first count (λ x y. if picture grid mask.entry.now x y == 0 then picture grid b.entry.now x y else picture grid a.entry.now x y) }
+            ensures { rows.new ≡ band grid.texel grid.width first count (all_selected (picture grid mask.entry.now) (picture grid a.entry.now) (picture grid b.entry.now)) }
         { select_rows(grid, mask, a, b, first, count, rows) },
     )
 }

@@ -1,12 +1,14 @@
 -- What a row of the table has, and what a change makes of it.
-use Rattle.std.specs.Prelude.{ℕ, ◌≡◌, ◌<◌, length, slice_set, Option, Some, None}
+use Rattle.std.specs.Prelude.{ℕ, Bool, List, ◌≡◌, ◌<◌, length, slice_set, Option, Some, None, if◌then◌else◌}
 use Rattle.device_cache.specs.declared.part.Part.{Part}
 use Rattle.device_cache.specs.declared.cell.Cell.{Cell}
 use Rattle.device_cache.specs.declared.cell.Cell.TheVariants as cells
 use Rattle.device_cache.specs.declared.change.Change.{Change}
 use Rattle.device_cache.specs.declared.change.Change.TheVariants as changes
 use Rattle.device_cache.specs.declared.row.Row.{Row}
-use Rattle.device_cache.specs.Places.{line_by}
+use Rattle.device_cache.specs.declared.segment.Segment.{Segment}
+use Rattle.device_cache.specs.Places.{line_by, row_at}
+use Rattle.device_cache.specs.Tables.{byte_in}
 
 abbrev pub written_part : Cell → Part → Part
 written_part (cells.Dirty p) main = p
@@ -39,6 +41,10 @@ line_after _ main line = line
 abbrev pub changed : ℕ → Change → Row → Row
 changed g change r = record { main = main_after change r.main (line_by r g); lines = slice_set r.lines g (line_after change r.main (line_by r g)) }
 
+-- a row of those that are changed, or another one
+abbrev pub changed_if : Bool → ℕ → Change → Row → Row
+changed_if is g change r = if is then changed g change r else r
+
 abbrev pub CellIn : ℕ → Cell → Type 0
 CellIn count cells.Empty = Unit {0}
 CellIn count (cells.Clean p) = p.slot < count
@@ -65,6 +71,10 @@ part_or main (cells.Dirty p) = p
 abbrev pub seen_part : Row → Option ℕ → Part
 seen_part r None = r.main
 seen_part r (Some g) = part_or r.main (line_by r g)
+
+-- the byte of an address that an agent sees, or main's
+abbrev pub seen_byte : List (List ℕ) → List Segment → Option ℕ → ℕ → ℕ
+seen_byte slots segments g x = byte_in slots (seen_part (row_at segments x) g) x
 
 -- the row has a line for the agent, if one is named
 abbrev pub HasLine : Row → Option ℕ → Type 0

@@ -1,5 +1,5 @@
 -- How many parts of a table name a slot, and counts of them.
-use Rattle.std.specs.Prelude.{ℕ, ◌+◌, ◌-◌, ◌<◌, ◌≤◌, ◌==◌, if◌then◌else◌, List, slice_index_or}
+use Rattle.std.specs.Prelude.{ℕ, ◌+◌, ◌-◌, ◌<◌, ◌≤◌, ◌==◌, ◌≡◌, if◌then◌else◌, List, length, slice_index_or}
 use Rattle.std.specs.List.{sum_by}
 use Rattle.device_cache.specs.declared.part.Part.{Part}
 use Rattle.device_cache.specs.declared.cell.Cell.{Cell}
@@ -38,6 +38,10 @@ lowered n = if n == many then many else n - 1
 
 abbrev pub count_at : List ℕ → ℕ → ℕ
 count_at counts slot = slice_index_or counts slot many
+
+-- a slot after slot 0 that no part names
+abbrev pub IsFree : List ℕ → List (List ℕ) → ℕ → Type 0
+IsFree counts slots slot = (0 < slot) × ((slot < length slots) × (count_at counts slot ≡ 0))
 
 -- no slot has more uses than its count says; one at its type's end says nothing
 abbrev pub Counts : List ℕ → (ℕ → ℕ) → Type 0
