@@ -15,7 +15,7 @@ use Rattle.frame.specs.Numbered.{numbered}
 use Rattle.frame.specs.declared.frame.Frame.{Frame}
 use Rattle.file_frame.specs.Files as frames
 use Rattle.file_frame.specs.Files.{frame_of, frame_text}
-use Rattle.compile_heap.specs.Placing.{Places}
+use Rattle.compile_record.specs.declared.compiled.Compiled.{Compiled}
 use Rattle.file_program.specs.Files as submissions
 use Rattle.file_program.specs.Files.{program_of, program_text}
 use Rattle.program.specs.FirstFault as programs
@@ -32,14 +32,12 @@ migrated frame text whole is again good ended = record {
 read_again : (program : Program) (text : List ℕ) → program_of text ≡ Ok program → programs.first_fault program ≡ None → program_file (text ++ 10 ∷ []) ≡ Ok program
 read_again program text again faultless = ap (if_read programs.first_fault) (again_line submissions.file_of refl text program again) ∙ ap (unless_broken program) faultless
 
-pub compiled : (tight : Bool) (frame : Frame) (kept : List Bool) (places : Places) (program : Program) (text whole : List ℕ) → Compiles tight (numbered frame) kept places program → text ≡ program_text program → (programs.first_fault program ≡ None → program_of text ≡ Ok program) → whole ≡ text ++ 10 ∷ [] → CompilesFrame tight frame (done whole)
-compiled tight frame kept places program text whole is written again ended = record {
-  kept = kept;
-  places = places;
-  program = program;
+pub compiled : (tight : Bool) (frame : Frame) (made : Compiled Program) (text whole : List ℕ) → Compiles tight (numbered frame) made → text ≡ program_text made.program → (programs.first_fault made.program ≡ None → program_of text ≡ Ok made.program) → whole ≡ text ++ 10 ∷ [] → CompilesFrame tight frame (done whole)
+compiled tight frame made text whole is written again ended = record {
+  made = made;
   compiles = is;
   whole = ap done (ended ∙ ap (λ (t : List ℕ). t ++ 10 ∷ []) written);
-  again = ap program_file ended ∙ read_again program text (again is.right.faultless) is.right.faultless;
+  again = ap program_file ended ∙ read_again made.program text (again is.right.faultless) is.right.faultless;
 }
 
 -- BY THE LIMIT

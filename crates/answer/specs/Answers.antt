@@ -1,6 +1,7 @@
 -- What a command that needs no device answers to the bytes of a file.
 use Rattle.std.specs.Prelude.{◌≡◌, ◌⊎◌, ◌↔◌, ℕ, ◌≤◌, Bool, true, false, List, [], ◌++◌, length, None, Result, Ok, Err, codes}
 use Rattle.compile_file.specs.Compiles.{Compiles}
+use Rattle.compile_record.specs.declared.compiled.Compiled.{Compiled}
 use Rattle.compile_file.specs.Exports.{exports_text}
 use Rattle.compile_file.specs.Files.{frame_file, program_file}
 use Rattle.answer.specs.Inputs.{ByLimit}
@@ -89,12 +90,10 @@ pub record BoundsFrame (frame : Frame) (answer : Answer) : Type 0 where
 -- the canonical text of the compiled program and a line feed, from which that program is read again: it is sound, so `check`
 -- accepts the text, where it is within the limit
 pub record CompilesFrame (tight : Bool) (frame : Frame) (answer : Answer) : Type 0 where
-  pub kept : List Bool
-  pub places : Places
-  pub program : Program
-  pub compiles : Compiles tight (numbered frame) kept places program
-  pub whole : answer ≡ done (program_text program ++ codes "\n")
-  pub again : program_file answer.text ≡ Ok program
+  pub made : Compiled Program
+  pub compiles : Compiles tight (numbered frame) made
+  pub whole : answer ≡ done (program_text made.program ++ codes "\n")
+  pub again : program_file answer.text ≡ Ok made.program
 
 -- the canonical text of the chosen frame and a line feed, from which that frame is read again: it breaks no rule, differs in the
 -- queues of its passes alone, means the same, has the same passes culled and costs no more

@@ -10,7 +10,7 @@ use law_valid::faultless_law;
 /// What is compiled of a valid frame's kept passes is right for the frame: it breaks no rule, is sound, and leaves the bytes
 /// that the frame means. It does nothing.
 pub fn compile_law()
-    ensures { OfRecorded (λ frame kept places program. IsRightFor frame program) }
+    ensures { OfRecorded (λ frame made. IsRightFor frame made.program) }
 {
     faultless_law();
     sound_program_law();

@@ -5,5 +5,5 @@
 mod compiling;
 mod laws;
 
-pub use compiling::{Compiled, compile};
+pub use compiling::compile;
 pub use laws::compile_law;

@@ -5,6 +5,7 @@ use Rattle.law_meaning.specs.Laws.{IsReadMeant}
 use Rattle.frame.specs.Numbered.{NumberedFrame}
 use Rattle.compile_heap.specs.Placing.{Places}
 use Rattle.compile_record.specs.Recorded.{IsCompiled}
+use Rattle.compile_record.specs.declared.compiled.Compiled.{Compiled}
 use Rattle.program.specs.FirstFault.{first_fault}
 use Rattle.program.specs.declared.program.Program.{Program}
 use Rattle.check_tighten.specs.Standing.{StandsTo}
@@ -13,8 +14,11 @@ use Rattle.compile_file.specs.Compiles.{Compiles}
 use Rattle.frame_cull.specs.Culled.{AreKept}
 
 module _ (frame : NumberedFrame) (kept : List Bool) (places : Places) where
+  abbrev made : Program → Compiled Program
+  made program = record { program = program; kept = kept; placement = places }
+
   -- the compiled program itself
-  pub as_compiled : (program : Program) → AreKept frame kept → IsCompiled frame kept places program → first_fault program ≡ None → IsSound program → IsReadMeant frame program → length program.readbacks ≡ length frame.exports → Compiles false frame kept places program
+  pub as_compiled : (program : Program) → AreKept frame kept → IsCompiled frame (made program) → first_fault program ≡ None → IsSound program → IsReadMeant frame program → length program.readbacks ≡ length frame.exports → Compiles false frame (made program)
   as_compiled program are is faultless sound means readbacks = record {
     are_kept = are;
     given = program;
@@ -24,7 +28,7 @@ module _ (frame : NumberedFrame) (kept : List Bool) (places : Places) where
   }
 
   -- one that is tight; the host reads the same, whatever waits keep a program sound
-  pub as_tight : (given program : Program) → Compiles false frame kept places given → StandsTo given program → Tight program → ((f : NumberedFrame) (g p : Program) → StandsTo g p → IsSound g → first_fault p ≡ None → IsSound p → IsReadMeant f g → IsReadMeant f p) → Compiles true frame kept places program
+  pub as_tight : (given program : Program) → Compiles false frame (made given) → StandsTo given program → Tight program → ((f : NumberedFrame) (g p : Program) → StandsTo g p → IsSound g → first_fault p ≡ None → IsSound p → IsReadMeant f g → IsReadMeant f p) → Compiles true frame (made program)
   as_tight given program compiles stands tight means =
       let passes = tight.passes in
       record {

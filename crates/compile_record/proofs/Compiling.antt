@@ -48,7 +48,7 @@ laid frame G ordered list places program orders told least made = record {
   recorded = made;
 }
 
-pub of_grouping : (frame : NumberedFrame) (kept : List Bool) (G : Grouping) (places : Places) (program : Program) → G ≡ grouping frame kept → IsLaid frame G places program → IsCompiled frame kept places program
+pub of_grouping : (frame : NumberedFrame) (kept : List Bool) (G : Grouping) (places : Places) (program : Program) → G ≡ grouping frame kept → IsLaid frame G places program → IsCompiled frame (record { program = program; kept = kept; placement = places })
 unfolding whole_program
 of_grouping frame kept G places program is made = record {
   ordered = made.ordered;

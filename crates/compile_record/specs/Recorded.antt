@@ -10,6 +10,7 @@ use Rattle.compile_heap.specs.Placing.{Places, IsLeast}
 use Rattle.compile_record.specs.Marks.{steps_of}
 use Rattle.compile_record.specs.Pieces.{memories, pieces, readbacks}
 use Rattle.compile_record.specs.Script.{script}
+use Rattle.compile_record.specs.declared.compiled.Compiled.{Compiled}
 use Rattle.program.specs.declared.program.Program.{Program}
 use Rattle.compile_timeline.specs.Batches.{queues}
 use Rattle.compile_barriers.specs.Under.{Heap}
@@ -32,15 +33,12 @@ abbrev pub recorded : NumberedFrame → List Bool → (ℕ → ℕ → Bool) →
 recorded frame kept ordered places = program_of frame (grouping frame kept) ordered places
 
 -- transient units that are used one after another may share memory, and each lies as low as it can
-pub record IsCompiled (frame : NumberedFrame) (kept : List Bool) (places : Places) (program : Program) : Type 0 where
+pub record IsCompiled (frame : NumberedFrame) (made : Compiled Program) : Type 0 where
   pub ordered : ℕ → ℕ → Bool
-  pub is_ordered : IsOrdered (grouping frame kept) ordered
-  pub least : IsLeast (sizes (grouping frame kept)) ordered places
-  pub recorded : program ≡ recorded frame kept ordered places
+  pub is_ordered : IsOrdered (grouping frame made.kept) ordered
+  pub least : IsLeast (sizes (grouping frame made.kept)) ordered made.placement
+  pub recorded : made.program ≡ recorded frame made.kept ordered made.placement
 
 -- so it is of all that is compiled of the kept passes of a valid frame
-abbrev pub OfRecorded : (NumberedFrame → List Bool → Places → Program → Type 0) → Type 0
-OfRecorded Law =
-    (frame : NumberedFrame) (kept : List Bool) (places : Places) (program : Program)
-    → IsValid frame → AreKept frame kept → IsCompiled frame kept places program
-    → Law frame kept places program
+abbrev pub OfRecorded : (NumberedFrame → Compiled Program → Type 0) → Type 0
+OfRecorded Law = (frame : NumberedFrame) (made : Compiled Program) → IsValid frame → AreKept frame made.kept → IsCompiled frame made → Law frame made

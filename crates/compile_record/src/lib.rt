@@ -3,6 +3,7 @@
 #![tactic(auto)]
 
 mod block;
+mod compiled;
 mod items;
 mod laws;
 mod mark;
@@ -16,6 +17,7 @@ mod table;
 mod used;
 mod whole_program;
 
+pub use compiled::Compiled;
 pub use laws::script_laws;
 pub use mark::{Mark, Marked};
-pub use recording::{Recorded, record};
+pub use recording::record;

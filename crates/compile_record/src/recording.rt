@@ -11,6 +11,7 @@ ghost use Rattle.compile_record.specs.Recorded.{IsCompiled};
 ghost use Rattle.frame_cull.specs.Culled.{AreKept};
 ghost use Rattle.frame_cull.specs.Versions.{numbers_of};
 
+use crate::compiled::Compiled;
 use crate::whole_program::program_of;
 use base::NoMemory;
 use compile_groups::{Groups, groups_of};
@@ -20,16 +21,6 @@ use frame::ValidFrame;
 use frame_cull::{Kept, Versions, cull, versions_of};
 use program::Program;
 use std::alloc::Global;
-
-/// What is recorded of a frame, with what was decided on the way.
-#[derive(Drop)]
-pub struct Recorded {
-    pub program: Program,
-    /// The passes whose commands are submitted.
-    pub kept: Kept,
-    /// Where transient units lie in the heap.
-    pub placement: Placement,
-}
 
 // One stage after another, since a function that holds several owned values over calls that may fail is dear to prove.
 
@@ -72,20 +63,24 @@ fn of_kept(
 ) -> Result<(Placement, Program), NoMemory>
     requires versions { versions.now ≡ numbers_of (numbered frame.now) }
     requires kept { length kept.now ≡ length (numbered frame.now).passes }
-    ensures { IfOk result (λ made. IsCompiled (numbered frame.now) kept.now made.0 made.1) }
+    ensures { IfOk result (λ made. IsCompiled (numbered frame.now) (record { program = made.1; kept = kept.now; placement = made.0 })) }
 {
     let groups = groups_of(alloc, frame, versions, kept)?;
     of_groups(alloc, frame, &groups)
 }
 
-fn of_versions(alloc: Global, frame: &ValidFrame, versions: &Versions) -> Result<Recorded, NoMemory>
+fn of_versions(
+    alloc: Global,
+    frame: &ValidFrame,
+    versions: &Versions,
+) -> Result<Compiled<Program>, NoMemory>
     requires { versions.now ≡ numbers_of (numbered frame.now) }
-    ensures kept { IfOk result (λ r. AreKept (numbered frame.now) r.kept) }
-    ensures compiled { IfOk result (λ r. IsCompiled (numbered frame.now) r.kept r.placement r.program) }
+    ensures kept { IfOk result (λ made. AreKept (numbered frame.now) made.kept) }
+    ensures compiled { IfOk result (IsCompiled (numbered frame.now)) }
 {
     let kept = cull(alloc, frame, versions)?;
     let (placement, program) = of_kept(alloc, frame, versions, &kept)?;
-    Ok(Recorded {
+    Ok(Compiled {
         program,
         kept,
         placement,
@@ -94,9 +89,9 @@ fn of_versions(alloc: Global, frame: &ValidFrame, versions: &Versions) -> Result
 
 /// The submissions of a frame: what its kept passes do, and the barriers, transfers, waits and signals that this needs. Want
 /// of memory is its one refusal.
-pub fn record(alloc: Global, frame: &ValidFrame) -> Result<Recorded, NoMemory>
-    ensures kept { IfOk result (λ r. AreKept (numbered frame.now) r.kept) }
-    ensures compiled { IfOk result (λ r. IsCompiled (numbered frame.now) r.kept r.placement r.program) }
+pub fn record(alloc: Global, frame: &ValidFrame) -> Result<Compiled<Program>, NoMemory>
+    ensures kept { IfOk result (λ made. AreKept (numbered frame.now) made.kept) }
+    ensures compiled { IfOk result (IsCompiled (numbered frame.now)) }
 {
     let versions = versions_of(alloc, frame)?;
     of_versions(alloc, frame, &versions)

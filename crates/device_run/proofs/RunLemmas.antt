@@ -6,7 +6,7 @@ use Rattle.check_program.specs.Sound.{IsSound}
 use Rattle.compile.specs.Right.{IsRightFor}
 use Rattle.frame.specs.Numbered.{NumberedFrame}
 use Rattle.check_order.specs.Orders.{Order}
-use Rattle.compile_heap.specs.Placing.{Places}
+use Rattle.compile_record.specs.declared.compiled.Compiled.{Compiled}
 use Rattle.device_drive.specs.Tended.{Tended, tended_moves}
 use Rattle.device_model.specs.Coming.{AllCame}
 use Rattle.device_model.specs.Devices.{Device, state_of, fresh, opening, IsComplete}
@@ -64,12 +64,5 @@ meant frame program tend d right has k unit at =
     sym (right.means order order_is k unit at) ∙ apart program has.runs lt right.sound order_is
 
 -- a frame that was compiled, and a device that has run its program
-abbrev pub runs_on : (tend : Option ℕ) (tight : Bool) (frame : NumberedFrame) (kept : List Bool) (places : Places) (program : Program) (d : Device) → Compiles tight frame kept places program → HasRun program tend d → RunsOn tend tight frame d
-runs_on tend tight frame kept places program d compiles has = record {
-  kept = kept;
-  places = places;
-  program = program;
-  compiles = compiles;
-  has_run = has;
-  meant = meant frame program tend d compiles.right has;
-}
+abbrev pub runs_on : (tend : Option ℕ) (tight : Bool) (frame : NumberedFrame) (made : Compiled Program) (d : Device) → Compiles tight frame made → HasRun made.program tend d → RunsOn tend tight frame d
+runs_on tend tight frame made d compiles has = record { made = made; compiles = compiles; has_run = has; meant = meant frame made.program tend d compiles.right has }

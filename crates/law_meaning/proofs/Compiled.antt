@@ -12,13 +12,13 @@ use Rattle.frame.specs.Numbered.{NumberedFrame}
 use Rattle.compile_groups.specs.Groups.{grouping}
 use Rattle.compile_groups.specs.Laws.{IsGrouped, IsKnown}
 use Rattle.kernel.specs.Anew.{IgnoresOld}
-use Rattle.compile_heap.specs.Placing.{Places}
 use Rattle.compile_record.specs.Recorded.{IsCompiled}
+use Rattle.compile_record.specs.declared.compiled.Compiled.{Compiled}
 use Rattle.program.specs.declared.program.Program.{Program}
 use Rattle.frame_cull.specs.Culled.{AreKept}
 
-pub reads_compiled : ((op : Op Shape) → is_whole op ≡ true → IgnoresOld op) → (frame : NumberedFrame) (kept : List Bool) → IsValid frame → AreKept frame kept → IsGrouped (grouping frame kept) → IsKnown (grouping frame kept) → (places : Places) (program : Program) → IsCompiled frame kept places program → (order : List ℕ) → ops_in program order ≡ declared_ops (grouping frame kept) → ReadsMeaning frame program order
-reads_compiled ignores frame kept good are grouped known places program compiled order declared = reads_meaning ignores frame kept good are (grouping frame kept) places.offsets places.heap program (record {
+pub reads_compiled : ((op : Op Shape) → is_whole op ≡ true → IgnoresOld op) → (frame : NumberedFrame) (made : Compiled Program) → IsValid frame → AreKept frame made.kept → IsGrouped (grouping frame made.kept) → IsKnown (grouping frame made.kept) → IsCompiled frame made → (order : List ℕ) → ops_in made.program order ≡ declared_ops (grouping frame made.kept) → ReadsMeaning frame made.program order
+reads_compiled ignores frame made good are grouped known compiled order declared = reads_meaning ignores frame made.kept good are (grouping frame made.kept) made.placement.offsets made.placement.heap made.program (record {
   shapes_are = refl;
   imports_are = refl;
   commands_are = refl;
@@ -29,5 +29,5 @@ reads_compiled ignores frame kept good are grouped known places program compiled
   readbacks_are = ap (λ (P : Program). P.readbacks) compiled.recorded;
 }) order declared
 
-pub one_each : (frame : NumberedFrame) (kept : List Bool) (places : Places) (program : Program) → IsCompiled frame kept places program → length program.readbacks ≡ length frame.exports
-one_each frame kept places program compiled = ap (λ (P : Program). length P.readbacks) compiled.recorded ∙ readback_count frame (grouping frame kept) refl refl
+pub one_each : (frame : NumberedFrame) (made : Compiled Program) → IsCompiled frame made → length made.program.readbacks ≡ length frame.exports
+one_each frame made compiled = ap (λ (P : Program). length P.readbacks) compiled.recorded ∙ readback_count frame (grouping frame made.kept) refl refl

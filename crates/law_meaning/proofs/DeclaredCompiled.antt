@@ -7,9 +7,9 @@ use Rattle.law_meaning.specs.DeclaredLaws.{HasDeclaredOrder}
 use Rattle.frame.specs.Valid.{IsValid}
 use Rattle.frame.specs.Numbered.{NumberedFrame}
 use Rattle.compile_groups.specs.Groups.{grouping}
-use Rattle.compile_heap.specs.Placing.{Places}
 use Rattle.compile_record.specs.Marks.{steps_of}
 use Rattle.compile_record.specs.Recorded.{heap_with, IsCompiled}
+use Rattle.compile_record.specs.declared.compiled.Compiled.{Compiled}
 use Rattle.compile_record.specs.Script.{script}
 use Rattle.compile_record.specs.Standing.{IsStanding}
 use Rattle.program.specs.declared.program.Program.{Program}
@@ -30,5 +30,5 @@ module _ (stand : OfCut AllStand) (all : OfCut AreThese) (has_order : OfScript H
       )
 
   module _ (in_turn : (frame : NumberedFrame) (kept : List Bool) (heap : Heap) → IsValid frame → IsScript (steps_of (script (grouping frame kept) heap)) (length frame.queues)) (standing : (frame : NumberedFrame) (kept : List Bool) (heap : Heap) → IsStanding (grouping frame kept) heap) where
-    pub compiled_order : (frame : NumberedFrame) (kept : List Bool) (places : Places) (P : Program) → IsValid frame → IsCompiled frame kept places P → HasDeclaredOrder frame kept P
-    compiled_order frame kept places P good compiled = let heap = heap_with compiled.ordered places in recorded_order frame kept heap P (standing frame kept heap) (in_turn frame kept heap good) (ap (λ (p : Program). p.queues) compiled.recorded)
+    pub compiled_order : (frame : NumberedFrame) (made : Compiled Program) → IsValid frame → IsCompiled frame made → HasDeclaredOrder frame made.kept made.program
+    compiled_order frame made good compiled = let heap = heap_with compiled.ordered made.placement in recorded_order frame made.kept heap made.program (standing frame made.kept heap) (in_turn frame made.kept heap good) (ap (λ (p : Program). p.queues) compiled.recorded)

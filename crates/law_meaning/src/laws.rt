@@ -7,8 +7,8 @@ ghost use Rattle.law_meaning.specs.Laws.{AreAsLong, OrdersAgree, KeptSuffice, Re
 ghost use Rattle.frame.specs.Valid.{IsValid};
 ghost use Rattle.frame.specs.Numbered.{NumberedFrame};
 ghost use Rattle.compile_groups.specs.Groups.{grouping};
-ghost use Rattle.compile_heap.specs.Placing.{Places};
 ghost use Rattle.compile_record.specs.Recorded.{IsCompiled, OfRecorded};
+ghost use Rattle.compile_record.specs.declared.compiled.Compiled.{Compiled};
 ghost use Rattle.program.specs.FirstFault.{first_fault};
 ghost use Rattle.program.specs.declared.program.Program.{Program};
 ghost use Rattle.frame_cull.specs.Culled.{AreKept};
@@ -26,9 +26,9 @@ pub fn meaning_laws()
     ensures agree { (program : Program) → first_fault program ≡ None → IsSound program → OrdersAgree program }
     ensures culled { (frame : NumberedFrame) (kept : List Bool) → IsValid frame → AreKept frame kept → KeptSuffice frame kept }
     ensures long { (frame : NumberedFrame) (kept : List Bool) → IsValid frame → AreKept frame kept → AreAsLong frame }
-    ensures readbacks { (frame : NumberedFrame) (kept : List Bool) (places : Places) (program : Program) → IsCompiled frame kept places program → length program.readbacks ≡ length frame.exports }
-    ensures declared { OfRecorded (λ frame kept places program. (order : List ℕ) → ops_in program order ≡ declared_ops (grouping frame kept) → ReadsMeaning frame program order) }
-    ensures means { OfRecorded (λ frame kept places program. first_fault program ≡ None → IsSound program → (declared : List ℕ) → InDeclaredOrder frame kept program declared → IsReadMeant frame program) }
+    ensures readbacks { (frame : NumberedFrame) (made : Compiled Program) → IsCompiled frame made → length made.program.readbacks ≡ length frame.exports }
+    ensures declared { OfRecorded (λ frame made. (order : List ℕ) → ops_in made.program order ≡ declared_ops (grouping frame made.kept) → ReadsMeaning frame made.program order) }
+    ensures means { OfRecorded (λ frame made. first_fault made.program ≡ None → IsSound made.program → (declared : List ℕ) → InDeclaredOrder frame made.kept made.program declared → IsReadMeant frame made.program) }
 {
     device_laws();
     event_laws();

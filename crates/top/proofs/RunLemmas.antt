@@ -4,7 +4,7 @@ use Rattle.compile_file.specs.Compiles.{Compiles}
 use Rattle.compile_file.specs.Exports.{exports_text}
 use Rattle.frame.specs.Numbered.{numbered}
 use Rattle.frame.specs.declared.frame.Frame.{Frame}
-use Rattle.compile_heap.specs.Placing.{Places}
+use Rattle.compile_record.specs.declared.compiled.Compiled.{Compiled}
 use Rattle.report.specs.KeptLines.{run_text}
 use Rattle.device_run.proofs.RunLemmas.{runs_on}
 use Rattle.device_run.specs.Runs.{HasRun, read_by}
@@ -16,16 +16,16 @@ use Rattle.top.specs.Summaries.{summary_of}
 use Rattle.top.specs.Texts.{traced}
 use Rattle.base.specs.declared.run_options.RunOptions.{RunOptions}
 
-pub runs_frame : (options : RunOptions) (trace tight : Bool) (frame : Frame) (kept : List Bool) (places : Places) (program : Program) (d : Device) (text : List ℕ) → Compiles tight (numbered frame) kept places program → HasRun program options.tend d → text ≡ run_text frame kept ++ (exports_text frame (read_by d) ++ traced trace d.history) → RunsFrame options trace tight frame (ran d text)
-runs_frame options trace tight frame kept places program d text compiles has is = record {
+pub runs_frame : (options : RunOptions) (trace tight : Bool) (frame : Frame) (made : Compiled Program) (d : Device) (text : List ℕ) → Compiles tight (numbered frame) made → HasRun made.program options.tend d → text ≡ run_text frame made.kept ++ (exports_text frame (read_by d) ++ traced trace d.history) → RunsFrame options trace tight frame (ran d text)
+runs_frame options trace tight frame made d text compiles has is = record {
   device = d;
-  run = runs_on options.tend tight (numbered frame) kept places program d compiles has;
+  run = runs_on options.tend tight (numbered frame) made d compiles has;
   whole = ap (ran d) is;
 }
 
-pub summarizes_frame : (options : RunOptions) (frame : Frame) (kept : List Bool) (places : Places) (program : Program) (d : Device) (text : List ℕ) → Compiles false (numbered frame) kept places program → HasRun program options.tend d → text ≡ summary_of (numbered frame) kept places program (read_by d) → SummarizesFrame options frame (ran d text)
-summarizes_frame options frame kept places program d text compiles has is = record {
+pub summarizes_frame : (options : RunOptions) (frame : Frame) (made : Compiled Program) (d : Device) (text : List ℕ) → Compiles false (numbered frame) made → HasRun made.program options.tend d → text ≡ summary_of (numbered frame) made (read_by d) → SummarizesFrame options frame (ran d text)
+summarizes_frame options frame made d text compiles has is = record {
   device = d;
-  run = runs_on options.tend false (numbered frame) kept places program d compiles has;
+  run = runs_on options.tend false (numbered frame) made d compiles has;
   whole = ap (ran d) is;
 }

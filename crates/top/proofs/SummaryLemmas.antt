@@ -13,7 +13,7 @@ use Rattle.frame.specs.Valid.{IsValid, shapes_in}
 use Rattle.frame.specs.Numbered.{NumberedFrame}
 use Rattle.frame.specs.Units.{Unit as FrameUnit}
 use Rattle.frame_meaning.specs.Meaning.{AreMeant, all_bytes, has_picture}
-use Rattle.compile_heap.specs.Placing.{Places}
+use Rattle.compile_record.specs.declared.compiled.Compiled.{Compiled}
 use Rattle.program.specs.declared.program.Program.{Program}
 use Rattle.top.specs.Internal.Totals.{IsTotal}
 use Rattle.top.specs.Summaries.{summary_of, summary_with}
@@ -51,5 +51,5 @@ export_short frame good long bytes meant k lt =
     held : bytes_at (all_bytes frame) unit ≡ bytes k
     held = pictured (has_picture frame unit) (meant k unit (slice_get-get_or frame.exports k 0 lt))
 
-pub summary_is : (frame : NumberedFrame) (kept : List Bool) (places : Places) (program : Program) (bytes : ℕ → List ℕ) (total : Total) (text : List ℕ) → IsTotal bytes (length frame.exports) total → text ≡ summary_with frame kept places program total.bytes total.sum → text ≡ summary_of frame kept places program bytes
-summary_is frame kept places program bytes total text is written = written ∙ ap₂ (λ b s. summary_with frame kept places program b s) is.all is.summed
+pub summary_is : (frame : NumberedFrame) (made : Compiled Program) (bytes : ℕ → List ℕ) (total : Total) (text : List ℕ) → IsTotal bytes (length frame.exports) total → text ≡ summary_with frame made total.bytes total.sum → text ≡ summary_of frame made bytes
+summary_is frame made bytes total text is written = written ∙ ap₂ (λ b s. summary_with frame made b s) is.all is.summed

@@ -19,13 +19,13 @@ use Rattle.base.specs.declared.run_options.RunOptions.{RunOptions}
 pub record RunsFrame (options : RunOptions) (trace tight : Bool) (frame : Frame) (reply : Reply) : Type 0 where
   pub device : Device
   pub run : RunsOn options.tend tight (numbered frame) device
-  pub whole : reply ≡ ran device (run_text frame run.kept ++ (exports_text frame (read_by device) ++ traced trace device.history))
+  pub whole : reply ≡ ran device (run_text frame run.made.kept ++ (exports_text frame (read_by device) ++ traced trace device.history))
 
 -- The same in numbers.
 pub record SummarizesFrame (options : RunOptions) (frame : Frame) (reply : Reply) : Type 0 where
   pub device : Device
   pub run : RunsOn options.tend false (numbered frame) device
-  pub whole : reply ≡ ran device (summary_of (numbered frame) run.kept run.places run.program (read_by device))
+  pub whole : reply ≡ ran device (summary_of (numbered frame) run.made (read_by device))
 
 -- For each read-back of a sound program stand the bytes that it has left on a device.
 pub record Executes (options : RunOptions) (trace : Bool) (program : Program) (reply : Reply) : Type 0 where

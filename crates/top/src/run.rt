@@ -2,6 +2,7 @@
 
 ghost use Rattle.std.specs.Prelude.{Bool, IfOk};
 ghost use Rattle.compile.specs.Right.{IsRightFor};
+ghost use Rattle.compile.specs.Submitted.{submitted};
 ghost use Rattle.frame.specs.Numbered.{numbered};
 ghost use Rattle.top.specs.Answers.{RunsFile};
 ghost use Rattle.answer.specs.Statuses.{HasText};
@@ -15,8 +16,9 @@ use crate::reply::{Reply, ran, still};
 use answer::refusal;
 use base::{NoMemory, RunOptions};
 use base_io::Gate;
-use compile::Compiled;
+use check_program::Checked;
 use compile_file::{compiled, valid_frame};
+use compile_record::Compiled;
 use device_run::run_program;
 use file_frame::FrameReadError;
 use frame::ValidFrame;
@@ -31,12 +33,12 @@ fn run_compiled<R: Threads + Wait + Sync, G: Gate + Sync>(
     options: RunOptions,
     trace: bool,
     good: &ValidFrame,
-    made: &Compiled,
+    made: &Compiled<Checked>,
     gate: &G,
 ) -> Result<Reply, NoMemory>
     requires kept { AreKept (numbered good.now) made.now.kept }
     requires right { IsRightFor (numbered good.now) made.now.program.program }
-    ensures frame { (tight : Bool) → Compiles tight (numbered good.now) made.now.kept made.now.placement made.now.program.program →
+    ensures frame { (tight : Bool) → Compiles tight (numbered good.now) (submitted made.now) →
         IfOk result (RunsFrame options trace tight good.now) }
     ensures has_text { IfOk result (λ reply. HasText reply.answer.status) }
 {

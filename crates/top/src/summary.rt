@@ -7,6 +7,7 @@ ghost use Rattle.frame_gen.specs.Generated.{generated};
 ghost use Rattle.compile_groups.specs.Groups.{grouping};
 ghost use Rattle.compile_groups.specs.Placed.{sizes};
 ghost use Rattle.top.specs.Internal.Totals.{IsTotal};
+ghost use Rattle.compile.specs.Submitted.{submitted};
 ghost use Rattle.compile_file.specs.Compiles.{Compiles};
 ghost use Rattle.top.specs.Headline.{SummarizesFrame};
 ghost use Rattle.device_run.specs.Runs.{HasRun, read_by};
@@ -18,9 +19,10 @@ use crate::reply::{Reply, ran};
 use crate::totals::{Total, total_of};
 use base::{NoMemory, RunOptions, Text};
 use base_io::Gate;
-use compile::Compiled;
+use check_program::Checked;
 use compile_file::compiled;
 use compile_groups::groups_of;
+use compile_record::Compiled;
 use device::Device;
 use device_run::run_program;
 use frame::ValidFrame;
@@ -53,8 +55,13 @@ fn kept_count(good: &ValidFrame, kept: &Kept) -> u32
 }
 
 // The bytes of all exports of a frame whose program a device has run.
-fn exported(good: &ValidFrame, made: &Compiled, device: &Device, options: RunOptions) -> Total
-    requires compiles { Compiles false (numbered good.now) made.now.kept made.now.placement made.now.program.program }
+fn exported(
+    good: &ValidFrame,
+    made: &Compiled<Checked>,
+    device: &Device,
+    options: RunOptions,
+) -> Total
+    requires compiles { Compiles false (numbered good.now) (submitted made.now) }
     requires has_run { HasRun made.now.program.program options.tend device.now }
     ensures { IsTotal (read_by device.now) (length (numbered good.now).exports) result }
 {
@@ -66,11 +73,11 @@ fn exported(good: &ValidFrame, made: &Compiled, device: &Device, options: RunOpt
 fn text_of(
     alloc: Global,
     good: &ValidFrame,
-    made: &Compiled,
+    made: &Compiled<Checked>,
     total: Total,
 ) -> Result<Text, NoMemory>
     requires kept { AreKept (numbered good.now) made.now.kept }
-    ensures { IfOk result (λ text. text ≡ summary_with (numbered good.now) made.now.kept made.now.placement made.now.program.program total.bytes total.sum) }
+    ensures { IfOk result (λ text. text ≡ summary_with (numbered good.now) (submitted made.now) total.bytes total.sum) }
 {
     let kept = kept_count(good, &made.kept);
     let separate = separate(alloc, good, &made.kept)?;
@@ -92,10 +99,10 @@ fn summarize_compiled<R: Threads + Wait + Sync, G: Gate + Sync>(
     alloc: Global,
     options: RunOptions,
     good: &ValidFrame,
-    made: &Compiled,
+    made: &Compiled<Checked>,
     gate: &G,
 ) -> Result<Reply, NoMemory>
-    requires compiles { Compiles false (numbered good.now) made.now.kept made.now.placement made.now.program.program }
+    requires compiles { Compiles false (numbered good.now) (submitted made.now) }
     ensures frame { IfOk result (SummarizesFrame options good.now) }
     ensures has_text { IfOk result (λ reply. HasText reply.answer.status) }
 {

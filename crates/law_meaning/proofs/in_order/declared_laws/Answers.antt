@@ -5,6 +5,6 @@ pub returns-clause-ordered : goal.returns-clause-ordered
 returns-clause-ordered c = compiled_order c.cut_laws.ensures.stand c.cut_laws.ensures.all c.cut_laws.ensures.order c.script_laws.ensures.in_turn c.script_laws.ensures.standing
 
 pub returns-clause-means : goal.returns-clause-means
-returns-clause-means c = λ frame kept places program good are compiled none sound.
-    let in_order = compiled_order c.cut_laws.ensures.stand c.cut_laws.ensures.all c.cut_laws.ensures.order c.script_laws.ensures.in_turn c.script_laws.ensures.standing frame kept places program good compiled in
-    c.meaning_laws.ensures.means frame kept places program good are compiled none sound in_order.0 in_order.1
+returns-clause-means c = λ frame made good are compiled none sound.
+    let in_order = compiled_order c.cut_laws.ensures.stand c.cut_laws.ensures.all c.cut_laws.ensures.order c.script_laws.ensures.in_turn c.script_laws.ensures.standing frame made good compiled in
+    c.meaning_laws.ensures.means frame made good are compiled none sound in_order.0 in_order.1

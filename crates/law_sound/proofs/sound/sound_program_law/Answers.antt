@@ -3,5 +3,5 @@ use Rattle.check_program.specs.Sound.{IsSound}
 use Rattle.law_sound.proofs.sound.sound_program_law.Goals as goal
 
 pub returns : goal.returns
-returns c = λ frame kept places program good are_kept C.
-    subst IsSound (sym C.recorded) (c.bytes_law.ensures.sound frame kept C.ordered places good C.is_ordered C.least (c.starts_law.ensures.initialized frame kept good are_kept))
+returns c = λ frame made good are_kept C.
+    subst IsSound (sym C.recorded) (c.bytes_law.ensures.sound frame made.kept C.ordered made.placement good C.is_ordered C.least (c.starts_law.ensures.initialized frame made.kept good are_kept))

@@ -9,7 +9,9 @@ use Rattle.law_valid.proofs.Whole.{whole}
 use Rattle.law_valid.proofs.laws.faultless_law.Goals as goal
 
 pub returns : goal.returns
-returns c = λ frame kept places program good C.
+returns c = λ frame made good C.
+    let kept = made.kept in
+    let places = made.placement in
     let G = grouping frame kept in
     let list = steps_of (script (grouping frame kept) (heap_with C.ordered places)) in
     let T = c.timeline_laws.ensures in

@@ -1,5 +1,6 @@
 use Rattle.std.proofs.Common.{sym, subst}
 use Rattle.base.proofs.Results.{if_ok}
+use Rattle.compile.specs.Submitted.{submitted}
 use Rattle.frame.specs.Numbered.{numbered}
 use Rattle.top.proofs.RunLemmas.{summarizes_frame}
 use Rattle.top.proofs.SummaryLemmas.{summary_is}
@@ -9,8 +10,8 @@ use Rattle.device_run.specs.Runs.{read_by}
 
 pub returns-clause-frame : goal.returns-clause-frame
 returns-clause-frame g c =
-    let made = c.args.made.now in
+    let made = submitted c.args.made.now in
     let device = c.in_ok-device.device in
     let text = c.in_ok-text.text in
-    let is = summary_is (numbered c.args.good.now) made.kept made.placement made.program.program (read_by device) c.exported-total.result text c.exported-total.ensures c.in_ok-text.ensures in
-    if_ok c.ran.result (λ reply is'. subst (SummarizesFrame c.args.options c.args.good.now) (sym is') (summarizes_frame c.args.options c.args.good.now made.kept made.placement made.program.program device text c.requires.compiles c.in_ok-device.ensures is)) c.ran.ensures.reply
+    let is = summary_is (numbered c.args.good.now) made (read_by device) c.exported-total.result text c.exported-total.ensures c.in_ok-text.ensures in
+    if_ok c.ran.result (λ reply is'. subst (SummarizesFrame c.args.options c.args.good.now) (sym is') (summarizes_frame c.args.options c.args.good.now made device text c.requires.compiles c.in_ok-device.ensures is)) c.ran.ensures.reply
