@@ -1,11 +1,7 @@
 -- There is one least order.
-use Rattle.std.proofs.Common.{◌≡◌, ℕ, ◌<◌, List, [], ◌∷◌, refl, ap₂, inl, inr, subst, arith}
-use Rattle.check_program.specs.Sound.{Sound, IsSound}
+use Rattle.std.proofs.Common.{◌≡◌, ℕ, ◌<◌, List, [], ◌∷◌, refl, ap₂, inl, inr, arith}
 use Rattle.check_order.specs.Orders.{NotAbove, IsLeast}
-use Rattle.check_order.specs.Nodes.{program_nodes}
 use Rattle.check_order.specs.declared.node.Node.{Node}
-use Rattle.program.specs.declared.program.Program.{Program}
-use Rattle.check_access.specs.Views.{view_of}
 
 not_both : (x y : ℕ) → x < y → y < x → ⊥
 not_both x y a b = omega arith
@@ -24,6 +20,3 @@ same_lists (x ∷ xs) (y ∷ ys) (inr a) (inr b) = ap₂ (λ v vs. v ∷ vs) a.0
 
 pub one_least : (nodes : List Node) (first second : List ℕ) → IsLeast nodes first → IsLeast nodes second → first ≡ second
 one_least nodes first second a b = same_lists first second (a.least second b.order) (b.least first a.order)
-
-pub of_least : (program : Program) (order : List ℕ) → IsSound program → IsLeast (program_nodes program) order → Sound (view_of program) order
-of_least program order sound least = subst (Sound (view_of program)) (one_least (program_nodes program) sound.0 order sound.1.order_is least) sound.1

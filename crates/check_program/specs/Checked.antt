@@ -1,7 +1,5 @@
--- A program that was found sound, with its least order.
-use Rattle.std.specs.Prelude.{ℕ, List}
+-- A program that was found sound.
 use Rattle.program.specs.declared.program.Program.{Program}
 
 pub record Accepted : Type 0 where
   pub program : Program
-  pub order : List ℕ

@@ -1,17 +1,14 @@
 -- The first thing that is wrong with a program that is not sound.
 use Rattle.std.specs.Prelude.{ℕ, List, length}
 use Rattle.check_program.specs.declared.hazard.Hazard.{Hazard}
-use Rattle.check_program.specs.declared.hazard.Hazard.TheVariants.{Stuck, Unordered, NotAvailable, NotVisible, BadLayout, BadOwner, Unmatched, Undefined, Aliased}
+use Rattle.check_program.specs.declared.hazard.Hazard.TheVariants.{Stuck, Sync, State, Load}
 use Rattle.check_order.specs.Orders.{IsLeast, IsStuck}
 use Rattle.check_state.specs.Initialized.{FirstLoadHazard}
 use Rattle.check_state.specs.StateValid.{StateValid, FirstStateHazard}
 use Rattle.check_state.specs.declared.state_hazard.StateHazard.{StateHazard}
-use Rattle.check_state.specs.declared.state_hazard.StateHazard.TheVariants as state_hazards
 use Rattle.check_state.specs.declared.load_hazard.LoadHazard.{LoadHazard}
-use Rattle.check_state.specs.declared.load_hazard.LoadHazard.TheVariants as load_hazards
-use Rattle.check_sync.specs.First.{IsFirst}
+use Rattle.check_sync.specs.First.{FirstSyncHazard}
 use Rattle.check_sync.specs.Synchronized.{SynchronizedBelow}
-use Rattle.check_sync.specs.declared.sync_hazard.Flaw.TheVariants as flaws
 use Rattle.check_access.specs.Views.{View, node_accesses_of}
 use Rattle.check_access.specs.declared.node_access.NodeAccess.{NodeAccess}
 
@@ -33,14 +30,9 @@ pub record LoadHazardIsFirst (V : View) (accesses : List NodeAccess) (load_hazar
 -- of accesses in an order
 abbrev pub HazardIn : View → List NodeAccess → Hazard → Type 0
 HazardIn V accesses (Stuck q n) = ⊥
-HazardIn V accesses (Unordered n m) = IsFirst V accesses flaws.Unordered n m
-HazardIn V accesses (NotAvailable n m) = IsFirst V accesses flaws.NotAvailable n m
-HazardIn V accesses (NotVisible n m) = IsFirst V accesses flaws.NotVisible n m
-HazardIn V accesses (BadLayout n p found wanted) = StateHazardIsFirst V accesses (state_hazards.BadLayout n p found wanted)
-HazardIn V accesses (BadOwner n p found wanted) = StateHazardIsFirst V accesses (state_hazards.BadOwner n p found wanted)
-HazardIn V accesses (Unmatched n) = StateHazardIsFirst V accesses (state_hazards.Unmatched n)
-HazardIn V accesses (Undefined n p) = LoadHazardIsFirst V accesses (load_hazards.Undefined n p)
-HazardIn V accesses (Aliased n p other) = LoadHazardIsFirst V accesses (load_hazards.Aliased n p other)
+HazardIn V accesses (Sync sync_hazard) = FirstSyncHazard V accesses sync_hazard
+HazardIn V accesses (State state_hazard) = StateHazardIsFirst V accesses state_hazard
+HazardIn V accesses (Load load_hazard) = LoadHazardIsFirst V accesses load_hazard
 
 -- of accesses in the least order
 abbrev pub InLeast : View → Hazard → Type 0

@@ -1,4 +1,3 @@
 -- Definitions that serve the code alone: no public clause reaches them.
 pub mod Decided
-pub mod Hazards
 pub mod Inside

@@ -2,20 +2,17 @@
 
 ghost use Rattle.std.specs.Prelude.{◌≡◌};
 ghost use Rattle.std.specs.Arc.{arc_value};
-ghost use Rattle.check_program.specs.Sound.{Sound};
-ghost use Rattle.check_access.specs.Views.{view_of};
+ghost use Rattle.check_program.specs.Sound.{IsSound};
 
-use base::List;
 use program::ValidProgram;
 use std::alloc::Global;
 use std::marker::Model;
 use std::sync::Arc;
 
-/// A sound program, and the least order of its nodes.
+/// A sound program.
 #[derive(Debug, Drop)]
 pub struct Checked {
     shaped: Arc<ValidProgram, Global>,
-    order: List<u32>,
 }
 
 impl Model for Checked {
@@ -30,27 +27,18 @@ impl Model for Checked {
 }
 
 impl Checked {
-    pub(crate) fn new(shaped: Arc<ValidProgram, Global>, order: List<u32>) -> Checked
-        requires { Sound (view_of (arc_value shaped)) order }
-        ensures program { result.program ≡ arc_value shaped }
-        ensures order { result.order ≡ order }
+    pub(crate) fn new(shaped: Arc<ValidProgram, Global>) -> Checked
+        requires { IsSound (arc_value shaped) }
+        ensures { result.program ≡ arc_value shaped }
     {
-        Checked { shaped, order }
+        Checked { shaped }
     }
 
     /// The program, which can be shared between threads.
     pub fn shaped(&self) -> &Arc<ValidProgram, Global>
         ensures program { arc_value result.now ≡ self.now.program }
-        ensures sound { Sound (view_of self.now.program) self.now.order }
+        ensures sound { IsSound self.now.program }
     {
         &self.shaped
-    }
-
-    /// The least order of the nodes.
-    pub fn order(&self) -> &[u32]
-        ensures order { result.now ≡ self.now.order }
-        ensures sound { Sound (view_of self.now.program) self.now.order }
-    {
-        self.order.as_slice()
     }
 }

@@ -8,7 +8,7 @@ ghost use Rattle.check_access.specs.ValidView.{Listed, ValidView};
 ghost use Rattle.check_access.specs.Views.{view_of};
 
 use crate::Hazard;
-use base::{List, NoMemory};
+use base::NoMemory;
 use check_access::{NodeAccess, View, node_accesses_of, view_of};
 use check_order::{Before, Drain, before_of, drain_of};
 use check_state::{first_load_hazard, first_state_hazard};
@@ -16,16 +16,8 @@ use check_sync::first_flaw;
 use program::ValidProgram;
 use std::alloc::Global;
 
-/// What a program is found to be.
-#[derive(Drop)]
-pub enum Verdict {
-    /// With the least order of its nodes.
-    Sound(List<u32>),
-    Unsound(Hazard),
-}
-
 // The first hazard of accesses in an order: of two accesses, else of what is found, else of bytes.
-fn first_hazard(
+fn first_in_accesses(
     alloc: Global,
     view: &View,
     before: &Before,
@@ -37,43 +29,41 @@ fn first_hazard(
     ensures { IfOk result (λ found. Decides view.now accesses.now found) }
 {
     if let Some(sync_hazard) = first_flaw(alloc, view, before, accesses)? {
-        return Ok(Some(Hazard::of_sync_hazard(sync_hazard)));
+        return Ok(Some(Hazard::Sync(sync_hazard)));
     }
     if let Some(state_hazard) = first_state_hazard(alloc, view, accesses)? {
-        return Ok(Some(Hazard::of_state_hazard(state_hazard)));
+        return Ok(Some(Hazard::State(state_hazard)));
     }
     match first_load_hazard(alloc, view, accesses)? {
-        Some(load_hazard) => Ok(Some(Hazard::of_load_hazard(load_hazard))),
+        Some(load_hazard) => Ok(Some(Hazard::Load(load_hazard))),
         None => Ok(None),
     }
 }
 
-fn judge_order(
+// The first hazard in the least order of the nodes.
+fn first_in_order(
     alloc: Global,
     program: &ValidProgram,
     view: &View,
-    order: List<u32>,
-) -> Result<Verdict, NoMemory>
+    order: &[u32],
+) -> Result<Option<Hazard>, NoMemory>
     requires view { view.now ≡ view_of program.now }
     requires shaped { ValidView view.now }
-    requires order { IsLeast view.now.nodes order }
+    requires order { IsLeast view.now.nodes order.now }
     ensures { IfOk result (Judges program.now) }
 {
-    let before = before_of(alloc, program, view.edges(), order.as_slice())?;
-    let accesses = node_accesses_of(alloc, view, order.as_slice())?;
-    match first_hazard(alloc, view, &before, accesses.as_slice())? {
-        Some(hazard) => Ok(Verdict::Unsound(hazard)),
-        None => Ok(Verdict::Sound(order)),
-    }
+    let before = before_of(alloc, program, view.edges(), order)?;
+    let accesses = node_accesses_of(alloc, view, order)?;
+    first_in_accesses(alloc, view, &before, accesses.as_slice())
 }
 
-/// The verdict on a program.
-pub fn judge(alloc: Global, program: &ValidProgram) -> Result<Verdict, NoMemory>
+/// The first hazard of a program, or none where it is sound.
+pub fn first_hazard(alloc: Global, program: &ValidProgram) -> Result<Option<Hazard>, NoMemory>
     ensures { IfOk result (Judges program.now) }
 {
     let view = view_of(alloc, program)?;
     match drain_of(alloc, program, view.edges())? {
-        Drain::Whole(order) => judge_order(alloc, program, &view, order),
-        Drain::Stuck { queue, node } => Ok(Verdict::Unsound(Hazard::Stuck { queue, node })),
+        Drain::Whole(order) => first_in_order(alloc, program, &view, order.as_slice()),
+        Drain::Stuck { queue, node } => Ok(Some(Hazard::Stuck { queue, node })),
     }
 }

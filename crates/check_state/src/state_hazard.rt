@@ -6,21 +6,21 @@ use vk::Layout;
 /// What is wrong with an access beside bytes. Nodes and pieces are named by their numbers.
 #[derive(Clone, Copy, Debug, PartialEq, Eq)]
 pub enum StateHazard {
-    /// An image is in another layout than the one wanted.
+    /// H5: an image is in another layout than the one wanted.
     BadLayout {
         node: u32,
         piece: u32,
         found: Layout,
         wanted: Layout,
     },
-    /// Another queue family owns the piece, or none does.
+    /// H6: another queue family owns the piece, or none does.
     BadOwner {
         node: u32,
         piece: u32,
         found: Option<Family>,
         wanted: Family,
     },
-    /// Half of a transfer of ownership without its other half.
+    /// H7: half of a transfer of ownership without its other half.
     Unmatched {
         node: u32,
     },

@@ -14,7 +14,7 @@ use Rattle.check_access.specs.declared.access.Access.{Access}
 use Rattle.check_access.specs.declared.access.AccessKind.{AccessKind}
 use Rattle.check_access.specs.declared.node_access.NodeAccess.{NodeAccess}
 use Rattle.check_sync.specs.Internal.Chains.{IsIn, Latest}
-use Rattle.check_sync.specs.First.{IsFirst}
+use Rattle.check_sync.specs.First.{FirstSyncHazard}
 use Rattle.check_sync.specs.Internal.Places.{no_node_access, node_access_at, piece_of, kind_of, clashes_with_loads, Known, IsFirstWith, SynchronizedAt, PlacesSynchronizedBelow}
 use Rattle.check_sync.specs.Synchronized.{PairSynchronized, SynchronizedBelow}
 use Rattle.check_sync.specs.declared.sync_hazard.SyncHazard.{SyncHazard}
@@ -121,7 +121,7 @@ all_pieces V accesses loads j S L within among i lt n = ⊎_elim
     known : piece_of accesses i < length V.pieces
     known = (known_at V accesses i S L here_in).piece
 
-pub is_first : (V : View) (accesses : List NodeAccess) (j : ℕ) (sync_hazard : SyncHazard) → j < length accesses → PlacesSynchronizedBelow V accesses j → IsFirstWith V accesses j sync_hazard → IsFirst V accesses sync_hazard.flaw sync_hazard.first sync_hazard.second
+pub is_first : (V : View) (accesses : List NodeAccess) (j : ℕ) (sync_hazard : SyncHazard) → j < length accesses → PlacesSynchronizedBelow V accesses j → IsFirstWith V accesses j sync_hazard → FirstSyncHazard V accesses sync_hazard
 is_first V accesses j sync_hazard h G (i, lt, first, second, flawed, least) = record {
   i = i;
   j = j;

@@ -15,7 +15,7 @@ use Rattle.check_access.specs.ValidView.{ValidView, Has, NodeAccessAt}
 use Rattle.check_access.specs.Views.{View, view_of, node_access, node_accesses_of}
 use Rattle.check_access.specs.declared.access.Access.{Access}
 use Rattle.check_access.specs.declared.node_access.NodeAccess.{NodeAccess}
-use Rattle.check_sync.specs.First.{DecidesSynchronized, FindsFirst, IsFirst}
+use Rattle.check_sync.specs.First.{DecidesSynchronized, FindsFirst, FirstSyncHazard}
 use Rattle.program.specs.declared.program.Program.{Program}
 use Rattle.check_sync.specs.Rows.{Rows}
 use Rattle.check_sync.specs.Synchronized.{Clashing, Synchronized, PairSynchronized, Flawed, SynchronizedBelow, FirstFlaw}
@@ -69,7 +69,7 @@ module _ (V : View) (order : List ℕ) (forward : GoesForward V.nodes) (O : Orde
 -- what is found decides whether all is synchronized
 decides : (V : View) (accesses : List NodeAccess) (found : Option SyncHazard) → ((nodes : List Node) → GoesForward nodes) → ((nodes : List Node) → IsIrreflexive nodes) → ValidView V → FindsFirst V accesses found → DecidesSynchronized V accesses found
 decides V accesses None forward never S T order O is = synchronized_all V order (never V.nodes) S O (subst (λ l. SynchronizedBelow V l (length l)) is T)
-decides V accesses (Some sync_hazard) forward never S F order O is = let first = subst (λ l. IsFirst V l sync_hazard.flaw sync_hazard.first sync_hazard.second) is F in flaw_breaks V order (forward V.nodes) O first.i first.j first.a first.b sync_hazard.flaw first.flawed
+decides V accesses (Some sync_hazard) forward never S F order O is = let first = subst (λ l. FirstSyncHazard V l sync_hazard) is F in flaw_breaks V order (forward V.nodes) O first.i first.j first.a first.b sync_hazard.flaw first.flawed
 
 pub all_decided : {E : Type 0} (V : View) (accesses : List NodeAccess) (result : Result (Option SyncHazard) E) → ((nodes : List Node) → GoesForward nodes) → ((nodes : List Node) → IsIrreflexive nodes) → ValidView V → IfOk result (FindsFirst V accesses) → IfOk result (DecidesSynchronized V accesses)
 all_decided V accesses (Ok found) forward never S F = decides V accesses found forward never S F

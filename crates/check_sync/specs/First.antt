@@ -4,22 +4,20 @@ use Rattle.check_order.specs.Orders.{Order}
 use Rattle.check_access.specs.Views.{View, node_accesses_of}
 use Rattle.check_access.specs.declared.node_access.NodeAccess.{NodeAccess}
 use Rattle.check_sync.specs.Synchronized.{Synchronized, SynchronizedBelow, FirstFlaw}
-use Rattle.check_sync.specs.declared.sync_hazard.Flaw.{Flaw}
 use Rattle.check_sync.specs.declared.sync_hazard.SyncHazard.{SyncHazard}
 
--- of nodes n and m
-pub record IsFirst (V : View) (accesses : List NodeAccess) (flaw : Flaw) (n m : ℕ) : Type 0 where
+pub record FirstSyncHazard (V : View) (accesses : List NodeAccess) (sync_hazard : SyncHazard) : Type 0 where
   pub i : ℕ
   pub j : ℕ
   pub a : NodeAccess
   pub b : NodeAccess
-  pub first : a.node ≡ n
-  pub second : b.node ≡ m
-  pub flawed : FirstFlaw V accesses i j a b flaw
+  pub first : a.node ≡ sync_hazard.first
+  pub second : b.node ≡ sync_hazard.second
+  pub flawed : FirstFlaw V accesses i j a b sync_hazard.flaw
 
 -- none where each pair is synchronized, or else the first that is not
 abbrev pub FindsFirst : View → List NodeAccess → Option SyncHazard → Type 0
-FindsFirst V accesses found = MatchOption found (SynchronizedBelow V accesses (length accesses)) (λ sync_hazard. IsFirst V accesses sync_hazard.flaw sync_hazard.first sync_hazard.second)
+FindsFirst V accesses found = MatchOption found (SynchronizedBelow V accesses (length accesses)) (FirstSyncHazard V accesses)
 
 -- of all accesses, in an order of all nodes, none is found exactly where the program's accesses are synchronized
 abbrev pub DecidesSynchronized : View → List NodeAccess → Option SyncHazard → Type 0

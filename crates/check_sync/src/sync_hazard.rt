@@ -3,11 +3,11 @@
 /// Why two accesses that touch the same memory are not synchronized.
 #[derive(Clone, Copy, Debug, PartialEq, Eq)]
 pub enum Flaw {
-    /// Neither node happens before the other.
+    /// H2: neither node happens before the other.
     Unordered,
-    /// What the first stored is not made available before the second.
+    /// H3: what the first stored is not made available before the second.
     NotAvailable,
-    /// What the first left is not made visible to the second.
+    /// H4: what the first left is not made visible to the second.
     NotVisible,
 }
 

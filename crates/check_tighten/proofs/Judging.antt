@@ -1,7 +1,7 @@
 -- What is judged, and what a judgement makes of a candidate.
 use Rattle.std.proofs.Common.{◌≡◌, ◌∙◌, ◌↔◌, ℕ, Bool, true, false, List, Result, Ok, Err, None, IfOk, refl, subst, sym, ap}
 use Rattle.base.proofs.Booleans.{clash}
-use Rattle.check_program.specs.Sound.{IsSound, Sound}
+use Rattle.check_program.specs.Sound.{IsSound}
 use Rattle.program.specs.FirstFault.{first_fault}
 use Rattle.program.specs.Obeys.{BatchAt}
 use Rattle.program.specs.declared.program.Batch.{Batch}
@@ -12,7 +12,6 @@ use Rattle.check_tighten.specs.Internal.Rounds.{HasWait, Tried}
 use Rattle.check_tighten.specs.declared.trial.Trial.{Trial}
 use Rattle.check_tighten.specs.Edits.{program_with}
 use Rattle.check_tighten.specs.Tight.{Passes}
-use Rattle.check_access.specs.Views.{view_of}
 use Rattle.check_tighten.proofs.Programs.{undone}
 
 -- without a fault it passes exactly where it is sound
@@ -43,7 +42,7 @@ edited program q b edit made (Ok trial) is h = λ queue batch at. subst (λ l. T
 edited program q b edit made (Err e) is h = tt
 
 -- a copy of a sound program passes
-pub copy_passes : {E : Type 0} (given inner lent : Program) (order : List ℕ) (r : Result Program E) → Sound (view_of given) order → first_fault inner ≡ None → inner ≡ given → lent ≡ inner → IfOk r (λ copy. copy ≡ lent) → IfOk r Passes
-copy_passes given inner lent order (Ok copy) sound none same also is =
-    subst Passes (sym (is ∙ (also ∙ same))) (record { faultless = subst (λ p. first_fault p ≡ None) same none; sound = (order, sound) })
-copy_passes given inner lent order (Err e) sound none same also is = tt
+pub copy_passes : {E : Type 0} (given inner lent : Program) (r : Result Program E) → IsSound given → first_fault inner ≡ None → inner ≡ given → lent ≡ inner → IfOk r (λ copy. copy ≡ lent) → IfOk r Passes
+copy_passes given inner lent (Ok copy) sound none same also is =
+    subst Passes (sym (is ∙ (also ∙ same))) (record { faultless = subst (λ p. first_fault p ≡ None) same none; sound = sound })
+copy_passes given inner lent (Err e) sound none same also is = tt

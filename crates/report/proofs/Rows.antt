@@ -25,7 +25,10 @@ use Rattle.report.specs.Summaries.{summary_text}
 use Rattle.report.specs.Traces.{trace_text}
 use Rattle.report.specs.declared.flight.FlightLine.TheVariants as flights
 use Rattle.program.specs.Faults as programs
-use Rattle.check_program.specs.declared.hazard.Hazard.TheVariants.{Stuck, NotVisible, BadLayout, BadOwner, Unmatched, Aliased}
+use Rattle.check_program.specs.declared.hazard.Hazard.TheVariants.{Stuck, Sync, State, Load}
+use Rattle.check_state.specs.declared.load_hazard.LoadHazard.TheVariants.{Aliased}
+use Rattle.check_state.specs.declared.state_hazard.StateHazard.TheVariants.{BadLayout, BadOwner, Unmatched}
+use Rattle.check_sync.specs.declared.sync_hazard.Flaw.TheVariants.{NotVisible}
 
 at_the_root : frame_fault_text not_json ≡ codes "fault F1 $\n"
 unfolding digits
@@ -59,27 +62,27 @@ stuck : hazard_text (Stuck 0 12) ≡ codes "hazard H1 0 12\n"
 unfolding digits
 stuck = refl
 
-not_visible : hazard_text (NotVisible 0 2) ≡ codes "hazard H4 0 2\n"
+not_visible : hazard_text (Sync (record { first = 0; second = 2; flaw = NotVisible })) ≡ codes "hazard H4 0 2\n"
 unfolding digits
 not_visible = refl
 
-no_layout : hazard_text (BadLayout 0 4 layouts.Undefined layouts.TransferDst) ≡ codes "hazard H5 0 4 UNDEFINED TRANSFER_DST_OPTIMAL\n"
+no_layout : hazard_text (State (BadLayout 0 4 layouts.Undefined layouts.TransferDst)) ≡ codes "hazard H5 0 4 UNDEFINED TRANSFER_DST_OPTIMAL\n"
 unfolding digits
 no_layout = refl
 
-another_owner : hazard_text (BadOwner 3 0 (Some Graphics) Compute) ≡ codes "hazard H6 3 0 graphics compute\n"
+another_owner : hazard_text (State (BadOwner 3 0 (Some Graphics) Compute)) ≡ codes "hazard H6 3 0 graphics compute\n"
 unfolding digits
 another_owner = refl
 
-no_owner : hazard_text (BadOwner 3 0 None Compute) ≡ codes "hazard H6 3 0 none compute\n"
+no_owner : hazard_text (State (BadOwner 3 0 None Compute)) ≡ codes "hazard H6 3 0 none compute\n"
 unfolding digits
 no_owner = refl
 
-unmatched : hazard_text (Unmatched 1) ≡ codes "hazard H7 1\n"
+unmatched : hazard_text (State (Unmatched 1)) ≡ codes "hazard H7 1\n"
 unfolding digits
 unmatched = refl
 
-aliased : hazard_text (Aliased 4 0 1) ≡ codes "hazard H9 4 0 1\n"
+aliased : hazard_text (Load (Aliased 4 0 1)) ≡ codes "hazard H9 4 0 1\n"
 unfolding digits
 aliased = refl
 

@@ -1,11 +1,13 @@
 //! What `check` answers.
 
 ghost use Rattle.std.specs.Prelude.{◌≡◌, ◌++◌, OnOk, IfOk};
-ghost use Rattle.report.specs.Hazards.{owner_name, field, number_field, two_numbers, hazard_number, hazard_fields, hazard_text, check_text};
+ghost use Rattle.report.specs.Hazards.{owner_name, field, number_field, two_numbers, flaw_number, state_number, load_number, hazard_number, state_fields, load_fields, hazard_fields, hazard_text, check_text};
 
 use base::{Family, List, NoMemory, Text};
 use base_text::Lines;
 use check_program::Hazard;
+use check_state::{LoadHazard, StateHazard};
+use check_sync::{Flaw, SyncHazard};
 use std::alloc::Global;
 
 fn owner_name(owner: Option<Family>) -> &'static [u8]
@@ -17,19 +19,43 @@ fn owner_name(owner: Option<Family>) -> &'static [u8]
     }
 }
 
+fn flaw_number(flaw: Flaw) -> u64
+    ensures { result ≡ flaw_number flaw }
+{
+    match flaw {
+        Flaw::Unordered => 2,
+        Flaw::NotAvailable => 3,
+        Flaw::NotVisible => 4,
+    }
+}
+
+fn state_number(state_hazard: StateHazard) -> u64
+    ensures { result ≡ state_number state_hazard }
+{
+    match state_hazard {
+        StateHazard::BadLayout { .. } => 5,
+        StateHazard::BadOwner { .. } => 6,
+        StateHazard::Unmatched { .. } => 7,
+    }
+}
+
+fn load_number(load_hazard: LoadHazard) -> u64
+    ensures { result ≡ load_number load_hazard }
+{
+    match load_hazard {
+        LoadHazard::Undefined { .. } => 8,
+        LoadHazard::Aliased { .. } => 9,
+    }
+}
+
 fn hazard_number(hazard: &Hazard) -> u64
     ensures { result ≡ hazard_number hazard.now }
 {
-    match hazard {
+    match *hazard {
         Hazard::Stuck { .. } => 1,
-        Hazard::Unordered { .. } => 2,
-        Hazard::NotAvailable { .. } => 3,
-        Hazard::NotVisible { .. } => 4,
-        Hazard::BadLayout { .. } => 5,
-        Hazard::BadOwner { .. } => 6,
-        Hazard::Unmatched { .. } => 7,
-        Hazard::Undefined { .. } => 8,
-        Hazard::Aliased { .. } => 9,
+        Hazard::Sync(sync_hazard) => flaw_number(sync_hazard.flaw),
+        Hazard::State(state_hazard) => state_number(state_hazard),
+        Hazard::Load(load_hazard) => load_number(load_hazard),
     }
 }
 
@@ -69,15 +95,11 @@ fn add_mismatch(
     add_field(text, wanted)
 }
 
-fn add_fields(text: &mut Text, hazard: &Hazard) -> Result<(), NoMemory>
-    ensures { OnOk result (text.new ≡ text.old ++ hazard_fields hazard.now) }
+fn add_state_fields(text: &mut Text, state_hazard: StateHazard) -> Result<(), NoMemory>
+    ensures { OnOk result (text.new ≡ text.old ++ state_fields state_hazard) }
 {
-    match *hazard {
-        Hazard::Stuck { queue, node } => add_numbers(text, queue, node),
-        Hazard::Unordered { first, second }
-        | Hazard::NotAvailable { first, second }
-        | Hazard::NotVisible { first, second } => add_numbers(text, first, second),
-        Hazard::BadLayout {
+    match state_hazard {
+        StateHazard::BadLayout {
             node,
             piece,
             found,
@@ -89,7 +111,7 @@ fn add_fields(text: &mut Text, hazard: &Hazard) -> Result<(), NoMemory>
             found.name().as_bytes(),
             wanted.name().as_bytes(),
         ),
-        Hazard::BadOwner {
+        StateHazard::BadOwner {
             node,
             piece,
             found,
@@ -101,12 +123,30 @@ fn add_fields(text: &mut Text, hazard: &Hazard) -> Result<(), NoMemory>
             owner_name(found),
             wanted.name().as_bytes(),
         ),
-        Hazard::Unmatched { node } => add_number(text, node),
-        Hazard::Undefined { node, piece } => add_numbers(text, node, piece),
-        Hazard::Aliased { node, piece, other } => {
+        StateHazard::Unmatched { node } => add_number(text, node),
+    }
+}
+
+fn add_load_fields(text: &mut Text, load_hazard: LoadHazard) -> Result<(), NoMemory>
+    ensures { OnOk result (text.new ≡ text.old ++ load_fields load_hazard) }
+{
+    match load_hazard {
+        LoadHazard::Undefined { node, piece } => add_numbers(text, node, piece),
+        LoadHazard::Aliased { node, piece, other } => {
             add_numbers(text, node, piece)?;
             add_number(text, other)
         }
+    }
+}
+
+fn add_fields(text: &mut Text, hazard: &Hazard) -> Result<(), NoMemory>
+    ensures { OnOk result (text.new ≡ text.old ++ hazard_fields hazard.now) }
+{
+    match *hazard {
+        Hazard::Stuck { queue, node } => add_numbers(text, queue, node),
+        Hazard::Sync(SyncHazard { first, second, .. }) => add_numbers(text, first, second),
+        Hazard::State(state_hazard) => add_state_fields(text, state_hazard),
+        Hazard::Load(load_hazard) => add_load_fields(text, load_hazard),
     }
 }
 

@@ -2,6 +2,7 @@
 
 use base::{CacheMove, Event, Leg, Limit, List, MemoryRange, MoveKind, Name, NoMemory, Text};
 use check_program::Hazard;
+use check_state::LoadHazard;
 use frame::{FrameFault, ValidFrame, validate_frame};
 use program::ProgramFault;
 use report::{
@@ -72,11 +73,11 @@ fn layers(rt: HostRuntime) -> Result<(), Fail> {
 #[test]
 fn checks(rt: HostRuntime) -> Result<(), Fail> {
     let alloc = rt.alloc();
-    let hazard = Hazard::Aliased {
+    let hazard = Hazard::Load(LoadHazard::Aliased {
         node: 4,
         piece: 0,
         other: 1,
-    };
+    });
     is_printed(&rt, hazard_text(alloc, &hazard)?, b"hazard H9 4 0 1\n");
     is_printed(&rt, check_text(alloc, 20000)?, b"accepted 20000 nodes\n");
     let fault = program_fault_text(alloc, &ProgramFault::not_json(alloc))?;

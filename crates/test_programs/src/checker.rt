@@ -1,5 +1,6 @@
 use crate::sketched::shaped;
 use check_program::{CheckError, Hazard, check, sound};
+use check_sync::{Flaw, SyncHazard};
 use program::ValidProgram;
 use std::alloc::Global;
 use std::test::Fail;
@@ -19,17 +20,19 @@ const ROWS: [(&str, Option<Hazard>); 5] = [
     ),
     (
         "plain:16 buffer:16:0:0 ; graphics fill:0:16 fill:0:16",
-        Some(Hazard::Unordered {
+        Some(Hazard::Sync(SyncHazard {
             first: 0,
             second: 1,
-        }),
+            flaw: Flaw::Unordered,
+        })),
     ),
     (
         "plain:16 buffer:16:0:0 ; graphics fill:0:16 all:CLEAR>CLEAR,TRANSFER_WRITE fill:0:16",
-        Some(Hazard::NotAvailable {
+        Some(Hazard::Sync(SyncHazard {
             first: 0,
             second: 2,
-        }),
+            flaw: Flaw::NotAvailable,
+        })),
     ),
 ];
 
@@ -53,21 +56,5 @@ fn hazards(rt: HostRuntime) -> Result<(), Fail> {
         let found = hazard(alloc, shaped(alloc, line)?);
         assert!(&rt; is_sound == wanted.is_none() && found == *wanted, "{line}");
     }
-    Ok(())
-}
-
-// How many nodes the order of a program has.
-fn order_length(alloc: Global, program: ValidProgram) -> Option<usize> {
-    match check(alloc, program) {
-        Ok(checked) => Some(checked.order().len()),
-        Err(_) => None,
-    }
-}
-
-#[test]
-fn orders(rt: HostRuntime) -> Result<(), Fail> {
-    let alloc = rt.alloc();
-    let length = order_length(alloc, shaped(alloc, ROWS[2].0)?);
-    assert!(&rt; length == Some(3));
     Ok(())
 }

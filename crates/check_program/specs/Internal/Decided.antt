@@ -1,17 +1,15 @@
 -- What is found in accesses decides whether a program is sound.
 use Rattle.std.specs.Prelude.{◌≡◌, ℕ, List, Option, MatchOption}
 use Rattle.check_program.specs.Hazards.{HazardIn}
-use Rattle.check_program.specs.Sound.{Sound}
+use Rattle.check_program.specs.Sound.{IsSound}
 use Rattle.check_program.specs.Verdicts.{Unsound}
 use Rattle.check_program.specs.declared.hazard.Hazard.{Hazard}
-use Rattle.check_program.specs.declared.judge.Verdict.{Verdict}
-use Rattle.check_program.specs.declared.judge.Verdict.TheVariants as verdicts
 use Rattle.check_order.specs.Orders.{Order}
 use Rattle.check_state.specs.Initialized.{Initialized}
 use Rattle.check_state.specs.StateValid.{StateValid}
 use Rattle.program.specs.declared.program.Program.{Program}
 use Rattle.check_sync.specs.Synchronized.{Synchronized}
-use Rattle.check_access.specs.Views.{View, view_of, node_accesses_of}
+use Rattle.check_access.specs.Views.{View, node_accesses_of}
 use Rattle.check_access.specs.declared.node_access.NodeAccess.{NodeAccess}
 
 -- nothing is wrong
@@ -29,7 +27,6 @@ pub record IsFound (V : View) (accesses : List NodeAccess) (hazard : Hazard) : T
 abbrev pub Decides : View → List NodeAccess → Option Hazard → Type 0
 Decides V accesses found = (order : List ℕ) → Order V.nodes order → accesses ≡ node_accesses_of V order → MatchOption found (HasNoHazard V accesses) (IsFound V accesses)
 
--- a sound program's least order, or the first hazard
-abbrev pub Judges : Program → Verdict → Type 0
-Judges program (verdicts.Sound order) = Sound (view_of program) order
-Judges program (verdicts.Unsound hazard) = Unsound program hazard
+-- the first hazard of a program, or none where it is sound
+abbrev pub Judges : Program → Option Hazard → Type 0
+Judges program found = MatchOption found (IsSound program) (Unsound program)

@@ -4,5 +4,5 @@ use Rattle.check_tighten.proofs.tightening.copied.Goals as goal
 
 pub returns-clause-passes : goal.returns-clause-passes
 returns-clause-passes c =
-    copy_passes c.args.program.now.program c.deref.result.now c.program.result.now c.args.program.now.order c.copy.result c.shaped.ensures.sound c.program.ensures.shaped
+    copy_passes c.args.program.now.program c.deref.result.now c.program.result.now c.copy.result c.shaped.ensures.sound c.program.ensures.shaped
     (c.deref.ensures ∙ c.shaped.ensures.program) c.program.ensures.program c.copy.ensures

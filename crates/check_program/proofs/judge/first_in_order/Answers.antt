@@ -1,0 +1,22 @@
+use Rattle.std.proofs.Common.{◌≡◌, ◌<◌, ◌∙◌, sym, subst}
+use Rattle.check_program.proofs.Verdicts.{all_judged}
+use Rattle.check_order.specs.Orders.{Order}
+use Rattle.check_sync.proofs.Whole.{rows_of}
+use Rattle.check_access.specs.ValidView.{Listed}
+use Rattle.check_access.specs.Views.{node_accesses_of}
+use Rattle.check_program.proofs.judge.first_in_order.Goals as goal
+
+pub node_accesses_of-requires : goal.node_accesses_of-requires
+node_accesses_of-requires c = λ n m. subst (λ count. n < count) (sym c.requires.shaped.effects) (c.requires.order.order.only n m)
+
+pub first_in_accesses-requires-clause-rows : goal.first_in_accesses-requires-clause-rows
+first_in_accesses-requires-clause-rows c = rows_of c.args.program.now c.args.view.now c.in_ok-before.before c.requires.view c.in_ok-before.ensures.count c.in_ok-before.ensures.happens c.in_ok-before.ensures.within
+
+pub first_in_accesses-requires-clause-listed : goal.first_in_accesses-requires-clause-listed
+first_in_accesses-requires-clause-listed c =
+    subst (λ l. Listed c.args.view.now l) (sym c.as_slice.ensures) (c.in_ok-accesses.ensures.listed c.requires.shaped c.requires.order.order)
+
+pub returns : goal.returns
+returns c =
+    let is : c.as_slice.result.now ≡ node_accesses_of c.args.view.now c.args.order.now = c.as_slice.ensures ∙ c.in_ok-accesses.ensures.accesses in
+    all_judged c.args.program.now c.args.view.now c.args.order.now c.as_slice.result.now c.requires.view c.requires.order is c.first_in_accesses.result c.first_in_accesses.ensures
