@@ -1,5 +1,5 @@
 -- What a command that needs no device answers to the bytes of a file.
-use Rattle.std.specs.Prelude.{◌≡◌, ◌⊎◌, ◌↔◌, ℕ, ◌≤◌, Bool, true, false, List, [], ◌++◌, length, None, Result, Ok, Err, codes}
+use Rattle.std.specs.Prelude.{◌≡◌, ◌⊎◌, ◌↔◌, ℕ, ◌≤◌, Bool, List, [], ◌++◌, length, None, Result, Ok, Err, codes}
 use Rattle.compile_file.specs.Compiles.{Compiles}
 use Rattle.compile_file.specs.Exports.{exports_text}
 use Rattle.compile_file.specs.Files.{frame_file, program_file}
@@ -40,7 +40,7 @@ use Rattle.frame_cull.specs.Culled.{AreKept, Culled}
 use Rattle.cli.specs.declared.command.Command.{Command}
 use Rattle.cli.specs.declared.command.Command.TheVariants as reads
 use Rattle.cli.specs.declared.command.FrameCommand.{FrameCommand}
-use Rattle.cli.specs.declared.command.FrameCommand.TheVariants.{Cull, Place, Bound, Compile, Auto, Meaning, Migrate}
+use Rattle.cli.specs.declared.command.FrameCommand.TheVariants.{Cull, Place, Bound, Compile, Auto, Cost, Meaning, Migrate}
 use Rattle.cli.specs.declared.command.SubmissionCommand.{SubmissionCommand}
 use Rattle.cli.specs.declared.command.SubmissionCommand.TheVariants.{Check}
 
@@ -135,12 +135,12 @@ GeneratesFrame number passes answer = MigratesFrame (generated number passes) an
 
 -- what is made of a frame without a fault
 abbrev pub AnswersFrame : FrameCommand → Frame → Answer → Type 0
-AnswersFrame Cull frame answer = CullsFrame frame answer
-AnswersFrame Place frame answer = PlacesFrame frame answer
-AnswersFrame Bound frame answer = BoundsFrame frame answer
+AnswersFrame (Cull json) frame answer = CullsFrame frame answer
+AnswersFrame (Place json) frame answer = PlacesFrame frame answer
+AnswersFrame (Bound json) frame answer = BoundsFrame frame answer
 AnswersFrame (Compile tight) frame answer = CompilesFrame tight frame answer
-AnswersFrame (Auto false) frame answer = ChoosesQueues frame answer
-AnswersFrame (Auto true) frame answer = CostsFrame frame answer
+AnswersFrame Auto frame answer = ChoosesQueues frame answer
+AnswersFrame (Cost json) frame answer = CostsFrame frame answer
 AnswersFrame Meaning frame answer = MeansFrame frame answer
 AnswersFrame Migrate frame answer = MigratesFrame frame answer
 
@@ -154,7 +154,7 @@ pub record Accepts (program : Program) (answer : Answer) : Type 0 where
 
 -- what is made of a program without a fault
 abbrev pub AnswersProgram : SubmissionCommand → Program → Answer → Type 0
-AnswersProgram Check program answer = Accepts program answer ⊎ Rejects program answer
+AnswersProgram (Check json) program answer = Accepts program answer ⊎ Rejects program answer
 
 abbrev pub AnswersProgramFile : SubmissionCommand → Result Program ProgramFault → Answer → Type 0
 AnswersProgramFile asked (Ok program) answer = AnswersProgram asked program answer

@@ -41,17 +41,12 @@ fn answer_frame(alloc: Global, asked: FrameCommand, good: &ValidFrame) -> Result
     ensures has_text { IfOk result (λ answer. HasText answer.status) }
 {
     match asked {
-        FrameCommand::Cull => cull_frame(alloc, good),
-        FrameCommand::Place => place_frame(alloc, good),
-        FrameCommand::Bound => bound_frame(alloc, good),
+        FrameCommand::Cull { json: _ } => cull_frame(alloc, good),
+        FrameCommand::Place { json: _ } => place_frame(alloc, good),
+        FrameCommand::Bound { json: _ } => bound_frame(alloc, good),
         FrameCommand::Compile { tight } => compile_frame(alloc, good, tight),
-        FrameCommand::Auto { cost } => {
-            if cost {
-                cost_frame(alloc, good)
-            } else {
-                auto_frame(alloc, good)
-            }
-        }
+        FrameCommand::Auto => auto_frame(alloc, good),
+        FrameCommand::Cost { json: _ } => cost_frame(alloc, good),
         FrameCommand::Meaning => mean_frame(alloc, good),
         FrameCommand::Migrate => migrate_frame(alloc, good),
     }

@@ -1,8 +1,8 @@
 //! The commands that read a submission.
 
-ghost use Rattle.std.specs.Prelude.{◌≡◌, IfOk, IfErr};
+ghost use Rattle.std.specs.Prelude.{◌≡◌, ◌⊎◌, IfOk, IfErr};
 ghost use Rattle.check_program.specs.Sound.{IsSound};
-ghost use Rattle.answer.specs.Answers.{AnswersProgram, AnswersProgramFile};
+ghost use Rattle.answer.specs.Answers.{Accepts, AnswersProgram, AnswersProgramFile};
 ghost use Rattle.answer.specs.Statuses.{HasText};
 ghost use Rattle.compile_file.specs.Files.{program_file};
 ghost use Rattle.answer.specs.Plain.{Rejects, rejection};
@@ -43,13 +43,13 @@ fn answer_program(
     ensures has_text { IfOk result (λ answer. HasText answer.status) }
 {
     match asked {
-        SubmissionCommand::Check => check_program(alloc, program),
+        SubmissionCommand::Check { json: _ } => check_program(alloc, program),
     }
 }
 
 // Sound or not.
 fn check_program(alloc: Global, program: ValidProgram) -> Result<Answer, NoMemory>
-    ensures checked { IfOk result (AnswersProgram SubmissionCommand.Check program) }
+    ensures checked { IfOk result (λ answer. Accepts program answer ⊎ Rejects program answer) }
     ensures has_text { IfOk result (λ answer. HasText answer.status) }
 {
     let nodes = program.node_count();
