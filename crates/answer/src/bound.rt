@@ -6,7 +6,6 @@ ghost use Rattle.compile_groups.specs.Placed.{sizes};
 ghost use Rattle.compile_heap.specs.Pairs.{has};
 ghost use Rattle.answer.specs.Answers.{BoundsFrame};
 ghost use Rattle.answer.specs.Internal.Stages.{AreBoundLines, AreGrouped, IsHeap};
-ghost use Rattle.answer.specs.Statuses.{HasText};
 
 use crate::answer::{Answer, done};
 use crate::groups::kept_groups;
@@ -48,7 +47,6 @@ fn bound_lines(
 fn bound_answer(alloc: Global, good: &ValidFrame, groups: &Groups) -> Result<Answer, NoMemory>
     requires { AreGrouped (numbered good.now) groups.now }
     ensures frame { IfOk result (BoundsFrame good.now) }
-    ensures has_text { IfOk result (λ answer. HasText answer.status) }
 {
     let ordered = ordered(alloc, groups)?;
     let heap = heap_of(alloc, groups, &ordered)?;
@@ -58,7 +56,6 @@ fn bound_answer(alloc: Global, good: &ValidFrame, groups: &Groups) -> Result<Ans
 /// The answer to the command on a valid frame.
 pub fn bound_frame(alloc: Global, good: &ValidFrame) -> Result<Answer, NoMemory>
     ensures frame { IfOk result (BoundsFrame good.now) }
-    ensures has_text { IfOk result (λ answer. HasText answer.status) }
 {
     let groups = kept_groups(alloc, good)?;
     bound_answer(alloc, good, &groups)

@@ -21,4 +21,4 @@ pub use answer::{Answer, done, program_refusal, refusal};
 pub use bytes::{answer_bytes, answer_to};
 pub use files::{File, file_of, limit_of, over_input};
 pub use programs::checked;
-pub use status::Status;
+pub use status::{AnswerStatus, Status};

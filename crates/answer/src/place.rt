@@ -4,7 +4,6 @@ ghost use Rattle.std.specs.Prelude.{IfOk};
 ghost use Rattle.frame.specs.Numbered.{numbered};
 ghost use Rattle.answer.specs.Answers.{PlacesFrame};
 ghost use Rattle.answer.specs.Internal.Stages.{AreGrouped, ArePlaced, ArePlaceLines};
-ghost use Rattle.answer.specs.Statuses.{HasText};
 
 use crate::answer::{Answer, done};
 use crate::groups::kept_groups;
@@ -36,7 +35,6 @@ fn place_lines(alloc: Global, good: &ValidFrame, groups: &Groups) -> Result<Text
 fn place_answer(alloc: Global, good: &ValidFrame, groups: &Groups) -> Result<Answer, NoMemory>
     requires { AreGrouped (numbered good.now) groups.now }
     ensures frame { IfOk result (PlacesFrame good.now) }
-    ensures has_text { IfOk result (λ answer. HasText answer.status) }
 {
     Ok(done(place_lines(alloc, good, groups)?))
 }
@@ -44,7 +42,6 @@ fn place_answer(alloc: Global, good: &ValidFrame, groups: &Groups) -> Result<Ans
 /// The answer to the command on a valid frame.
 pub fn place_frame(alloc: Global, good: &ValidFrame) -> Result<Answer, NoMemory>
     ensures frame { IfOk result (PlacesFrame good.now) }
-    ensures has_text { IfOk result (λ answer. HasText answer.status) }
 {
     let groups = kept_groups(alloc, good)?;
     place_answer(alloc, good, &groups)

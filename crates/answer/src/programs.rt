@@ -3,11 +3,10 @@
 ghost use Rattle.std.specs.Prelude.{◌≡◌, ◌⊎◌, IfOk, IfErr};
 ghost use Rattle.check_program.specs.Sound.{IsSound};
 ghost use Rattle.answer.specs.Answers.{Accepts, AnswersProgram, AnswersProgramFile};
-ghost use Rattle.answer.specs.Statuses.{HasText};
 ghost use Rattle.compile_file.specs.Files.{program_file};
 ghost use Rattle.answer.specs.Plain.{Rejects, rejection};
 
-use crate::Status;
+use crate::AnswerStatus;
 use crate::answer::{Answer, done, program_refusal};
 use base::NoMemory;
 use check_program::{CheckError, Checked, Hazard, check};
@@ -25,7 +24,6 @@ pub fn answer_program_file(
     bytes: &[u8],
 ) -> Result<Answer, NoMemory>
     ensures file { IfOk result (AnswersProgramFile asked (program_file bytes.now)) }
-    ensures has_text { IfOk result (λ answer. HasText answer.status) }
 {
     match valid_program(alloc, bytes) {
         Ok(program) => answer_program(alloc, asked, program),
@@ -40,7 +38,6 @@ fn answer_program(
     program: ValidProgram,
 ) -> Result<Answer, NoMemory>
     ensures program { IfOk result (AnswersProgram asked program) }
-    ensures has_text { IfOk result (λ answer. HasText answer.status) }
 {
     match asked {
         SubmissionCommand::Check { json: _ } => check_program(alloc, program),
@@ -50,7 +47,6 @@ fn answer_program(
 // Sound or not.
 fn check_program(alloc: Global, program: ValidProgram) -> Result<Answer, NoMemory>
     ensures checked { IfOk result (λ answer. Accepts program answer ⊎ Rejects program answer) }
-    ensures has_text { IfOk result (λ answer. HasText answer.status) }
 {
     let nodes = program.node_count();
     match checked(alloc, program) {
@@ -63,7 +59,6 @@ fn check_program(alloc: Global, program: ValidProgram) -> Result<Answer, NoMemor
 pub fn checked(alloc: Global, program: ValidProgram) -> Result<Checked, Result<Answer, NoMemory>>
     ensures ok { IfOk result (λ checked. (checked.program ≡ program) × IsSound program) }
     ensures err { IfErr result (λ end. IfOk end (Rejects program)) }
-    ensures has_text { IfErr result (λ end. IfOk end (λ answer. HasText answer.status)) }
 {
     match check(alloc, program) {
         Ok(checked) => Ok(checked),
@@ -77,7 +72,7 @@ fn rejection(alloc: Global, hazard: &Hazard) -> Result<Answer, NoMemory>
     ensures { IfOk result (λ answer. answer ≡ rejection hazard.now) }
 {
     Ok(Answer {
-        status: Status::Rejected,
+        status: AnswerStatus::Rejected,
         text: hazard_text(alloc, hazard)?,
     })
 }
