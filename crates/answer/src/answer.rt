@@ -7,7 +7,7 @@ use crate::AnswerStatus;
 use base::{NoMemory, Text};
 use frame::FrameFault;
 use program::ProgramFault;
-use report::{frame_fault_text, program_fault_text};
+use report_json::{frame_fault_told, program_fault_told};
 use std::alloc::Global;
 
 /// A status, and the whole text that goes with it.
@@ -29,22 +29,22 @@ pub fn done(text: Text) -> Answer
     }
 }
 
-/// The answer to a frame file with a fault.
-pub fn refusal(alloc: Global, fault: &FrameFault) -> Result<Answer, NoMemory>
-    ensures { IfOk result (λ answer. answer ≡ refusal fault.now) }
+/// The answer to a frame file with a fault, as JSON where that is asked for.
+pub fn refusal(alloc: Global, json: bool, fault: &FrameFault) -> Result<Answer, NoMemory>
+    ensures { IfOk result (λ answer. answer ≡ refusal json fault.now) }
 {
     Ok(Answer {
         status: AnswerStatus::Refused,
-        text: frame_fault_text(alloc, fault)?,
+        text: frame_fault_told(alloc, json, fault)?,
     })
 }
 
-/// The answer to a submission with a fault.
-pub fn program_refusal(alloc: Global, fault: &ProgramFault) -> Result<Answer, NoMemory>
-    ensures { IfOk result (λ answer. answer ≡ program_refusal fault.now) }
+/// The answer to a submission with a fault, as JSON where that is asked for.
+pub fn program_refusal(alloc: Global, json: bool, fault: &ProgramFault) -> Result<Answer, NoMemory>
+    ensures { IfOk result (λ answer. answer ≡ program_refusal json fault.now) }
 {
     Ok(Answer {
         status: AnswerStatus::Refused,
-        text: program_fault_text(alloc, fault)?,
+        text: program_fault_told(alloc, json, fault)?,
     })
 }

@@ -9,7 +9,7 @@ use crate::answer::{Answer, done};
 use base::NoMemory;
 use frame::ValidFrame;
 use frame_cull::{Kept, cull, versions_of};
-use report::cull_text;
+use report_json::cull_told;
 use std::alloc::Global;
 
 /// Which passes of a frame are kept.
@@ -22,10 +22,10 @@ pub fn kept_of(alloc: Global, good: &ValidFrame) -> Result<Kept, NoMemory>
 
 /// The answer to the command on a valid frame.
 #[tactic(auto, using(crate::proofs::KeptLemmas::one_each))]
-pub fn cull_frame(alloc: Global, good: &ValidFrame) -> Result<Answer, NoMemory>
-    ensures frame { IfOk result (CullsFrame good.now) }
+pub fn cull_frame(alloc: Global, json: bool, good: &ValidFrame) -> Result<Answer, NoMemory>
+    ensures frame { IfOk result (CullsFrame json good.now) }
 {
     let kept = kept_of(alloc, good)?;
-    let text = cull_text(alloc, good, &kept)?;
+    let text = cull_told(alloc, json, good, &kept)?;
     Ok(done(text))
 }

@@ -42,13 +42,15 @@ pub fn limit_of(file: File) -> usize
     }
 }
 
-/// The answer to more bytes than the limit.
-pub fn over_input(alloc: Global, file: File) -> Result<Answer, NoMemory>
-    ensures over { IfOk result (λ answer. answer ≡ over_input file) }
+/// The answer to more bytes than the limit, as JSON where that is asked for.
+pub fn over_input(alloc: Global, json: bool, file: File) -> Result<Answer, NoMemory>
+    ensures over { IfOk result (λ answer. answer ≡ over_input json file) }
 {
     let place = List::new(alloc);
     match file {
-        File::Frame => refusal(alloc, &FrameFault::over_limit(Limit::Input, place)),
-        File::Submission => program_refusal(alloc, &ProgramFault::over_limit(Limit::Input, place)),
+        File::Frame => refusal(alloc, json, &FrameFault::over_limit(Limit::Input, place)),
+        File::Submission => {
+            program_refusal(alloc, json, &ProgramFault::over_limit(Limit::Input, place))
+        }
     }
 }

@@ -8,13 +8,14 @@ ghost use Rattle.answer.specs.Plain.{Rejects, rejection};
 
 use crate::AnswerStatus;
 use crate::answer::{Answer, done, program_refusal};
+use crate::as_json::submission_json;
 use base::NoMemory;
 use check_program::{CheckError, Checked, Hazard, check};
 use cli::SubmissionCommand;
 use compile_file::valid_program;
 use file_program::ProgramReadError;
 use program::ValidProgram;
-use report::{check_text, hazard_text};
+use report_json::{check_told, hazard_told};
 use std::alloc::Global;
 
 /// The answer to the bytes of a submission.
@@ -27,7 +28,11 @@ pub fn answer_program_file(
 {
     match valid_program(alloc, bytes) {
         Ok(program) => answer_program(alloc, asked, program),
-        Err(ProgramReadError::Refused(fault)) => program_refusal(alloc, &fault),
+        Err(ProgramReadError::Refused(fault)) => program_refusal(
+            alloc,
+            submission_json(asked),
+            &fault,
+        ),
         Err(ProgramReadError::NoMemory) => Err(NoMemory),
     }
 }
@@ -40,39 +45,43 @@ fn answer_program(
     ensures program { IfOk result (AnswersProgram asked program) }
 {
     match asked {
-        SubmissionCommand::Check { json: _ } => check_program(alloc, program),
+        SubmissionCommand::Check { json } => check_program(alloc, json, program),
     }
 }
 
 // Sound or not.
-fn check_program(alloc: Global, program: ValidProgram) -> Result<Answer, NoMemory>
-    ensures checked { IfOk result (λ answer. Accepts program answer ⊎ Rejects program answer) }
+fn check_program(alloc: Global, json: bool, program: ValidProgram) -> Result<Answer, NoMemory>
+    ensures checked { IfOk result (λ answer. Accepts json program answer ⊎ Rejects json program answer) }
 {
     let nodes = program.node_count();
-    match checked(alloc, program) {
-        Ok(_) => Ok(done(check_text(alloc, nodes)?)),
+    match checked(alloc, json, program) {
+        Ok(_) => Ok(done(check_told(alloc, json, nodes)?)),
         Err(answer) => answer,
     }
 }
 
-/// The program, where it is sound, or else the answer to it.
-pub fn checked(alloc: Global, program: ValidProgram) -> Result<Checked, Result<Answer, NoMemory>>
+/// The program, where it is sound, or else the answer to it, as JSON where that is asked for.
+pub fn checked(
+    alloc: Global,
+    json: bool,
+    program: ValidProgram,
+) -> Result<Checked, Result<Answer, NoMemory>>
     ensures ok { IfOk result (λ checked. (checked.program ≡ program) × IsSound program) }
-    ensures err { IfErr result (λ end. IfOk end (Rejects program)) }
+    ensures err { IfErr result (λ end. IfOk end (Rejects json program)) }
 {
     match check(alloc, program) {
         Ok(checked) => Ok(checked),
-        Err(CheckError::Refused(hazard, _)) => Err(rejection(alloc, &hazard)),
+        Err(CheckError::Refused(hazard, _)) => Err(rejection(alloc, json, &hazard)),
         Err(CheckError::NoMemory) => Err(Err(NoMemory)),
     }
 }
 
 // The answer to a program that is not sound.
-fn rejection(alloc: Global, hazard: &Hazard) -> Result<Answer, NoMemory>
-    ensures { IfOk result (λ answer. answer ≡ rejection hazard.now) }
+fn rejection(alloc: Global, json: bool, hazard: &Hazard) -> Result<Answer, NoMemory>
+    ensures { IfOk result (λ answer. answer ≡ rejection json hazard.now) }
 {
     Ok(Answer {
         status: AnswerStatus::Rejected,
-        text: hazard_text(alloc, hazard)?,
+        text: hazard_told(alloc, json, hazard)?,
     })
 }

@@ -193,7 +193,7 @@ fn fills(rt: HostRuntime) -> Result<(), Fail> {
 }
 
 // A fill and two copies, one after another, that nobody exports.
-const CHAIN: &str =
+pub(crate) const CHAIN: &str =
     r#"{"format":1,"queues":[{"name":"g","family":"graphics"}],"resources":[{"name":"x","buffer":4},{"name":"y","buffer":4},{"name":"z","buffer":4}],"passes":[{"name":"a","queue":"g","writes":[{"new":"x"}],"ops":[{"op":"fill_buffer","dst":"x","offset":0,"size":4,"word":7}]},{"name":"b","queue":"g","reads":["x"],"writes":[{"new":"y"}],"ops":[{"op":"copy_buffer","src":"x","dst":"y","src_offset":0,"dst_offset":0,"size":4}]},{"name":"c","queue":"g","reads":["y"],"writes":[{"new":"z"}],"ops":[{"op":"copy_buffer","src":"y","dst":"z","src_offset":0,"dst_offset":0,"size":4}]}],"exports":[]}"#;
 
 const CULLED: &str = "kept 0 culled 3\npass a culled\npass b culled\npass c culled\n";

@@ -51,9 +51,9 @@ pub record Judges (program : Program) (events : List Event) (answer : Answer) : 
 
 -- a fault of the submission comes before one of the trace, and that before a hazard
 abbrev pub AuditsTrace : Result Program ProgramFault → Result (List Event) TraceError → Answer → Type 0
-AuditsTrace (Err fault) trace answer = answer ≡ program_refusal fault
+AuditsTrace (Err fault) trace answer = answer ≡ program_refusal false fault
 AuditsTrace (Ok program) (Err end) answer = RefusesTrace end answer
-AuditsTrace (Ok program) (Ok events) answer = Judges program events answer ⊎ Rejects program answer
+AuditsTrace (Ok program) (Ok events) answer = Judges program events answer ⊎ Rejects false program answer
 
 -- a submission in one line, and a trace behind it
 abbrev pub AuditsFile : List ℕ → Answer → Type 0

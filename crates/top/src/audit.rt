@@ -1,6 +1,6 @@
 //! The command `audit`.
 
-ghost use Rattle.std.specs.Prelude.{◌≡◌, ◌⊎◌, ◌≤◌, ◌++◌, length, IfOk, Ok};
+ghost use Rattle.std.specs.Prelude.{◌≡◌, ◌⊎◌, ◌≤◌, ◌++◌, length, false, IfOk, Ok};
 ghost use Rattle.device_audit.specs.Trace.{trace_of};
 ghost use Rattle.device_audit.specs.Verdicts.{IfRun};
 ghost use Rattle.check_program.specs.Sound.{IsSound};
@@ -92,9 +92,9 @@ fn audit_events<R: Threads + Sync>(
     events: &[Event],
 ) -> Result<Answer, NoMemory>
     requires { length events.now ≤ 65536 }
-    ensures program { IfOk result (λ answer. Judges program events.now answer ⊎ Rejects program answer) }
+    ensures program { IfOk result (λ answer. Judges program events.now answer ⊎ Rejects false program answer) }
 {
-    match checked(alloc, program) {
+    match checked(alloc, false, program) {
         Ok(checked) => judge(rt, alloc, &checked, events),
         Err(answer) => answer,
     }
@@ -131,7 +131,7 @@ pub fn audit_file<R: Threads + Sync>(
     let recording = recording_in(bytes);
     match valid_program(alloc, recording.submission) {
         Ok(program) => audit_trace(rt, alloc, program, recording.trace),
-        Err(ProgramReadError::Refused(fault)) => program_refusal(alloc, &fault),
+        Err(ProgramReadError::Refused(fault)) => program_refusal(alloc, false, &fault),
         Err(ProgramReadError::NoMemory) => Err(NoMemory),
     }
 }

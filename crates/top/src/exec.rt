@@ -1,6 +1,6 @@
 //! The command `exec`.
 
-ghost use Rattle.std.specs.Prelude.{◌⊎◌, IfOk};
+ghost use Rattle.std.specs.Prelude.{◌⊎◌, false, IfOk};
 ghost use Rattle.check_program.specs.Sound.{IsSound};
 ghost use Rattle.top.specs.Answers.{ExecutesFile};
 ghost use Rattle.compile_file.specs.Files.{program_file};
@@ -47,9 +47,9 @@ fn execute_program<R: Threads + Wait + Sync, G: Gate + Sync>(
     program: ValidProgram,
     gate: &G,
 ) -> Result<Reply, NoMemory>
-    ensures program { IfOk result (λ reply. Executes options trace program reply ⊎ IsStill (Rejects program) reply) }
+    ensures program { IfOk result (λ reply. Executes options trace program reply ⊎ IsStill (Rejects false program) reply) }
 {
-    match checked(alloc, program) {
+    match checked(alloc, false, program) {
         Ok(checked) => execute_checked(rt, alloc, options, trace, &checked, gate),
         Err(answer) => Ok(still(answer?)),
     }
@@ -68,7 +68,7 @@ pub fn execute_file<R: Threads + Wait + Sync, G: Gate + Sync>(
 {
     match valid_program(alloc, bytes) {
         Ok(program) => execute_program(rt, alloc, options, trace, program, gate),
-        Err(ProgramReadError::Refused(fault)) => Ok(still(program_refusal(alloc, &fault)?)),
+        Err(ProgramReadError::Refused(fault)) => Ok(still(program_refusal(alloc, false, &fault)?)),
         Err(ProgramReadError::NoMemory) => Err(NoMemory),
     }
 }

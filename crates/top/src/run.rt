@@ -72,7 +72,7 @@ pub fn run_file<R: Threads + Wait + Sync, G: Gate + Sync>(
 {
     match valid_frame(alloc, bytes) {
         Ok(good) => run_frame(rt, alloc, options, trace, tight, &good, gate),
-        Err(FrameReadError::Refused(fault)) => Ok(still(refusal(alloc, &fault)?)),
+        Err(FrameReadError::Refused(fault)) => Ok(still(refusal(alloc, false, &fault)?)),
         Err(FrameReadError::NoMemory) => Err(NoMemory),
     }
 }
