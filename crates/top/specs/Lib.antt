@@ -1,5 +1,4 @@
 pub mod Answers
-pub mod AtRest
 pub mod Audits
 pub mod Calls
 pub mod Causes

@@ -5,7 +5,6 @@ ghost use Rattle.compile.specs.Right.{IsRightFor};
 ghost use Rattle.compile.specs.Submitted.{submitted};
 ghost use Rattle.frame.specs.Numbered.{numbered};
 ghost use Rattle.top.specs.Answers.{RunsFile};
-ghost use Rattle.answer.specs.Statuses.{HasText};
 ghost use Rattle.compile_file.specs.Files.{frame_file};
 ghost use Rattle.compile_file.specs.Compiles.{Compiles};
 ghost use Rattle.top.specs.Headline.{RunsFrame};
@@ -40,7 +39,6 @@ fn run_compiled<R: Threads + Wait + Sync, G: Gate + Sync>(
     requires right { IsRightFor (numbered good.now) made.now.program.program }
     ensures frame { (tight : Bool) → Compiles tight (numbered good.now) (submitted made.now) →
         IfOk result (RunsFrame options trace tight good.now) }
-    ensures has_text { IfOk result (λ reply. HasText reply.answer.status) }
 {
     let device = run_program(rt, alloc, &made.program, options, gate)?;
     let text = frame_text(alloc, good, &made.kept, &device, trace)?;
@@ -57,7 +55,6 @@ fn run_frame<R: Threads + Wait + Sync, G: Gate + Sync>(
     gate: &G,
 ) -> Result<Reply, NoMemory>
     ensures frame { IfOk result (RunsFrame options trace tight good.now) }
-    ensures has_text { IfOk result (λ reply. HasText reply.answer.status) }
 {
     let made = compiled(alloc, good, tight)?;
     run_compiled(rt, alloc, options, trace, good, &made, gate)
@@ -74,11 +71,10 @@ pub fn run_file<R: Threads + Wait + Sync, G: Gate + Sync>(
     gate: &G,
 ) -> Result<Reply, NoMemory>
     ensures file { IfOk result (RunsFile options trace tight (frame_file bytes.now)) }
-    ensures has_text { IfOk result (λ reply. HasText reply.answer.status) }
 {
     match valid_frame(alloc, bytes) {
         Ok(good) => run_frame(rt, alloc, options, trace, tight, &good, gate),
-        Err(FrameReadError::Refused(fault)) => Ok(still(refusal(alloc, &fault)?)),
+        Err(FrameReadError::Refused(fault)) => Ok(still(refusal(alloc, false, &fault)?)),
         Err(FrameReadError::NoMemory) => Err(NoMemory),
     }
 }

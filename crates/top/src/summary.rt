@@ -11,7 +11,6 @@ ghost use Rattle.compile.specs.Submitted.{submitted};
 ghost use Rattle.compile_file.specs.Compiles.{Compiles};
 ghost use Rattle.top.specs.Headline.{SummarizesFrame};
 ghost use Rattle.device_run.specs.Runs.{HasRun, read_by};
-ghost use Rattle.answer.specs.Statuses.{HasText};
 ghost use Rattle.top.specs.Summaries.{summary_with};
 ghost use Rattle.frame_cull.specs.Culled.{AreKept};
 
@@ -104,7 +103,6 @@ fn summarize_compiled<R: Threads + Wait + Sync, G: Gate + Sync>(
 ) -> Result<Reply, NoMemory>
     requires compiles { Compiles false (numbered good.now) (submitted made.now) }
     ensures frame { IfOk result (SummarizesFrame options good.now) }
-    ensures has_text { IfOk result (λ reply. HasText reply.answer.status) }
 {
     let device = run_program(rt, alloc, &made.program, options, gate)?;
     let total = exported(good, made, &device, options);
@@ -120,7 +118,6 @@ fn summarize_frame<R: Threads + Wait + Sync, G: Gate + Sync>(
     gate: &G,
 ) -> Result<Reply, NoMemory>
     ensures frame { IfOk result (SummarizesFrame options good.now) }
-    ensures has_text { IfOk result (λ reply. HasText reply.answer.status) }
 {
     let made = compiled(alloc, good, false)?;
     summarize_compiled(rt, alloc, options, good, &made, gate)
@@ -138,7 +135,6 @@ pub fn summarize<R: Threads + Wait + Sync, G: Gate + Sync>(
     requires some { 1 ≤ passes }
     requires few { passes ≤ 256 }
     ensures frame { IfOk result (SummarizesFrame options (generated number passes)) }
-    ensures has_text { IfOk result (λ reply. HasText reply.answer.status) }
 {
     let good = generate(alloc, number, passes)?;
     summarize_frame(rt, alloc, options, &good, gate)

@@ -1,6 +1,6 @@
 use Rattle.std.proofs.Common.{refl}
 use Rattle.top.proofs.CallLemmas.{called, nothing_as}
-use Rattle.top.proofs.devices.answer_words.Goals as goal
+use Rattle.top.proofs.devices.on_device.Goals as goal
 
 pub returns-clause-call : goal.returns-clause-call
 returns-clause-call g c =
