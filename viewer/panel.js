@@ -66,7 +66,7 @@ Viewer.panel = (() => {
       ...masks(one.item),
       ["other half", other],
       ["waits for", meets],
-      ...(Viewer.times.isMark(one) ? [] : touched),
+      ...(one.isMark ? [] : touched),
       ["reached", one.stuck ? "never: the queues are stuck before it" : ""],
     ]);
   }
