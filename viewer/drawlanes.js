@@ -17,7 +17,7 @@ Viewer.drawLanes = (() => {
       const close = () => {
         if (!open) return;
         Viewer.paint.box(context, open.begin, y, open.end - open.begin, lane.height, colours.batch, colours.line, 6);
-        drawn.batches++;
+        drawn.batches.push([q, open.number]);
         const [left, right] = [Math.max(open.begin, view.left), Math.min(open.end, view.right)];
         const text = [`batch ${open.number}`, String(open.number)].find((one) => Viewer.paint.widthOf(one, Viewer.paint.SMALL) <= right - left - 12);
         if (text && open.isOne) labels.push({ text, x: (left + right) / 2, y: y + 9.5 });

@@ -282,5 +282,5 @@ Viewer.page = (() => {
   }
 
   begin();
-  return { picture, take, act };
+  return { picture };
 })();

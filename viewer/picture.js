@@ -84,7 +84,7 @@ Viewer.Picture = class {
     const { context, view, colours, scene } = this;
     scene.colours = colours;
     scene.hits = [];
-    scene.drawn = { boxes: [], marks: [], unfolded: [], merged: 0, batches: 0, arrows: [], transfers: [], names: [], marked: [], pieces: [], bound: null, note: [] };
+    scene.drawn = { boxes: [], marks: [], unfolded: [], merged: 0, batches: [], arrows: [], transfers: [], names: [], marked: [], pieces: [], bound: null, note: [] };
     context.fillStyle = colours.ground;
     context.fillRect(0, 0, view.width, view.height);
     context.save();

@@ -38,7 +38,6 @@ COLLECT = """(() => {
   const { view } = picture;
   const before = [view.k, view.x, view.y];
   const sets = {};
-  let batches = 0;
   const across = view.width - view.left;
   for (let y = 0; y === 0 || y < view.wholeHeight; y += view.height - 20) {
     for (let x = 0; x === 0 || x < view.wholeWidth; x += across) {
@@ -105,7 +104,7 @@ class Wanted:
         for entry in program["pieces"]:
             for _ in range(entry.get("layers", 1) if "final" in entry else 0):
                 self.add("handover", {})
-        self.batches = sum(1 for queue in program["queues"] for batch in queue["batches"] if batch.get("waits") or batch.get("items") or "signal" in batch)
+        self.batches = [[q, b] for q, queue in enumerate(program["queues"]) for b, batch in enumerate(queue["batches"]) if batch.get("waits") or batch.get("items") or "signal" in batch]
         self.pieces = sum(entry.get("layers", 1) for entry in program["pieces"])
         self.meets = {n: self.signal(item) for n, (kind, item) in enumerate(zip(self.kinds, self.items)) if kind == "wait"}
         self.arrows = sorted([signal, wait] for wait, signal in self.meets.items() if signal is not None)
@@ -224,6 +223,7 @@ class Looks(Tally):
         wanted, drawn = Wanted(submission), page.evaluate(COLLECT)
         self.is_so(f"{name}: boxes", sorted(drawn["boxes"]), wanted.boxes())
         self.is_so(f"{name}: marks", sorted(drawn["marks"]), wanted.marks())
+        self.is_so(f"{name}: batches", sorted(drawn["batches"]), wanted.batches)
         self.is_so(f"{name}: arrows", sorted(drawn["arrows"]), wanted.arrows)
         self.is_so(f"{name}: transfers", sorted(drawn["transfers"]), wanted.transfers)
         self.is_so(f"{name}: pieces", sorted(drawn["pieces"]), list(range(wanted.pieces)))
