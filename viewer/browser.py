@@ -9,6 +9,8 @@ import subprocess
 import tempfile
 import time
 
+# The status of a script that found no browser: that is no pass.
+NO_BROWSER = 77
 NAMES = ("chromium", "chromium-browser", "google-chrome", "chrome")
 # No service of the browser itself is to run beside the page.
 QUIET = (
@@ -127,7 +129,8 @@ class Page:
             time.sleep(0.01)
 
     def settle(self):
-        """Waits until what was asked for is drawn."""
+        """Waits until what was asked for is drawn. The page is the viewer's."""
+        self.wait("typeof Viewer === 'object' && Viewer.page !== undefined")
         self.evaluate("new Promise((done) => requestAnimationFrame(() => requestAnimationFrame(() => done(1))))")
 
     def key(self, key):

@@ -2,6 +2,8 @@
 "use strict";
 Viewer.drawHeap = (() => {
   const INSET = 5;
+  // Where more pieces than these are too small for their words, none of these has them beside it.
+  const WORDY = 60;
 
   // The rectangle of a piece in its band. Bytes go upwards.
   function placeOf(scene, band, { piece, life, depth }) {
@@ -16,41 +18,62 @@ Viewer.drawHeap = (() => {
     return { x: x + inset, y: band.y + band.height - low - high + inset - view.y, width: Math.max(1, view.toX(life.end) - x - 2 * inset), height };
   }
 
+  // The words of a rectangle: its name, and its bytes where there is room for all of them, since a number is not cut.
+  function wordsOf(scene, one, room) {
+    const { SMALL, cut, widthOf } = Viewer.paint;
+    const piece = scene.program.pieces[one.piece];
+    const name = `${scene.shows.has(piece.name) ? "▲ " : ""}${Viewer.naming.piece(scene.program, one.piece)}`;
+    const all = `${name}  ${Viewer.paint.bytes(piece.bytes)}${one.isUsed ? "" : ", named by no node"}`;
+    return widthOf(all, SMALL) <= room ? all : cut(name, SMALL, room);
+  }
+
+  function edges(context, scene, place, colour, dash) {
+    context.save();
+    context.lineWidth = 2.5;
+    context.setLineDash(dash);
+    Viewer.paint.box(context, place.x, place.y, place.width, place.height, null, colour, 3);
+    context.restore();
+  }
+
+  // Draws a piece, and its words where they have room in it. Returns its place where they have not, or null.
   function rect(context, scene, band, one) {
     const { program, colours, view, drawn } = scene;
-    const piece = program.pieces[one.piece];
+    const { kind } = program.pieces[one.piece];
     const place = placeOf(scene, band, one);
-    if (place.x + place.width < view.left || place.x > view.right) return;
-    const isRelated = scene.related.has(one.piece);
-    context.lineWidth = isRelated ? 2.5 : 1;
+    if (place.x + place.width < view.left || place.x > view.right) return null;
     context.setLineDash(one.isUsed ? [] : [2, 4]);
-    Viewer.paint.box(context, place.x, place.y, place.width, place.height, one.isUsed ? colours.fill[piece.kind] : null, isRelated ? colours.chosen : colours.stroke[piece.kind], 3);
+    Viewer.paint.box(context, place.x, place.y, place.width, place.height, one.isUsed ? colours.fill[kind] : null, colours.stroke[kind], 3);
     context.setLineDash([]);
-    if (scene.clashing.has(one.piece)) {
-      context.save();
-      context.lineWidth = 2.5;
-      context.setLineDash([4, 3]);
-      Viewer.paint.box(context, place.x, place.y, place.width, place.height, null, colours.hazard, 3);
-      context.restore();
-    }
-    if (scene.foundPieces.has(one.piece)) {
-      context.lineWidth = 2.5;
-      Viewer.paint.box(context, place.x, place.y, place.width, place.height, null, colours.found, 3);
-    }
-    context.lineWidth = 1;
+    if (scene.related.has(one.piece)) edges(context, scene, place, colours.chosen, []);
+    if (scene.clashing.has(one.piece)) edges(context, scene, place, colours.hazard, [4, 3]);
+    if (scene.foundPieces.has(one.piece)) edges(context, scene, place, colours.found, []);
     drawn.pieces.push(one.piece);
     scene.hits.push({ ...place, piece: one.piece });
     const left = Math.max(place.x, view.left);
     const room = Math.min(place.x + place.width, view.right) - left - 12;
-    if (place.height < 11 || room < 20) return;
-    context.font = Viewer.paint.SMALL;
-    context.fillStyle = colours.ink;
+    const text = place.height < 11 || room < 20 ? "" : wordsOf(scene, one, room);
+    if (!text) return place;
     context.textBaseline = "middle";
-    const shows = scene.shows.has(piece.name) ? "▲ " : "";
-    const name = Viewer.naming.piece(program, one.piece);
-    const text = Viewer.paint.cut(context, `${shows}${name}  ${Viewer.paint.bytes(piece.bytes)}${one.isUsed ? "" : ", named by no node"}`, room);
-    context.fillText(text, left + 6, place.y + place.height / 2 + 0.5);
-    if (text) drawn.labels.push(name);
+    Viewer.paint.write(context, text, Viewer.paint.SMALL, colours.ink, left + 6, place.y + place.height / 2 + 0.5);
+    return null;
+  }
+
+  // The words of pieces that are too small for them stand behind them, or else before them, where nothing else is.
+  function beside(context, scene, taken, small) {
+    const { view, colours } = scene;
+    const meets = (a, b) => a.x < b.x + b.width && b.x < a.x + a.width && a.y < b.y + b.height && b.y < a.y + a.height;
+    context.textBaseline = "middle";
+    for (const { one, place } of small) {
+      const text = wordsOf(scene, one, Infinity);
+      const width = Viewer.paint.widthOf(text, Viewer.paint.SMALL) + 4;
+      const y = place.y + place.height / 2 - 6;
+      const spot = [place.x + place.width + 2, place.x - width - 2]
+        .map((x) => ({ x, y, width, height: 12 }))
+        .find((spot) => spot.x >= view.left && spot.x + width <= view.right && !taken.some((other) => !(other.x === place.x && other.y === place.y) && meets(other, spot)));
+      if (!spot) continue;
+      taken.push(spot);
+      Viewer.paint.write(context, text, Viewer.paint.SMALL, colours.ink, spot.x + 2, y + 6.5);
+    }
   }
 
   // A line through a band at a number of bytes, with its text at the right.
@@ -60,17 +83,16 @@ Viewer.drawHeap = (() => {
     context.save();
     context.strokeStyle = colour;
     context.lineWidth = 2;
-    context.setLineDash([10, 4]);
+    context.setLineDash(Viewer.paint.DASHES.bound);
     context.beginPath();
     context.moveTo(view.left, y);
     context.lineTo(view.right, y);
     context.stroke();
-    context.font = Viewer.paint.BOLD;
+    const { BOLD, box, widthOf, write } = Viewer.paint;
     context.textBaseline = "top";
-    const width = Viewer.paint.widthOf(context, text);
-    Viewer.paint.box(context, view.right - width - 14, y + 3, width + 10, 17, scene.colours.ground, null);
-    context.fillStyle = colour;
-    context.fillText(text, view.right - width - 9, y + 5);
+    const width = widthOf(text, BOLD);
+    box(context, view.right - width - 14, y + 3, width + 10, 17, scene.colours.ground, null);
+    write(context, text, BOLD, colour, view.right - width - 9, y + 5);
     context.restore();
   }
 
@@ -80,7 +102,10 @@ Viewer.drawHeap = (() => {
       if (band.y - view.y > view.height || band.y + band.height < view.y) continue;
       context.fillStyle = colours.lane;
       context.fillRect(view.left, band.y - view.y, view.right - view.left, band.height);
-      for (const one of band.rects) rect(context, scene, band, one);
+      context.lineWidth = 1;
+      const first = scene.hits.length;
+      const small = band.rects.map((one) => ({ one, place: rect(context, scene, band, one) })).filter(({ place }) => place);
+      if (small.length <= WORDY) beside(context, scene, scene.hits.slice(first), small);
     }
     if (heap.divider !== null) {
       context.strokeStyle = colours.line;

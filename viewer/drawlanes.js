@@ -1,132 +1,97 @@
-// Draws the lanes: batches, boxes, marks, arrows, and a hazard's two sides.
+// Draws the lanes: batches, nodes, arrows, and a hazard's two sides.
 "use strict";
 Viewer.drawLanes = (() => {
   const { BOX, topOf, between } = Viewer.lanes;
-  const LETTERS = { wait: "W", signal: "S", global: "M", buffer: "B", image: "I", release: "R", acquire: "A" };
-  // Below so many pixels nodes that fall together are drawn as one.
-  const THIN = 2.5;
+  const { placeOf } = Viewer.drawNodes;
+  // Below so many pixels nodes are drawn as columns, and batches as one with what is beside them.
+  const [THIN, NARROW] = [2.5, 18];
 
-  const sortOf = (node) => (node.kind === "command" ? Viewer.tables.sortOf(node.item) : node.kind);
-
-  // Where a node is on the screen.
-  function placeOf(scene, n) {
-    const { view, times } = scene;
-    const x = view.toX(times.begins[n]);
-    return { x, y: topOf(scene.lanes, n) - view.y, width: Math.max(1, view.toX(times.ends[n]) - x), height: BOX };
-  }
-
+  // Boxes round batches, narrow ones that meet as one. Returns the words that are written on them when the arrows are drawn.
   function batches(context, scene) {
     const { program, times, view, colours, drawn } = scene;
+    const labels = [];
     program.queues.forEach((queue, q) => {
       const lane = scene.lanes.lanes[q];
-      let painted = -1;
-      queue.batches.forEach((batch, b) => {
+      const y = lane.y - view.y;
+      let open = null;
+      const close = () => {
+        if (!open) return;
+        Viewer.paint.box(context, open.begin, y, open.end - open.begin, lane.height, colours.batch, colours.line, 6);
+        drawn.batches.push([q, open.number]);
+        const [left, right] = [Math.max(open.begin, view.left), Math.min(open.end, view.right)];
+        const text = [`batch ${open.number}`, String(open.number)].find((one) => Viewer.paint.widthOf(one, Viewer.paint.SMALL) <= right - left - 12);
+        if (text && open.isOne) labels.push({ text, x: (left + right) / 2, y: y + 9.5 });
+      };
+      queue.batches.forEach((batch, number) => {
         if (batch.end === batch.first) return;
-        let [begin, end] = [Infinity, -Infinity];
-        for (const n of [batch.first, batch.end - 1]) [begin, end] = [Math.min(begin, times.begins[n]), Math.max(end, times.ends[n])];
-        const [x0, x1] = [view.toX(begin) - 5, view.toX(end) + 5];
-        if (x1 < view.left || x0 > view.right || x1 - painted < 2) return;
-        painted = x1;
-        Viewer.paint.box(context, x0, lane.y - view.y, x1 - x0, lane.height, colours.batch, colours.line, 6);
-        drawn.batches++;
-        if (x1 - x0 < 40) return;
-        context.font = Viewer.paint.SMALL;
-        context.fillStyle = colours.pale;
-        context.textBaseline = "middle";
-        context.textAlign = "left";
-        context.fillText(Viewer.paint.cut(context, `batch ${b}`, x1 - x0 - 12), Math.max(x0, view.left) + 7, lane.y - view.y + 9.5);
+        const [a, b] = [batch.first, batch.end - 1];
+        const begin = view.toX(Math.min(times.begins[a], times.begins[b])) - 5;
+        const end = view.toX(Math.max(times.ends[a], times.ends[b])) + 5;
+        if (end < view.left || begin > view.right) return;
+        const isNarrow = end - begin < NARROW;
+        if (open && isNarrow && open.isNarrow && begin - open.end < 3) {
+          open.end = Math.max(open.end, end);
+          open.isOne = false;
+          return;
+        }
+        close();
+        open = { begin, end, number, isNarrow, isOne: true };
       });
+      close();
     });
+    return labels;
   }
 
-  function command(context, scene, node, { x, y, width, height }) {
-    const { colours, program } = scene;
-    const sort = sortOf(node);
-    Viewer.paint.box(context, x, y, width, height, colours.fill[sort], colours.stroke[sort]);
-    if (node.stuck) stuck(context, scene, { x, y, width, height });
-    if (width < 8) return;
-    context.fillStyle = Viewer.paint.pattern(context, sort, colours.stroke[sort]);
-    context.fillRect(x + 1, y + 1, 5, height - 2);
-    if (width < 20) return;
-    context.textBaseline = "alphabetic";
-    context.fillStyle = colours.ink;
-    context.font = Viewer.paint.BOLD;
-    const label = Viewer.naming.label(program, node);
-    if (width < 46) return upright(context, scene, label, { x, y, width, height });
-    const name = Viewer.paint.cut(context, label, width - 14);
-    context.fillText(name, x + 10, y + 18);
-    context.font = Viewer.paint.SMALL;
-    context.fillStyle = colours.pale;
-    const below = node.name && node.kind === "command" ? `${Viewer.naming.kind(node)} ${Viewer.naming.about(program, node)}` : node.kind === "command" ? Viewer.naming.about(program, node) : Viewer.naming.kind(node);
-    context.fillText(Viewer.paint.cut(context, below, width - 14), x + 10, y + 35);
-    if (name) scene.drawn.names.push(name);
-  }
-
-  // A name in a box that is too narrow for it goes upwards.
-  function upright(context, scene, label, { x, y, width, height }) {
+  // The words on batches, in the middle, since arrows come to both ends; and on a ground of their own.
+  function written(context, scene, labels) {
+    const { colours } = scene;
     context.save();
-    context.translate(x + 6 + (width - 6) / 2, y + height - 3);
-    context.rotate(-Math.PI / 2);
-    context.font = Viewer.paint.SMALL;
+    context.textAlign = "center";
     context.textBaseline = "middle";
-    const name = Viewer.paint.cut(context, label, height - 5);
-    context.fillText(name, 0, 0);
+    context.lineWidth = 3;
+    context.lineJoin = "round";
+    context.strokeStyle = colours.batch;
+    for (const { text, x, y } of labels) {
+      context.font = Viewer.paint.SMALL;
+      context.strokeText(text, x, y);
+      Viewer.paint.write(context, text, Viewer.paint.SMALL, colours.pale, x, y);
+    }
     context.restore();
-    if (name) scene.drawn.names.push(name);
   }
 
-  function mark(context, scene, node, { x, y, width, height }) {
-    const { colours, open } = scene;
-    const isWait = node.kind === "wait" || node.kind === "signal";
-    const isTransfer = node.kind === "release" || node.kind === "acquire";
-    const line = isWait ? colours.wait : isTransfer ? colours["transfer-arrow"] : colours["mark-ink"];
-    Viewer.paint.box(context, x, y, width, height, colours.mark, line, 3);
-    if (node.stuck) stuck(context, scene, { x, y, width, height });
-    if (node.joined) {
-      context.fillStyle = line;
-      context.fillRect(x - 3, y + height / 2 - 1, 6, 2);
-    }
-    if (width < 8) return;
-    context.fillStyle = line;
-    context.font = Viewer.paint.BOLD;
-    context.textBaseline = "middle";
-    if (!open.has(node.number)) {
-      const letter = LETTERS[node.kind];
-      context.fillText(letter, x + width / 2 - Viewer.paint.widthOf(context, letter) / 2, y + 13);
-      // A layout that changes is a diamond below the letter.
-      if (node.item.from !== undefined && node.item.from !== node.item.to) {
-        const [middle, low] = [x + width / 2, y + height - 13];
-        context.beginPath();
-        for (const [dx, dy] of [[0, -5], [4.5, 0], [0, 5], [-4.5, 0]]) context.lineTo(middle + dx, low + dy);
-        context.fill();
+  // The nodes of one lane. What is too narrow for a box is a column, and of what falls on one column a command is seen before marks.
+  function nodesOf(context, scene, lane) {
+    const { program, times, view, colours, drawn, hits } = scene;
+    const columns = () => Array.from({ length: lane.rows }, () => new Viewer.paint.Columns(view.left, view.right));
+    const [thin, found] = [columns(), columns()];
+    const [first, end] = between(lane, times, view.toTime(view.left), view.toTime(view.right));
+    for (let k = first; k < end; k++) {
+      const n = lane.nodes[k];
+      const node = program.nodes[n];
+      const row = scene.lanes.rowOf[n];
+      const width = (times.ends[n] - times.begins[n]) * view.k;
+      if (width < THIN) {
+        const x = view.toX(times.begins[n]);
+        if (scene.found.has(n)) found[row].set(x, colours.found);
+        const before = thin[row].at(x);
+        if (before === null) hits.push({ ...placeOf(scene, n), node: n });
+        if (before === null || !node.isMark) thin[row].set(x, node.isMark ? Viewer.drawNodes.inkOf(node, colours) : colours.stroke[Viewer.drawNodes.sortOf(node)]);
+        drawn.merged++;
+        continue;
       }
-      return;
+      const place = placeOf(scene, n);
+      if (node.isMark) Viewer.drawNodes.mark(context, scene, node, place);
+      else Viewer.drawNodes.command(context, scene, node, place);
+      (node.isMark ? drawn.marks : drawn.boxes).push(n);
+      hits.push({ ...place, node: n });
+      if (scene.found.has(n)) outlined(context, place, colours.found, 2);
     }
-    scene.drawn.unfolded.push(node.number);
-    if (width < 30) return;
-    context.textBaseline = "alphabetic";
-    const lines = Viewer.times.unfolded(scene.program, node);
-    const step = Math.min(13, (height - 4) / lines.length);
-    lines.forEach((text, k) => {
-      context.font = k ? Viewer.paint.SMALL : Viewer.paint.BOLD;
-      if (lines.length > 3) context.font = context.font.replace(/1[12]px/, "10px");
-      context.fillStyle = k ? colours.ink : line;
-      context.fillText(Viewer.paint.cut(context, text, width - 10), x + 6, y + 2 + step * (k + 0.8));
-    });
-  }
-
-  // What is never reached is hatched.
-  function stuck(context, scene, { x, y, width, height }) {
-    if (width < 6) return;
-    context.strokeStyle = scene.colours.line;
-    context.beginPath();
-    for (let dx = -height; dx < width; dx += 9) {
-      const from = Math.max(dx, 0);
-      const to = Math.min(dx + height, width);
-      context.moveTo(x + from, y + height - (from - dx));
-      context.lineTo(x + to, y + height - (to - dx));
+    for (let row = 0; row < lane.rows; row++) {
+      const y = Viewer.lanes.rowTop(lane, row) - view.y;
+      thin[row].fill(context, y, BOX);
+      found[row].fill(context, y - 4, 3);
+      found[row].fill(context, y + BOX + 1, 3);
     }
-    context.stroke();
   }
 
   function outlined(context, { x, y, width, height }, colour, by, dash = []) {
@@ -137,56 +102,48 @@ Viewer.drawLanes = (() => {
     context.restore();
   }
 
-  function boxes(context, scene) {
-    const { program, times, view, colours, drawn, hits } = scene;
-    for (const lane of scene.lanes.lanes) {
-      if (lane.y - view.y > view.height || lane.y + lane.height < view.y) continue;
-      let painted = -Infinity;
-      const [first, end] = between(lane, times, view.toTime(view.left), view.toTime(view.right));
-      for (let k = first; k < end; k++) {
-        const n = lane.nodes[k];
-        if (view.toX(times.ends[n]) - painted < 1) {
-          drawn.merged++;
-          continue;
-        }
-        const node = program.nodes[n];
-        const place = placeOf(scene, n);
-        if (place.width < THIN) {
-          context.fillStyle = Viewer.times.isMark(node) ? colours["mark-ink"] : colours.stroke[sortOf(node)];
-          context.fillRect(place.x, place.y, Math.max(1, place.width), place.height);
-        } else if (Viewer.times.isMark(node)) mark(context, scene, node, place);
-        else command(context, scene, node, place);
-        painted = Math.max(painted, place.x + place.width);
-        (Viewer.times.isMark(node) ? drawn.marks : drawn.boxes).push(n);
-        hits.push({ ...place, node: n });
-        if (scene.found.has(n)) outlined(context, place, colours.found, 2);
-      }
-    }
-  }
-
   // The point of a node at which an arrow to or from another one begins or ends.
   function end(scene, n, other) {
-    const place = placeOf(scene, n);
-    const isAbove = topOf(scene.lanes, n) < topOf(scene.lanes, other);
-    return [place.x + place.width / 2, isAbove ? place.y + place.height : place.y];
+    const { view, times } = scene;
+    const [top, otherTop] = [topOf(scene.lanes, n), topOf(scene.lanes, other)];
+    return [view.toX((times.begins[n] + times.ends[n]) / 2), top - view.y + (top < otherTop ? BOX : 0)];
   }
 
-  // Arrows between nodes, those alone that are in view, and of those that fall together one.
-  function arrows(context, scene, pairs, kept, colour, how) {
-    const { times, view } = scene;
-    const seen = new Set();
-    const found = [];
+  // Arrows between nodes: those alone that are in view. Without heads steep ones are columns, and of others that fall together one is
+  // drawn. Where the chosen node has arrows the others are pale.
+  function arrows(context, scene, pairs, kept, line, width) {
+    const { times, view, colours } = scene;
     const [left, right] = [view.toTime(view.left), view.toTime(view.right)];
+    const head = view.k > 0.12;
+    const chosen = scene.chosen?.node;
+    const [plain, own, seen, steep] = [[], [], new Set(), new Map()];
     for (const { from, to } of pairs) {
       if (Math.max(times.ends[from], times.ends[to]) < left || Math.min(times.begins[from], times.begins[to]) > right) continue;
       const [a, b] = [end(scene, from, to), end(scene, to, from)];
+      kept.push([from, to]);
+      if (from === chosen || to === chosen) {
+        own.push([a, b]);
+        continue;
+      }
+      if (!head && Math.abs(a[0] - b[0]) < 3) {
+        const lanes = a[1] * 65536 + b[1];
+        if (!steep.has(lanes)) steep.set(lanes, { top: Math.min(a[1], b[1]), height: Math.abs(a[1] - b[1]), columns: new Viewer.paint.Columns(view.left, view.right) });
+        steep.get(lanes).columns.set((a[0] + b[0]) / 2, colours[line]);
+        continue;
+      }
       const key = `${Math.round(a[0] / 3)} ${Math.round(b[0] / 3)} ${a[1]} ${b[1]}`;
       if (seen.has(key)) continue;
       seen.add(key);
-      found.push([a, b]);
-      kept.push([from, to]);
+      plain.push([a, b]);
     }
-    Viewer.paint.arrows(context, found, colour, { ...how, head: view.k > 0.12 });
+    const dash = Viewer.paint.DASHES[line];
+    context.save();
+    context.globalAlpha = scene.hasArrows ? 0.3 : 1;
+    Viewer.paint.arrows(context, plain, colours[line], { dash, width, head });
+    context.globalAlpha *= 0.5;
+    for (const { top, height, columns } of steep.values()) columns.fill(context, top, height);
+    context.restore();
+    Viewer.paint.arrows(context, own, colours[line], { dash, width: width + 1.5, head: true });
   }
 
   // The sides of the hazard, with a dashed line between them.
@@ -199,7 +156,7 @@ Viewer.drawLanes = (() => {
         context.save();
         context.strokeStyle = colours.hazard;
         context.lineWidth = 2.5;
-        context.setLineDash([7, 5]);
+        context.setLineDash(Viewer.paint.DASHES.hazard);
         context.beginPath();
         context.moveTo(...a);
         const low = Math.max(a[1], b[1]) + 26;
@@ -208,11 +165,14 @@ Viewer.drawLanes = (() => {
         context.restore();
       }
     }
+    // Where the first flag ends: one that stands in its row comes behind it.
+    let free = { y: -1, x: 0 };
     places.forEach((place, k) => {
       if (place.x + place.width < view.left || place.x > view.right) return;
       outlined(context, place, colours.hazard, 3);
       outlined(context, place, colours.hazard, 7, [4, 3]);
-      Viewer.paint.flag(context, place.x - 3, place.y - 4, places.length === 2 ? `${scene.hazard} ${k + 1} of 2` : scene.hazard, colours);
+      const x = place.y === free.y && place.x < free.x ? free.x : place.x - 3;
+      free = { y: place.y, x: Viewer.paint.flag(context, x, place.y - 4, places.length === 2 ? `${scene.hazard} ${k + 1} of 2` : scene.hazard, colours) + 2 };
       drawn.marked.push(scene.sides[k]);
     });
   }
@@ -225,13 +185,16 @@ Viewer.drawLanes = (() => {
       context.fillStyle = colours.lane;
       context.fillRect(view.left, lane.y - view.y, view.right - view.left, lane.height);
     }
-    batches(context, scene);
-    boxes(context, scene);
-    arrows(context, scene, program.arrows, drawn.arrows, colours.wait, { width: 1.5, dash: [] });
-    arrows(context, scene, program.transfers, drawn.transfers, colours["transfer-arrow"], { width: 2, dash: [6, 3] });
+    const labels = batches(context, scene);
+    for (const lane of scene.lanes.lanes) {
+      if (lane.y - view.y <= view.height && lane.y + lane.height >= view.y) nodesOf(context, scene, lane);
+    }
+    arrows(context, scene, program.arrows, drawn.arrows, "wait", 1.5);
+    arrows(context, scene, program.transfers, drawn.transfers, "transfer-arrow", 2);
+    written(context, scene, labels);
     hazard(context, scene);
     if (scene.chosen?.node !== undefined) outlined(context, placeOf(scene, scene.chosen.node), colours.chosen, 2);
   }
 
-  return { all, placeOf, sortOf, LETTERS };
+  return { all };
 })();

@@ -1,4 +1,4 @@
-// Whether a value has the form of a submission file, as far as a picture needs it. The first thing that is wrong is told in words.
+// Whether a value has the form of a submission file or a frame, as far as a picture needs it. The first thing that is wrong is told in words.
 // The program judges more than this (`check`): the page draws whatever can be drawn.
 "use strict";
 Viewer.form = (() => {
@@ -142,17 +142,24 @@ Viewer.form = (() => {
     })(value);
   }
 
-  // What is wrong with the value, in words; or null.
-  function wrong(value) {
+  // A frame, as far as names are taken from it.
+  const frame = object({
+    queues: list(object({ name: text })),
+    resources: list(object({ name: text, layers: optional(few) })),
+    passes: list(object({ name: text, queue: text, ops: optional(list(isObject)) })),
+    exports: list(text),
+  });
+
+  // What the readers find wrong with a value, in words; or null.
+  const told = (...readers) => (value) => {
     try {
-      submission(value);
-      numbers(value);
+      for (const reader of readers) reader(value);
       return null;
     } catch (error) {
       if (error instanceof Wrong) return `$${error.path}: ${error.message}`;
       throw error;
     }
-  }
+  };
 
-  return { wrong };
+  return { wrong: told(submission, numbers), wrongFrame: told(frame) };
 })();

@@ -75,7 +75,7 @@ Viewer.hazard = (() => {
 
   // A hazard as the page tells it: its sides, each with a number, a head and lines; and the sentences on it.
   function explained(program, told) {
-    const known = told.nodes.every((number) => program.nodes[number]);
+    const known = told.nodes.every((number) => program.nodes[number]) && [told.piece, told.other].every((number) => number === undefined || program.pieces[number]);
     if (!known) return { ...told, sides: [], what: Viewer.words.hazard(told.hazard), missing: "", strange: "This verdict is not of this submission." };
     const touches = touchesOf(program, told);
     const sides = told.nodes.map((number, k) => side(program, number, touches[k]));

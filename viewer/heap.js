@@ -57,7 +57,7 @@ Viewer.heap = (() => {
       return one;
     };
     const greatest = Math.max(1, ...shared.map((memory) => memory.size));
-    const flat = (memory) => (memory.pieces.length > 1 ? 56 : 22);
+    const flat = (memory) => (memory.pieces.length > 1 ? 56 : 30);
     const left = room - top - 24 - apart.reduce((sum, memory) => sum + flat(memory) + 6, 0) - 6 * shared.length;
     const parts = shared.reduce((sum, memory) => sum + memory.size / greatest, 0);
     const most = tall ?? Math.min(MOST, Math.max(LEAST, left / parts));

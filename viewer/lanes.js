@@ -46,8 +46,9 @@ Viewer.lanes = (() => {
     return { lanes, of: laneOfNode, rowOf, bottom: y };
   }
 
-  // The upper edge of a node's box.
-  const topOf = (lanes, n) => lanes.lanes[lanes.of[n]].y + HEAD + lanes.rowOf[n] * ROW;
+  // The upper edge of a row of a lane, and of a node's box.
+  const rowTop = (lane, row) => lane.y + HEAD + row * ROW;
+  const topOf = (lanes, n) => rowTop(lanes.lanes[lanes.of[n]], lanes.rowOf[n]);
 
   // From which to which place in the list of its nodes a lane has what lies between two times.
   function between(lane, times, left, right) {
@@ -62,5 +63,5 @@ Viewer.lanes = (() => {
     return [low, end];
   }
 
-  return { of, topOf, between, BOX, HEAD };
+  return { of, rowTop, topOf, between, BOX };
 })();

@@ -92,6 +92,9 @@ Viewer.naming = (() => {
   };
   const kind = (node) => (node.kind === "command" ? node.item.op : (KINDS[node.kind] ?? node.kind));
 
+  // The letters of marks, in the picture and in the legend.
+  const LETTERS = { wait: "W", signal: "S", global: "M", buffer: "B", image: "I", release: "R", acquire: "A" };
+
   // What stands beside a node's name: the operation with its pieces, a barrier's piece, the queue and value of a wait.
   function about(program, node) {
     const { item } = node;
@@ -108,8 +111,12 @@ Viewer.naming = (() => {
     return sources.length ? `${sources.join(", ")} to ${named(item.dst)}` : named(item.dst);
   }
 
-  // The name that is written in a node's box, and looked for by the search.
+  // The name that is written in a node's box, and what is written below it.
   const label = (program, node) => node.name || (node.kind === "command" ? node.item.op : about(program, node));
+  function detail(program, node) {
+    if (node.kind !== "command") return kind(node);
+    return node.name ? `${kind(node)} ${about(program, node)}` : about(program, node);
+  }
 
-  return { byFrame, piece, queue, kind, about, label };
+  return { LETTERS, byFrame, piece, queue, kind, about, label, detail };
 })();

@@ -13,74 +13,41 @@ Viewer.page = (() => {
     by("fault").textContent = fault ?? "";
   }
 
-  // The submission among the texts as a program, or what is wrong in words.
-  function programOf() {
-    if (!texts.submission) {
-      return { wrong: texts.frame ? "This is a frame. The page does not compile: ./framec view FILE makes a page of it, or drop what ./framec compile prints of it beside it." : "There is no submission yet: drop one first." };
-    }
-    let file;
-    try {
-      file = Viewer.said.json(texts.submission);
-    } catch (error) {
-      return { wrong: `The submission is no JSON. ${error.message}` };
-    }
-    const wrong = Viewer.form.wrong(file);
-    return wrong ? { wrong: `This is no submission file. ${wrong}.` } : { program: Viewer.program.of(file) };
-  }
-
-  // Names, where the frame is there; an empty sentence, or why there are none.
-  function named(program) {
-    if (!texts.frame || program.format === 3) return "";
-    const frame = Viewer.said.json(texts.frame);
-    const kept = texts.cull ? Viewer.said.kept(texts.cull) : new Set(frame.passes.map((pass) => pass.name));
-    return Viewer.naming.byFrame(program, frame, kept) ? "" : "The submission is not what this frame is compiled to, so nothing has a name.";
-  }
-
-  // What the program framec said of the submission.
-  function factsOf(program) {
-    const verdict = texts.check ? Viewer.said.verdict(texts.check) : null;
-    const first = verdict?.hazards?.[0];
-    return {
-      verdict,
-      hazard: first ? Viewer.hazard.explained(program, first) : null,
-      place: texts.place ? Viewer.said.place(texts.place) : null,
-      bound: texts.bound ? Viewer.said.bound(texts.bound) : null,
-      trace: texts.trace ? Viewer.said.trace(texts.trace) : null,
-    };
-  }
-
   function summary(program) {
     const counts = [`${program.nodes.length} nodes on ${program.queues.length} queues`, `${program.arrows.length} waits for signals`, `${program.transfers.length} transfers`, `${program.pieces.length} pieces in ${program.memories.length} memories`];
     return `Schedule: ${counts.join(", ")}. Key t has it in tables.`;
   }
 
-  // Shows what the texts come to. Returns whether there is a picture.
-  function show() {
+  // Shows what texts come to, under the name of a file. Where something is wrong with them nothing changes, and that is thrown.
+  function show(newName, newTexts) {
+    const { program, facts, fault } = Viewer.given.read(newTexts);
+    [name, texts] = [newName, newTexts];
     by("name").textContent = name || "no file";
     document.title = name ? `${name}: framec view` : "framec view";
-    const verdict = texts.check ? Viewer.said.verdict(texts.check) : null;
-    const fault = verdict?.kind === "fault" ? `${verdict.line}\n${verdict.lines?.length ? verdict.lines.join("\n") : Viewer.words.fault(verdict)}` : null;
-    const { program, wrong } = texts.submission || !fault ? programOf() : {};
-    if (!program) {
-      tell(fault ?? wrong);
-      if (fault) Viewer.panel.verdict(by("verdict"), verdict);
-      return false;
-    }
-    const unnamed = named(program);
-    const facts = factsOf(program);
-    tell(fault || unnamed || null);
+    tell(fault);
+    Viewer.panel.verdict(by("verdict"), facts.verdict, program?.nodes.length);
+    if (!program) return;
     by("welcome").hidden = true;
     by("picture").setAttribute("aria-label", summary(program));
-    Viewer.panel.verdict(by("verdict"), facts.verdict, program.nodes.length);
     Viewer.panel.hazard(by("hazard"), facts.hazard, go);
     by("time").hidden = !facts.trace;
     by("search").value = by("count").textContent = "";
     picture.show(program, facts);
     choose(null);
-    const faulty = fault && program.nodes.find((node) => node.path === verdict.path);
+    const faulty = fault && program.nodes.find((node) => node.path === facts.verdict.path);
     if (faulty) go(faulty.number);
     refresh();
-    return true;
+  }
+
+  // The same, but for what is wrong: that is returned.
+  function attempt(newName, newTexts) {
+    try {
+      show(newName, newTexts);
+      return null;
+    } catch (error) {
+      if (error instanceof Viewer.given.Wrong) return error;
+      throw error;
+    }
   }
 
   // What depends on the scene beside the canvas: the buttons and the tables.
@@ -104,26 +71,24 @@ Viewer.page = (() => {
   // Files that somebody dropped or picked. A submission begins anew; else they are taken beside what is there.
   async function take(files) {
     const read = await Promise.all([...files].map(async (file) => ({ file: file.name, text: await file.text() })));
+    if (!read.length) return;
     const sorted = read.map((one) => ({ ...one, ...Viewer.said.sortOf(one.text) }));
     const broken = sorted.find((one) => one.wrong);
     if (broken) return tell(`${broken.file}: ${broken.wrong}`);
+    const twice = sorted.find((one, k) => sorted.some((other, j) => j < k && other.sort === one.sort));
+    if (twice) return tell(`${twice.file}: Of each sort one file is taken, and this is a second ${twice.sort}.`);
     const main = sorted.find((one) => one.sort === "submission");
-    const before = [texts, name];
-    if (main) [texts, name] = [{}, main.file];
-    texts = { ...texts, ...Object.fromEntries(sorted.map((one) => [one.sort, one.text])) };
-    if (!show()) {
-      const said = by("fault").textContent;
-      [texts, name] = before;
-      by("name").textContent = name || "no file";
-      tell(`${sorted[0].file}: ${said}`);
-    }
+    const given = Object.fromEntries(sorted.map((one) => [one.sort, one.text]));
+    const wrong = main ? attempt(main.file, given) : attempt(name, { ...texts, ...given });
+    if (wrong) tell(`${(sorted.find((one) => one.sort === wrong.sort) ?? sorted[0]).file}: ${wrong.message}`);
   }
 
   function look(text) {
     const { scene } = picture;
     const { nodes, pieces } = Viewer.search.found(scene.program, text);
     [scene.found, scene.foundPieces] = [new Set(nodes), new Set(pieces)];
-    by("count").textContent = text ? `${nodes.length} nodes, ${pieces.length} pieces` : "";
+    const counted = (count, what) => `${count} ${what}${count === 1 ? "" : "s"}`;
+    by("count").textContent = text ? `${counted(nodes.length, "node")}, ${counted(pieces.length, "piece")}` : "";
     lastFound = -1;
     picture.ask();
     refresh();
@@ -169,7 +134,7 @@ Viewer.page = (() => {
 
   function toggle(number) {
     const { scene } = picture;
-    if (!Viewer.times.isMark(scene.program.nodes[number])) return;
+    if (!scene.program.nodes[number].isMark) return;
     picture.unfold([number], !scene.open.has(number));
     refresh();
   }
@@ -189,7 +154,7 @@ Viewer.page = (() => {
     u: () => {
       const { open, program } = picture.scene;
       const isOpen = open.size === 0;
-      picture.unfold(program.nodes.filter(Viewer.times.isMark).map((node) => node.number), isOpen);
+      picture.unfold(program.nodes.filter((node) => node.isMark).map((node) => node.number), isOpen);
     },
     r: () => {
       const { scene } = picture;
@@ -310,12 +275,12 @@ Viewer.page = (() => {
       take(event.dataTransfer.files);
     });
     // What ./framec view put into the page.
-    const given = document.querySelectorAll("script[data-sort]");
-    for (const { dataset, textContent } of given) texts[dataset.sort] = textContent;
-    ({ name = "", ...texts } = texts);
-    if (given.length) show();
+    if (!by("data")) return;
+    const given = JSON.parse(by("data").textContent);
+    const wrong = attempt(given.name, given.texts);
+    if (wrong) tell(wrong.message);
   }
 
   begin();
-  return { picture, take, act };
+  return { picture };
 })();

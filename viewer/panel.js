@@ -66,7 +66,7 @@ Viewer.panel = (() => {
       ...masks(one.item),
       ["other half", other],
       ["waits for", meets],
-      ...(Viewer.times.isMark(one) ? [] : touched),
+      ...(one.isMark ? [] : touched),
       ["reached", one.stuck ? "never: the queues are stuck before it" : ""],
     ]);
   }
@@ -116,5 +116,5 @@ Viewer.panel = (() => {
     } else element.append(make("h2", { text: `Piece ${what.piece}: ${Viewer.naming.piece(program, what.piece)}` }), piece(program, scene, what.piece));
   }
 
-  return { make, verdict, hazard, chosen, accesses, masks };
+  return { make, verdict, hazard, chosen, accesses };
 })();

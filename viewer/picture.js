@@ -29,6 +29,7 @@ Viewer.Picture = class {
       shows: new Set(facts.bound?.units ?? []),
       byTrace: Boolean(facts.trace),
       chosen: null,
+      hasArrows: false,
     };
     this.resize();
     this.begin();
@@ -81,10 +82,9 @@ Viewer.Picture = class {
 
   draw() {
     const { context, view, colours, scene } = this;
-    const began = performance.now();
     scene.colours = colours;
     scene.hits = [];
-    scene.drawn = { boxes: [], marks: [], unfolded: [], merged: 0, batches: 0, arrows: [], transfers: [], names: [], marked: [], pieces: [], labels: [], bound: null, note: [] };
+    scene.drawn = { boxes: [], marks: [], unfolded: [], merged: 0, batches: [], arrows: [], transfers: [], names: [], marked: [], pieces: [], bound: null, note: [] };
     context.fillStyle = colours.ground;
     context.fillRect(0, 0, view.width, view.height);
     context.save();
@@ -97,7 +97,6 @@ Viewer.Picture = class {
     context.restore();
     this.gutter();
     this.bars();
-    scene.drawn.milliseconds = performance.now() - began;
     this.drawn = scene.drawn;
     Viewer.firstPicture ??= performance.now();
   }
@@ -109,41 +108,39 @@ Viewer.Picture = class {
     const width = Math.min(680, view.width - view.left - 24);
     const x = Math.max(view.left + 10, Math.min(view.toX(middle) - width / 2, view.width - width - 10));
     const y = scene.noteTop - view.y;
-    context.font = Viewer.paint.SMALL;
-    const lines = Viewer.paint.wrapped(context, hazard.lines.length ? hazard.lines.join(" ") : `${hazard.what} ${hazard.missing}`, width - 20).slice(0, 4);
+    const { BOLD, SMALL, write } = Viewer.paint;
+    const lines = Viewer.paint.wrapped(hazard.lines.length ? hazard.lines.join(" ") : `${hazard.what} ${hazard.missing}`, SMALL, width - 20).slice(0, 4);
     Viewer.paint.box(context, x, y, width, 20 + 15 * lines.length, colours.ground, colours.hazard, 5);
-    context.fillStyle = colours.hazard;
-    context.font = Viewer.paint.BOLD;
     context.textBaseline = "alphabetic";
-    context.fillText(`hazard ${hazard.hazard}`, x + 10, y + 15);
-    context.font = Viewer.paint.SMALL;
-    context.fillStyle = colours.ink;
-    lines.forEach((line, k) => context.fillText(line, x + 10, y + 31 + 15 * k));
+    write(context, `hazard ${hazard.hazard}`, BOLD, colours.hazard, x + 10, y + 15);
+    lines.forEach((line, k) => write(context, line, SMALL, colours.ink, x + 10, y + 31 + 15 * k));
     scene.drawn.note = lines;
   }
 
   // The names of lanes and memories, which stay at the left.
   gutter() {
     const { context, view, colours, scene } = this;
+    const { BOLD, SMALL, TINY, TINY_BOLD, cut, widthOf, write } = Viewer.paint;
+    const room = view.left - 14;
+    // What has no room in the greater font stands in the smaller one.
+    const line = (text, fonts, colour, y) => {
+      const font = fonts.find((one) => widthOf(text, one) <= room) ?? fonts.at(-1);
+      write(context, cut(text, font, room), font, colour, 8, y);
+    };
     const row = (y, height, title, below) => {
       if (y - view.y > view.height || y + height < view.y) return;
       context.textBaseline = "middle";
-      const isTall = height > 34;
       const middle = y + height / 2 - view.y;
-      context.font = Viewer.paint.BOLD;
-      context.fillStyle = colours.ink;
-      context.fillText(Viewer.paint.cut(context, title, view.left - 16), 10, isTall ? middle - 8 : middle);
-      if (!isTall) return;
-      context.font = Viewer.paint.SMALL;
-      context.fillStyle = colours.pale;
-      context.fillText(Viewer.paint.cut(context, below, view.left - 14), 10, middle + 8);
+      const apart = height > 34 ? 8 : 6.5;
+      line(title, [BOLD, TINY_BOLD], colours.ink, middle - apart);
+      line(below, [height > 34 ? SMALL : TINY, TINY], colours.pale, middle + apart);
     };
     context.textAlign = "left";
     for (const lane of scene.lanes.lanes) row(lane.y, lane.height, lane.title, lane.below);
     for (const { y, height, memory } of scene.heap.bands) {
       const title = memory.name || `memory ${memory.number}`;
-      const kind = memory.sort === "memory" || memory.sort === "heap" ? "" : memory.sort;
-      row(y, height, height > 34 || !kind ? title : `${kind}: ${title}`, `${kind ? `${kind}, ` : ""}${Viewer.paint.bytes(memory.size)}`);
+      const kind = ["memory", "heap"].includes(memory.sort) || title.endsWith(".readback") ? "" : `${memory.sort}, `;
+      row(y, height, title, `${kind}${Viewer.paint.bytes(memory.size)}`);
     }
   }
 
@@ -167,6 +164,8 @@ Viewer.Picture = class {
   choose(chosen) {
     const { scene } = this;
     scene.chosen = chosen;
+    const isEnd = ({ from, to }) => from === chosen?.node || to === chosen?.node;
+    scene.hasArrows = scene.program.arrows.some(isEnd) || scene.program.transfers.some(isEnd);
     scene.related = new Set(chosen?.node === undefined ? (chosen ? [chosen.piece] : []) : scene.program.nodes[chosen.node].pieces);
     this.ask();
   }
@@ -190,17 +189,20 @@ Viewer.Picture = class {
     this.ask();
   }
 
-  // Unfolds marks, or folds them again; what stands in the middle of the screen stays there.
+  // Unfolds marks, at a zoom at which they can be read, or folds them again. The one that is meant, or the first one of all in view,
+  // stays where it is.
   unfold(nodes, isOpen) {
     const { scene, view } = this;
     for (const n of nodes) {
       if (isOpen) scene.open.add(n);
       else scene.open.delete(n);
     }
-    const stays = nodes.length === 1 ? nodes[0] : null;
-    const x = stays === null ? 0 : view.toX(scene.times.begins[stays]);
+    const seen = scene.hits.find((hit) => hit.node !== undefined && hit.x >= view.left)?.node ?? 0;
+    const stays = nodes.length === 1 ? nodes[0] : seen;
+    const x = view.toX(scene.times.begins[stays]);
     this.arrange();
-    if (stays !== null) view.x = scene.times.begins[stays] - (x - view.left) / view.k;
+    if (isOpen) view.k = Math.max(1, view.k);
+    view.x = scene.times.begins[stays] - (x - view.left) / view.k;
     view.keepInside();
     this.ask();
   }

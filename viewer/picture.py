@@ -17,7 +17,6 @@ from arguments import Arguments, path_of
 from repository import FRAMES, TOP
 
 WIDTH, HEIGHT = 1900, 760
-NO_BROWSER = 77
 
 
 def main():
@@ -27,13 +26,13 @@ def main():
     chromium = options.browser or browser.found()
     if not chromium:
         print("there is no browser: Debian's package chromium has one", file=sys.stderr)
-        sys.exit(NO_BROWSER)
+        sys.exit(browser.NO_BROWSER)
     with tempfile.TemporaryDirectory() as room, browser.Browser(chromium) as opened:
         path = Path(room) / "page.html"
         with open(path, "wb") as page:
             subprocess.run([TOP / "viewer/view.py", options.program, FRAMES / "deferred.json"], stdout=page, check=True)
         page = opened.page(path.as_uri(), WIDTH, HEIGHT)
-        page.wait("typeof Viewer === 'object' && Viewer.page !== undefined")
+        page.settle()
         page.key("p")
         page.key("0")
         page.screenshot(TOP / "docs/pictures/schedule.png")

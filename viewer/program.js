@@ -34,6 +34,8 @@ Viewer.program = (() => {
       this.item = item;
       this.name = item.name ?? "";
       this.joined = item.joined === true;
+      // Whether it is drawn as a mark that unfolds, and not as a box.
+      this.isMark = !["command", "readback", "handover"].includes(kind);
       this.pieces = namedBy(kind, item);
       // The signal that a wait is for, and the other half of a transfer, or -1; and whether the queues are stuck before it.
       this.meets = -1;

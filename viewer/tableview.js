@@ -9,7 +9,7 @@ Viewer.tablesView = (() => {
     const { program } = scene;
     const node = program.nodes[number];
     const { item } = node;
-    const touched = Viewer.times.isMark(node) ? [] : Viewer.program.touches(program, node);
+    const touched = node.isMark ? [] : Viewer.program.touches(program, node);
     const uses = touched.map((touch) => `${Viewer.naming.piece(program, touch.piece)}: ${Viewer.panel.accesses(touch)}`).join("; ");
     const joins = [];
     if (node.meets >= 0) joins.push(`waits for the signal ${node.meets}`);
@@ -31,7 +31,7 @@ Viewer.tablesView = (() => {
     const memory = program.memories[piece.memory];
     const life = heap.lives[number];
     const others = memory.pieces.filter((other) => other !== number && Viewer.program.overlap(program.pieces[other], piece));
-    return [number, piece.name, piece.kind, `${memory.number} ${memory.name} ${memory.sort}`, piece.offset, piece.bytes, life?.first ?? "none", life?.last ?? "none", others.map((other) => Viewer.naming.piece(program, other)).join(", ")];
+    return [number, piece.name, piece.kind, [...new Set([memory.number, memory.name, memory.sort])].filter((part) => part !== "").join(" "), piece.offset, piece.bytes, life?.first ?? "none", life?.last ?? "none", others.map((other) => Viewer.naming.piece(program, other)).join(", ")];
   }
 
   // A table with a page of rows, and the buttons that turn pages.

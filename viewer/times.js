@@ -4,7 +4,9 @@ Viewer.times = (() => {
   const MARK = 16;
   const GAP = 4;
   const BATCH = 18;
-  const LETTER = 7.2;
+  // About how wide a letter is. Names are measured; what is longer may be cut.
+  const LETTER = 6.6;
+  const [LEAST, MOST, DETAIL] = [64, 300, 170];
 
   const between = (low, value, high) => Math.min(Math.max(low, value), high);
 
@@ -12,22 +14,21 @@ Viewer.times = (() => {
   function unfolded(program, node) {
     const { item } = node;
     const or = (mask) => mask || "none";
-    const lines = [`${Viewer.naming.kind(node)}: ${Viewer.naming.about(program, node)}`];
+    const families = item.from_family ? `, ${item.from_family} to ${item.to_family}` : "";
+    const lines = [`${Viewer.naming.kind(node)}: ${Viewer.naming.about(program, node)}${families}`];
     if (node.kind === "wait" || node.kind === "signal") return [...lines, `stage ${or(item.stage)}`];
     if (item.src_stage === undefined) return lines;
     lines.push(`from ${or(item.src_stage)} / ${or(item.src_access)}`, `to ${or(item.dst_stage)} / ${or(item.dst_access)}`);
     if (item.from !== undefined) lines.push(`layout ${item.from} to ${item.to}`);
-    if (item.from_family) lines.push(`family ${item.from_family} to ${item.to_family}`);
     return lines;
   }
 
-  const isMark = (node) => !["command", "readback", "handover"].includes(node.kind);
-
   // How wide a node is: a command by its name, a mark as it is or unfolded.
   function widthOf(program, node, open) {
-    if (isMark(node)) return open.has(node.number) ? 14 + LETTER * Math.max(...unfolded(program, node).map((line) => line.length)) : MARK;
-    const below = Viewer.naming.kind(node).length + (node.pieces.length === 1 ? 1 + Viewer.naming.piece(program, node.pieces[0]).length : 0);
-    return between(64, 20 + LETTER * Math.max(Viewer.naming.label(program, node).length, below), 200);
+    if (node.isMark) return open.has(node.number) ? 14 + LETTER * Math.max(...unfolded(program, node).map((line) => line.length)) : MARK;
+    const label = Viewer.paint.widthOf(Viewer.naming.label(program, node), Viewer.paint.BOLD);
+    const detail = Math.min(DETAIL, LETTER * Viewer.naming.detail(program, node).length);
+    return between(LEAST, 16 + Math.max(label, detail), MOST);
   }
 
   // By the order of nodes: each stands behind the one before it on its queue, a wait behind its signal, and the host's reads and
@@ -76,5 +77,5 @@ Viewer.times = (() => {
     return { begins, ends, end: x + BATCH };
   }
 
-  return { byOrder, byTrace, unfolded, isMark };
+  return { byOrder, byTrace, unfolded };
 })();

@@ -2,7 +2,7 @@
 "use strict";
 Viewer.View = class {
   // The names of lanes and memories stand in a column of this width.
-  static GUTTER = 116;
+  static GUTTER = 124;
   static MOST = 6;
 
   constructor() {

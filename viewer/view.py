@@ -54,9 +54,10 @@ def texts_of(program, text, traced):
     return given
 
 
-def element(sort, text):
-    """A text of the page. In JSON `<` stands in texts alone, where it may be written so too; without one no element ends too early."""
-    return f'<script type="text/plain" data-sort="{sort}">' + text.replace("<", "\\u003c") + "</script>\n"
+def element(name, texts):
+    """The data of the page as JSON, in which `<` is written so that no element can begin or end in it."""
+    data = json.dumps({"name": name, "texts": texts}).replace("<", "\\u003c")
+    return f'<script type="application/json" id="data">{data}</script>\n'
 
 
 def page(name, texts):
@@ -65,7 +66,7 @@ def page(name, texts):
     inside = lambda found: (HERE / found[1]).read_text(encoding="utf-8")
     html = re.sub(r'<link rel="stylesheet" href="([\w.]+)">', lambda found: f"<style>\n{inside(found)}</style>", html)
     html = re.sub(r'<script src="([\w.]+)"></script>', lambda found: f"<script>\n{inside(found)}</script>", html)
-    return html.replace("<!-- data -->\n", "".join(element(*one) for one in {"name": name, **texts}.items()))
+    return html.replace("<!-- data -->\n", element(name, texts))
 
 
 def main():
