@@ -3,7 +3,13 @@ use Rattle.std.specs.Prelude.{ℕ, List, [], ◌∷◌, codes}
 use Rattle.base.specs.Families.{family_name}
 use Rattle.vk.specs.Layouts.{layout_name}
 use Rattle.check_program.specs.declared.hazard.Hazard.{Hazard}
-use Rattle.check_program.specs.declared.hazard.Hazard.TheVariants.{Stuck, Unordered, NotAvailable, NotVisible, BadLayout, BadOwner, Unmatched, Undefined, Aliased}
+use Rattle.check_program.specs.declared.hazard.Hazard.TheVariants.{Stuck, Sync, State, Load}
+use Rattle.check_state.specs.declared.load_hazard.LoadHazard.{LoadHazard}
+use Rattle.check_state.specs.declared.load_hazard.LoadHazard.TheVariants.{Undefined, Aliased}
+use Rattle.check_state.specs.declared.state_hazard.StateHazard.{StateHazard}
+use Rattle.check_state.specs.declared.state_hazard.StateHazard.TheVariants.{BadLayout, BadOwner, Unmatched}
+use Rattle.check_sync.specs.declared.sync_hazard.Flaw.{Flaw}
+use Rattle.check_sync.specs.declared.sync_hazard.Flaw.TheVariants.{Unordered, NotAvailable, NotVisible}
 use Rattle.report.specs.Hazards.{owner_name}
 use Rattle.report_json.specs.Json.{number, string, member, array, answer}
 
@@ -32,16 +38,25 @@ between name first second = numbered name ∷ member (codes "nodes") (array (λ 
 abbrev pub mismatch : List ℕ → ℕ → ℕ → List ℕ → List ℕ → List (List ℕ)
 mismatch name node piece found wanted = numbered name ∷ node_of node ∷ piece_of piece ∷ member (codes "found") (string found) ∷ member (codes "wanted") (string wanted) ∷ []
 
+abbrev pub flaw_name : Flaw → List ℕ
+flaw_name Unordered = codes "H2"
+flaw_name NotAvailable = codes "H3"
+flaw_name NotVisible = codes "H4"
+
+abbrev pub state_members : StateHazard → List (List ℕ)
+state_members (BadLayout node piece found wanted) = mismatch (codes "H5") node piece (layout_name found) (layout_name wanted)
+state_members (BadOwner node piece found wanted) = mismatch (codes "H6") node piece (owner_name found) (family_name wanted)
+state_members (Unmatched node) = numbered (codes "H7") ∷ node_of node ∷ []
+
+abbrev pub load_members : LoadHazard → List (List ℕ)
+load_members (Undefined node piece) = numbered (codes "H8") ∷ node_of node ∷ piece_of piece ∷ []
+load_members (Aliased node piece other) = numbered (codes "H9") ∷ node_of node ∷ piece_of piece ∷ member (codes "other") (number other) ∷ []
+
 abbrev pub hazard_members : Hazard → List (List ℕ)
 hazard_members (Stuck queue node) = numbered (codes "H1") ∷ member (codes "queue") (number queue) ∷ node_of node ∷ []
-hazard_members (Unordered first second) = between (codes "H2") first second
-hazard_members (NotAvailable first second) = between (codes "H3") first second
-hazard_members (NotVisible first second) = between (codes "H4") first second
-hazard_members (BadLayout node piece found wanted) = mismatch (codes "H5") node piece (layout_name found) (layout_name wanted)
-hazard_members (BadOwner node piece found wanted) = mismatch (codes "H6") node piece (owner_name found) (family_name wanted)
-hazard_members (Unmatched node) = numbered (codes "H7") ∷ node_of node ∷ []
-hazard_members (Undefined node piece) = numbered (codes "H8") ∷ node_of node ∷ piece_of piece ∷ []
-hazard_members (Aliased node piece other) = numbered (codes "H9") ∷ node_of node ∷ piece_of piece ∷ member (codes "other") (number other) ∷ []
+hazard_members (Sync sync_hazard) = between (flaw_name sync_hazard.flaw) sync_hazard.first sync_hazard.second
+hazard_members (State state_hazard) = state_members state_hazard
+hazard_members (Load load_hazard) = load_members load_hazard
 
 -- the first hazard of a program
 abbrev pub hazard_json : Hazard → List ℕ

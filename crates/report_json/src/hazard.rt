@@ -3,12 +3,14 @@
 ghost use Rattle.std.specs.Prelude.{◌≡◌, ◌∷◌, [], ◌++◌, OnOk, IfOk, codes};
 ghost use Rattle.report.specs.Hazards.{owner_name};
 ghost use Rattle.report_json.specs.Json.{later};
-ghost use Rattle.report_json.specs.Verdicts.{between, check_json, hazard_json, hazard_members, mismatch, node_of, numbered, piece_of};
+ghost use Rattle.report_json.specs.Verdicts.{between, check_json, flaw_name, hazard_json, hazard_members, load_members, mismatch, node_of, numbered, piece_of, state_members};
 
 use crate::object::{end_object, first_string, next_member, next_number, next_string};
 use base::{Family, List, NoMemory, Text};
 use base_text::Lines;
 use check_program::Hazard;
+use check_state::{LoadHazard, StateHazard};
+use check_sync::{Flaw, SyncHazard};
 use std::alloc::Global;
 
 fn owner_name(owner: Option<Family>) -> &'static [u8]
@@ -65,19 +67,21 @@ fn add_mismatch(
     next_string(text, b"wanted", wanted)
 }
 
-fn add_hazard(text: &mut Text, hazard: &Hazard) -> Result<(), NoMemory>
-    ensures { OnOk result (text.new ≡ text.old ++ later (hazard_members hazard.now)) }
+fn flaw_name(flaw: Flaw) -> &'static [u8]
+    ensures { result.now ≡ flaw_name flaw }
 {
-    match *hazard {
-        Hazard::Stuck { queue, node } => {
-            next_string(text, b"hazard", b"H1")?;
-            next_number(text, b"queue", u64::from(queue))?;
-            next_number(text, b"node", u64::from(node))
-        }
-        Hazard::Unordered { first, second } => add_between(text, b"H2", first, second),
-        Hazard::NotAvailable { first, second } => add_between(text, b"H3", first, second),
-        Hazard::NotVisible { first, second } => add_between(text, b"H4", first, second),
-        Hazard::BadLayout {
+    match flaw {
+        Flaw::Unordered => b"H2",
+        Flaw::NotAvailable => b"H3",
+        Flaw::NotVisible => b"H4",
+    }
+}
+
+fn add_state(text: &mut Text, state_hazard: StateHazard) -> Result<(), NoMemory>
+    ensures { OnOk result (text.new ≡ text.old ++ later (state_members state_hazard)) }
+{
+    match state_hazard {
+        StateHazard::BadLayout {
             node,
             piece,
             found,
@@ -90,7 +94,7 @@ fn add_hazard(text: &mut Text, hazard: &Hazard) -> Result<(), NoMemory>
             found.name().as_bytes(),
             wanted.name().as_bytes(),
         ),
-        Hazard::BadOwner {
+        StateHazard::BadOwner {
             node,
             piece,
             found,
@@ -103,12 +107,40 @@ fn add_hazard(text: &mut Text, hazard: &Hazard) -> Result<(), NoMemory>
             owner_name(found),
             wanted.name().as_bytes(),
         ),
-        Hazard::Unmatched { node } => at_node(text, b"H7", node),
-        Hazard::Undefined { node, piece } => at_piece(text, b"H8", node, piece),
-        Hazard::Aliased { node, piece, other } => {
+        StateHazard::Unmatched { node } => at_node(text, b"H7", node),
+    }
+}
+
+fn add_load(text: &mut Text, load_hazard: LoadHazard) -> Result<(), NoMemory>
+    ensures { OnOk result (text.new ≡ text.old ++ later (load_members load_hazard)) }
+{
+    match load_hazard {
+        LoadHazard::Undefined { node, piece } => at_piece(text, b"H8", node, piece),
+        LoadHazard::Aliased { node, piece, other } => {
             at_piece(text, b"H9", node, piece)?;
             next_number(text, b"other", u64::from(other))
         }
+    }
+}
+
+fn add_hazard(text: &mut Text, hazard: &Hazard) -> Result<(), NoMemory>
+    ensures { OnOk result (text.new ≡ text.old ++ later (hazard_members hazard.now)) }
+{
+    match *hazard {
+        Hazard::Stuck { queue, node } => {
+            next_string(text, b"hazard", b"H1")?;
+            next_number(text, b"queue", u64::from(queue))?;
+            next_number(text, b"node", u64::from(node))
+        }
+        Hazard::Sync(
+            SyncHazard {
+                first,
+                second,
+                flaw,
+            },
+        ) => add_between(text, flaw_name(flaw), first, second),
+        Hazard::State(state_hazard) => add_state(text, state_hazard),
+        Hazard::Load(load_hazard) => add_load(text, load_hazard),
     }
 }
 

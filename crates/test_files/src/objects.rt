@@ -2,6 +2,8 @@
 
 use base::{Family, Leg, Limit, List, NoMemory, Text};
 use check_program::Hazard;
+use check_state::{LoadHazard, StateHazard};
+use check_sync::{Flaw, SyncHazard};
 use frame::FrameFault;
 use program::ProgramFault;
 use report_json::{check_told, cost_told, frame_fault_told, hazard_told, program_fault_told};
@@ -25,67 +27,70 @@ const HAZARDS: [(Hazard, &str); 10] = [
         r#"{"verdict":"hazard","hazard":"H1","queue":1,"node":2}"#,
     ),
     (
-        Hazard::Unordered {
+        Hazard::Sync(SyncHazard {
             first: 2,
             second: 3,
-        },
+            flaw: Flaw::Unordered,
+        }),
         r#"{"verdict":"hazard","hazard":"H2","nodes":[2,3]}"#,
     ),
     (
-        Hazard::NotAvailable {
+        Hazard::Sync(SyncHazard {
             first: 0,
             second: 19999,
-        },
+            flaw: Flaw::NotAvailable,
+        }),
         r#"{"verdict":"hazard","hazard":"H3","nodes":[0,19999]}"#,
     ),
     (
-        Hazard::NotVisible {
+        Hazard::Sync(SyncHazard {
             first: 4,
             second: 1,
-        },
+            flaw: Flaw::NotVisible,
+        }),
         r#"{"verdict":"hazard","hazard":"H4","nodes":[4,1]}"#,
     ),
     (
-        Hazard::BadLayout {
+        Hazard::State(StateHazard::BadLayout {
             node: 3,
             piece: 0,
             found: Layout::Undefined,
             wanted: Layout::TransferSrc,
-        },
+        }),
         r#"{"verdict":"hazard","hazard":"H5","node":3,"piece":0,"found":"UNDEFINED","wanted":"TRANSFER_SRC_OPTIMAL"}"#,
     ),
     (
-        Hazard::BadOwner {
+        Hazard::State(StateHazard::BadOwner {
             node: 4,
             piece: 1,
             found: Some(Family::Compute),
             wanted: Family::Graphics,
-        },
+        }),
         r#"{"verdict":"hazard","hazard":"H6","node":4,"piece":1,"found":"compute","wanted":"graphics"}"#,
     ),
     (
-        Hazard::BadOwner {
+        Hazard::State(StateHazard::BadOwner {
             node: 4,
             piece: 1,
             found: None,
             wanted: Family::Transfer,
-        },
+        }),
         r#"{"verdict":"hazard","hazard":"H6","node":4,"piece":1,"found":"none","wanted":"transfer"}"#,
     ),
     (
-        Hazard::Unmatched { node: 2 },
+        Hazard::State(StateHazard::Unmatched { node: 2 }),
         r#"{"verdict":"hazard","hazard":"H7","node":2}"#,
     ),
     (
-        Hazard::Undefined { node: 3, piece: 5 },
+        Hazard::Load(LoadHazard::Undefined { node: 3, piece: 5 }),
         r#"{"verdict":"hazard","hazard":"H8","node":3,"piece":5}"#,
     ),
     (
-        Hazard::Aliased {
+        Hazard::Load(LoadHazard::Aliased {
             node: 4,
             piece: 0,
             other: 1,
-        },
+        }),
         r#"{"verdict":"hazard","hazard":"H9","node":4,"piece":0,"other":1}"#,
     ),
 ];
@@ -172,7 +177,7 @@ fn lines(rt: HostRuntime) -> Result<(), Fail> {
     let alloc = rt.alloc();
     let sound = check_told(alloc, false, 6)?;
     is_object(&rt, alloc, sound, "accepted 6 nodes")?;
-    let hazard = Hazard::Unmatched { node: 2 };
+    let hazard = Hazard::State(StateHazard::Unmatched { node: 2 });
     is_object(
         &rt,
         alloc,
