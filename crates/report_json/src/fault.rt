@@ -53,7 +53,7 @@ fn fault_json(
 }
 
 /// The object that names the first fault of a frame file, as `{"verdict":"fault","fault":"F3","path":["format"]}`.
-pub fn frame_fault_json(alloc: Global, fault: &FrameFault) -> Result<Text, NoMemory>
+pub(crate) fn frame_fault_json(alloc: Global, fault: &FrameFault) -> Result<Text, NoMemory>
     ensures { IfOk result (λ text. text ≡ frame_fault_json fault.now) }
 {
     fault_json(alloc, b"F", fault.number, fault.limit, &fault.location)
@@ -61,7 +61,7 @@ pub fn frame_fault_json(alloc: Global, fault: &FrameFault) -> Result<Text, NoMem
 
 /// The object that names the first fault of a submission file, as
 /// `{"verdict":"fault","fault":"G1","limit":"Queues","path":["queues"]}`.
-pub fn program_fault_json(alloc: Global, fault: &ProgramFault) -> Result<Text, NoMemory>
+pub(crate) fn program_fault_json(alloc: Global, fault: &ProgramFault) -> Result<Text, NoMemory>
     ensures { IfOk result (λ text. text ≡ program_fault_json fault.now) }
 {
     fault_json(alloc, b"G", fault.number, fault.limit, &fault.location)
