@@ -12,13 +12,13 @@ use frame::FrameFault;
 use program::ProgramFault;
 use std::alloc::Global;
 
-fn add_number(text: &mut Text, letter: &[u8], number: u8) -> Result<(), NoMemory>
-    ensures { OnOk result (text.new ≡ text.old ++ codes "," ++ member (codes "fault") (string (letter.now ++ number number))) }
+fn add_number(text: &mut Text, letter: &[u8], fault: u8) -> Result<(), NoMemory>
+    ensures { OnOk result (text.new ≡ text.old ++ codes "," ++ member (codes "fault") (string (letter.now ++ number fault))) }
 {
     next_member(text, b"fault")?;
     text.word(b"\"")?;
     text.word(letter)?;
-    text.number(u64::from(number))?;
+    text.number(u64::from(fault))?;
     text.word(b"\"")
 }
 
@@ -36,15 +36,15 @@ fn add_limit(text: &mut Text, limit: Option<Limit>) -> Result<(), NoMemory>
 fn fault_json(
     alloc: Global,
     letter: &[u8],
-    number: u8,
+    fault: u8,
     limit: Option<Limit>,
     location: &[Leg],
 ) -> Result<Text, NoMemory>
-    ensures { IfOk result (λ text. text ≡ fault_json letter.now number limit location.now) }
+    ensures { IfOk result (λ text. text ≡ fault_json letter.now fault limit location.now) }
 {
     let mut text = List::new(alloc);
     first_string(&mut text, b"verdict", b"fault")?;
-    add_number(&mut text, letter, number)?;
+    add_number(&mut text, letter, fault)?;
     add_limit(&mut text, limit)?;
     next_member(&mut text, b"path")?;
     add_path(&mut text, location)?;
