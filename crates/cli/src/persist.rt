@@ -31,10 +31,11 @@ fn all_named(alloc: Global, entries: &[&str]) -> Result<Option<List<Name>>, NoMe
 fn are_different(alloc: Global, names: &[Name]) -> Result<bool, NoMemory>
     ensures { IfOk result (λ different. different ≡ are_different names.now) }
 {
-    if names.len() > 16 {
-        return Ok(false);
+    if names.len() <= 16 {
+        Ok(first_repeat(alloc, names)?.is_none())
+    } else {
+        Ok(false)
     }
-    Ok(first_repeat(alloc, names)?.is_none())
 }
 
 fn if_different(alloc: Global, names: Option<List<Name>>) -> Result<Option<List<Name>>, NoMemory>

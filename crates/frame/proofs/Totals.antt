@@ -45,7 +45,7 @@ all_rects_same frame n (pass ∷ passes) = sum_by-cons (λ pass. sum_by rect_cou
 
 -- what the entries leave of a room, and what they take of it
 spent : {X Y : Type 0} (spend : ℕ → ℕ → X → Result ℕ Y) (size : X → ℕ) → ((room i : ℕ) (x : X) (left : ℕ) → spend room i x ≡ Ok left → left + size x ≡ room) → (xs : List X) (room i left : ℕ) → spend_in spend room i xs ≡ Ok left → left + sum_by size xs ≡ room
-spent spend size each [] room i left is = cc
+spent spend size each [] room i left is = let same : room ≡ left = cc in omega (arith, same)
 spent {X} {Y} spend size each (x ∷ xs) room i left is = by_step (spend room i x) refl is
   where
     by_step : (step : Result ℕ Y) → spend room i x ≡ step → go_on (λ rest. spend_in spend rest (suc i) xs) step ≡ Ok left → left + sum_by size (x ∷ xs) ≡ room
@@ -71,7 +71,7 @@ rects_fit passes none = by_left (spend_in spend_pass max_rects 0 passes) refl no
   where
     by_left : (left : Result ℕ Location) → spend_in spend_pass max_rects 0 passes ≡ left → not_lasting left ≡ None → sum_by (λ pass. sum_by rect_count pass.ops) passes ≤ 4096
     by_left (Ok left) is none =
-        let all = spent spend_pass (λ pass. sum_by rect_count pass.ops) (λ room p pass. spent (spend_op p) rect_count (op_spent p) pass.ops room 0) passes max_rects 0 left is in
+        let all : left + sum_by (λ pass. sum_by rect_count pass.ops) passes ≡ 4096 = spent spend_pass (λ pass. sum_by rect_count pass.ops) (λ room p pass. spent (spend_op p) rect_count (op_spent p) pass.ops room 0) passes max_rects 0 left is in
         omega (arith, all)
     by_left (Err place) is none = absurd cc
 

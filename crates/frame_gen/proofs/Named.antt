@@ -63,7 +63,7 @@ rects_spent number room p (i ∷ is) =
     let w = drawn number i in
     let none = no_rects (kind_of w i) (few_kinds w i) w (spot (first_source w i)) (spot (second_source w i)) (spot i) in
     let left : ◌≡◌ {A = Result ℕ Location} (Ok (room - 0)) (Ok room) = (let same : room - 0 ≡ room = omega arith in ap (λ m. Ok m) same) in
-    let step = λ (r : Result ℕ Location). go_on (λ m. spend_in spend_pass m (suc p) (map (λ i. pass_by (drawn number i) i) is)) (go_on (λ m. Ok m) r) in
+    let step : Result ℕ Location → Result ℕ Location = λ r. go_on (λ m. spend_in spend_pass m (suc p) (map (λ i. pass_by (drawn number i) i) is)) (go_on (λ m. Ok m) r) in
     ap (λ k. step (if nat_lt room k then Err (at.Rects p 0) else Ok (room - k))) none
     ∙ ap (λ t. step (if t then Err (at.Rects p 0) else Ok (room - 0))) (le-ltb room 0 (omega arith))
     ∙ ap step left ∙ rects_spent number room (suc p) is

@@ -3,6 +3,7 @@ use Rattle.compile.proofs.Proved.{proved_right}
 use Rattle.compile.proofs.compiling.compile.Goals as goal
 use Rattle.frame.specs.Numbered.{numbered}
 use Rattle.compile_record.specs.Recorded.{IsCompiled}
+use Rattle.program.specs.declared.program.Program.{Program}
 
 pub proved_sound-requires-clause-faultless : goal.proved_sound-requires-clause-faultless
 proved_sound-requires-clause-faultless c = (c.right_for.ensures c.in_ok-program.field-0 c.in_ok-program.ensures.kept c.in_ok-program.ensures.compiled).faultless
@@ -11,7 +12,9 @@ pub proved_sound-requires-clause-sound : goal.proved_sound-requires-clause-sound
 proved_sound-requires-clause-sound c = (c.right_for.ensures c.in_ok-program.field-0 c.in_ok-program.ensures.kept c.in_ok-program.ensures.compiled).sound
 
 pub returns-clause-compiled : goal.returns-clause-compiled
-returns-clause-compiled c = subst (λ program. IsCompiled (numbered c.args.frame.now) (record c.in_ok-program.field-0 { program = program })) (sym c.in_ok-program-2.ensures) c.in_ok-program.ensures.compiled
+returns-clause-compiled c =
+    let made = c.in_ok-program.field-0 in
+    subst (λ (program : Program). IsCompiled (numbered c.args.frame.now) (record made { program = program })) (sym c.in_ok-program-2.ensures) c.in_ok-program.ensures.compiled
 
 pub returns-clause-faultless : goal.returns-clause-faultless
 returns-clause-faultless c = (proved_right (numbered c.args.frame.now) c.in_ok-program-2.program.program c.in_ok-program.field-0.program c.in_ok-program-2.ensures (c.right_for.ensures c.in_ok-program.field-0 c.in_ok-program.ensures.kept c.in_ok-program.ensures.compiled)).faultless
