@@ -52,6 +52,10 @@ module _ (P : Program) (V : View) (order : List ℕ) (accesses : List NodeAccess
     initialized = subst (λ l. Initialized V l) is clean.initialized;
   })
 
-  pub judged : (found : Option Hazard) → MatchOption found (HasNoHazard V accesses) (IsFound V accesses) → Judges P found
+  judged : (found : Option Hazard) → MatchOption found (HasNoHazard V accesses) (IsFound V accesses) → Judges P found
   judged None clean = (order, sound_found clean)
   judged (Some hazard) is_found = hazard_found hazard is_found
+
+  pub all_judged : {E : Type 0} (result : Result (Option Hazard) E) → IfOk result (Decides V accesses) → IfOk result (Judges P)
+  all_judged (Ok found) decides = judged found (decides order least.order is)
+  all_judged (Err e) decides = tt
