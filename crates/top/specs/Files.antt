@@ -2,7 +2,6 @@
 use Rattle.std.specs.Prelude.{◌≡◌, ◌⊎◌, ℕ, nat_lt, Bool, List, map, fold, Option, Some, None, if◌then◌else◌}
 use Rattle.std.specs.Io.KnownBytes.{Appends, Keeps}
 use Rattle.std.specs.List.{AllByRecursion}
-use Rattle.answer.specs.Answers.{Answers}
 use Rattle.answer.specs.AsJson.{asks_json}
 use Rattle.answer.specs.Statuses.{number_of, status_of}
 use Rattle.answer.specs.declared.answer.Answer.{Answer}
@@ -10,13 +9,15 @@ use Rattle.answer.specs.declared.status.Status.TheVariants.{ReadFault, WriteFaul
 use Rattle.cli.specs.declared.command.Command.{Command}
 use Rattle.report_files.specs.Files.{files_text}
 use Rattle.report_files.specs.declared.report.FileReport.{FileReport}
+use Rattle.top.specs.Answers.{Answers}
 use Rattle.top.specs.Outcomes.{TakesFront}
+use Rattle.top.specs.Replies.{still}
 
 -- a file was read: it has the command's answer to its bytes
 pub record IsRead (command : Command) (file : FileReport) : Type 0 where
   pub bytes : List ℕ
   pub answer : Answer
-  pub answers : Answers command bytes answer
+  pub answers : Answers command bytes (still answer)
   pub status : file.status ≡ number_of (status_of answer.status)
   pub text : file.answer ≡ Some answer.text
 

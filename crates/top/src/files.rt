@@ -44,6 +44,7 @@ fn answer_file<I: Source>(
     }
 }
 
+#[tactic(auto, using(crate::proofs::FileLemmas::one_more))]
 fn answer_files<P: Opener>(
     alloc: Global,
     command: &Command,
