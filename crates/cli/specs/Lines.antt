@@ -2,6 +2,7 @@
 use Rattle.std.specs.Prelude.{◌≡◌, true, List, [], ◌∷◌, fold, Option, Some, None, Result, Ok, Err, codes}
 use Rattle.clap.specs.Words.{App, Rule, Text, Kinds, new_app, new_rule, with_rule, matches_of, rows_of, found_of, fault_of}
 use Rattle.clap.specs.Simple.{on_top}
+use Rattle.clap.specs.declared.builder.action.ArgAction.{ArgAction}
 use Rattle.clap.specs.declared.builder.action.ArgAction.TheVariants.{Set, Append}
 use Rattle.clap.specs.declared.parser.matches.ArgMatches.{ArgMatches}
 use Rattle.cli.specs.Files.{line_in}
@@ -20,11 +21,11 @@ abbrev pub files_rule : Rule
 files_rule = record (new_rule (codes "file")) { action = Some Append }
 
 -- `--name`, with one word behind it or alone
-abbrev pub option_rule : OptionName → Rule
-option_rule option = record (new_rule (name_of option)) { long = Some (name_of option); action = Some (action_of option) }
+abbrev pub option_rule : Text → ArgAction → Rule
+option_rule name action = record (new_rule name) { long = Some name; action = Some action }
 
 abbrev pub with_option : App → OptionName → App
-with_option app option = with_rule app (option_rule option)
+with_option app option = with_rule app (option_rule (name_of option) (action_of option))
 
 -- neither `--help` nor `--version`
 abbrev pub bare_app : App

@@ -5,6 +5,7 @@ pub mod Causes
 pub mod Internal
 pub mod Complete
 pub mod Ends
+pub mod Files
 pub mod Flights
 pub mod Headline
 pub mod Outcomes

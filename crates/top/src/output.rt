@@ -10,8 +10,8 @@ use crate::Status;
 use answer::AnswerStatus;
 use base_io::{Put, Sink};
 
-// Passes the whole rest of the text at each write, and answers whether all of it was taken.
-fn write_text<O: Sink>(output: &mut O, text: &[u8]) -> bool
+/// Passes the whole rest of the text at each write, and answers whether all of it was taken.
+pub(crate) fn write_text<O: Sink>(output: &mut O, text: &[u8]) -> bool
     ensures { IsWritten text.now (O.taken output.old) (O.taken output.new) (O.faults output.old) (O.faults output.new) result }
 {
     let mut rest = text;

@@ -35,8 +35,8 @@ fn needs_device(command: &Command) -> bool
     }
 }
 
-// The answer to the input that is read, or the status where there is none.
-fn answer_input<I: Source>(
+/// The answer to the input that is read, or the status where there is none.
+pub(crate) fn answer_input<I: Source>(
     alloc: Global,
     command: &Command,
     input: &mut I,
