@@ -19,7 +19,7 @@ member name value = string name ++ codes ":" ++ value
 -- the members behind another one
 abbrev pub later : List (List ℕ) → List ℕ
 later [] = []
-later (m ∷ ms) = codes "," ++ m ++ later ms
+later (m ∷ ms) = codes "," ++ (m ++ later ms)
 
 -- an object of at least one member
 abbrev pub object : List ℕ → List (List ℕ) → List ℕ
@@ -32,7 +32,7 @@ comma k = if k == 0 then [] else codes ","
 -- the entries of a list from entry k on
 abbrev pub entries : {X : Type 0} → (ℕ → X → List ℕ) → ℕ → List X → List ℕ
 entries entry k [] = []
-entries entry k (x ∷ xs) = comma k ++ entry k x ++ entries entry (suc k) xs
+entries entry k (x ∷ xs) = comma k ++ (entry k x ++ entries entry (suc k) xs)
 
 abbrev pub array : {X : Type 0} → (ℕ → X → List ℕ) → List X → List ℕ
 array entry xs = codes "[" ++ entries entry 0 xs ++ codes "]"

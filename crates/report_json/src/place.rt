@@ -43,7 +43,6 @@ fn add_place(
     text.word(b"}")
 }
 
-#[tactic(auto, using(crate::proofs::Entries::one_more))]
 fn add_places(
     text: &mut Text,
     frame: &ValidFrame,
