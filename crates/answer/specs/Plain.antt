@@ -7,7 +7,7 @@ use Rattle.report_json.specs.Told.{frame_fault_told, hazard_told, program_fault_
 use Rattle.program.specs.declared.fault.ProgramFault.{ProgramFault}
 use Rattle.program.specs.declared.program.Program.{Program}
 use Rattle.answer.specs.declared.answer.Answer.{Answer}
-use Rattle.answer.specs.declared.status.Status.TheVariants.{Done, Rejected, Refused}
+use Rattle.answer.specs.declared.status.AnswerStatus.TheVariants.{Done, Rejected, Refused}
 
 -- the whole text of a command that was done
 abbrev pub done : List ℕ → Answer

@@ -3,7 +3,7 @@
 ghost use Rattle.std.specs.Prelude.{◌≡◌, IfOk};
 ghost use Rattle.answer.specs.Plain.{done, refusal, program_refusal};
 
-use crate::Status;
+use crate::AnswerStatus;
 use base::{NoMemory, Text};
 use frame::FrameFault;
 use program::ProgramFault;
@@ -13,8 +13,8 @@ use std::alloc::Global;
 /// A status, and the whole text that goes with it.
 #[derive(Drop)]
 pub struct Answer {
-    /// How a call ends that writes the text whole.
-    pub status: Status,
+    /// How the command ended.
+    pub status: AnswerStatus,
     /// The text, in lines that end with a line feed each.
     pub text: Text,
 }
@@ -24,7 +24,7 @@ pub fn done(text: Text) -> Answer
     ensures { result ≡ done text }
 {
     Answer {
-        status: Status::Done,
+        status: AnswerStatus::Done,
         text,
     }
 }
@@ -34,7 +34,7 @@ pub fn refusal(alloc: Global, json: bool, fault: &FrameFault) -> Result<Answer, 
     ensures { IfOk result (λ answer. answer ≡ refusal json fault.now) }
 {
     Ok(Answer {
-        status: Status::Refused,
+        status: AnswerStatus::Refused,
         text: frame_fault_told(alloc, json, fault)?,
     })
 }
@@ -44,7 +44,7 @@ pub fn program_refusal(alloc: Global, json: bool, fault: &ProgramFault) -> Resul
     ensures { IfOk result (λ answer. answer ≡ program_refusal json fault.now) }
 {
     Ok(Answer {
-        status: Status::Refused,
+        status: AnswerStatus::Refused,
         text: program_fault_told(alloc, json, fault)?,
     })
 }

@@ -2,7 +2,6 @@
 
 ghost use Rattle.std.specs.Prelude.{◌≡◌, IfOk};
 ghost use Rattle.answer.specs.Answers.{ChoosesQueues, CostsFrame};
-ghost use Rattle.answer.specs.Statuses.{HasText};
 ghost use Rattle.report_json.specs.Told.{cost_told};
 
 use crate::answer::{Answer, done};
@@ -17,7 +16,6 @@ use std::alloc::Global;
 /// The answer to the command on a valid frame.
 pub fn auto_frame(alloc: Global, good: &ValidFrame) -> Result<Answer, NoMemory>
     ensures frame { IfOk result (ChoosesQueues good.now) }
-    ensures has_text { IfOk result (λ answer. HasText answer.status) }
 {
     let choice = choose(alloc, good)?;
     let mut text = write_frame(alloc, choice.frame.frame())?;
@@ -35,7 +33,6 @@ fn cost_line(alloc: Global, json: bool, choice: &Choice) -> Result<Text, NoMemor
 /// The answer to the command with `--cost`.
 pub fn cost_frame(alloc: Global, json: bool, good: &ValidFrame) -> Result<Answer, NoMemory>
     ensures frame { IfOk result (CostsFrame json good.now) }
-    ensures has_text { IfOk result (λ answer. HasText answer.status) }
 {
     let choice = choose(alloc, good)?;
     Ok(done(cost_line(alloc, json, &choice)?))

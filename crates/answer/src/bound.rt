@@ -6,7 +6,6 @@ ghost use Rattle.compile_groups.specs.Placed.{sizes};
 ghost use Rattle.compile_heap.specs.Pairs.{has};
 ghost use Rattle.answer.specs.Answers.{BoundsFrame};
 ghost use Rattle.answer.specs.Internal.Stages.{AreBoundLines, AreGrouped, IsHeap};
-ghost use Rattle.answer.specs.Statuses.{HasText};
 
 use crate::answer::{Answer, done};
 use crate::groups::kept_groups;
@@ -54,7 +53,6 @@ fn bound_answer(
 ) -> Result<Answer, NoMemory>
     requires { AreGrouped (numbered good.now) groups.now }
     ensures frame { IfOk result (BoundsFrame json good.now) }
-    ensures has_text { IfOk result (λ answer. HasText answer.status) }
 {
     let ordered = ordered(alloc, groups)?;
     let heap = heap_of(alloc, groups, &ordered)?;
@@ -64,7 +62,6 @@ fn bound_answer(
 /// The answer to the command on a valid frame.
 pub fn bound_frame(alloc: Global, json: bool, good: &ValidFrame) -> Result<Answer, NoMemory>
     ensures frame { IfOk result (BoundsFrame json good.now) }
-    ensures has_text { IfOk result (λ answer. HasText answer.status) }
 {
     let groups = kept_groups(alloc, good)?;
     bound_answer(alloc, json, good, &groups)

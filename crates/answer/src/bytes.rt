@@ -3,7 +3,6 @@
 ghost use Rattle.std.specs.Prelude.{◌≡◌, IfOk, Some, false};
 ghost use Rattle.answer.specs.Answers.{Answers, AnswersBytes};
 ghost use Rattle.answer.specs.AtRest.{needs_device};
-ghost use Rattle.answer.specs.Statuses.{HasText};
 ghost use Rattle.cli.specs.Commands.{IsBounded};
 
 use crate::answer::Answer;
@@ -21,7 +20,6 @@ pub fn answer_bytes(alloc: Global, command: &Command, bytes: &[u8]) -> Result<An
     requires rests { needs_device (Some command.now) ≡ false }
     requires bounded { IsBounded command.now }
     ensures answer { IfOk result (AnswersBytes command.now bytes.now) }
-    ensures has_text { IfOk result (λ answer. HasText answer.status) }
 {
     match command {
         Command::Frame(asked) => answer_frame_file(alloc, *asked, bytes),
@@ -41,7 +39,6 @@ pub fn answer_to(alloc: Global, command: &Command, bytes: &[u8]) -> Result<Answe
     requires rests { needs_device (Some command.now) ≡ false }
     requires bounded { IsBounded command.now }
     ensures answers { IfOk result (Answers command.now bytes.now) }
-    ensures has_text { IfOk result (λ answer. HasText answer.status) }
 {
     match file_of(command) {
         Some(file) => {

@@ -3,7 +3,6 @@
 ghost use Rattle.std.specs.Prelude.{IfOk};
 ghost use Rattle.frame.specs.Numbered.{numbered};
 ghost use Rattle.answer.specs.Answers.{CullsFrame};
-ghost use Rattle.answer.specs.Statuses.{HasText};
 ghost use Rattle.frame_cull.specs.Culled.{AreKept};
 
 use crate::answer::{Answer, done};
@@ -25,7 +24,6 @@ pub fn kept_of(alloc: Global, good: &ValidFrame) -> Result<Kept, NoMemory>
 #[tactic(auto, using(crate::proofs::KeptLemmas::one_each))]
 pub fn cull_frame(alloc: Global, json: bool, good: &ValidFrame) -> Result<Answer, NoMemory>
     ensures frame { IfOk result (CullsFrame json good.now) }
-    ensures has_text { IfOk result (λ answer. HasText answer.status) }
 {
     let kept = kept_of(alloc, good)?;
     let text = cull_told(alloc, json, good, &kept)?;

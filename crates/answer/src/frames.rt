@@ -2,7 +2,6 @@
 
 ghost use Rattle.std.specs.Prelude.{IfOk};
 ghost use Rattle.answer.specs.Answers.{AnswersFrame, AnswersFrameFile};
-ghost use Rattle.answer.specs.Statuses.{HasText};
 ghost use Rattle.compile_file.specs.Files.{frame_file};
 
 use crate::answer::{Answer, refusal};
@@ -28,7 +27,6 @@ pub fn answer_frame_file(
     bytes: &[u8],
 ) -> Result<Answer, NoMemory>
     ensures file { IfOk result (AnswersFrameFile asked (frame_file bytes.now)) }
-    ensures has_text { IfOk result (λ answer. HasText answer.status) }
 {
     match valid_frame(alloc, bytes) {
         Ok(good) => answer_frame(alloc, asked, &good),
@@ -39,7 +37,6 @@ pub fn answer_frame_file(
 
 fn answer_frame(alloc: Global, asked: FrameCommand, good: &ValidFrame) -> Result<Answer, NoMemory>
     ensures frame { IfOk result (AnswersFrame asked good.now) }
-    ensures has_text { IfOk result (λ answer. HasText answer.status) }
 {
     match asked {
         FrameCommand::Cull { json } => cull_frame(alloc, json, good),

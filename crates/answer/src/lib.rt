@@ -23,4 +23,4 @@ pub use as_json::asks_json;
 pub use bytes::{answer_bytes, answer_to};
 pub use files::{File, file_of, limit_of, over_input};
 pub use programs::checked;
-pub use status::Status;
+pub use status::{AnswerStatus, Status};

@@ -4,7 +4,6 @@ ghost use Rattle.std.specs.Prelude.{IfOk};
 ghost use Rattle.frame.specs.Numbered.{numbered};
 ghost use Rattle.answer.specs.Answers.{PlacesFrame};
 ghost use Rattle.answer.specs.Internal.Stages.{AreGrouped, ArePlaced, ArePlaceLines};
-ghost use Rattle.answer.specs.Statuses.{HasText};
 
 use crate::answer::{Answer, done};
 use crate::groups::kept_groups;
@@ -46,7 +45,6 @@ fn place_answer(
 ) -> Result<Answer, NoMemory>
     requires { AreGrouped (numbered good.now) groups.now }
     ensures frame { IfOk result (PlacesFrame json good.now) }
-    ensures has_text { IfOk result (λ answer. HasText answer.status) }
 {
     Ok(done(place_lines(alloc, json, good, groups)?))
 }
@@ -54,7 +52,6 @@ fn place_answer(
 /// The answer to the command on a valid frame.
 pub fn place_frame(alloc: Global, json: bool, good: &ValidFrame) -> Result<Answer, NoMemory>
     ensures frame { IfOk result (PlacesFrame json good.now) }
-    ensures has_text { IfOk result (λ answer. HasText answer.status) }
 {
     let groups = kept_groups(alloc, good)?;
     place_answer(alloc, json, good, &groups)

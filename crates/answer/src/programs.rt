@@ -3,11 +3,10 @@
 ghost use Rattle.std.specs.Prelude.{◌≡◌, ◌⊎◌, IfOk, IfErr};
 ghost use Rattle.check_program.specs.Sound.{IsSound};
 ghost use Rattle.answer.specs.Answers.{Accepts, AnswersProgram, AnswersProgramFile};
-ghost use Rattle.answer.specs.Statuses.{HasText};
 ghost use Rattle.compile_file.specs.Files.{program_file};
 ghost use Rattle.answer.specs.Plain.{Rejects, rejection};
 
-use crate::Status;
+use crate::AnswerStatus;
 use crate::answer::{Answer, done, program_refusal};
 use crate::as_json::submission_json;
 use base::NoMemory;
@@ -26,7 +25,6 @@ pub fn answer_program_file(
     bytes: &[u8],
 ) -> Result<Answer, NoMemory>
     ensures file { IfOk result (AnswersProgramFile asked (program_file bytes.now)) }
-    ensures has_text { IfOk result (λ answer. HasText answer.status) }
 {
     match valid_program(alloc, bytes) {
         Ok(program) => answer_program(alloc, asked, program),
@@ -45,7 +43,6 @@ fn answer_program(
     program: ValidProgram,
 ) -> Result<Answer, NoMemory>
     ensures program { IfOk result (AnswersProgram asked program) }
-    ensures has_text { IfOk result (λ answer. HasText answer.status) }
 {
     match asked {
         SubmissionCommand::Check { json } => check_program(alloc, json, program),
@@ -55,7 +52,6 @@ fn answer_program(
 // Sound or not.
 fn check_program(alloc: Global, json: bool, program: ValidProgram) -> Result<Answer, NoMemory>
     ensures checked { IfOk result (λ answer. Accepts json program answer ⊎ Rejects json program answer) }
-    ensures has_text { IfOk result (λ answer. HasText answer.status) }
 {
     let nodes = program.node_count();
     match checked(alloc, json, program) {
@@ -72,7 +68,6 @@ pub fn checked(
 ) -> Result<Checked, Result<Answer, NoMemory>>
     ensures ok { IfOk result (λ checked. (checked.program ≡ program) × IsSound program) }
     ensures err { IfErr result (λ end. IfOk end (Rejects json program)) }
-    ensures has_text { IfErr result (λ end. IfOk end (λ answer. HasText answer.status)) }
 {
     match check(alloc, program) {
         Ok(checked) => Ok(checked),
@@ -86,7 +81,7 @@ fn rejection(alloc: Global, json: bool, hazard: &Hazard) -> Result<Answer, NoMem
     ensures { IfOk result (λ answer. answer ≡ rejection json hazard.now) }
 {
     Ok(Answer {
-        status: Status::Rejected,
+        status: AnswerStatus::Rejected,
         text: hazard_told(alloc, json, hazard)?,
     })
 }

@@ -10,7 +10,7 @@ use Rattle.cli.specs.CommandWords.{word_of}
 use Rattle.cli.specs.Commands.{HasDepth, HasNames, HasPasses, HasWorkers, IsBounded, command_in, command_of_word, command_with, choosing, flying, generating, unless_more, without_json, without_options}
 use Rattle.cli.specs.Files.{files_in, line_in, takes_files, with_files}
 use Rattle.cli.specs.LineOptions.{line_options_in, is_none, number_in, word_in}
-use Rattle.cli.specs.Lines.{framec, unless_refused, command_of, line_of}
+use Rattle.cli.specs.Lines.{framec, unless_refused, line_of}
 use Rattle.cli.specs.Numbers.{is_number}
 use Rattle.cli.specs.Persist.{all_named, are_different, if_different, persist_in}
 use Rattle.cli.specs.Options.{options_in}
@@ -177,6 +177,3 @@ bounded_lines words =
     let line : List Text = codes "framec" ∷ words in
     let rows : List Row = matches_of framec line in
     kept (fault_of framec line) (line_in rows) (line_is rows)
-
-pub bounded_commands : (words : List Text) → IfSome (command_of words) IsBounded
-bounded_commands words = mapped LineIsBounded IsBounded (line_of words) (λ line. line.command) (bounded_lines words) (λ line is. is)

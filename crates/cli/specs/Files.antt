@@ -18,8 +18,11 @@ takes_files (Flight options persist depth) count = nat_le count 1
 takes_files Audit count = nat_le count 1
 
 -- the words behind a command's own, by what `clap` found on a line
+abbrev pub words_in : List Row → Option (List (List ℕ))
+words_in rows = all_of (codes "file") rows
+
 abbrev pub files_in : List Row → List (List ℕ)
-files_in rows = unwrap_or (all_of (codes "file") rows) []
+files_in rows = unwrap_or (words_in rows) []
 
 -- a command with its files, where it takes so many
 abbrev pub with_files : List (List ℕ) → Command → Option Line

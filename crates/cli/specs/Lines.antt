@@ -1,12 +1,12 @@
 -- The command line, as `clap` reads it.
-use Rattle.std.specs.Prelude.{◌≡◌, true, List, [], ◌∷◌, fold, Option, Some, None, option_map, Result, Ok, Err, codes}
+use Rattle.std.specs.Prelude.{◌≡◌, true, List, [], ◌∷◌, fold, Option, Some, None, Result, Ok, Err, codes}
 use Rattle.clap.specs.Words.{App, Rule, Text, Kinds, new_app, new_rule, with_rule, matches_of, rows_of, found_of, fault_of}
 use Rattle.clap.specs.Simple.{on_top}
+use Rattle.clap.specs.declared.builder.action.ArgAction.{ArgAction}
 use Rattle.clap.specs.declared.builder.action.ArgAction.TheVariants.{Set, Append}
 use Rattle.clap.specs.declared.parser.matches.ArgMatches.{ArgMatches}
 use Rattle.cli.specs.Files.{line_in}
 use Rattle.cli.specs.OptionNames.{action_of, all_names, name_of}
-use Rattle.cli.specs.declared.command.Command.{Command}
 use Rattle.cli.specs.declared.line.Line.{Line}
 use Rattle.cli.specs.declared.option_name.OptionName.{OptionName}
 use Rattle.cli.specs.declared.matching.Unmatched.{Unmatched}
@@ -21,11 +21,11 @@ abbrev pub files_rule : Rule
 files_rule = record (new_rule (codes "file")) { action = Some Append }
 
 -- `--name`, with one word behind it or alone
-abbrev pub option_rule : OptionName → Rule
-option_rule option = record (new_rule (name_of option)) { long = Some (name_of option); action = Some (action_of option) }
+abbrev pub option_rule : Text → ArgAction → Rule
+option_rule name action = record (new_rule name) { long = Some name; action = Some action }
 
 abbrev pub with_option : App → OptionName → App
-with_option app option = with_rule app (option_rule option)
+with_option app option = with_rule app (option_rule (name_of option) (action_of option))
 
 -- neither `--help` nor `--version`
 abbrev pub bare_app : App
@@ -49,9 +49,6 @@ abbrev pub line_of : List Text → Option Line
 line_of words =
     let line = codes "framec" ∷ words in
     unless_refused (fault_of framec line) (line_in (matches_of framec line))
-
-abbrev pub command_of : List Text → Option Command
-command_of words = option_map (λ line. line.command) (line_of words)
 
 abbrev pub Matches : List Text → Result ArgMatches Unmatched → Type 0
 Matches line (Ok matches) = IsLine line × (rows_of (found_of matches) ≡ matches_of framec line)

@@ -1,8 +1,8 @@
 //! The files of a line.
 
-ghost use Rattle.std.specs.Prelude.{◌≡◌, IfOk, map};
+ghost use Rattle.std.specs.Prelude.{◌≡◌, IfOk, map, option_map};
 ghost use Rattle.clap.specs.Words.{found_of, rows_of};
-ghost use Rattle.cli.specs.Files.{files_in, takes_files};
+ghost use Rattle.cli.specs.Files.{files_in, takes_files, words_in};
 
 use crate::matching::FILE;
 use crate::{Command, FileName};
@@ -35,11 +35,17 @@ fn named(alloc: Global, words: &[&str]) -> Result<List<FileName>, NoMemory>
     Ok(files)
 }
 
+fn words_in<'w, 'a>(matches: &'w ArgMatches<'a>) -> Option<&'w [&'a str]>
+    ensures { option_map (λ words. map (λ word. word.now) words.now) result ≡ words_in (rows_of (found_of matches.entry.now)) }
+{
+    matches.get_raw(FILE)
+}
+
 /// The words behind the command's own.
 pub(crate) fn files_in(alloc: Global, matches: &ArgMatches<'_>) -> Result<List<FileName>, NoMemory>
     ensures { IfOk result (λ files. files ≡ files_in (rows_of (found_of matches.now))) }
 {
-    match matches.get_raw(FILE) {
+    match words_in(matches) {
         Some(words) => named(alloc, words),
         None => Ok(List::new(alloc)),
     }

@@ -15,4 +15,4 @@ mod word;
 
 pub use command::{Command, FrameCommand, SubmissionCommand};
 pub use file_name::FileName;
-pub use line::{Line, command_of, line_of};
+pub use line::{Line, line_of};

@@ -5,7 +5,7 @@ ghost use Rattle.clap.specs.Words.{rows_of, found_of};
 ghost use Rattle.cli.specs.Commands.{IsBounded, choosing, command_in, command_of_word, flying, generating, unless_more, without_json, without_options};
 ghost use Rattle.cli.specs.Files.{line_in, with_files};
 ghost use Rattle.cli.specs.LineOptions.{word_in};
-ghost use Rattle.cli.specs.Lines.{command_of, line_of};
+ghost use Rattle.cli.specs.Lines.{line_of};
 ghost use Rattle.cli.specs.Persist.{persist_in};
 ghost use Rattle.cli.specs.declared.command.Command.TheVariants as commands;
 
@@ -40,18 +40,6 @@ pub fn line_of(alloc: Global, words: &[String]) -> Result<Option<Line>, NoMemory
         Ok(matches) => line_in(alloc, &matches),
         Err(Unmatched::NoLine) => Ok(None),
         Err(Unmatched::NoMemory) => Err(NoMemory),
-    }
-}
-
-/// The command of the words after the program's name; none where they are no command line.
-#[tactic(auto, using(crate::proofs::Bounds::bounded_commands))]
-pub fn command_of(alloc: Global, words: &[String]) -> Result<Option<Command>, NoMemory>
-    ensures command { IfOk result (λ command. command ≡ command_of (map string_bytes words.now)) }
-    ensures bounded { IfSome (command_of (map string_bytes words.now)) IsBounded }
-{
-    match line_of(alloc, words)? {
-        Some(line) => Ok(Some(line.command)),
-        None => Ok(None),
     }
 }
 

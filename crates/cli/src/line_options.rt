@@ -87,12 +87,7 @@ impl LineOptions {
             || self.number.is_some()
             || self.passes.is_some()
             || self.depth.is_some();
-        !(numbers
-            || self.persist
-            || self.trace
-            || self.summary
-            || self.tight
-            || self.cost
-            || self.json)
+        let flags = self.trace || self.summary || self.tight || self.cost || self.json;
+        !(numbers || self.persist || flags)
     }
 }

@@ -1,8 +1,8 @@
 //! Words, matched by the one `clap` command.
 
 ghost use Rattle.std.specs.Prelude.{◌≡◌, IfOk, map, false, fold};
-ghost use Rattle.clap.specs.Words.{app_of, rule_of};
-ghost use Rattle.cli.specs.Lines.{framec, bare_app, files_rule, with_option, word_rule, Matches};
+ghost use Rattle.clap.specs.Words.{app_of, rule_of, with_rule};
+ghost use Rattle.cli.specs.Lines.{framec, bare_app, files_rule, option_rule, with_option, word_rule, Matches};
 
 use crate::option_name::{OPTION_NAMES, OptionName, action_of, name_of};
 use clap::error::ErrorKind;
@@ -45,6 +45,19 @@ fn bare<'a>(alloc: Global) -> Command<'a>
         .disable_version_flag(true)
 }
 
+fn with_name<'a>(
+    command: Command<'a>,
+    alloc: Global,
+    name: &'a str,
+    action: ArgAction,
+) -> Result<Command<'a>, AllocError>
+    ensures { IfOk result (λ more. app_of more ≡ with_rule (app_of command.entry) (option_rule name.entry.now action)) }
+{
+    let option = Arg::new(alloc, name).long(name).action(action);
+    let command = command.arg(option)?;
+    Ok(command)
+}
+
 fn with_option<'a>(
     command: Command<'a>,
     alloc: Global,
@@ -52,10 +65,7 @@ fn with_option<'a>(
 ) -> Result<Command<'a>, AllocError>
     ensures { IfOk result (λ more. app_of more ≡ with_option (app_of command.entry) option) }
 {
-    let name = name_of(option);
-    let option = Arg::new(alloc, name).long(name).action(action_of(option));
-    let command = command.arg(option)?;
-    Ok(command)
+    with_name(command, alloc, name_of(option), action_of(option))
 }
 
 fn with_options<'a>(

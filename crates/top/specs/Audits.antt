@@ -20,10 +20,10 @@ use Rattle.answer.specs.Plain.{Rejects, done, program_refusal}
 use Rattle.device_run.specs.Runs.{read_by}
 use Rattle.top.specs.Texts.{readbacks_text}
 use Rattle.answer.specs.declared.answer.Answer.{Answer}
-use Rattle.answer.specs.declared.status.Status.{Status}
-use Rattle.answer.specs.declared.status.Status.TheVariants.{Done, Rejected, Refused}
+use Rattle.answer.specs.declared.status.AnswerStatus.{AnswerStatus}
+use Rattle.answer.specs.declared.status.AnswerStatus.TheVariants.{Done, Rejected, Refused}
 
-abbrev pub line_answer : Status → AuditLine → Answer
+abbrev pub line_answer : AnswerStatus → AuditLine → Answer
 line_answer status line = record { status = status; text = audit_text line }
 
 -- the text is no trace: its first line that does not fit, or more events than are read

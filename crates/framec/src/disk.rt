@@ -1,0 +1,48 @@
+//! Files are opened by the names that a line has.
+
+use crate::input::Input;
+use base_io::ReadSource;
+use cli::FileName;
+use progress::Meter;
+use std::io::Eprint;
+use std::rt::Files;
+use std::sync::Wait;
+use std::{fs, io};
+use top::Opener;
+
+/// Opens files, and tells the meter of each.
+pub struct Disk<'a, R> {
+    rt: &'a R,
+    meter: &'a Meter,
+}
+
+impl<'a, R: io::Input + Files> Disk<'a, R> {
+    pub fn new(rt: &'a R, meter: &'a Meter) -> Self {
+        Disk { rt, meter }
+    }
+
+    /// Standard input.
+    pub fn standard(&self) -> ReadSource<Input<R::Reader, R::File>> {
+        ReadSource::new(Input::Standard(self.rt.reader()))
+    }
+}
+
+impl<R: io::Input + Files + Eprint + Wait> Opener for Disk<'_, R> {
+    type File = ReadSource<Input<R::Reader, R::File>>;
+
+    fn open(&mut self, name: &FileName) -> Self::File {
+        self.meter.begin_file();
+        if name.is_standard_input() {
+            return self.standard();
+        }
+        match fs::open(self.rt, name.as_str()) {
+            Ok(file) => ReadSource::new(Input::File(file)),
+            Err(_) => ReadSource::new(Input::Unopened),
+        }
+    }
+
+    fn unread(&mut self, name: &FileName) {
+        self.meter.hide(self.rt);
+        let _ = eprintln!(self.rt; "framec: {} cannot be read", name.as_str());
+    }
+}
