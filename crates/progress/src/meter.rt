@@ -5,11 +5,11 @@ use std::sync::atomic::{AtomicU64, Ordering};
 use std::sync::{Condvar, Mutex, Wait};
 use std::time::{Clock, Duration, Instant};
 
-// A command that ends sooner has no line.
-const FIRST: Duration = Duration::from_millis(1000);
+// A command that ends sooner has no line, in milliseconds.
+const FIRST: u64 = 1000;
 
-// The line is written anew as often.
-const STEP: Duration = Duration::from_millis(250);
+// The line is written anew as often, in milliseconds.
+const STEP: u64 = 250;
 
 // Back to the begin of the line, and all of it wiped.
 const WIPE: &str = "\r\u{1b}[K";
@@ -60,14 +60,16 @@ impl Meter {
     pub fn show<R: Wait + Clock + Eprint>(&self, rt: &R) {
         let Ok(start) = Instant::now(rt) else { return };
         for _ in rt.forever() {
-            let (mut line, _) = self.ended.wait_timeout(rt, self.line.lock(rt), STEP);
+            let (mut line, _) = self
+                .ended
+                .wait_timeout(rt, self.line.lock(rt), Duration::from_millis(STEP));
             if matches!(*line, Line::Ended) {
                 return;
             }
             let Ok(elapsed) = start.elapsed(rt) else {
                 return;
             };
-            if elapsed >= FIRST {
+            if elapsed >= Duration::from_millis(FIRST) {
                 *line = Line::Shown;
                 self.write(rt, elapsed.as_secs());
             }

@@ -17,8 +17,8 @@ pub struct MeterSink<'a, R: Wait + Eprint, O> {
 
 impl<'a, R: Wait + Eprint, O: Sink> MeterSink<'a, R, O> {
     pub fn new(rt: &'a R, meter: &'a Meter, inner: O) -> Self
-        ensures taken { ⟦<MeterSink<R, O> as Sink>⟧.taken result ≡ O.taken inner }
-        ensures faults { ⟦<MeterSink<R, O> as Sink>⟧.faults result ≡ O.faults inner }
+        ensures taken { ⟦<MeterSink<'a, R, O> as Sink>⟧.taken result ≡ O.taken inner }
+        ensures faults { ⟦<MeterSink<'a, R, O> as Sink>⟧.faults result ≡ O.faults inner }
     {
         MeterSink { rt, meter, inner }
     }
