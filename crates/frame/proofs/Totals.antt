@@ -46,15 +46,15 @@ all_rects_same frame n (pass ∷ passes) = sum_by-cons (λ pass. sum_by rect_cou
 -- what the entries leave of a room, and what they take of it
 spent : {X Y : Type 0} (spend : ℕ → ℕ → X → Result ℕ Y) (size : X → ℕ) → ((room i : ℕ) (x : X) (left : ℕ) → spend room i x ≡ Ok left → left + size x ≡ room) → (xs : List X) (room i left : ℕ) → spend_in spend room i xs ≡ Ok left → left + sum_by size xs ≡ room
 spent spend size each [] room i left is = let same : room ≡ left = cc in omega (arith, same)
-spent {X} {Y} spend size each (x ∷ xs) room i left is = by_step (spend room i x) refl is
+spent {X} {Y} spend size each (x ∷ xs) room i left is = by_step (λ rest. spent spend size each xs rest (suc i) left) (spend room i x) refl is
   where
-    by_step : (step : Result ℕ Y) → spend room i x ≡ step → go_on (λ rest. spend_in spend rest (suc i) xs) step ≡ Ok left → left + sum_by size (x ∷ xs) ≡ room
-    by_step (Ok rest) step is =
+    by_step : ((rest : ℕ) → spend_in spend rest (suc i) xs ≡ Ok left → left + sum_by size xs ≡ rest) → (step : Result ℕ Y) → spend room i x ≡ step → go_on (λ rest. spend_in spend rest (suc i) xs) step ≡ Ok left → left + sum_by size (x ∷ xs) ≡ room
+    by_step others (Ok rest) step is =
         let here = each room i x rest step in
-        let more = spent spend size each xs rest (suc i) left is in
+        let more = others rest is in
         let all = sum_by-cons size x xs in
         omega (arith, here, more, all)
-    by_step (Err place) step is = absurd cc
+    by_step others (Err place) step is = absurd cc
 
 op_spent : (p room k : ℕ) (op : Op Spot) (left : ℕ) → spend_op p room k op ≡ Ok left → left + rect_count op ≡ room
 op_spent p room k op left is = by_test (nat_lt room (rect_count op)) refl is
