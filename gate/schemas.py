@@ -5,8 +5,8 @@
 
 Each file of examples/ and each text that the program makes of one (`migrate`, `compile`, `auto`) has to be valid by its schema. Each file
 with one member taken away, given twice another kind, or added has to be valid exactly where the program tells no fault of the form (F2,
-F3, G11). What the commands answer with --json, to the examples and to one file with each fault that is found so, has to be valid and
-compact, with the members in the order of the schema, and to say what the text without --json says, with the same status. It wants
+F3, G11). What the commands answer with --json, to the examples, to one file with each fault that is found so, and to several files, has to be
+valid and compact, with the members in the order of the schema, and to say what the text without --json says, with the same status. It wants
 Python's package jsonschema, and says so where that is missing. The status is 1 where one does not hold.
 """
 
@@ -22,7 +22,7 @@ from makers import packed
 from repository import FLIGHTS, FRAMES, PROFILE, SUBMISSIONS, TOP
 from sides import answer
 from tally import Tally, left_out
-from told import ANSWERS, compact, text_of
+from told import TEXTS, WORDS, compact, text_of
 
 # What is put in the place of each member and entry.
 OTHERS = (None, True, -1, 0.5, 4294967296, "", "x/9", [], {}, [0], {"unknown": 1})
@@ -83,7 +83,7 @@ class Holds(Tally):
     def __init__(self, program, validators, answers):
         super().__init__("schemas", "files")
         self.program, self.validators = program, validators
-        self.answers = {kind: validators["answers"].evolve(schema={"$ref": f"#/$defs/{kind}", "$defs": answers["$defs"]}) for kind in ANSWERS}
+        self.answers = {kind: validators["answers"].evolve(schema={"$ref": f"#/$defs/{kind}", "$defs": answers["$defs"]}) for kind in TEXTS}
         self.orders = [list(schema["properties"]) for schema in objects(answers) if schema.get("type") == "object"]
         self.told = set()
 
@@ -100,10 +100,9 @@ class Holds(Tally):
         """Whether the members of each object stand in the order of one of the schema."""
         return all(any(list(one) == [member for member in order if member in one] for order in self.orders) for one in objects(value))
 
-    def says_the_same(self, what, kind, text):
-        """The answer as JSON to a file is valid and canonical, and says what the text says."""
+    def says_the_same(self, what, kind, words, text=b""):
+        """The answer as JSON is valid and canonical, and says what the text says."""
         self.look()
-        words = ANSWERS[kind][0].split()
         plain, (status, printed) = answer(self.program, words, text), answer(self.program, [*words, "--json"], text)
         told = json.loads(printed)
         error = next(self.answers[kind].iter_errors(told), None)
@@ -118,7 +117,7 @@ class Holds(Tally):
         """The same of a file with a fault, once for each line that is told."""
         if line.startswith(b"fault ") and (kind, line) not in self.told:
             self.told.add((kind, line))
-            self.says_the_same(what, kind, text)
+            self.says_the_same(what, kind, [kind], text)
 
     def is_as_read(self, what, kind, word, value):
         """Valid exactly where the program tells no fault of the form."""
@@ -142,11 +141,13 @@ def look_at(holds):
     for kind, texts in (("frame", [*(path.read_bytes() for path in frames), *lines]), ("submission", [path.read_bytes() for path in submissions])):
         for text in texts:
             holds.is_valid("an example", kind, text)
-    for kind in ANSWERS:
+    for kind, line in WORDS.items():
         for path in submissions if kind == "check" else frames:
-            holds.says_the_same(f"{kind} < {path.name}", kind, path.read_bytes())
+            holds.says_the_same(f"{kind} < {path.name}", kind, line.split(), path.read_bytes())
         for text in STRANGE:
-            holds.says_the_same(f"{kind} < {text}", kind, text.encode())
+            holds.says_the_same(f"{kind} < {text}", kind, line.split(), text.encode())
+    for files in (submissions, [*frames, *submissions], [submissions[0], TOP / "examples", Path('no\u00e9"\\.json')]):
+        holds.says_the_same("check of several files", "files", ["check", *map(str, files)])
     for kind, word, name in CHANGED:
         for value in changed(json.loads((TOP / "examples" / name).read_bytes())):
             holds.is_as_read(name, kind, word, value)

@@ -5,7 +5,7 @@ import json
 
 def compact(value):
     """The JSON text of a value, without spaces, with its members in their order."""
-    return json.dumps(value, separators=(",", ":"))
+    return json.dumps(value, separators=(",", ":"), ensure_ascii=False)
 
 
 def path(steps):
@@ -46,10 +46,15 @@ def cost(told):
     return f"cost {told['given']} {told['chosen']}\n"
 
 
-# The command line of each answer, by the name of its schema, and how its text is told.
-ANSWERS = {"cull": ("cull", cull), "place": ("place", place), "bound": ("bound", bound), "cost": ("auto --cost", cost), "check": ("check", verdict)}
+def files(told):
+    return "".join(f"{one['file']}: {verdict(one['answer'])}" for one in told["files"] if "answer" in one)
+
+
+# The command line of each answer to one file, by the name of its schema.
+WORDS = {"cull": "cull", "place": "place", "bound": "bound", "cost": "auto --cost", "check": "check"}
+TEXTS = {"cull": cull, "place": place, "bound": bound, "cost": cost, "check": verdict, "files": files}
 
 
 def text_of(kind, told):
     """The text that says the same."""
-    return verdict(told) if "verdict" in told else ANSWERS[kind][1](told)
+    return verdict(told) if "verdict" in told else TEXTS[kind](told)

@@ -16,9 +16,16 @@ abbrev pub escaped : ℕ → List ℕ
 escaped byte = if byte == 34 || byte == 92 then 92 ∷ byte ∷ [] else printed byte ∷ []
 
 -- a step of a path: the key of a member, or a position in a list
-abbrev pub leg_json : ℕ → Leg → List ℕ
-leg_json k (Member key) = string (flat_map escaped key)
-leg_json k (Position at) = number at
+abbrev pub leg_json : Leg → List ℕ
+leg_json (Member key) = string (flat_map escaped key)
+leg_json (Position at) = number at
+
+abbrev pub leg_at : ℕ → Leg → List ℕ
+leg_at k leg = leg_json leg
+
+-- the steps from the root of the file
+abbrev pub path_json : List Leg → List ℕ
+path_json place = array leg_at place
 
 -- the name of the quantity that is over its limit, where the fault has one
 abbrev pub limit_members : Option Limit → List (List ℕ)
@@ -29,7 +36,7 @@ limit_members (Some limit) = member (codes "limit") (string (limit_name limit)) 
 abbrev pub fault_json : List ℕ → ℕ → Option Limit → List Leg → List ℕ
 fault_json letter fault limit place = answer
     (verdict (codes "fault"))
-    (member (codes "fault") (string (letter ++ number fault)) ∷ (limit_members limit ++ member (codes "path") (array leg_json place) ∷ []))
+    (member (codes "fault") (string (letter ++ number fault)) ∷ (limit_members limit ++ member (codes "path") (path_json place) ∷ []))
 
 abbrev pub frame_fault_json : FrameFault → List ℕ
 frame_fault_json fault = fault_json (codes "F") fault.number fault.limit fault.location

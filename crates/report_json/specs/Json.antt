@@ -1,5 +1,5 @@
 -- JSON as it is printed: without spaces, members in the order told, numbers in decimal.
-use Rattle.std.specs.Prelude.{ℕ, zero, suc, Bool, true, false, List, [], ◌∷◌, ◌++◌, codes}
+use Rattle.std.specs.Prelude.{ℕ, suc, Bool, true, false, List, [], ◌∷◌, ◌++◌, ◌==◌, codes, if◌then◌else◌}
 use Rattle.std.specs.Fmt.{decimal}
 
 abbrev pub number : ℕ → List ℕ
@@ -19,7 +19,7 @@ member name value = string name ++ codes ":" ++ value
 -- the members behind another one
 abbrev pub later : List (List ℕ) → List ℕ
 later [] = []
-later (m ∷ ms) = codes "," ++ m ++ later ms
+later (m ∷ ms) = codes "," ++ (m ++ later ms)
 
 -- an object of at least one member
 abbrev pub object : List ℕ → List (List ℕ) → List ℕ
@@ -27,13 +27,12 @@ object first ms = codes "{" ++ first ++ later ms ++ codes "}"
 
 -- what stands before entry k of a list
 abbrev pub comma : ℕ → List ℕ
-comma zero = []
-comma (suc k) = codes ","
+comma k = if k == 0 then [] else codes ","
 
 -- the entries of a list from entry k on
 abbrev pub entries : {X : Type 0} → (ℕ → X → List ℕ) → ℕ → List X → List ℕ
 entries entry k [] = []
-entries entry k (x ∷ xs) = comma k ++ entry k x ++ entries entry (suc k) xs
+entries entry k (x ∷ xs) = comma k ++ (entry k x ++ entries entry (suc k) xs)
 
 abbrev pub array : {X : Type 0} → (ℕ → X → List ℕ) → List X → List ℕ
 array entry xs = codes "[" ++ entries entry 0 xs ++ codes "]"

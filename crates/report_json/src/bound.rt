@@ -37,7 +37,7 @@ fn add_chosen(
 /// The object that `bound --json` prints: a number of bytes that no heap is smaller than, beside the size of the heap, and
 /// the names of the placed units that show it, which are chosen by their places among the placed ones.
 #[tactic(auto, using(report::proofs::Places::placed_known))]
-pub fn bound_json(
+pub(crate) fn bound_json(
     alloc: Global,
     frame: &ValidFrame,
     groups: &Groups,

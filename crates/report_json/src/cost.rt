@@ -8,7 +8,7 @@ use base::{List, NoMemory, Text};
 use std::alloc::Global;
 
 /// The object that `auto --cost --json` prints: the cost of a frame as given, and with the queues that were found.
-pub fn cost_json(alloc: Global, given: u64, found: u64) -> Result<Text, NoMemory>
+pub(crate) fn cost_json(alloc: Global, given: u64, found: u64) -> Result<Text, NoMemory>
     ensures { IfOk result (λ text. text ≡ cost_json given found) }
 {
     let mut text = List::new(alloc);

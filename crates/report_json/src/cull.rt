@@ -50,7 +50,7 @@ fn add_passes(text: &mut Text, passes: &[Pass], kept: &Kept) -> Result<(), NoMem
 
 /// The object that `cull --json` prints: how many passes are kept and culled, and what becomes of each.
 #[tactic(auto, using(report::proofs::Passes::few))]
-pub fn cull_json(alloc: Global, frame: &ValidFrame, kept: &Kept) -> Result<Text, NoMemory>
+pub(crate) fn cull_json(alloc: Global, frame: &ValidFrame, kept: &Kept) -> Result<Text, NoMemory>
     requires { length kept.now ≡ length frame.now.passes }
     ensures { IfOk result (λ text. text ≡ cull_json frame.now kept.now) }
 {

@@ -12,13 +12,13 @@ use frame::FrameFault;
 use program::ProgramFault;
 use std::alloc::Global;
 
-fn add_number(text: &mut Text, letter: &[u8], number: u8) -> Result<(), NoMemory>
-    ensures { OnOk result (text.new ≡ text.old ++ codes "," ++ member (codes "fault") (string (letter.now ++ number number))) }
+fn add_number(text: &mut Text, letter: &[u8], fault: u8) -> Result<(), NoMemory>
+    ensures { OnOk result (text.new ≡ text.old ++ codes "," ++ member (codes "fault") (string (letter.now ++ number fault))) }
 {
     next_member(text, b"fault")?;
     text.word(b"\"")?;
     text.word(letter)?;
-    text.number(u64::from(number))?;
+    text.number(u64::from(fault))?;
     text.word(b"\"")
 }
 
@@ -36,15 +36,15 @@ fn add_limit(text: &mut Text, limit: Option<Limit>) -> Result<(), NoMemory>
 fn fault_json(
     alloc: Global,
     letter: &[u8],
-    number: u8,
+    fault: u8,
     limit: Option<Limit>,
     location: &[Leg],
 ) -> Result<Text, NoMemory>
-    ensures { IfOk result (λ text. text ≡ fault_json letter.now number limit location.now) }
+    ensures { IfOk result (λ text. text ≡ fault_json letter.now fault limit location.now) }
 {
     let mut text = List::new(alloc);
     first_string(&mut text, b"verdict", b"fault")?;
-    add_number(&mut text, letter, number)?;
+    add_number(&mut text, letter, fault)?;
     add_limit(&mut text, limit)?;
     next_member(&mut text, b"path")?;
     add_path(&mut text, location)?;
@@ -53,7 +53,7 @@ fn fault_json(
 }
 
 /// The object that names the first fault of a frame file, as `{"verdict":"fault","fault":"F3","path":["format"]}`.
-pub fn frame_fault_json(alloc: Global, fault: &FrameFault) -> Result<Text, NoMemory>
+pub(crate) fn frame_fault_json(alloc: Global, fault: &FrameFault) -> Result<Text, NoMemory>
     ensures { IfOk result (λ text. text ≡ frame_fault_json fault.now) }
 {
     fault_json(alloc, b"F", fault.number, fault.limit, &fault.location)
@@ -61,7 +61,7 @@ pub fn frame_fault_json(alloc: Global, fault: &FrameFault) -> Result<Text, NoMem
 
 /// The object that names the first fault of a submission file, as
 /// `{"verdict":"fault","fault":"G1","limit":"Queues","path":["queues"]}`.
-pub fn program_fault_json(alloc: Global, fault: &ProgramFault) -> Result<Text, NoMemory>
+pub(crate) fn program_fault_json(alloc: Global, fault: &ProgramFault) -> Result<Text, NoMemory>
     ensures { IfOk result (λ text. text ≡ program_fault_json fault.now) }
 {
     fault_json(alloc, b"G", fault.number, fault.limit, &fault.location)

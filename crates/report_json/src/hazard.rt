@@ -113,7 +113,7 @@ fn add_hazard(text: &mut Text, hazard: &Hazard) -> Result<(), NoMemory>
 }
 
 /// The object that names the first hazard of a program, as `{"verdict":"hazard","hazard":"H2","nodes":[0,1]}`.
-pub fn hazard_json(alloc: Global, hazard: &Hazard) -> Result<Text, NoMemory>
+pub(crate) fn hazard_json(alloc: Global, hazard: &Hazard) -> Result<Text, NoMemory>
     ensures { IfOk result (λ text. text ≡ hazard_json hazard.now) }
 {
     let mut text = List::new(alloc);
@@ -124,7 +124,7 @@ pub fn hazard_json(alloc: Global, hazard: &Hazard) -> Result<Text, NoMemory>
 }
 
 /// The object of a program without a hazard.
-pub fn check_json(alloc: Global, nodes: u32) -> Result<Text, NoMemory>
+pub(crate) fn check_json(alloc: Global, nodes: u32) -> Result<Text, NoMemory>
     ensures { IfOk result (λ text. text ≡ check_json nodes) }
 {
     let mut text = List::new(alloc);

@@ -3,8 +3,8 @@
 ghost use Rattle.std.specs.Prelude.{◌≡◌, ◌++◌, OnOk};
 ghost use Rattle.std.specs.List.{flat_map};
 ghost use Rattle.report.specs.Paths.{printed};
-ghost use Rattle.report_json.specs.Faults.{escaped, leg_json};
-ghost use Rattle.report_json.specs.Json.{array, entries};
+ghost use Rattle.report_json.specs.Faults.{escaped, leg_at, leg_json, path_json};
+ghost use Rattle.report_json.specs.Json.{entries};
 
 use crate::object::add_comma;
 use base::{Leg, NoMemory, Text};
@@ -41,7 +41,7 @@ fn add_key(text: &mut Text, key: &[u8]) -> Result<(), NoMemory>
 }
 
 fn add_leg(text: &mut Text, leg: &Leg) -> Result<(), NoMemory>
-    ensures { OnOk result (text.new ≡ text.old ++ leg_json 0 leg.now) }
+    ensures { OnOk result (text.new ≡ text.old ++ leg_json leg.now) }
 {
     match leg {
         Leg::Member(key) => {
@@ -55,7 +55,7 @@ fn add_leg(text: &mut Text, leg: &Leg) -> Result<(), NoMemory>
 
 #[tactic(auto, using(crate::proofs::Entries::one_more))]
 fn add_legs(text: &mut Text, location: &[Leg]) -> Result<(), NoMemory>
-    ensures { OnOk result (text.new ≡ text.old ++ entries leg_json 0 location.now) }
+    ensures { OnOk result (text.new ≡ text.old ++ entries leg_at 0 location.now) }
 {
     for (k, leg) in location.iter().enumerate() {
         add_comma(text, k)?;
@@ -66,7 +66,7 @@ fn add_legs(text: &mut Text, location: &[Leg]) -> Result<(), NoMemory>
 
 /// Adds the steps from the root to a location, as a list of keys and positions.
 pub(crate) fn add_path(text: &mut Text, location: &[Leg]) -> Result<(), NoMemory>
-    ensures { OnOk result (text.new ≡ text.old ++ array leg_json location.now) }
+    ensures { OnOk result (text.new ≡ text.old ++ path_json location.now) }
 {
     text.word(b"[")?;
     add_legs(text, location)?;

@@ -43,7 +43,6 @@ fn add_place(
     text.word(b"}")
 }
 
-#[tactic(auto, using(crate::proofs::Entries::one_more))]
 fn add_places(
     text: &mut Text,
     frame: &ValidFrame,
@@ -68,7 +67,7 @@ fn add_places(
 /// The object that `place --json` prints: the size of the heap beside what the placed units would take one by one, and for
 /// each of them its first byte, its size and its name.
 #[tactic(auto, using(report::proofs::Places::placed_known, report::proofs::Places::as_many))]
-pub fn place_json(
+pub(crate) fn place_json(
     alloc: Global,
     frame: &ValidFrame,
     groups: &Groups,

@@ -11,15 +11,16 @@ use frame::{Spot, ValidFrame};
 
 // The name, and after a stroke the layer where there is one.
 fn add_spot(text: &mut Text, spot: &Spot) -> Result<(), NoMemory>
-    ensures { OnOk result (text.new ≡ text.old ++ string (spot_text spot.now)) }
+    ensures { OnOk result (text.new ≡ text.old ++ spot_text spot.now) }
 {
-    text.word(b"\"")?;
     text.word(spot.name.as_bytes())?;
-    if let Some(layer) = spot.layer {
-        text.word(b"/")?;
-        text.number(u64::from(layer))?;
+    match spot.layer {
+        Some(layer) => {
+            text.word(b"/")?;
+            text.number(u64::from(layer))
+        }
+        None => Ok(()),
     }
-    text.word(b"\"")
 }
 
 /// Adds the name of a unit of a frame, as a string.
@@ -27,5 +28,7 @@ pub(crate) fn add_unit(text: &mut Text, frame: &ValidFrame, unit: u32) -> Result
     requires { unit < length (numbered frame.now).units }
     ensures { OnOk result (text.new ≡ text.old ++ string (unit_text frame.now unit)) }
 {
-    add_spot(text, &frame.unit_name(unit))
+    text.word(b"\"")?;
+    add_spot(text, &frame.unit_name(unit))?;
+    text.word(b"\"")
 }
