@@ -72,25 +72,31 @@ impl Meter {
     pub fn show<R: Wait + Clock + Eprint>(&self, rt: &R) {
         let Ok(start) = Instant::now(rt) else { return };
         for _ in rt.forever() {
-            let (mut line, _) = self
-                .ended
-                .wait_timeout(rt, self.line.lock(rt), Duration::from_millis(STEP));
+            let mut line = self.line.lock(rt);
             if matches!(*line, Line::Ended) {
                 return;
             }
-            let Ok(elapsed) = start.elapsed(rt) else {
-                return;
-            };
-            let waits = self.waits.load(Ordering::SeqCst);
-            if !waits && elapsed >= Duration::from_millis(FIRST) {
+            if self.is_due(rt, start) {
                 *line = Line::Shown;
-                self.write(rt, elapsed.as_secs());
+                self.write(rt, start);
             }
+            self.ended
+                .wait_timeout(rt, line, Duration::from_millis(STEP));
         }
     }
 
-    // The line after so many seconds.
-    fn write<R: Eprint>(&self, rt: &R, seconds: u64) {
+    // Whether the line is to be written now.
+    fn is_due<R: Clock>(&self, rt: &R, start: Instant) -> bool {
+        match start.elapsed(rt) {
+            Ok(elapsed) => {
+                elapsed >= Duration::from_millis(FIRST) && !self.waits.load(Ordering::SeqCst)
+            }
+            Err(_) => false,
+        }
+    }
+
+    fn write<R: Clock + Eprint>(&self, rt: &R, start: Instant) {
+        let seconds = start.elapsed(rt).map_or(0, |elapsed| elapsed.as_secs());
         let commands = self.commands.load(Ordering::SeqCst);
         let begun = self.begun.load(Ordering::SeqCst);
         let _ = eprint!(rt; "{WIPE}framec: {seconds} s");
