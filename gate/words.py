@@ -14,10 +14,12 @@ import json
 import os
 import pty
 import re
+import select
 import subprocess
 import sys
 import tempfile
 import threading
+import time
 from pathlib import Path
 
 sys.path.insert(0, str(Path(__file__).resolve().parent.parent / "tools/lib"))
@@ -37,9 +39,6 @@ READ += [(f"{line} --json", file) for line, file in (("cull", FRAME), ("place", 
 
 NO_LINES = ("", "no", "a b", "cull a b", "run - -", "audit a b", "gen", "gen --number 1 a", "gen --number 1 --summary -", "check -a", "check --workers 2 a")
 NO_LINES += ("--json", "run --json", "auto --json", "compile --json a", "check --json --json a", "cull --json=true", "--help", "check --help a", "--version")
-
-# A command whose work takes some seconds.
-LONG = "gen --number 1 --passes 256 --summary --workers 1"
 
 SHOWN = re.compile(rb"\r\x1b\[Kframec: \d+ s(, file \d+ of \d+)?(, \d+ commands done)?")
 WIPED = b"\r\x1b[K"
@@ -155,19 +154,42 @@ class Words(Tally):
             self.tell(f"{words}: a terminal is sent {on_terminal[2]!r}"[:900])
 
     def progress(self):
-        self.shown(LONG)
+        long = self.made("long", self.long_frame())
+        for line in (f"run --workers 1 {long}", f"flight --workers 1 {long}"):
+            self.shown(line)
         self.shown("cull", FRAME.read_bytes(), shows=False)
         self.shown(f"check {SOUND} {SOUND}", shows=False)
-        self.shown(f"flight --workers 1 {self.made('long', packed(long_frame()) + bytes([10]))}")
+        self.waits()
+
+    def long_frame(self):
+        """The text of a frame that takes a device some seconds."""
+        for blurs in (4, 16, 64, 250):
+            text, begun = packed(blurred(blurs)) + b"\n", time.monotonic()
+            answer(self.program, "run --workers 1", text)
+            if time.monotonic() - begun > 2.5:
+                break
+        return text
+
+    def waits(self):
+        """Nothing is shown while standard input is waited for."""
+        self.look()
+        ours, theirs = pty.openpty()
+        asked = subprocess.Popen([self.program, "cull"], stdin=subprocess.PIPE, stdout=subprocess.DEVNULL, stderr=theirs)
+        os.close(theirs)
+        time.sleep(1.5)
+        shown = select.select([ours], [], [], 0)[0]
+        asked.communicate(FRAME.read_bytes())
+        os.close(ours)
+        if shown:
+            self.tell("a terminal is shown something while standard input is waited for")
 
 
-def long_frame():
-    """A frame whose operations take a device some seconds."""
-    size = 16 << 20
-    buffers = [{"name": f"b{k}", "buffer": size} for k in range(16)]
-    fills = [{"op": "fill_buffer", "dst": one["name"], "offset": 0, "size": size, "word": 7} for one in buffers]
-    passes = [{"name": f"p{k}", "queue": "g", "writes": [{"new": one["name"]}], "ops": [fill]} for k, (one, fill) in enumerate(zip(buffers, fills))]
-    return {"format": 2, "queues": [{"name": "g", "family": "graphics"}], "resources": buffers, "passes": passes, "exports": ["b0"]}
+def blurred(count):
+    """A frame in which a large image is blurred so often."""
+    images = [{"name": name, "image": [4096, 4096], "texel": "r8"} for name in "ab"]
+    first = {"name": "ramp", "queue": "g", "writes": [{"new": "a"}], "ops": [{"op": "ramp", "dst": "a", "base": 1, "dx": 1, "dy": 1}]}
+    second = {"name": "blur", "queue": "g", "reads": ["a"], "writes": [{"new": "b"}], "ops": [{"op": "box3", "src": "a", "dst": "b"}] * count, "side_effect": True}
+    return {"format": 2, "queues": [{"name": "g", "family": "graphics"}], "resources": images, "passes": [first, second], "exports": []}
 
 
 def main():

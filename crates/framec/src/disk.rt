@@ -3,32 +3,39 @@
 use crate::input::Input;
 use base_io::ReadSource;
 use cli::FileName;
-use progress::Meter;
+use progress::{Meter, MeterReader};
 use std::io::Eprint;
 use std::rt::Files;
 use std::sync::Wait;
 use std::{fs, io};
 use top::Opener;
 
+/// What a command reads from.
+pub type Opened<'a, R> = ReadSource<
+    Input<MeterReader<'a, R, <R as io::Input>::Reader>, <R as Files>::File>,
+>;
+
 /// Opens files, and tells the meter of each.
+#[derive(Drop)]
 pub struct Disk<'a, R> {
     rt: &'a R,
     meter: &'a Meter,
 }
 
-impl<'a, R: io::Input + Files> Disk<'a, R> {
+impl<'a, R: io::Input + Files + Eprint + Wait> Disk<'a, R> {
     pub fn new(rt: &'a R, meter: &'a Meter) -> Self {
         Disk { rt, meter }
     }
 
     /// Standard input.
-    pub fn standard(&self) -> ReadSource<Input<R::Reader, R::File>> {
-        ReadSource::new(Input::Standard(self.rt.reader()))
+    pub fn standard(&self) -> Opened<'a, R> {
+        let reader = MeterReader::new(self.rt, self.meter, self.rt.reader());
+        ReadSource::new(Input::Standard(reader))
     }
 }
 
-impl<R: io::Input + Files + Eprint + Wait> Opener for Disk<'_, R> {
-    type File = ReadSource<Input<R::Reader, R::File>>;
+impl<'a, R: io::Input + Files + Eprint + Wait> Opener for Disk<'a, R> {
+    type File = Opened<'a, R>;
 
     fn open(&mut self, name: &FileName) -> Self::File {
         self.meter.begin_file();

@@ -4,6 +4,7 @@ use crate::Meter;
 use base_io::Gate;
 
 /// A gate that counts the commands that were computed.
+#[derive(Clone, Copy)]
 pub struct MeterGate<'a> {
     meter: &'a Meter,
 }

@@ -3,8 +3,10 @@
 
 mod gate;
 mod meter;
+mod reader;
 mod sink;
 
 pub use gate::MeterGate;
 pub use meter::Meter;
+pub use reader::MeterReader;
 pub use sink::MeterSink;

@@ -1,7 +1,7 @@
 //! The line, and what is counted for it.
 
 use std::io::Eprint;
-use std::sync::atomic::{AtomicU64, Ordering};
+use std::sync::atomic::{AtomicBool, AtomicU64, Ordering};
 use std::sync::{Condvar, Mutex, Wait};
 use std::time::{Clock, Duration, Instant};
 
@@ -30,6 +30,7 @@ pub struct Meter {
     files: u64,
     begun: AtomicU64,
     commands: AtomicU64,
+    waits: AtomicBool,
     line: Mutex<Line>,
     ended: Condvar,
 }
@@ -41,6 +42,7 @@ impl Meter {
             files,
             begun: AtomicU64::new(0),
             commands: AtomicU64::new(0),
+            waits: AtomicBool::new(false),
             line: Mutex::new(Line::Hidden),
             ended: Condvar::new(),
         }
@@ -56,7 +58,17 @@ impl Meter {
         self.commands.fetch_add(1, Ordering::SeqCst);
     }
 
-    /// Writes the line again and again, from the first second on, until `end` is called.
+    /// Input is waited for, and the line is hidden.
+    pub fn begin_wait<R: Wait + Eprint>(&self, rt: &R) {
+        self.waits.store(true, Ordering::SeqCst);
+        self.hide(rt);
+    }
+
+    pub fn end_wait(&self) {
+        self.waits.store(false, Ordering::SeqCst);
+    }
+
+    /// Writes the line again and again, from the first second on, until `end` is called, and not while input is waited for.
     pub fn show<R: Wait + Clock + Eprint>(&self, rt: &R) {
         let Ok(start) = Instant::now(rt) else { return };
         for _ in rt.forever() {
@@ -69,7 +81,8 @@ impl Meter {
             let Ok(elapsed) = start.elapsed(rt) else {
                 return;
             };
-            if elapsed >= Duration::from_millis(FIRST) {
+            let waits = self.waits.load(Ordering::SeqCst);
+            if !waits && elapsed >= Duration::from_millis(FIRST) {
                 *line = Line::Shown;
                 self.write(rt, elapsed.as_secs());
             }

@@ -9,6 +9,7 @@ use std::io::Eprint;
 use std::sync::Wait;
 
 /// A sink, before whose first write the line is wiped. It is the other sink in all else.
+#[derive(Drop)]
 pub struct MeterSink<'a, R: Wait + Eprint, O> {
     rt: &'a R,
     meter: &'a Meter,
