@@ -1,9 +1,9 @@
-// What the program says, in one form: of the texts that it prints today, or of JSON objects with the same facts. This is the only
-// file that knows how the program prints.
+// What the program says, in one form: of the texts that it prints, or of the JSON objects with the same facts that it prints with
+// --json. This is the only file that knows how the program prints.
 //
 //   check   `accepted N nodes`, `hazard H2 2 3` (with --all a line each, with --explain lines behind each), `fault G4 $.path`;
-//           or {"verdict": "sound" | "hazard" | "stuck" | "fault", "hazard": "H2", "nodes": [2, 3], ..}, or a list of hazards
-//           under "hazards"
+//           or {"verdict": "sound", "nodes": N}, {"verdict": "hazard", "hazard": "H2", "nodes": [2, 3]} and such (or a list of
+//           hazards under "hazards"), {"verdict": "fault", "fault": "G4", "limit": .., "path": ["queues", 0, ..]}
 //   place   `heap H separate S`, then `OFFSET SIZE UNIT`; or {"heap": H, "separate": S, "units": [{"offset", "size", "unit"}]}
 //   bound   `bound B heap H`, then units; or {"bound": B, "heap": H, "units": [..]}
 //   cull    `kept K culled C`, then `pass NAME kept` or `pass NAME culled`; or {"passes": [{"name", "kept"}]}
@@ -66,15 +66,29 @@ Viewer.said = (() => {
     return { kind: "hazard", hazards, line: first };
   }
 
+  // The steps of a path as the printed line has them.
+  const pathOf = (steps) => "$" + steps.map((step) => (typeof step === "number" ? `[${step}]` : `.${step}`)).join("");
+
+  function hazardOfObject({ verdict, node, nodes = node === undefined ? [] : [node], lines = [], ...told }) {
+    return { ...told, nodes, lines };
+  }
+
+  // The printed line of a hazard.
+  function lineOf(told) {
+    const nodes = [...told.nodes];
+    const fields = FIELDS[told.hazard].map((field) => (field === "node" ? nodes.shift() : told[field]));
+    return ["hazard", told.hazard, ...fields].join(" ");
+  }
+
   function verdictOfObject(given) {
-    if (given.verdict === "sound") return { kind: "sound", hazards: [], line: "sound" };
+    if (given.verdict === "sound") return { kind: "sound", hazards: [], line: `accepted ${given.nodes} nodes` };
     if (given.verdict === "fault") {
-      const line = `fault ${given.fault} ${given.path}`;
-      return { kind: "fault", hazards: [], fault: given.fault, limit: given.limit ?? "", path: given.path, line, lines: given.lines ?? [] };
+      const { fault, limit = "", lines = [] } = given;
+      const path = pathOf(given.path);
+      return { kind: "fault", hazards: [], fault, limit, path, line: ["fault", fault, ...(limit ? [limit] : []), path].join(" "), lines };
     }
-    const one = (told) => ({ ...told, hazard: told.hazard ?? "H1", nodes: told.nodes ?? (told.node === undefined ? [] : [told.node]), lines: told.lines ?? [] });
-    const hazards = (given.hazards ?? [given]).map(one);
-    return { kind: "hazard", hazards, line: `hazard ${hazards[0].hazard} ${hazards[0].nodes.join(" ")}` };
+    const hazards = (given.hazards ?? [given]).map(hazardOfObject);
+    return { kind: "hazard", hazards, line: lineOf(hazards[0]) };
   }
 
   function verdict(given) {

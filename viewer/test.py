@@ -250,7 +250,7 @@ class Looks(Tally):
         self.dropped(page, SUBMISSIONS / "missing_barrier.json", self.written("check.txt", b"hazard H2 2 3\n"))
         page.key("0")
         page.screenshot(self.folder / "hazard.png")
-        # The same from an object, as `check --json` is to print it.
+        # The same from an object, as `check --json` prints it.
         for told in ({"verdict": "hazard", "hazard": "H2", "nodes": [2, 3]}, {"verdict": "hazard", "hazards": [{"hazard": "H2", "nodes": [2, 3], "lines": ["because"]}]}):
             self.dropped(page, SUBMISSIONS / "missing_barrier.json", self.written("check.json", told))
             self.is_so("a hazard from an object", page.evaluate("Viewer.page.picture.drawn.marked"), [2, 3])
