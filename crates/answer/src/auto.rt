@@ -14,7 +14,7 @@ use frame::ValidFrame;
 use report::cost_text;
 use std::alloc::Global;
 
-/// The answer to the command on a good frame.
+/// The answer to the command on a valid frame.
 pub fn auto_frame(alloc: Global, good: &ValidFrame) -> Result<Answer, NoMemory>
     ensures frame { IfOk result (ChoosesQueues good.now) }
     ensures has_text { IfOk result (λ answer. HasText answer.status) }

@@ -55,7 +55,7 @@ fn bound_answer(alloc: Global, good: &ValidFrame, groups: &Groups) -> Result<Ans
     Ok(done(bound_lines(alloc, good, groups, &ordered, heap)?))
 }
 
-/// The answer to the command on a good frame.
+/// The answer to the command on a valid frame.
 pub fn bound_frame(alloc: Global, good: &ValidFrame) -> Result<Answer, NoMemory>
     ensures frame { IfOk result (BoundsFrame good.now) }
     ensures has_text { IfOk result (λ answer. HasText answer.status) }

@@ -12,7 +12,7 @@ use file_program::write_program;
 use frame::ValidFrame;
 use std::alloc::Global;
 
-/// The answer to the command on a good frame.
+/// The answer to the command on a valid frame.
 pub fn compile_frame(alloc: Global, good: &ValidFrame, tight: bool) -> Result<Answer, NoMemory>
     ensures frame { IfOk result (CompilesFrame tight good.now) }
     ensures has_text { IfOk result (λ answer. HasText answer.status) }

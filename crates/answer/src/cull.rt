@@ -21,7 +21,7 @@ pub fn kept_of(alloc: Global, good: &ValidFrame) -> Result<Kept, NoMemory>
     cull(alloc, good, &versions)
 }
 
-/// The answer to the command on a good frame.
+/// The answer to the command on a valid frame.
 #[tactic(auto, using(crate::proofs::KeptLemmas::one_each))]
 pub fn cull_frame(alloc: Global, good: &ValidFrame) -> Result<Answer, NoMemory>
     ensures frame { IfOk result (CullsFrame good.now) }

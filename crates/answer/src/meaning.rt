@@ -33,7 +33,7 @@ fn exports_text(alloc: Global, good: &ValidFrame, exports: &Exports) -> Result<T
     Ok(text)
 }
 
-/// The answer to the command on a good frame.
+/// The answer to the command on a valid frame.
 pub fn mean_frame(alloc: Global, good: &ValidFrame) -> Result<Answer, NoMemory>
     ensures frame { IfOk result (MeansFrame good.now) }
     ensures has_text { IfOk result (λ answer. HasText answer.status) }

@@ -11,7 +11,7 @@ use file_frame::write_frame;
 use frame::ValidFrame;
 use std::alloc::Global;
 
-/// The answer to the command on a good frame.
+/// The answer to the command on a valid frame.
 pub fn migrate_frame(alloc: Global, good: &ValidFrame) -> Result<Answer, NoMemory>
     ensures frame { IfOk result (MigratesFrame good.now) }
     ensures has_text { IfOk result (λ answer. HasText answer.status) }

@@ -41,7 +41,7 @@ fn place_answer(alloc: Global, good: &ValidFrame, groups: &Groups) -> Result<Ans
     Ok(done(place_lines(alloc, good, groups)?))
 }
 
-/// The answer to the command on a good frame.
+/// The answer to the command on a valid frame.
 pub fn place_frame(alloc: Global, good: &ValidFrame) -> Result<Answer, NoMemory>
     ensures frame { IfOk result (PlacesFrame good.now) }
     ensures has_text { IfOk result (λ answer. HasText answer.status) }

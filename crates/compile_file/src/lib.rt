@@ -1,4 +1,4 @@
-//! What commands share: the good frame of a file, and what it is compiled to. Its laws: that of `compile`, and of `--tight`
+//! What commands share: the valid frame of a file, and what it is compiled to. Its laws: that of `compile`, and of `--tight`
 //! `law_tight`.
 #![tactic(auto)]
 

@@ -1,4 +1,4 @@
--- What is computed once for the groups of a good frame.
+-- What is computed once for the groups of a valid frame.
 use Rattle.std.proofs.Common.{◌≡◌, ℕ, ◌+◌, ◌<◌, ◌^◌, Bool, List, length, map, sym, ap, ap₂, ◌∙◌, subst, arith}
 use Rattle.std.specs.List.{All, filter, range_with_len}
 use Rattle.std.specs.Prelude.{is_some}

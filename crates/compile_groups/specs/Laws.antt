@@ -98,7 +98,7 @@ pub record IsGrouped (G : Grouping) : Type 0 where
   -- a command has at most four operands
   pub few : length G.groups ≤ 4 * length G.commands
 
--- of those of a good frame: each number is that of a queue, a unit or a shape
+-- of those of a valid frame: each number is that of a queue, a unit or a shape
 pub record IsKnown (G : Grouping) : Type 0 where
   pub queues : All (λ command. command.queue < length G.families) G.commands
   pub operands : All (λ command. All (λ r. r < length G.shapes) (operands_of command.op)) G.commands

@@ -20,7 +20,7 @@ unit_at G a = slice_index_or (placed G) a 0
 abbrev pub sizes : Grouping → List ℕ
 sizes G = map (λ unit. bytes_of (shape_at G.shapes unit)) (placed G)
 
--- what holds of these of a good frame
+-- what holds of these of a valid frame
 pub record AreSmall (sizes : List ℕ) : Type 0 where
   pub few : length sizes ≤ 256
   pub each : All (λ size. size ≤ 16777216) sizes

@@ -1,4 +1,4 @@
--- What is known of the units and queues of a good frame.
+-- What is known of the units and queues of a valid frame.
 use Rattle.std.proofs.Common.{◌≡◌, ℕ, ◌+◌, ◌^◌, ◌<◌, ◌≤◌, nat_le, Bool, List, length, map, get_or, None, sym, ap, ◌∙◌, subst, arith}
 use Rattle.std.specs.List.{All}
 use Rattle.std.specs.Prelude.{option_and_then, is_some}

@@ -38,7 +38,7 @@ pub record IsCompiled (frame : NumberedFrame) (kept : List Bool) (places : Place
   pub least : IsLeast (sizes (grouping frame kept)) ordered places
   pub recorded : program ≡ recorded frame kept ordered places
 
--- so it is of all that is compiled of the kept passes of a good frame
+-- so it is of all that is compiled of the kept passes of a valid frame
 abbrev pub OfRecorded : (NumberedFrame → List Bool → Places → Program → Type 0) → Type 0
 OfRecorded Law =
     (frame : NumberedFrame) (kept : List Bool) (places : Places) (program : Program)

@@ -12,7 +12,7 @@ ghost use Rattle.compile_barriers.specs.Under.{Heap};
 
 use compile_groups::group_laws;
 
-/// What is recorded of a good frame can be cut into queues: each need is for an earlier item of another queue. Each command, prologue
+/// What is recorded of a valid frame can be cut into queues: each need is for an earlier item of another queue. Each command, prologue
 /// and release stands once, in the order of the commands beside it, with what it needs before it. And a step is told by 32 bits.
 /// It does nothing.
 pub fn script_laws()

@@ -1,4 +1,4 @@
-//! A good frame runs.
+//! A valid frame runs.
 
 ghost use Rattle.std.specs.Prelude.{IfOk};
 ghost use Rattle.frame.specs.Numbered.{numbered};

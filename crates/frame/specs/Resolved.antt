@@ -1,4 +1,4 @@
--- What is computed once for a good frame.
+-- What is computed once for a valid frame.
 use Rattle.frame.specs.FirstFault.{shapes_of, sharings_of}
 use Rattle.frame.specs.Numbered.{numbered}
 use Rattle.frame.specs.Units.{owners, unit_spots}

@@ -1,4 +1,4 @@
--- What a good frame exports has contents after all passes.
+-- What a valid frame exports has contents after all passes.
 use Rattle.std.proofs.Common.{◌≡◌, ℕ, ◌==◌, ◌&&◌, ◌||◌, Bool, true, false, List, [], ◌∷◌, take, get_or, Some, is_some, if◌then◌else◌, refl, subst, ap, ◌∙◌}
 use Rattle.std.specs.List.{All, list_any, find}
 use Rattle.std.specs.Option.{option_map_or}

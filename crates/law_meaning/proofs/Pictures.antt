@@ -1,4 +1,4 @@
--- What a good frame exports has contents.
+-- What a valid frame exports has contents.
 use Rattle.std.proofs.Common.{◌≡◌, ℕ, ◌||◌, true, Some, None, if◌then◌else◌, ap}
 use Rattle.std.specs.List.{list_any}
 use Rattle.base.specs.Applied.{bytes_at}

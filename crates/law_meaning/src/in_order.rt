@@ -15,7 +15,7 @@ use crate::meaning_laws;
 use compile_record::script_laws;
 use law_schedule::cut_laws;
 
-/// The nodes of a program that is compiled of a good frame have an order in which its commands stand as the frame declares them
+/// The nodes of a program that is compiled of a valid frame have an order in which its commands stand as the frame declares them
 /// (`ordered`). So a compiled program that has no fault and is sound gives the host what its frame means, in whatever order its
 /// nodes run (`means`). It does nothing.
 pub fn declared_laws()

@@ -1,4 +1,4 @@
--- What is known of each program that is compiled of a good frame.
+-- What is known of each program that is compiled of a valid frame.
 use Rattle.std.proofs.Common.{ℕ, Bool, List, length, refl}
 use Rattle.base.specs.declared.shape.Family.{Family}
 use Rattle.law_sound.proofs.Commands.{buffers_plain, imports_plain, sorts}

@@ -38,7 +38,7 @@ Stores t = (bits : ℕ) × (store_access t.role ≡ Some bits)
 abbrev pub IsInitialized : Grouping → Type 0
 IsInitialized G = (c r : ℕ) → r < length G.imports → is_import G r ≡ false → DoesTo G c r Loads → (d : ℕ) × (d < c) × DoesTo G d r Stores
 
--- of each program that is compiled of a good frame whose kept passes load what they stored
+-- of each program that is compiled of a valid frame whose kept passes load what they stored
 abbrev pub OfInitialized : (Plan → View → Nodes → Type 0) → Type 0
 OfInitialized IsSo =
     (frame : NumberedFrame) (kept : List Bool) (ordered : ℕ → ℕ → Bool) (places : Places) →

@@ -21,7 +21,7 @@ use Rattle.compile_record.specs.Recorded.{heap_with, recorded}
 use Rattle.check_sync.specs.Passing.{UpTo}
 use Rattle.check_access.specs.Views.{View, imported_at, overlap, view_of}
 
--- of each program that is compiled of a good frame, by its plan and its nodes
+-- of each program that is compiled of a valid frame, by its plan and its nodes
 abbrev pub OfCompiled : (Plan → View → Nodes → Type 0) → Type 0
 OfCompiled IsSo =
     (frame : NumberedFrame) (kept : List Bool) (ordered : ℕ → ℕ → Bool) (places : Places) →

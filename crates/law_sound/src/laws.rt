@@ -10,7 +10,7 @@ use law_plan::crossing_laws;
 use law_schedule::cut_laws;
 use law_valid::faultless_law;
 
-/// Of each program that is compiled of a good frame: the groups of its plan stand by their pieces (`grouped`). Commands, prologues,
+/// Of each program that is compiled of a valid frame: the groups of its plan stand by their pieces (`grouped`). Commands, prologues,
 /// releases and host reads are what they are called (`roles`), and a prologue comes after the commands before it and before its
 /// own, with a release between where the family changes (`placed`). It does nothing.
 pub fn places_law()
@@ -23,7 +23,7 @@ pub fn places_law()
     cut_laws();
 }
 
-/// Of each program that is compiled of a good frame: two units in the same bytes are ordered (`ordered`). Between them stands an
+/// Of each program that is compiled of a valid frame: two units in the same bytes are ordered (`ordered`). Between them stands an
 /// alias barrier (`barriers`), which comes after what uses the earlier one (`before`), and that is not handed on after its last
 /// group (`kept`). In the bytes of an import lies nothing else (`imports`). It does nothing.
 pub fn aliases_law()
@@ -40,7 +40,7 @@ pub fn aliases_law()
     places_law();
 }
 
-/// A program that is compiled of a good frame is sound, with what is asked of its accesses, masks and states beside: it has no
+/// A program that is compiled of a valid frame is sound, with what is asked of its accesses, masks and states beside: it has no
 /// fault, so its view is shaped, and its nodes have a least order. It does nothing.
 pub fn sound_law()
     ensures { OfCompiled IsSoundWith }

@@ -12,7 +12,7 @@ ghost use Rattle.frame_cull.specs.Culled.{AreKept};
 use crate::bytes::bytes_law;
 use crate::starts::starts_law;
 
-/// A program that is compiled of a good frame's kept passes is sound. It does nothing.
+/// A program that is compiled of a valid frame's kept passes is sound. It does nothing.
 pub fn sound_program_law()
     ensures { (frame : NumberedFrame) (kept : List Bool) (places : Places) (program : Program) → IsValid frame → AreKept frame kept → IsCompiled frame kept places program → IsSound program }
 {

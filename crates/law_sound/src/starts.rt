@@ -8,7 +8,7 @@ ghost use Rattle.frame.specs.Numbered.{NumberedFrame};
 ghost use Rattle.compile_groups.specs.Groups.{grouping};
 ghost use Rattle.frame_cull.specs.Culled.{AreKept};
 
-/// Of the commands of a good frame's kept passes and its exports the first that touches a unit, where that is no import, stores
+/// Of the commands of a valid frame's kept passes and its exports the first that touches a unit, where that is no import, stores
 /// all of it (`started`). So what a command loads of such a unit, an earlier one stored to (`initialized`). It does nothing.
 pub fn starts_law()
     ensures started { (frame : NumberedFrame) (kept : List Bool) → IsValid frame → AreKept frame kept → AreStarted frame kept }

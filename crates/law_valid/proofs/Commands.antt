@@ -1,4 +1,4 @@
--- The commands of a good frame: each runs on its queue, fits the shapes, stores to no source, and uses what it names.
+-- The commands of a valid frame: each runs on its queue, fits the shapes, stores to no source, and uses what it names.
 use Rattle.std.proofs.Common.{◌≡◌, ℕ, suc, ◌+◌, ◌<◌, ◌≤◌, ◌==◌, ◌&&◌, ◌||◌, nat_le, Bool, true, false, List, [], ◌∷◌, length, map, get_or, if◌then◌else◌, IfSome, refl, sym, ap, ap₂, ◌∙◌, subst, ne_eqb, get_or-append-add, arith}
 use Rattle.std.specs.List.{All}
 use Rattle.std.proofs.lemmas.Bool.{and_from, le-leb, and_parts}

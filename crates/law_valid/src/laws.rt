@@ -12,7 +12,7 @@ use compile_groups::group_laws;
 use compile_record::script_laws;
 use compile_timeline::timeline_laws;
 
-/// A program that is compiled of a good frame has no fault: it obeys each rule and goes over no limit. It does nothing.
+/// A program that is compiled of a valid frame has no fault: it obeys each rule and goes over no limit. It does nothing.
 pub fn faultless_law()
     ensures { (frame : NumberedFrame) (kept : List Bool) (places : Places) (program : Program) → IsValid frame → IsCompiled frame kept places program → first_fault program ≡ None }
 {

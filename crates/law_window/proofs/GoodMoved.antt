@@ -1,4 +1,4 @@
--- The passes of a good frame are good where its units stand among others.
+-- The passes of a valid frame are good where its units stand among others.
 use Rattle.std.proofs.Common.{◌≡◌, ℕ, ◌+◌, ◌<◌, ◌||◌, List, [], ◌∷◌, ◌++◌, length, map, get_or, slice_get, Bool, true, false, Some, refl, sym, ap, ap₂, subst, ◌∙◌, append_assoc}
 use Rattle.std.specs.List.{All, list_any}
 use Rattle.std.proofs.lemmas.List.{append-nil, map-append}

@@ -1,4 +1,4 @@
--- A window within the limits is a good frame.
+-- A window within the limits is a valid frame.
 use Rattle.std.proofs.Common.{◌≡◌, ℕ, ◌<◌, ◌≤◌, ◌==◌, List, [], ◌∷◌, zero, suc, length, map, true, Option, Some, None, refl}
 use Rattle.std.specs.List.{All, AllByRecursion, list_any}
 use Rattle.std.specs.Prelude.{not}

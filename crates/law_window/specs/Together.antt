@@ -21,7 +21,7 @@ ArePlaced (size ∷ sizes) [] shapes = ⊥
 ArePlaced (size ∷ sizes) (None ∷ places) shapes = ArePlaced sizes places shapes
 ArePlaced (size ∷ sizes) (Some x ∷ places) shapes = (x < length shapes) × (shape_at shapes x ≡ Buffer size) × Absent x places × ArePlaced sizes places shapes
 
--- a good frame over these queues, whose persisting buffers have these sizes
+-- a valid frame over these queues, whose persisting buffers have these sizes
 pub record Flies (queues : List Family) (sizes : List ℕ) (flown : Flown) : Type 0 where
   pub good : IsValid flown.frame
   pub same : flown.frame.queues ≡ queues

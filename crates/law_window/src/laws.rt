@@ -10,7 +10,7 @@ ghost use Rattle.law_window.specs.Small.{IsSmall};
 ghost use Rattle.law_window.specs.Window.{window};
 
 /// The bytes of all units after a window are those of its frames, run one after another with what they hold for each other. A
-/// window that has no more than a frame may have is a good frame; its exports and the units of its persisting names mean what
+/// window that has no more than a frame may have is a valid frame; its exports and the units of its persisting names mean what
 /// its frames mean and leave, one after another. The frames of each window of one depth can be compiled together, and so all of
 /// them mean, window after window, what they mean one after another. It does nothing.
 pub fn window_laws()

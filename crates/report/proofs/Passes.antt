@@ -1,4 +1,4 @@
--- How many passes a good frame has.
+-- How many passes a valid frame has.
 use Rattle.std.proofs.Common.{◌≤◌, length}
 use Rattle.frame.specs.Valid.{IsValid}
 use Rattle.frame.specs.Numbered.{numbered, numbered_pass}

@@ -194,7 +194,7 @@ fn faults(rt: HostRuntime) -> Result<(), Fail> {
     judge(&rt, alloc, &FITTED)
 }
 
-// What the counts and exports of a good frame are.
+// What the counts and exports of a valid frame are.
 fn numbered(rt: &impl Abort, good: &ValidFrame) {
     assert!(rt; good.queue_count() == 2 && good.pass_count() == 2);
     assert!(rt; good.unit_count() == 6);

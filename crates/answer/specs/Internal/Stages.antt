@@ -1,4 +1,4 @@
--- What the stages of a command on a good frame come to, one after another.
+-- What the stages of a command on a valid frame come to, one after another.
 use Rattle.std.specs.Prelude.{◌≡◌, ℕ, List, Bool, get_or}
 use Rattle.base.specs.Applied.{bytes_at}
 use Rattle.compile_bound.specs.Bounds.{Holds, IsBound, IsShown}

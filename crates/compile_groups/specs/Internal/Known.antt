@@ -1,4 +1,4 @@
--- What the commands of a good frame name.
+-- What the commands of a valid frame name.
 use Rattle.std.specs.Prelude.{List, ◌<◌, ◌≤◌, length}
 use Rattle.std.specs.List.{All}
 use Rattle.base.specs.Operands.{operands_of}
