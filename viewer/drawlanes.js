@@ -5,6 +5,7 @@ Viewer.drawLanes = (() => {
   const { placeOf } = Viewer.drawNodes;
   // Below so many pixels nodes are drawn as columns, and batches as one with what is beside them.
   const [THIN, NARROW] = [2.5, 18];
+  const PALE = 0.3;
 
   // Boxes round batches, narrow ones that meet as one. Returns the words that are written on them when the arrows are drawn.
   function batches(context, scene) {
@@ -109,20 +110,24 @@ Viewer.drawLanes = (() => {
     return [view.toX((times.begins[n] + times.ends[n]) / 2), top - view.y + (top < otherTop ? BOX : 0)];
   }
 
+  // Whether an arrow is one of what is chosen: it ends at the node, or hands over one of its pieces.
+  const isOwn = ({ program, chosen, related }, from, to) => from === chosen?.node || to === chosen?.node || related.has(program.nodes[from].item.piece);
+
   // Arrows between nodes: those alone that are in view. Without heads steep ones are columns, and of others that fall together one is
-  // drawn. Where the chosen node has arrows the others are pale.
+  // drawn. Those that only pass by are pale, and where what is chosen has arrows all others.
   function arrows(context, scene, pairs, kept, line, width) {
-    const { times, view, colours } = scene;
+    const { times, view, colours, drawn } = scene;
     const [left, right] = [view.toTime(view.left), view.toTime(view.right)];
     const head = view.k > 0.12;
-    const chosen = scene.chosen?.node;
-    const [plain, own, seen, steep] = [[], [], new Set(), new Map()];
+    const isSeen = (n) => times.ends[n] >= left && times.begins[n] <= right;
+    const [plain, passing, own, seen, steep] = [[], [], [], new Set(), new Map()];
     for (const { from, to } of pairs) {
       if (Math.max(times.ends[from], times.ends[to]) < left || Math.min(times.begins[from], times.begins[to]) > right) continue;
       const [a, b] = [end(scene, from, to), end(scene, to, from)];
       kept.push([from, to]);
-      if (from === chosen || to === chosen) {
+      if (isOwn(scene, from, to)) {
         own.push([a, b]);
+        drawn.own.push([from, to]);
         continue;
       }
       if (!head && Math.abs(a[0] - b[0]) < 3) {
@@ -134,13 +139,15 @@ Viewer.drawLanes = (() => {
       const key = `${Math.round(a[0] / 3)} ${Math.round(b[0] / 3)} ${a[1]} ${b[1]}`;
       if (seen.has(key)) continue;
       seen.add(key);
-      plain.push([a, b]);
+      (isSeen(from) || isSeen(to) ? plain : passing).push([a, b]);
     }
     const dash = Viewer.paint.DASHES[line];
     context.save();
-    context.globalAlpha = scene.hasArrows ? 0.3 : 1;
+    context.globalAlpha = scene.hasArrows ? PALE : 1;
     Viewer.paint.arrows(context, plain, colours[line], { dash, width, head });
-    context.globalAlpha *= 0.5;
+    context.globalAlpha = PALE;
+    Viewer.paint.arrows(context, passing, colours[line], { dash, width: 1, head: false });
+    context.globalAlpha = scene.hasArrows ? PALE / 2 : 0.5;
     for (const { top, height, columns } of steep.values()) columns.fill(context, top, height);
     context.restore();
     Viewer.paint.arrows(context, own, colours[line], { dash, width: width + 1.5, head: true });
@@ -196,5 +203,5 @@ Viewer.drawLanes = (() => {
     if (scene.chosen?.node !== undefined) outlined(context, placeOf(scene, scene.chosen.node), colours.chosen, 2);
   }
 
-  return { all };
+  return { all, isOwn };
 })();

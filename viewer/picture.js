@@ -41,7 +41,7 @@ Viewer.Picture = class {
     const { program, open, facts } = scene;
     scene.times = scene.byTrace ? Viewer.times.byTrace(program, open, facts.trace.events) : Viewer.times.byOrder(program, open);
     scene.lanes = Viewer.lanes.of(program, scene.times);
-    const note = facts.hazard ? 74 : 0;
+    const note = facts.hazard ? 80 : 0;
     scene.noteTop = scene.lanes.bottom;
     scene.heap = Viewer.heap.bandsOf(program, scene.times, this.tall, scene.lanes.bottom + note + 14, this.view.height);
     this.view.wholeWidth = scene.times.end;
@@ -84,7 +84,7 @@ Viewer.Picture = class {
     const { context, view, colours, scene } = this;
     scene.colours = colours;
     scene.hits = [];
-    scene.drawn = { boxes: [], marks: [], unfolded: [], merged: 0, batches: [], arrows: [], transfers: [], names: [], marked: [], pieces: [], bound: null, note: [] };
+    scene.drawn = { boxes: [], marks: [], unfolded: [], merged: 0, batches: [], arrows: [], transfers: [], own: [], names: [], marked: [], pieces: [], bound: null, note: [] };
     context.fillStyle = colours.ground;
     context.fillRect(0, 0, view.width, view.height);
     context.save();
@@ -110,7 +110,7 @@ Viewer.Picture = class {
     const y = scene.noteTop - view.y;
     const { BOLD, SMALL, write } = Viewer.paint;
     const lines = Viewer.paint.wrapped(`${hazard.what} ${hazard.missing}`, SMALL, width - 20).slice(0, 4);
-    Viewer.paint.box(context, x, y, width, 20 + 15 * lines.length, colours.ground, colours.hazard, 5);
+    Viewer.paint.box(context, x, y, width, 24 + 15 * lines.length, colours.ground, colours.hazard, 5);
     context.textBaseline = "alphabetic";
     write(context, `hazard ${hazard.hazard}`, BOLD, colours.hazard, x + 10, y + 15);
     lines.forEach((line, k) => write(context, line, SMALL, colours.ink, x + 10, y + 31 + 15 * k));
@@ -164,9 +164,9 @@ Viewer.Picture = class {
   choose(chosen) {
     const { scene } = this;
     scene.chosen = chosen;
-    const isEnd = ({ from, to }) => from === chosen?.node || to === chosen?.node;
-    scene.hasArrows = scene.program.arrows.some(isEnd) || scene.program.transfers.some(isEnd);
     scene.related = new Set(chosen?.node === undefined ? (chosen ? [chosen.piece] : []) : scene.program.nodes[chosen.node].pieces);
+    const { arrows, transfers } = scene.program;
+    scene.hasArrows = [...arrows, ...transfers].some(({ from, to }) => Viewer.drawLanes.isOwn(scene, from, to));
     this.ask();
   }
 

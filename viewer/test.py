@@ -444,6 +444,11 @@ class Looks(Tally):
         spot = page.evaluate("(() => { const at = document.getElementById('picture').getBoundingClientRect(); const hit = Viewer.page.picture.scene.hits.filter((one) => one.node !== undefined)[4]; return [at.x + hit.x + hit.width / 2, at.y + hit.y + hit.height / 2, hit.node]; })()")
         page.click(spot[0], spot[1])
         self.holds("a click chooses", chosen().startswith(f"Node {spot[2]}"))
+        # The arrows of a chosen node stand out, and those that hand over its pieces.
+        release, acquire = wanted.transfers[0]
+        for node in (release, next(n for n in wanted.of("command") if wanted.items[n]["dst"] == wanted.items[release]["piece"])):
+            own = page.evaluate(f"(() => {{ const {{ picture }} = Viewer.page; picture.view.fit(); picture.choose({{ node: {node} }}); picture.draw(); return picture.drawn.own; }})()")
+            self.holds(f"the arrows of node {node} stand out: {own}", [release, acquire] in own and len(own) < len(wanted.transfers))
         # Each mark unfolds to its stages, accesses and layouts.
         page.key("u")
         drawn = page.evaluate(COLLECT)
