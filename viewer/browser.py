@@ -121,9 +121,11 @@ class Page:
         return got["result"].get("value")
 
     def wait(self, text):
-        """Waits until an expression is true."""
+        """Waits until an expression is true. Where something went wrong in the page it may never be."""
         until = time.monotonic() + SECONDS
         while not self.evaluate(text):
+            if problems := self.problems():
+                raise RuntimeError(f"it is not so that {text}: {problems}")
             if time.monotonic() > until:
                 raise RuntimeError(f"it is not so that {text}")
             time.sleep(0.01)

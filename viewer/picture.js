@@ -30,6 +30,7 @@ Viewer.Picture = class {
       byTrace: Boolean(facts.trace),
       chosen: null,
       hasArrows: false,
+      hits: [],
     };
     this.resize();
     this.begin();
@@ -157,7 +158,7 @@ Viewer.Picture = class {
   // What is drawn at a point: {node} or {piece}, or null.
   at(x, y) {
     if (x < this.view.left) return null;
-    const hit = this.scene?.hits?.findLast((one) => x >= one.x - 1 && x <= one.x + one.width + 1 && y >= one.y && y <= one.y + one.height);
+    const hit = this.scene?.hits.findLast((one) => x >= one.x - 1 && x <= one.x + one.width + 1 && y >= one.y && y <= one.y + one.height);
     return hit ? (hit.node === undefined ? { piece: hit.piece } : { node: hit.node }) : null;
   }
 
