@@ -43,6 +43,7 @@ KINDS = ("frame", "frame", "frame", "submission", "submission", "audit", "flight
 LINES = ("run --workers 3 --tend 7", "run --tight --trace", "exec --workers 16 --tend 4294967295", "compile --tight", "auto --cost", "cull", "audit", "check")
 LINES += ("flight --persist u0,u1 --depth 8 --workers 2 --tend 1", "gen --number 7 --passes 2", "gen --number 7 --passes 2 --summary --workers 4 --tend 0")
 NUMBERS = ["0", "1", "2", "8", "9", "16", "17", "256", "257", "4294967295", "4294967296", "01", "0000000001", "00000000001", "-1", "+1", "1.0", "", " 1", "x"]
+VALUED = tuple(f"--{name}" for name in ("workers", "tend", "number", "passes", "depth", "persist"))
 ODD = ["--", "-", "--trace", "--tight", "--cost", "--summary", "--help", "--version", "-w", "run", "exec", "gen", "", "é", "--workers=2", "--tend=3", "u0", "a,b", "a,a"]
 
 
@@ -69,6 +70,21 @@ def other_line(rng):
         else:
             words[at] = rng.choice([words[at][:-1], words[at].upper(), words[at] + rng.choice("s =-0"), words[at][1:], rng.choice(ODD)])
     return words
+
+
+def is_newer(words):
+    """Whether a line has a file, or an option that another program need not know."""
+    plain, words = [], iter(words)
+    for word in words:
+        if word == "--":
+            plain += words
+        elif word in VALUED:
+            next(words, None)
+        elif word == "-" or not word.startswith("-"):
+            plain.append(word)
+        elif word.startswith("--json"):
+            return True
+    return len(plain) > 1
 
 
 def options_of(rng, word, known):
@@ -166,7 +182,7 @@ class Fuzz:
     def line(self, rng):
         """A command line, on a file that has a fault where the text could depend on the order of events."""
         words = other_line(rng)
-        if any(word not in self.words and word in FRAME_WORDS + ("audit", "flight", "gen") for word in words):
+        if is_newer(words) or any(word not in self.words and word in FRAME_WORDS + ("audit", "flight", "gen") for word in words):
             return
         text = b"" if any("trace" in word for word in words) else packed(self.frame(rng))
         self.sides.agree(words, text, "a line")

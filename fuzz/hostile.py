@@ -15,6 +15,7 @@ folder, as `rt try --cases` takes it, with the other commands in turn; PROGRAM m
 import collections
 import json
 import os
+import re
 import sys
 from pathlib import Path
 from subprocess import DEVNULL, PIPE
@@ -570,7 +571,7 @@ def flight_rows():
 
 # Words.
 
-WORDS = ("", "run run", "Run", "RUN", "run\n", "--help", "-h", "--version", "-V", "help", "run --help", "--", "run -- x", "- run", "run x")
+WORDS = ("", "run a b", "Run", "RUN", "run\n", "--help", "-h", "--version", "-V", "help", "run --help", "--", "run -- x y", "- run", "gen --number 1 x", "gen --number 1 -")
 WORDS += ("check --workers 2", "check --tight", "cull --trace", "place --tend 1", "meaning --workers 1", "migrate --tight", "bound --cost", "compile --trace")
 WORDS += ("compile --workers 2", "exec --tight", "audit --trace", "audit --workers 2", "gen", "gen --passes 3", "gen --number 1 --workers 2", "gen --number 1 --tend 2")
 WORDS += ("gen --number 4294967296", "gen --number -1", "gen --number 1 --passes 0", "gen --number 1 --passes 257", "gen --number 1 --number 1", "gen --number 1 --trace")
@@ -578,7 +579,8 @@ WORDS += ("run --workers", "run --workers 0", "run --workers 17", "run --workers
 WORDS += ("run --workers 1 --workers 1", "run --workers 99999999999999999999", "run --workers ١", "run --workers é", "run --workers 1,2", "run --tend 4294967296")
 WORDS += ("run --tend -1", "run --tend --trace", "run --trace --trace", "run --trace=1", "run --tight=true", "run --work 2", "run -workers 2", "run --depth 2", "run --persist b")
 WORDS += ("run --cost", "auto --tight", "auto --cost --cost", "flight --depth 0", "flight --depth 9", "flight --trace", "flight --tight", "flight --persist b --persist c")
-WORDS += ("flight --depth 00000000002", "gen --number 00000000001", "check audit", "é", "run é", "\x01", "run \x7f")
+WORDS += ("flight --depth 00000000002", "gen --number 00000000001", "audit check check", "é", "\x01", "compile --json", "auto --json", "cull --json=1", "check --json --json")
+UNREAD = ("run run", "run -- x", "run x", "check audit", "run é", "run \x7f", "check --json x", "meaning no/such/folder", "cull /", "flight .")
 GOOD_WORDS = ("run --", "run --workers 16", "run --workers 0000000002", "run --workers=2", "--workers 2 run", "run --tend 4294967295", "run --tend 0", "run --tight --workers 1 --tend 3")
 
 
@@ -586,7 +588,9 @@ def word_rows():
     for words in WORDS:
         yield Row("words", repr(words), [word for word in words.split(" ") if word], TEXT, 3, "words\n")
     yield Row("words", "an empty word", [""], TEXT, 3, "words\n")
-    yield Row("words", "an empty word behind", ["run", ""], TEXT, 3, "words\n")
+    for words in UNREAD:
+        yield Row("words", repr(words), words.split(" "), TEXT, 4, "")
+    yield Row("words", "an empty word behind", ["run", ""], TEXT, 4, "")
     yield Row("words", "an empty number", ["run", "--workers", ""], TEXT, 3, "words\n")
     yield Row("words", "a space in a number", ["run", "--workers", " 2"], TEXT, 3, "words\n")
     yield Row("words", "a word of 100,000 bytes", ["x" * 100_000], TEXT, 3, "words\n")
@@ -735,6 +739,12 @@ def short_rows(frames, submissions):
 # All of them.
 
 
+def is_said(status, told):
+    """One line is said of words that are no command line, and of a file that is not read; nothing of another answer."""
+    line = re.fullmatch(rb"framec: [^\n]+\n", told)
+    return bool(line) if status == 3 else not told or status == 4 and bool(line)
+
+
 class Rows(Tally):
     def __init__(self, options):
         super().__init__("hostile", "rows")
@@ -754,14 +764,14 @@ class Rows(Tally):
 
     def row(self, row):
         status, printed, told = ran(self.program, row.words, row.text)
-        wanted = row.status, row.printed.encode() if row.printed is not None else printed, b""
+        wanted = row.status, row.printed.encode() if row.printed is not None else printed
         if row.printed is None and self.other:
-            wanted = (*answer(self.other, row.words, row.text), b"")
+            wanted = answer(self.other, row.words, row.text)
         self.counted(row.kind)
         if "--trace" in row.words and row.printed is None:
             # Which of the same events comes first is the workers' choice.
-            printed, wanted = sorted(printed.split(b"\n")), (wanted[0], sorted(wanted[1].split(b"\n")), b"")
-        if (status, printed, told) != wanted:
+            printed, wanted = sorted(printed.split(b"\n")), (wanted[0], sorted(wanted[1].split(b"\n")))
+        if (status, printed) != wanted or not is_said(status, told):
             self.fails(row.kind, row.name, str(row.words)[:200], wanted, (status, printed, told))
 
     def end(self, row):

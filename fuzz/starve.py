@@ -22,7 +22,7 @@ from pathlib import Path
 sys.path.insert(0, str(Path(__file__).resolve().parent.parent / "tools/lib"))
 from arguments import Arguments
 from makers import BARRIER, PERSISTS, fill, packed, submission
-from repository import FRAMES
+from repository import FRAMES, SUBMISSIONS
 from sides import answer, ran
 from tally import Tally, by_threads, left_out
 from traces import recorded
@@ -168,7 +168,10 @@ def cases(program):
     yield "flight", line + b"{}"
     yield "flight", b""
     yield "", b""
-    yield "run run", b""
+    yield "run a b", b""
+    yield f"cull {FRAMES / 'one_fill.json'}", b""
+    yield f"check {SUBMISSIONS / 'missing_barrier.json'} {SUBMISSIONS / 'missing_barrier_mended.json'}", b""
+    yield f"check --json {SUBMISSIONS / 'missing_barrier.json'} {FRAMES} no_file", b""
 
 
 class Starved(Tally):
@@ -190,13 +193,13 @@ class Starved(Tally):
         return by_threads(work, range(1, count + 1), self.options.jobs)
 
     def memory(self, words, data):
-        status, text, (requests, _, _, threads), _ = self.ended(words, data)
+        status, text, (requests, _, _, threads), said = self.ended(words, data)
 
         def at(number, **more):
             found = self.ended(words, data, STARVE_AT=str(number), **more)
-            if found[0] == 6 and (found[1], found[3]) == (b"", ""):
+            if found[0] == 6 and found[1] == b"" and said.startswith(found[3]):
                 return 1
-            if (found[0], found[1], found[3]) != (status, text, ""):
+            if (found[0], found[1], found[3]) != (status, text, said):
                 self.fails(words, f"request {number}{' and all after it' if more else ''}", found)
             return 0
 
@@ -204,13 +207,13 @@ class Starved(Tally):
         without = sum(self.numbered(at, most)) + sum(self.numbered(lambda number: at(number, STARVE_ON="1"), most))
         for number in range(1, min(threads, 16) + 1):
             found = self.ended(words, data, STARVE_THREAD=str(number))
-            if (found[0], found[1], found[3]) not in ((status, text, ""), (6, b"", "")):
+            if (found[0], found[1], found[3]) not in ((status, text, said), (6, b"", "")):
                 self.fails(words, f"thread {number}", found)
         return f"{requests} requests, {without} runs without memory, {threads} threads"
 
     def ends(self, words, data):
         one = {"STARVE_ONE": "1"}
-        status, text, (_, reads, writes, _), _ = self.ended(words, data, **one)
+        status, text, (_, reads, writes, _), said = self.ended(words, data, **one)
 
         def read(number):
             found = self.ended(words, data, STARVE_READ=str(number), **one)
@@ -219,7 +222,7 @@ class Starved(Tally):
 
         def write(number):
             found = self.ended(words, data, STARVE_WRITE=str(number), **one)
-            if (found[0], found[1], found[2][2], found[3]) != (5, text[: number - 1], number, ""):
+            if (found[0], found[1], found[2][2]) != (5, text[: number - 1], number) or not said.startswith(found[3]):
                 self.fails(words, f"write {number}", found)
 
         self.numbered(read, min(reads, self.options.calls))
@@ -246,7 +249,7 @@ def main():
         subprocess.run(["cc", "-O1", "-shared", "-fPIC", "-xc", "-", "-o", library, "-ldl"], input=LIBRARY, text=True, check=True)
         with Starved(options.program, library, options) as starved:
             for words, data in cases(options.program):
-                if words.startswith(options.only) and (not words or words.startswith("run run") or answer(options.program, words)[0] != 3):
+                if words.startswith(options.only) and (not words or words.startswith("run a b") or answer(options.program, words)[0] != 3):
                     starved.case(words, data)
 
 

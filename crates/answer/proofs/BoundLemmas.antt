@@ -11,7 +11,7 @@ use Rattle.compile_groups.specs.declared.grouping.Grouping.{Grouping}
 use Rattle.compile_lifetimes.specs.Ordered.{IsOrdered}
 use Rattle.compile_heap.specs.Placing.{IsLeast}
 use Rattle.report.proofs.Places.{as_many}
-use Rattle.report.specs.BoundLines.{bound_text}
+use Rattle.report_json.specs.Told.{bound_told}
 use Rattle.answer.specs.Answers.{BoundsFrame}
 use Rattle.answer.specs.Internal.Stages.{AreBoundLines, AreGrouped, IsHeap}
 use Rattle.answer.specs.Plain.{done}
@@ -21,8 +21,8 @@ pub chosen_placed : (G : Grouping) (ordered : ℕ → ℕ → Bool) (bound : Cer
 chosen_placed G ordered bound shown = subst (λ n. All (λ k. k < n) bound.chosen) (as_many G) shown.within
 
 -- the lines of a bound are what the command answers
-pub bounded_frame : (frame : Frame) (G : Grouping) (ordered : ℕ → ℕ → Bool) (heap : ℕ) (text : List ℕ) → AreGrouped (numbered frame) G → IsOrdered G ordered → IsHeap G ordered heap → AreBoundLines frame G ordered heap text → BoundsFrame frame (done text)
-bounded_frame frame G ordered heap text grouped is_ordered H lines = record {
+pub bounded_frame : (json : Bool) (frame : Frame) (G : Grouping) (ordered : ℕ → ℕ → Bool) (heap : ℕ) (text : List ℕ) → AreGrouped (numbered frame) G → IsOrdered G ordered → IsHeap G ordered heap → AreBoundLines json frame G ordered heap text → BoundsFrame json frame (done text)
+bounded_frame json frame G ordered heap text grouped is_ordered H lines = record {
   kept = grouped.kept;
   are_kept = grouped.are_kept;
   ordered = ordered;
@@ -33,5 +33,5 @@ bounded_frame frame G ordered heap text grouped is_ordered H lines = record {
   is_bound = subst (λ K. IsBound (sizes K) ordered lines.bound) grouped.groups lines.is_bound;
   shown = subst (λ K. IsShown (sizes K) ordered lines.bound) grouped.groups lines.shown;
   holds = subst (λ K. Holds (sizes K) ordered lines.bound.least) grouped.groups lines.holds;
-  whole = ap done (lines.lines ∙ ap (λ K. bound_text frame K lines.bound.least heap lines.bound.chosen) grouped.groups ∙ ap (λ h. bound_text frame (grouping (numbered frame) grouped.kept) lines.bound.least h lines.bound.chosen) H.is);
+  whole = ap done (lines.lines ∙ ap (λ K. bound_told json frame K lines.bound.least heap lines.bound.chosen) grouped.groups ∙ ap (λ h. bound_told json frame (grouping (numbered frame) grouped.kept) lines.bound.least h lines.bound.chosen) H.is);
 }

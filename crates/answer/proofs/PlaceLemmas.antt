@@ -1,5 +1,5 @@
 -- Places of a frame.
-use Rattle.std.proofs.Common.{◌≡◌, ◌≤◌, ℕ, List, length, ap, subst, ◌∙◌, arith, is_some}
+use Rattle.std.proofs.Common.{◌≡◌, ◌≤◌, ℕ, Bool, List, length, ap, subst, ◌∙◌, arith, is_some}
 use Rattle.std.proofs.lemmas.List.{length-map}
 use Rattle.base.specs.Shapes.{shape_at, bytes_of}
 use Rattle.frame.specs.Numbered.{NumberedFrame, numbered}
@@ -9,7 +9,7 @@ use Rattle.compile_groups.specs.Placed.{placed, sizes}
 use Rattle.compile_groups.specs.declared.grouping.Grouping.{Grouping}
 use Rattle.compile_lifetimes.specs.Ordered.{IsOrdered}
 use Rattle.compile_heap.specs.Placing.{Places, IsLeast}
-use Rattle.report.specs.PlaceLines.{place_text}
+use Rattle.report_json.specs.Told.{place_told}
 use Rattle.answer.specs.Answers.{PlacesFrame}
 use Rattle.answer.specs.Plain.{done}
 use Rattle.answer.specs.Internal.Stages.{AreGrouped, ArePlaced, ArePlaceLines}
@@ -26,13 +26,13 @@ known_units frame G are =
     omega (arith, here, same)
 
 -- the lines of least places are what the command answers
-pub placed_frame : (frame : Frame) (G : Grouping) (text : List ℕ) → AreGrouped (numbered frame) G → ArePlaceLines frame G text → PlacesFrame frame (done text)
-placed_frame frame G text grouped are = let placed = are.are_placed in record {
+pub placed_frame : (json : Bool) (frame : Frame) (G : Grouping) (text : List ℕ) → AreGrouped (numbered frame) G → ArePlaceLines json frame G text → PlacesFrame json frame (done text)
+placed_frame json frame G text grouped are = let placed = are.are_placed in record {
   kept = grouped.kept;
   are_kept = grouped.are_kept;
   ordered = placed.ordered;
   is_ordered = subst (λ H. IsOrdered H placed.ordered) grouped.groups placed.is_ordered;
   places = are.places;
   least = subst (λ H. IsLeast (sizes H) placed.ordered are.places) grouped.groups placed.least;
-  whole = ap done (are.lines ∙ ap (λ H. place_text frame H are.places) grouped.groups);
+  whole = ap done (are.lines ∙ ap (λ H. place_told json frame H are.places) grouped.groups);
 }

@@ -1,4 +1,5 @@
 pub mod Answers
+pub mod AsJson
 pub mod AtRest
 pub mod Internal
 pub mod Inputs

@@ -1,5 +1,7 @@
--- The exit statuses, and which come with a text.
+-- The exit statuses.
 use Rattle.std.specs.Prelude.{ℕ}
+use Rattle.answer.specs.declared.status.AnswerStatus.{AnswerStatus}
+use Rattle.answer.specs.declared.status.AnswerStatus.TheVariants as answers
 use Rattle.answer.specs.declared.status.Status.{Status}
 use Rattle.answer.specs.declared.status.Status.TheVariants.{Done, Rejected, Refused, Words, ReadFault, WriteFault, NoMemory}
 
@@ -12,9 +14,9 @@ number_of ReadFault = 4
 number_of WriteFault = 5
 number_of NoMemory = 6
 
--- a status that comes with a text
-abbrev pub HasText : Status → Type 0
-HasText ReadFault = ⊥
-HasText NoMemory = ⊥
-HasText WriteFault = ⊥
-HasText status = Unit {0}
+-- how a call ends that wrote an answer whole
+abbrev pub status_of : AnswerStatus → Status
+status_of answers.Done = Done
+status_of answers.Rejected = Rejected
+status_of answers.Refused = Refused
+status_of answers.Words = Words

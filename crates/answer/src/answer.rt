@@ -3,18 +3,18 @@
 ghost use Rattle.std.specs.Prelude.{◌≡◌, IfOk};
 ghost use Rattle.answer.specs.Plain.{done, refusal, program_refusal};
 
-use crate::Status;
+use crate::AnswerStatus;
 use base::{NoMemory, Text};
 use frame::FrameFault;
 use program::ProgramFault;
-use report::{frame_fault_text, program_fault_text};
+use report_json::{frame_fault_told, program_fault_told};
 use std::alloc::Global;
 
 /// A status, and the whole text that goes with it.
 #[derive(Drop)]
 pub struct Answer {
-    /// How a call ends that writes the text whole.
-    pub status: Status,
+    /// How the command ended.
+    pub status: AnswerStatus,
     /// The text, in lines that end with a line feed each.
     pub text: Text,
 }
@@ -24,27 +24,27 @@ pub fn done(text: Text) -> Answer
     ensures { result ≡ done text }
 {
     Answer {
-        status: Status::Done,
+        status: AnswerStatus::Done,
         text,
     }
 }
 
-/// The answer to a frame file with a fault.
-pub fn refusal(alloc: Global, fault: &FrameFault) -> Result<Answer, NoMemory>
-    ensures { IfOk result (λ answer. answer ≡ refusal fault.now) }
+/// The answer to a frame file with a fault, as JSON where that is asked for.
+pub fn refusal(alloc: Global, json: bool, fault: &FrameFault) -> Result<Answer, NoMemory>
+    ensures { IfOk result (λ answer. answer ≡ refusal json fault.now) }
 {
     Ok(Answer {
-        status: Status::Refused,
-        text: frame_fault_text(alloc, fault)?,
+        status: AnswerStatus::Refused,
+        text: frame_fault_told(alloc, json, fault)?,
     })
 }
 
-/// The answer to a submission with a fault.
-pub fn program_refusal(alloc: Global, fault: &ProgramFault) -> Result<Answer, NoMemory>
-    ensures { IfOk result (λ answer. answer ≡ program_refusal fault.now) }
+/// The answer to a submission with a fault, as JSON where that is asked for.
+pub fn program_refusal(alloc: Global, json: bool, fault: &ProgramFault) -> Result<Answer, NoMemory>
+    ensures { IfOk result (λ answer. answer ≡ program_refusal json fault.now) }
 {
     Ok(Answer {
-        status: Status::Refused,
-        text: program_fault_text(alloc, fault)?,
+        status: AnswerStatus::Refused,
+        text: program_fault_told(alloc, json, fault)?,
     })
 }

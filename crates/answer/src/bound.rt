@@ -6,7 +6,6 @@ ghost use Rattle.compile_groups.specs.Placed.{sizes};
 ghost use Rattle.compile_heap.specs.Pairs.{has};
 ghost use Rattle.answer.specs.Answers.{BoundsFrame};
 ghost use Rattle.answer.specs.Internal.Stages.{AreBoundLines, AreGrouped, IsHeap};
-ghost use Rattle.answer.specs.Statuses.{HasText};
 
 use crate::answer::{Answer, done};
 use crate::groups::kept_groups;
@@ -16,7 +15,7 @@ use compile_groups::Groups;
 use compile_heap::{Pairs, place};
 use compile_lifetimes::ordered;
 use frame::ValidFrame;
-use report::bound_text;
+use report_json::bound_told;
 use std::alloc::Global;
 
 // How many bytes the heap of the least places has.
@@ -31,6 +30,7 @@ fn heap_of(alloc: Global, groups: &Groups, ordered: &Pairs) -> Result<u32, NoMem
 #[tactic(auto, using(crate::proofs::BoundLemmas::chosen_placed, crate::proofs::PlaceLemmas::known_units))]
 fn bound_lines(
     alloc: Global,
+    json: bool,
     good: &ValidFrame,
     groups: &Groups,
     ordered: &Pairs,
@@ -38,28 +38,31 @@ fn bound_lines(
 ) -> Result<Text, NoMemory>
     requires groups { AreGrouped (numbered good.now) groups.now }
     requires count { ordered.now.count ≡ length (sizes groups.now) }
-    ensures { IfOk result (AreBoundLines good.now groups.now (has ordered.now) heap) }
+    ensures { IfOk result (AreBoundLines json good.now groups.now (has ordered.now) heap) }
 {
     let bound = bound_of(alloc, groups.sizes(), ordered)?;
-    bound_text(alloc, good, groups, bound.least, heap, &bound.chosen)
+    bound_told(alloc, json, good, groups, bound.least, heap, &bound.chosen)
 }
 
 #[tactic(auto, using(report::proofs::Places::as_many))]
-fn bound_answer(alloc: Global, good: &ValidFrame, groups: &Groups) -> Result<Answer, NoMemory>
+fn bound_answer(
+    alloc: Global,
+    json: bool,
+    good: &ValidFrame,
+    groups: &Groups,
+) -> Result<Answer, NoMemory>
     requires { AreGrouped (numbered good.now) groups.now }
-    ensures frame { IfOk result (BoundsFrame good.now) }
-    ensures has_text { IfOk result (λ answer. HasText answer.status) }
+    ensures frame { IfOk result (BoundsFrame json good.now) }
 {
     let ordered = ordered(alloc, groups)?;
     let heap = heap_of(alloc, groups, &ordered)?;
-    Ok(done(bound_lines(alloc, good, groups, &ordered, heap)?))
+    Ok(done(bound_lines(alloc, json, good, groups, &ordered, heap)?))
 }
 
 /// The answer to the command on a valid frame.
-pub fn bound_frame(alloc: Global, good: &ValidFrame) -> Result<Answer, NoMemory>
-    ensures frame { IfOk result (BoundsFrame good.now) }
-    ensures has_text { IfOk result (λ answer. HasText answer.status) }
+pub fn bound_frame(alloc: Global, json: bool, good: &ValidFrame) -> Result<Answer, NoMemory>
+    ensures frame { IfOk result (BoundsFrame json good.now) }
 {
     let groups = kept_groups(alloc, good)?;
-    bound_answer(alloc, good, &groups)
+    bound_answer(alloc, json, good, &groups)
 }

@@ -3,10 +3,10 @@
 ghost use Rattle.std.specs.Prelude.{◌≡◌, IfOk, Some, false};
 ghost use Rattle.answer.specs.Answers.{Answers, AnswersBytes};
 ghost use Rattle.answer.specs.AtRest.{needs_device};
-ghost use Rattle.answer.specs.Statuses.{HasText};
 ghost use Rattle.cli.specs.Commands.{IsBounded};
 
 use crate::answer::Answer;
+use crate::as_json::asks_json;
 use crate::files::{file_of, limit_of, over_input};
 use crate::frames::answer_frame_file;
 use crate::generating::generate_frame;
@@ -20,7 +20,6 @@ pub fn answer_bytes(alloc: Global, command: &Command, bytes: &[u8]) -> Result<An
     requires rests { needs_device (Some command.now) ≡ false }
     requires bounded { IsBounded command.now }
     ensures answer { IfOk result (AnswersBytes command.now bytes.now) }
-    ensures has_text { IfOk result (λ answer. HasText answer.status) }
 {
     match command {
         Command::Frame(asked) => answer_frame_file(alloc, *asked, bytes),
@@ -40,12 +39,11 @@ pub fn answer_to(alloc: Global, command: &Command, bytes: &[u8]) -> Result<Answe
     requires rests { needs_device (Some command.now) ≡ false }
     requires bounded { IsBounded command.now }
     ensures answers { IfOk result (Answers command.now bytes.now) }
-    ensures has_text { IfOk result (λ answer. HasText answer.status) }
 {
     match file_of(command) {
         Some(file) => {
             if bytes.len() > limit_of(file) {
-                over_input(alloc, file)
+                over_input(alloc, asks_json(command), file)
             } else {
                 answer_bytes(alloc, command, bytes)
             }

@@ -2,7 +2,6 @@
 
 ghost use Rattle.std.specs.Prelude.{IfOk};
 ghost use Rattle.answer.specs.Answers.{CompilesFrame};
-ghost use Rattle.answer.specs.Statuses.{HasText};
 
 use crate::answer::{Answer, done};
 use base::NoMemory;
@@ -15,7 +14,6 @@ use std::alloc::Global;
 /// The answer to the command on a valid frame.
 pub fn compile_frame(alloc: Global, good: &ValidFrame, tight: bool) -> Result<Answer, NoMemory>
     ensures frame { IfOk result (CompilesFrame tight good.now) }
-    ensures has_text { IfOk result (λ answer. HasText answer.status) }
 {
     let made = compiled(alloc, good, tight)?;
     let mut text = write_program(alloc, made.program.shaped().program())?;

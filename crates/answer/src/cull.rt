@@ -3,14 +3,13 @@
 ghost use Rattle.std.specs.Prelude.{IfOk};
 ghost use Rattle.frame.specs.Numbered.{numbered};
 ghost use Rattle.answer.specs.Answers.{CullsFrame};
-ghost use Rattle.answer.specs.Statuses.{HasText};
 ghost use Rattle.frame_cull.specs.Culled.{AreKept};
 
 use crate::answer::{Answer, done};
 use base::NoMemory;
 use frame::ValidFrame;
 use frame_cull::{Kept, cull, versions_of};
-use report::cull_text;
+use report_json::cull_told;
 use std::alloc::Global;
 
 /// Which passes of a frame are kept.
@@ -23,11 +22,10 @@ pub fn kept_of(alloc: Global, good: &ValidFrame) -> Result<Kept, NoMemory>
 
 /// The answer to the command on a valid frame.
 #[tactic(auto, using(crate::proofs::KeptLemmas::one_each))]
-pub fn cull_frame(alloc: Global, good: &ValidFrame) -> Result<Answer, NoMemory>
-    ensures frame { IfOk result (CullsFrame good.now) }
-    ensures has_text { IfOk result (λ answer. HasText answer.status) }
+pub fn cull_frame(alloc: Global, json: bool, good: &ValidFrame) -> Result<Answer, NoMemory>
+    ensures frame { IfOk result (CullsFrame json good.now) }
 {
     let kept = kept_of(alloc, good)?;
-    let text = cull_text(alloc, good, &kept)?;
+    let text = cull_told(alloc, json, good, &kept)?;
     Ok(done(text))
 }

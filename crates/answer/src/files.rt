@@ -3,7 +3,6 @@
 ghost use Rattle.std.specs.Prelude.{◌≡◌, ◌<◌, ◌^◌, IfOk};
 ghost use Rattle.answer.specs.Answers.{over_input};
 ghost use Rattle.answer.specs.Inputs.{file_of, limit_of};
-ghost use Rattle.answer.specs.Statuses.{HasText};
 
 use crate::answer::{Answer, program_refusal, refusal};
 use base::{Limit, List, NoMemory};
@@ -43,14 +42,15 @@ pub fn limit_of(file: File) -> usize
     }
 }
 
-/// The answer to more bytes than the limit.
-pub fn over_input(alloc: Global, file: File) -> Result<Answer, NoMemory>
-    ensures over { IfOk result (λ answer. answer ≡ over_input file) }
-    ensures has_text { IfOk result (λ answer. HasText answer.status) }
+/// The answer to more bytes than the limit, as JSON where that is asked for.
+pub fn over_input(alloc: Global, json: bool, file: File) -> Result<Answer, NoMemory>
+    ensures over { IfOk result (λ answer. answer ≡ over_input json file) }
 {
     let place = List::new(alloc);
     match file {
-        File::Frame => refusal(alloc, &FrameFault::over_limit(Limit::Input, place)),
-        File::Submission => program_refusal(alloc, &ProgramFault::over_limit(Limit::Input, place)),
+        File::Frame => refusal(alloc, json, &FrameFault::over_limit(Limit::Input, place)),
+        File::Submission => {
+            program_refusal(alloc, json, &ProgramFault::over_limit(Limit::Input, place))
+        }
     }
 }

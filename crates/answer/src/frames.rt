@@ -2,10 +2,10 @@
 
 ghost use Rattle.std.specs.Prelude.{IfOk};
 ghost use Rattle.answer.specs.Answers.{AnswersFrame, AnswersFrameFile};
-ghost use Rattle.answer.specs.Statuses.{HasText};
 ghost use Rattle.compile_file.specs.Files.{frame_file};
 
 use crate::answer::{Answer, refusal};
+use crate::as_json::frame_json;
 use crate::auto::{auto_frame, cost_frame};
 use crate::bound::bound_frame;
 use crate::compiling::compile_frame;
@@ -27,31 +27,24 @@ pub fn answer_frame_file(
     bytes: &[u8],
 ) -> Result<Answer, NoMemory>
     ensures file { IfOk result (AnswersFrameFile asked (frame_file bytes.now)) }
-    ensures has_text { IfOk result (λ answer. HasText answer.status) }
 {
     match valid_frame(alloc, bytes) {
         Ok(good) => answer_frame(alloc, asked, &good),
-        Err(FrameReadError::Refused(fault)) => refusal(alloc, &fault),
+        Err(FrameReadError::Refused(fault)) => refusal(alloc, frame_json(asked), &fault),
         Err(FrameReadError::NoMemory) => Err(NoMemory),
     }
 }
 
 fn answer_frame(alloc: Global, asked: FrameCommand, good: &ValidFrame) -> Result<Answer, NoMemory>
     ensures frame { IfOk result (AnswersFrame asked good.now) }
-    ensures has_text { IfOk result (λ answer. HasText answer.status) }
 {
     match asked {
-        FrameCommand::Cull => cull_frame(alloc, good),
-        FrameCommand::Place => place_frame(alloc, good),
-        FrameCommand::Bound => bound_frame(alloc, good),
+        FrameCommand::Cull { json } => cull_frame(alloc, json, good),
+        FrameCommand::Place { json } => place_frame(alloc, json, good),
+        FrameCommand::Bound { json } => bound_frame(alloc, json, good),
         FrameCommand::Compile { tight } => compile_frame(alloc, good, tight),
-        FrameCommand::Auto { cost } => {
-            if cost {
-                cost_frame(alloc, good)
-            } else {
-                auto_frame(alloc, good)
-            }
-        }
+        FrameCommand::Auto => auto_frame(alloc, good),
+        FrameCommand::Cost { json } => cost_frame(alloc, json, good),
         FrameCommand::Meaning => mean_frame(alloc, good),
         FrameCommand::Migrate => migrate_frame(alloc, good),
     }

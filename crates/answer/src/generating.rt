@@ -2,7 +2,6 @@
 
 ghost use Rattle.std.specs.Prelude.{◌≤◌, IfOk};
 ghost use Rattle.answer.specs.Answers.{GeneratesFrame};
-ghost use Rattle.answer.specs.Statuses.{HasText};
 
 use crate::answer::Answer;
 use crate::migrate::migrate_frame;
@@ -15,7 +14,6 @@ pub fn generate_frame(alloc: Global, number: u32, passes: u32) -> Result<Answer,
     requires some { 1 ≤ passes }
     requires few { passes ≤ 256 }
     ensures frame { IfOk result (GeneratesFrame number passes) }
-    ensures has_text { IfOk result (λ answer. HasText answer.status) }
 {
     let good = generate(alloc, number, passes)?;
     migrate_frame(alloc, &good)

@@ -2,6 +2,7 @@
 #![tactic(auto)]
 
 mod answer;
+mod as_json;
 mod auto;
 mod bound;
 mod bytes;
@@ -18,7 +19,8 @@ mod programs;
 mod status;
 
 pub use answer::{Answer, done, program_refusal, refusal};
+pub use as_json::asks_json;
 pub use bytes::{answer_bytes, answer_to};
 pub use files::{File, file_of, limit_of, over_input};
 pub use programs::checked;
-pub use status::Status;
+pub use status::{AnswerStatus, Status};

@@ -4,7 +4,6 @@ ghost use Rattle.std.specs.Prelude.{◌≡◌, ◌<◌, ◌++◌, IfOk, OnOk, le
 ghost use Rattle.frame.specs.Numbered.{numbered};
 ghost use Rattle.answer.specs.Answers.{MeansFrame};
 ghost use Rattle.answer.specs.Internal.Stages.{bytes_in};
-ghost use Rattle.answer.specs.Statuses.{HasText};
 ghost use Rattle.compile_file.specs.Exports.{exports_text};
 
 use crate::answer::{Answer, done};
@@ -36,7 +35,6 @@ fn exports_text(alloc: Global, good: &ValidFrame, exports: &Exports) -> Result<T
 /// The answer to the command on a valid frame.
 pub fn mean_frame(alloc: Global, good: &ValidFrame) -> Result<Answer, NoMemory>
     ensures frame { IfOk result (MeansFrame good.now) }
-    ensures has_text { IfOk result (λ answer. HasText answer.status) }
 {
     let exports = exports_of(alloc, good)?;
     let text = exports_text(alloc, good, &exports)?;

@@ -2,7 +2,6 @@
 
 ghost use Rattle.std.specs.Prelude.{IfOk};
 ghost use Rattle.answer.specs.Answers.{MigratesFrame};
-ghost use Rattle.answer.specs.Statuses.{HasText};
 
 use crate::answer::{Answer, done};
 use base::NoMemory;
@@ -14,7 +13,6 @@ use std::alloc::Global;
 /// The answer to the command on a valid frame.
 pub fn migrate_frame(alloc: Global, good: &ValidFrame) -> Result<Answer, NoMemory>
     ensures frame { IfOk result (MigratesFrame good.now) }
-    ensures has_text { IfOk result (λ answer. HasText answer.status) }
 {
     let mut text = write_frame(alloc, good.frame())?;
     text.end_line()?;

@@ -4,7 +4,6 @@ ghost use Rattle.std.specs.Prelude.{IfOk};
 ghost use Rattle.frame.specs.Numbered.{numbered};
 ghost use Rattle.answer.specs.Answers.{PlacesFrame};
 ghost use Rattle.answer.specs.Internal.Stages.{AreGrouped, ArePlaced, ArePlaceLines};
-ghost use Rattle.answer.specs.Statuses.{HasText};
 
 use crate::answer::{Answer, done};
 use crate::groups::kept_groups;
@@ -13,7 +12,7 @@ use compile_groups::Groups;
 use compile_heap::{Placement, place};
 use compile_lifetimes::ordered;
 use frame::ValidFrame;
-use report::place_text;
+use report_json::place_told;
 use std::alloc::Global;
 
 // Where the transient units lie.
@@ -25,27 +24,35 @@ fn places_of(alloc: Global, groups: &Groups) -> Result<Placement, NoMemory>
 }
 
 #[tactic(auto, using(crate::proofs::PlaceLemmas::as_many, crate::proofs::PlaceLemmas::known_units))]
-fn place_lines(alloc: Global, good: &ValidFrame, groups: &Groups) -> Result<Text, NoMemory>
+fn place_lines(
+    alloc: Global,
+    json: bool,
+    good: &ValidFrame,
+    groups: &Groups,
+) -> Result<Text, NoMemory>
     requires { AreGrouped (numbered good.now) groups.now }
-    ensures { IfOk result (ArePlaceLines good.now groups.now) }
+    ensures { IfOk result (ArePlaceLines json good.now groups.now) }
 {
     let placement = places_of(alloc, groups)?;
-    place_text(alloc, good, groups, &placement)
+    place_told(alloc, json, good, groups, &placement)
 }
 
-fn place_answer(alloc: Global, good: &ValidFrame, groups: &Groups) -> Result<Answer, NoMemory>
+fn place_answer(
+    alloc: Global,
+    json: bool,
+    good: &ValidFrame,
+    groups: &Groups,
+) -> Result<Answer, NoMemory>
     requires { AreGrouped (numbered good.now) groups.now }
-    ensures frame { IfOk result (PlacesFrame good.now) }
-    ensures has_text { IfOk result (λ answer. HasText answer.status) }
+    ensures frame { IfOk result (PlacesFrame json good.now) }
 {
-    Ok(done(place_lines(alloc, good, groups)?))
+    Ok(done(place_lines(alloc, json, good, groups)?))
 }
 
 /// The answer to the command on a valid frame.
-pub fn place_frame(alloc: Global, good: &ValidFrame) -> Result<Answer, NoMemory>
-    ensures frame { IfOk result (PlacesFrame good.now) }
-    ensures has_text { IfOk result (λ answer. HasText answer.status) }
+pub fn place_frame(alloc: Global, json: bool, good: &ValidFrame) -> Result<Answer, NoMemory>
+    ensures frame { IfOk result (PlacesFrame json good.now) }
 {
     let groups = kept_groups(alloc, good)?;
-    place_answer(alloc, good, &groups)
+    place_answer(alloc, json, good, &groups)
 }

@@ -1,21 +1,21 @@
 //! The commands that read a submission.
 
-ghost use Rattle.std.specs.Prelude.{◌≡◌, IfOk, IfErr};
+ghost use Rattle.std.specs.Prelude.{◌≡◌, ◌⊎◌, IfOk, IfErr};
 ghost use Rattle.check_program.specs.Sound.{IsSound};
-ghost use Rattle.answer.specs.Answers.{AnswersProgram, AnswersProgramFile};
-ghost use Rattle.answer.specs.Statuses.{HasText};
+ghost use Rattle.answer.specs.Answers.{Accepts, AnswersProgram, AnswersProgramFile};
 ghost use Rattle.compile_file.specs.Files.{program_file};
 ghost use Rattle.answer.specs.Plain.{Rejects, rejection};
 
-use crate::Status;
+use crate::AnswerStatus;
 use crate::answer::{Answer, done, program_refusal};
+use crate::as_json::submission_json;
 use base::NoMemory;
 use check_program::{CheckError, Checked, Hazard, check};
 use cli::SubmissionCommand;
 use compile_file::valid_program;
 use file_program::ProgramReadError;
 use program::ValidProgram;
-use report::{check_text, hazard_text};
+use report_json::{check_told, hazard_told};
 use std::alloc::Global;
 
 /// The answer to the bytes of a submission.
@@ -25,11 +25,14 @@ pub fn answer_program_file(
     bytes: &[u8],
 ) -> Result<Answer, NoMemory>
     ensures file { IfOk result (AnswersProgramFile asked (program_file bytes.now)) }
-    ensures has_text { IfOk result (λ answer. HasText answer.status) }
 {
     match valid_program(alloc, bytes) {
         Ok(program) => answer_program(alloc, asked, program),
-        Err(ProgramReadError::Refused(fault)) => program_refusal(alloc, &fault),
+        Err(ProgramReadError::Refused(fault)) => program_refusal(
+            alloc,
+            submission_json(asked),
+            &fault,
+        ),
         Err(ProgramReadError::NoMemory) => Err(NoMemory),
     }
 }
@@ -40,44 +43,45 @@ fn answer_program(
     program: ValidProgram,
 ) -> Result<Answer, NoMemory>
     ensures program { IfOk result (AnswersProgram asked program) }
-    ensures has_text { IfOk result (λ answer. HasText answer.status) }
 {
     match asked {
-        SubmissionCommand::Check => check_program(alloc, program),
+        SubmissionCommand::Check { json } => check_program(alloc, json, program),
     }
 }
 
 // Sound or not.
-fn check_program(alloc: Global, program: ValidProgram) -> Result<Answer, NoMemory>
-    ensures checked { IfOk result (AnswersProgram SubmissionCommand.Check program) }
-    ensures has_text { IfOk result (λ answer. HasText answer.status) }
+fn check_program(alloc: Global, json: bool, program: ValidProgram) -> Result<Answer, NoMemory>
+    ensures checked { IfOk result (λ answer. Accepts json program answer ⊎ Rejects json program answer) }
 {
     let nodes = program.node_count();
-    match checked(alloc, program) {
-        Ok(_) => Ok(done(check_text(alloc, nodes)?)),
+    match checked(alloc, json, program) {
+        Ok(_) => Ok(done(check_told(alloc, json, nodes)?)),
         Err(answer) => answer,
     }
 }
 
-/// The program, where it is sound, or else the answer to it.
-pub fn checked(alloc: Global, program: ValidProgram) -> Result<Checked, Result<Answer, NoMemory>>
+/// The program, where it is sound, or else the answer to it, as JSON where that is asked for.
+pub fn checked(
+    alloc: Global,
+    json: bool,
+    program: ValidProgram,
+) -> Result<Checked, Result<Answer, NoMemory>>
     ensures ok { IfOk result (λ checked. (checked.program ≡ program) × IsSound program) }
-    ensures err { IfErr result (λ end. IfOk end (Rejects program)) }
-    ensures has_text { IfErr result (λ end. IfOk end (λ answer. HasText answer.status)) }
+    ensures err { IfErr result (λ end. IfOk end (Rejects json program)) }
 {
     match check(alloc, program) {
         Ok(checked) => Ok(checked),
-        Err(CheckError::Refused(hazard, _)) => Err(rejection(alloc, &hazard)),
+        Err(CheckError::Refused(hazard, _)) => Err(rejection(alloc, json, &hazard)),
         Err(CheckError::NoMemory) => Err(Err(NoMemory)),
     }
 }
 
 // The answer to a program that is not sound.
-fn rejection(alloc: Global, hazard: &Hazard) -> Result<Answer, NoMemory>
-    ensures { IfOk result (λ answer. answer ≡ rejection hazard.now) }
+fn rejection(alloc: Global, json: bool, hazard: &Hazard) -> Result<Answer, NoMemory>
+    ensures { IfOk result (λ answer. answer ≡ rejection json hazard.now) }
 {
     Ok(Answer {
-        status: Status::Rejected,
-        text: hazard_text(alloc, hazard)?,
+        status: AnswerStatus::Rejected,
+        text: hazard_told(alloc, json, hazard)?,
     })
 }

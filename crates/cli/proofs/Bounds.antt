@@ -7,9 +7,10 @@ use Rattle.std.proofs.lemmas.Bool.{and_parts, false≢true, leb-true}
 use Rattle.clap.specs.Words.{Kinds, Row, Text, fault_of, first_of, matches_of}
 use Rattle.frame.specs.Repeats.{first_repeat}
 use Rattle.cli.specs.CommandWords.{word_of}
-use Rattle.cli.specs.Commands.{HasDepth, HasNames, HasPasses, HasWorkers, IsBounded, command_in, command_of_word, command_with, flying, generating, unless_more, without_options}
-use Rattle.cli.specs.LineOptions.{line_options_in, is_none, number_in}
-use Rattle.cli.specs.Lines.{framec, unless_refused, command_of}
+use Rattle.cli.specs.Commands.{HasDepth, HasNames, HasPasses, HasWorkers, IsBounded, command_in, command_of_word, command_with, choosing, flying, generating, unless_more, without_json, without_options}
+use Rattle.cli.specs.Files.{files_in, line_in, takes_files, with_files}
+use Rattle.cli.specs.LineOptions.{line_options_in, is_none, number_in, word_in}
+use Rattle.cli.specs.Lines.{framec, unless_refused, line_of}
 use Rattle.cli.specs.Numbers.{is_number}
 use Rattle.cli.specs.Persist.{all_named, are_different, if_different, persist_in}
 use Rattle.cli.specs.Options.{options_in}
@@ -17,6 +18,8 @@ use Rattle.cli.specs.declared.command.Command.{Command}
 use Rattle.cli.specs.declared.command.Command.TheVariants as commands
 use Rattle.cli.specs.declared.command.FrameCommand.TheVariants as frames
 use Rattle.cli.specs.declared.command.SubmissionCommand.TheVariants as submissions
+use Rattle.cli.specs.declared.line.Line.{Line}
+use Rattle.cli.specs.declared.option_name.OptionName.TheVariants as options
 use Rattle.cli.specs.declared.line_options.LineOptions.{LineOptions}
 use Rattle.cli.specs.declared.word.Word.{Word}
 use Rattle.cli.specs.declared.word.Word.TheVariants.{Cull, Place, Bound, Compile, Auto, Meaning, Migrate, Check, Gen, Run, Exec, Flight, Audit}
@@ -60,11 +63,11 @@ mapped P Q (Some x) f is goes = goes x is
 
 given_is : (rows : List Row) → IfSome (line_options_in rows) AreWithin
 given_is rows =
-    next (λ found. IfSome found (Within 1 16)) AreWithin (number_in 1 16 (first_of (codes "workers") rows)) _ (number_is 1 16 (first_of (codes "workers") rows)) (λ workers few.
-    next_any AreWithin (number_in 0 4294967295 (first_of (codes "tend") rows)) _ (λ tend.
-    next_any AreWithin (number_in 0 4294967295 (first_of (codes "number") rows)) _ (λ number.
-    next (λ found. IfSome found (Within 1 256)) AreWithin (number_in 1 256 (first_of (codes "passes") rows)) _ (number_is 1 256 (first_of (codes "passes") rows)) (λ passes fit.
-    mapped (λ found. IfSome found (Within 1 8)) AreWithin (number_in 1 8 (first_of (codes "depth") rows)) _ (number_is 1 8 (first_of (codes "depth") rows)) (λ depth low. (few, fit, low))))))
+    next (λ found. IfSome found (Within 1 16)) AreWithin (number_in 1 16 (word_in options.Workers rows)) _ (number_is 1 16 (word_in options.Workers rows)) (λ workers few.
+    next_any AreWithin (number_in 0 4294967295 (word_in options.Tend rows)) _ (λ tend.
+    next_any AreWithin (number_in 0 4294967295 (word_in options.Number rows)) _ (λ number.
+    next (λ found. IfSome found (Within 1 256)) AreWithin (number_in 1 256 (word_in options.Passes rows)) _ (number_is 1 256 (word_in options.Passes rows)) (λ passes fit.
+    mapped (λ found. IfSome found (Within 1 8)) AreWithin (number_in 1 8 (word_in options.Depth rows)) _ (number_is 1 8 (word_in options.Depth rows)) (λ depth low. (few, fit, low))))))
 
 or_some : (least most otherwise : ℕ) (o : Option ℕ) → IfSome o (Within least most) → Within least most otherwise → Within least most (unwrap_or o otherwise)
 or_some least most otherwise None is instead = instead
@@ -82,6 +85,13 @@ unless rest command is = by (is_none rest)
     by : (none : Bool) → IfSome (if none then Some command else None) IsBounded
     by true = is
     by false = tt
+
+chosen : (given : LineOptions) → IfSome (choosing given) IsBounded
+chosen given = by given.cost
+  where
+    by : (cost : Bool) → IfSome (if cost then unless_more (record (without_json given) { cost = false }) (commands.Frame (frames.Cost given.json)) else unless_more given (commands.Frame frames.Auto)) IsBounded
+    by true = unless (record (without_json given) { cost = false }) (commands.Frame (frames.Cost given.json)) tt
+    by false = unless given (commands.Frame frames.Auto) tt
 
 generated : (given : LineOptions) (number : ℕ) → AreWithin given → IfSome (generating given number) IsBounded
 generated given number is = by given.summary
@@ -125,14 +135,14 @@ flying_is given persist is names =
     next HasNames IsBounded persist _ names (λ found are. unless (record (without_options given) { depth = None; persist = false }) (commands.Flight (options_in given) found (unwrap_or given.depth 2)) (has_workers given is, are, has_depth given is))
 
 word_is : (word : Word) (given : LineOptions) (persist : Option (List (List ℕ))) → AreWithin given → IfSome persist HasNames → IfSome (command_of_word word given persist) IsBounded
-word_is Cull given persist is are = unless given (commands.Frame frames.Cull) tt
-word_is Place given persist is are = unless given (commands.Frame frames.Place) tt
-word_is Bound given persist is are = unless given (commands.Frame frames.Bound) tt
+word_is Cull given persist is are = unless (without_json given) (commands.Frame (frames.Cull given.json)) tt
+word_is Place given persist is are = unless (without_json given) (commands.Frame (frames.Place given.json)) tt
+word_is Bound given persist is are = unless (without_json given) (commands.Frame (frames.Bound given.json)) tt
 word_is Compile given persist is are = unless (record given { tight = false }) (commands.Frame (frames.Compile given.tight)) tt
-word_is Auto given persist is are = unless (record given { cost = false }) (commands.Frame (frames.Auto given.cost)) tt
+word_is Auto given persist is are = chosen given
 word_is Meaning given persist is are = unless given (commands.Frame frames.Meaning) tt
 word_is Migrate given persist is are = unless given (commands.Frame frames.Migrate) tt
-word_is Check given persist is are = unless given (commands.Submission submissions.Check) tt
+word_is Check given persist is are = unless (without_json given) (commands.Submission (submissions.Check given.json)) tt
 word_is Gen given persist is are = next_any IsBounded given.number (generating given) (λ number. generated given number is)
 word_is Run given persist is are = unless (record (without_options given) { trace = false; tight = false }) (commands.Run (options_in given) given.trace given.tight) (has_workers given is)
 word_is Exec given persist is are = unless (record (without_options given) { trace = false }) (commands.Exec (options_in given) given.trace) (has_workers given is)
@@ -140,14 +150,30 @@ word_is Flight given persist is are = flying_is given persist is are
 word_is Audit given persist is are = unless given commands.Audit tt
 
 with_is : (rows : List Row) (text : List ℕ) → IfSome (command_with rows text) IsBounded
-with_is rows text = next_any IsBounded (word_of text) _ (λ word. next AreWithin IsBounded (line_options_in rows) _ (given_is rows) (λ given is. word_is word given (persist_in (first_of (codes "persist") rows)) is (persist_is (first_of (codes "persist") rows))))
+with_is rows text = next_any IsBounded (word_of text) _ (λ word. next AreWithin IsBounded (line_options_in rows) _ (given_is rows) (λ given is. word_is word given (persist_in (word_in options.Persist rows)) is (persist_is (word_in options.Persist rows))))
 
-kept : (faults : Kinds) (command : Option Command) → IfSome command IsBounded → IfSome (unless_refused faults command) IsBounded
-kept [] command is = is
-kept (fault ∷ faults) command is = tt
+command_is : (rows : List Row) → IfSome (command_in rows) IsBounded
+command_is rows = next_any IsBounded (first_of (codes "command") rows) (command_with rows) (λ text. with_is rows text)
 
-pub bounded_lines : (words : List Text) → IfSome (command_of words) IsBounded
+abbrev LineIsBounded : Line → Type 0
+LineIsBounded line = IsBounded line.command
+
+files_are : (files : List (List ℕ)) (command : Command) → IsBounded command → IfSome (with_files files command) LineIsBounded
+files_are files command is = by (takes_files command (length files))
+  where
+    by : (takes : Bool) → IfSome (if takes then Some (record { command = command; files = files }) else None) LineIsBounded
+    by true = is
+    by false = tt
+
+line_is : (rows : List Row) → IfSome (line_in rows) LineIsBounded
+line_is rows = next IsBounded LineIsBounded (command_in rows) (with_files (files_in rows)) (command_is rows) (files_are (files_in rows))
+
+kept : (faults : Kinds) (line : Option Line) → IfSome line LineIsBounded → IfSome (unless_refused faults line) LineIsBounded
+kept [] line is = is
+kept (fault ∷ faults) line is = tt
+
+pub bounded_lines : (words : List Text) → IfSome (line_of words) LineIsBounded
 bounded_lines words =
     let line : List Text = codes "framec" ∷ words in
     let rows : List Row = matches_of framec line in
-    kept (fault_of framec line) (command_in rows) (next_any IsBounded (first_of (codes "command") rows) (command_with rows) (λ text. with_is rows text))
+    kept (fault_of framec line) (line_in rows) (line_is rows)

@@ -7,9 +7,9 @@ use Rattle.clap.specs.declared.error.Error.{Error}
 use Rattle.clap.specs.declared.error.kind.ErrorKind.TheVariants.{OutOfMemory}
 use Rattle.clap.specs.declared.parser.matches.ArgMatches.{ArgMatches}
 use Rattle.cli.proofs.Refused.{none_refused}
-use Rattle.cli.specs.Commands.{command_in}
-use Rattle.cli.specs.Lines.{command_of, framec, unless_refused, IsLine}
-use Rattle.cli.specs.declared.command.Command.{Command}
+use Rattle.cli.specs.Files.{line_in}
+use Rattle.cli.specs.Lines.{framec, line_of, unless_refused, IsLine}
+use Rattle.cli.specs.declared.line.Line.{Line}
 
 pub line_matched : (app : App) (words : List Text) (found : ArgMatches) → app ≡ framec → (is_simple_and_free app ≡ true → fault_of app words ≡ []) → HasMatchesOf app words found → IsLine words × (rows_of (found_of found) ≡ matches_of framec words)
 line_matched app words found is faults has = (
@@ -25,15 +25,15 @@ line_faulty app words error is faults other line = by (subst (λ kinds. HasKind 
     by (inl e) = other e
     by (inr none) = none
 
-pub line_read : (words line : List Text) (rows : List Row) (found : Option Command) → line ≡ codes "framec" ∷ words → IsLine line → rows ≡ matches_of framec line → found ≡ command_in rows → found ≡ command_of words
+pub line_read : (words line : List Text) (rows : List Row) (found : Option Line) → line ≡ codes "framec" ∷ words → IsLine line → rows ≡ matches_of framec line → found ≡ line_in rows → found ≡ line_of words
 line_read words line rows found is fits all reads =
     let whole : List Text = codes "framec" ∷ words in
     let none : fault_of framec whole ≡ [] = subst IsLine is fits in
     reads
-    ∙ ap command_in (all ∙ ap (matches_of framec) is)
-    ∙ ap (λ (faults : Kinds). unless_refused faults (command_in (matches_of framec whole))) (sym none)
+    ∙ ap line_in (all ∙ ap (matches_of framec) is)
+    ∙ ap (λ (faults : Kinds). unless_refused faults (line_in (matches_of framec whole))) (sym none)
 
-pub line_refused : (words line : List Text) → line ≡ codes "framec" ∷ words → ¬ IsLine line → ◌≡◌ {A = Option Command} None (command_of words)
+pub line_refused : (words line : List Text) → line ≡ codes "framec" ∷ words → ¬ IsLine line → ◌≡◌ {A = Option Line} None (line_of words)
 line_refused words line is refused =
     let whole : List Text = codes "framec" ∷ words in
-    sym (none_refused (fault_of framec whole) (command_in (matches_of framec whole)) (λ none. refused (subst IsLine (sym is) none)))
+    sym (none_refused (fault_of framec whole) (line_in (matches_of framec whole)) (λ none. refused (subst IsLine (sym is) none)))

@@ -1,7 +1,9 @@
 pub mod CommandWords
 pub mod Commands
+pub mod Files
 pub mod LineOptions
 pub mod Lines
 pub mod Numbers
+pub mod OptionNames
 pub mod Options
 pub mod Persist

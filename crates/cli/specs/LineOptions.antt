@@ -4,7 +4,14 @@ use Rattle.std.specs.Option.{option_map_or}
 use Rattle.std.specs.Str.{bytes_eq}
 use Rattle.clap.specs.Words.{Row, first_of}
 use Rattle.cli.specs.Numbers.{number_within}
+use Rattle.cli.specs.OptionNames.{name_of}
+use Rattle.cli.specs.declared.option_name.OptionName.{OptionName}
+use Rattle.cli.specs.declared.option_name.OptionName.TheVariants.{Workers, Tend, Number, Passes, Depth, Persist, Trace, Summary, Tight, Cost, Json}
 use Rattle.cli.specs.declared.line_options.LineOptions.{LineOptions}
+
+-- the word behind an option, by what `clap` found on the line
+abbrev pub word_in : OptionName → List Row → Option (List ℕ)
+word_in option rows = first_of (name_of option) rows
 
 -- the word of a flag is `true` where it was given, and `false` where not
 abbrev pub is_given : Option (List ℕ) → Bool
@@ -24,18 +31,19 @@ line_options_in rows =
       number = number;
       passes = passes;
       depth = depth;
-      persist = is_some (first_of (codes "persist") rows);
-      trace = is_given (first_of (codes "trace") rows);
-      summary = is_given (first_of (codes "summary") rows);
-      tight = is_given (first_of (codes "tight") rows);
-      cost = is_given (first_of (codes "cost") rows);
+      persist = is_some (word_in Persist rows);
+      trace = is_given (word_in Trace rows);
+      summary = is_given (word_in Summary rows);
+      tight = is_given (word_in Tight rows);
+      cost = is_given (word_in Cost rows);
+      json = is_given (word_in Json rows);
     })
-    (number_in 1 8 (first_of (codes "depth") rows)))
-    (number_in 1 256 (first_of (codes "passes") rows)))
-    (number_in 0 4294967295 (first_of (codes "number") rows)))
-    (number_in 0 4294967295 (first_of (codes "tend") rows)))
-    (number_in 1 16 (first_of (codes "workers") rows))
+    (number_in 1 8 (word_in Depth rows)))
+    (number_in 1 256 (word_in Passes rows)))
+    (number_in 0 4294967295 (word_in Number rows)))
+    (number_in 0 4294967295 (word_in Tend rows)))
+    (number_in 1 16 (word_in Workers rows))
 
 -- there is no option
 abbrev pub is_none : LineOptions → Bool
-is_none given = not ((is_some given.workers || is_some given.tend || is_some given.number || is_some given.passes || is_some given.depth) || given.persist || given.trace || given.summary || given.tight || given.cost)
+is_none given = not ((is_some given.workers || is_some given.tend || is_some given.number || is_some given.passes || is_some given.depth) || given.persist || given.trace || given.summary || given.tight || given.cost || given.json)

@@ -1,11 +1,14 @@
 -- The command line, as `clap` reads it.
-use Rattle.std.specs.Prelude.{◌≡◌, true, List, [], ◌∷◌, Option, Some, None, Result, Ok, Err, codes}
+use Rattle.std.specs.Prelude.{◌≡◌, true, List, [], ◌∷◌, fold, Option, Some, None, Result, Ok, Err, codes}
 use Rattle.clap.specs.Words.{App, Rule, Text, Kinds, new_app, new_rule, with_rule, matches_of, rows_of, found_of, fault_of}
 use Rattle.clap.specs.Simple.{on_top}
-use Rattle.clap.specs.declared.builder.action.ArgAction.TheVariants.{Set, SetTrue}
+use Rattle.clap.specs.declared.builder.action.ArgAction.{ArgAction}
+use Rattle.clap.specs.declared.builder.action.ArgAction.TheVariants.{Set, Append}
 use Rattle.clap.specs.declared.parser.matches.ArgMatches.{ArgMatches}
-use Rattle.cli.specs.Commands.{command_in}
-use Rattle.cli.specs.declared.command.Command.{Command}
+use Rattle.cli.specs.Files.{line_in}
+use Rattle.cli.specs.OptionNames.{action_of, all_names, name_of}
+use Rattle.cli.specs.declared.line.Line.{Line}
+use Rattle.cli.specs.declared.option_name.OptionName.{OptionName}
 use Rattle.cli.specs.declared.matching.Unmatched.{Unmatched}
 use Rattle.cli.specs.declared.matching.Unmatched.TheVariants.{NoLine, NoMemory}
 
@@ -13,47 +16,39 @@ use Rattle.cli.specs.declared.matching.Unmatched.TheVariants.{NoLine, NoMemory}
 abbrev pub word_rule : Rule
 word_rule = record (new_rule (codes "command")) { required = true; action = Some Set }
 
--- `--name` with one word behind it
-abbrev pub option_rule : Text → Rule
-option_rule name = record (new_rule name) { long = Some name; action = Some Set }
+-- any number of words behind it
+abbrev pub files_rule : Rule
+files_rule = record (new_rule (codes "file")) { action = Some Append }
 
--- `--name` alone
-abbrev pub flag_rule : Text → Rule
-flag_rule name = record (new_rule name) { long = Some name; action = Some SetTrue }
+-- `--name`, with one word behind it or alone
+abbrev pub option_rule : Text → ArgAction → Rule
+option_rule name action = record (new_rule name) { long = Some name; action = Some action }
+
+abbrev pub with_option : App → OptionName → App
+with_option app option = with_rule app (option_rule (name_of option) (action_of option))
 
 -- neither `--help` nor `--version`
 abbrev pub bare_app : App
 bare_app = on_top (λ s. record s { disable_help_flag = true; disable_version_flag = true }) (new_app (codes "framec"))
 
--- the command's word, the options and the flags
+-- the command's word, the options and the files
 abbrev pub framec : App
-framec =
-    let worded : App = with_rule bare_app word_rule in
-    let working : App = with_rule worded (option_rule (codes "workers")) in
-    let tended : App = with_rule working (option_rule (codes "tend")) in
-    let numbered : App = with_rule tended (option_rule (codes "number")) in
-    let passing : App = with_rule numbered (option_rule (codes "passes")) in
-    let deepened : App = with_rule passing (option_rule (codes "depth")) in
-    let persisting : App = with_rule deepened (option_rule (codes "persist")) in
-    let traced : App = with_rule persisting (flag_rule (codes "trace")) in
-    let summed : App = with_rule traced (flag_rule (codes "summary")) in
-    let tightened : App = with_rule summed (flag_rule (codes "tight")) in
-    with_rule tightened (flag_rule (codes "cost"))
+framec = with_rule (fold with_option (with_rule bare_app word_rule) all_names) files_rule
 
 -- a line, of which the program's own name is the first word: nothing in it is refused
 abbrev pub IsLine : List Text → Type 0
 IsLine line = fault_of framec line ≡ []
 
--- the command of a line, where `clap` refuses nothing
-abbrev pub unless_refused : Kinds → Option Command → Option Command
-unless_refused [] command = command
-unless_refused faults command = None
+-- what a line comes to, where `clap` refuses nothing
+abbrev pub unless_refused : Kinds → Option Line → Option Line
+unless_refused [] line = line
+unless_refused faults line = None
 
--- the command of the words after the program's own name; without one they are no command line
-abbrev pub command_of : List Text → Option Command
-command_of words =
+-- the command of the words after the program's own name, and its files; without one they are no command line
+abbrev pub line_of : List Text → Option Line
+line_of words =
     let line = codes "framec" ∷ words in
-    unless_refused (fault_of framec line) (command_in (matches_of framec line))
+    unless_refused (fault_of framec line) (line_in (matches_of framec line))
 
 abbrev pub Matches : List Text → Result ArgMatches Unmatched → Type 0
 Matches line (Ok matches) = IsLine line × (rows_of (found_of matches) ≡ matches_of framec line)

@@ -50,20 +50,31 @@ pub enum Command {
 #[derive(Clone, Copy, Debug, PartialEq, Eq)]
 pub enum FrameCommand {
     /// Prints which of its passes are culled.
-    Cull,
+    Cull {
+        /// As a JSON object.
+        json: bool,
+    },
     /// Prints where its transient resources lie in shared memory.
-    Place,
+    Place {
+        /// As a JSON object.
+        json: bool,
+    },
     /// Prints how many bytes the memory that its transient resources share has at least, and what shows it.
-    Bound,
+    Bound {
+        /// As a JSON object.
+        json: bool,
+    },
     /// Prints the submissions that it needs.
     Compile {
         /// Waits, and stages of waits, that these do not need are left out.
         tight: bool,
     },
     /// Moves its passes to other queues where that makes its longest chain of work shorter, and prints it so.
-    Auto {
-        /// What its longest chain of work costs as given and as chosen is printed instead.
-        cost: bool,
+    Auto,
+    /// Prints what its longest chain of work costs as given, and as `Auto` chooses.
+    Cost {
+        /// As a JSON object.
+        json: bool,
     },
     /// Prints its exports from its sequential meaning.
     Meaning,
@@ -75,5 +86,8 @@ pub enum FrameCommand {
 #[derive(Clone, Copy, Debug, PartialEq, Eq)]
 pub enum SubmissionCommand {
     /// Prints whether it is sound, or its first hazard.
-    Check,
+    Check {
+        /// As a JSON object.
+        json: bool,
+    },
 }

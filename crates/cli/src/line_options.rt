@@ -2,9 +2,10 @@
 
 ghost use Rattle.std.specs.Prelude.{◌≡◌, ◌<◌, option_map};
 ghost use Rattle.clap.specs.Words.{first_of, found_of, rows_of};
-ghost use Rattle.cli.specs.LineOptions.{line_options_in, is_given, is_none, number_in};
+ghost use Rattle.cli.specs.LineOptions.{line_options_in, is_given, is_none, number_in, word_in};
 
 use crate::number::number_within;
+use crate::option_name::{OptionName, name_of};
 use clap::ArgMatches;
 
 /// The options of a line: the numbers of some, and whether the others are there.
@@ -21,6 +22,7 @@ pub struct LineOptions {
     pub summary: bool,
     pub tight: bool,
     pub cost: bool,
+    pub json: bool,
 }
 
 /// The first value of an argument.
@@ -28,6 +30,13 @@ pub(crate) fn text_in<'a>(matches: &ArgMatches<'a>, id: &str) -> Option<&'a str>
     ensures { option_map (λ text. text.now) result ≡ first_of id.now (rows_of (found_of matches.now)) }
 {
     matches.get_str(id)
+}
+
+/// The word behind an option, or `true` or `false` of a flag.
+pub(crate) fn word_in<'a>(matches: &ArgMatches<'a>, option: OptionName) -> Option<&'a str>
+    ensures { option_map (λ text. text.now) result ≡ word_in option (rows_of (found_of matches.now)) }
+{
+    text_in(matches, name_of(option))
 }
 
 fn is_given(word: Option<&str>) -> bool
@@ -54,16 +63,17 @@ pub(crate) fn line_options_in(matches: &ArgMatches<'_>) -> Option<LineOptions>
     ensures { result ≡ line_options_in (rows_of (found_of matches.now)) }
 {
     Some(LineOptions {
-        workers: number_in(text_in(matches, "workers"), 1, 16)?,
-        tend: number_in(text_in(matches, "tend"), 0, u32::MAX)?,
-        number: number_in(text_in(matches, "number"), 0, u32::MAX)?,
-        passes: number_in(text_in(matches, "passes"), 1, 256)?,
-        depth: number_in(text_in(matches, "depth"), 1, 8)?,
-        persist: text_in(matches, "persist").is_some(),
-        trace: is_given(text_in(matches, "trace")),
-        summary: is_given(text_in(matches, "summary")),
-        tight: is_given(text_in(matches, "tight")),
-        cost: is_given(text_in(matches, "cost")),
+        workers: number_in(word_in(matches, OptionName::Workers), 1, 16)?,
+        tend: number_in(word_in(matches, OptionName::Tend), 0, u32::MAX)?,
+        number: number_in(word_in(matches, OptionName::Number), 0, u32::MAX)?,
+        passes: number_in(word_in(matches, OptionName::Passes), 1, 256)?,
+        depth: number_in(word_in(matches, OptionName::Depth), 1, 8)?,
+        persist: word_in(matches, OptionName::Persist).is_some(),
+        trace: is_given(word_in(matches, OptionName::Trace)),
+        summary: is_given(word_in(matches, OptionName::Summary)),
+        tight: is_given(word_in(matches, OptionName::Tight)),
+        cost: is_given(word_in(matches, OptionName::Cost)),
+        json: is_given(word_in(matches, OptionName::Json)),
     })
 }
 
@@ -77,6 +87,7 @@ impl LineOptions {
             || self.number.is_some()
             || self.passes.is_some()
             || self.depth.is_some();
-        !(numbers || self.persist || self.trace || self.summary || self.tight || self.cost)
+        let flags = self.trace || self.summary || self.tight || self.cost || self.json;
+        !(numbers || self.persist || flags)
     }
 }

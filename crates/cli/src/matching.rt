@@ -1,9 +1,10 @@
 //! Words, matched by the one `clap` command.
 
-ghost use Rattle.std.specs.Prelude.{◌≡◌, IfOk, map, false};
+ghost use Rattle.std.specs.Prelude.{◌≡◌, IfOk, map, false, fold};
 ghost use Rattle.clap.specs.Words.{app_of, rule_of, with_rule};
-ghost use Rattle.cli.specs.Lines.{framec, bare_app, flag_rule, option_rule, word_rule, Matches};
+ghost use Rattle.cli.specs.Lines.{framec, bare_app, files_rule, option_rule, with_option, word_rule, Matches};
 
+use crate::option_name::{OPTION_NAMES, OptionName, action_of, name_of};
 use clap::error::ErrorKind;
 use clap::{Arg, ArgAction, ArgMatches, Command};
 use std::alloc::{AllocError, Global};
@@ -15,13 +16,25 @@ pub enum Unmatched {
     NoMemory,
 }
 
+/// The command's word, and the files, as `clap` knows them.
+pub(crate) const COMMAND: &str = "command";
+
+pub(crate) const FILE: &str = "file";
+
 fn word<'a>(alloc: Global) -> Arg<'a>
     ensures rule { rule_of result ≡ word_rule }
     ensures own { result.global ≡ false }
 {
-    Arg::new(alloc, "command")
+    Arg::new(alloc, COMMAND)
         .required(true)
         .action(ArgAction::Set)
+}
+
+fn files<'a>(alloc: Global) -> Arg<'a>
+    ensures rule { rule_of result ≡ files_rule }
+    ensures own { result.global ≡ false }
+{
+    Arg::new(alloc, FILE).action(ArgAction::Append)
 }
 
 fn bare<'a>(alloc: Global) -> Command<'a>
@@ -32,28 +45,40 @@ fn bare<'a>(alloc: Global) -> Command<'a>
         .disable_version_flag(true)
 }
 
-// An option with a word behind it.
-fn with_option<'a>(
+fn with_name<'a>(
     command: Command<'a>,
     alloc: Global,
     name: &'a str,
+    action: ArgAction,
 ) -> Result<Command<'a>, AllocError>
-    ensures { IfOk result (λ more. app_of more ≡ with_rule (app_of command.entry) (option_rule name.entry.now)) }
+    ensures { IfOk result (λ more. app_of more ≡ with_rule (app_of command.entry) (option_rule name.entry.now action)) }
 {
-    let option = Arg::new(alloc, name).long(name).action(ArgAction::Set);
+    let option = Arg::new(alloc, name).long(name).action(action);
     let command = command.arg(option)?;
     Ok(command)
 }
 
-fn with_flag<'a>(
+fn with_option<'a>(
     command: Command<'a>,
     alloc: Global,
-    name: &'a str,
+    option: OptionName,
 ) -> Result<Command<'a>, AllocError>
-    ensures { IfOk result (λ more. app_of more ≡ with_rule (app_of command.entry) (flag_rule name.entry.now)) }
+    ensures { IfOk result (λ more. app_of more ≡ with_option (app_of command.entry) option) }
 {
-    let flag = Arg::new(alloc, name).long(name).action(ArgAction::SetTrue);
-    let command = command.arg(flag)?;
+    with_name(command, alloc, name_of(option), action_of(option))
+}
+
+fn with_options<'a>(
+    command: Command<'a>,
+    alloc: Global,
+    options: &[OptionName],
+) -> Result<Command<'a>, AllocError>
+    ensures { IfOk result (λ more. app_of more ≡ fold with_option (app_of command.entry) options.now) }
+{
+    let mut command = command;
+    for option in options {
+        command = with_option(command, alloc, *option)?;
+    }
     Ok(command)
 }
 
@@ -61,16 +86,8 @@ fn framec<'a>(alloc: Global) -> Result<Command<'a>, AllocError>
     ensures { IfOk result (λ command. app_of command ≡ framec) }
 {
     let worded = bare(alloc).arg(word(alloc))?;
-    let working = with_option(worded, alloc, "workers")?;
-    let tended = with_option(working, alloc, "tend")?;
-    let numbered = with_option(tended, alloc, "number")?;
-    let passing = with_option(numbered, alloc, "passes")?;
-    let deepened = with_option(passing, alloc, "depth")?;
-    let persisting = with_option(deepened, alloc, "persist")?;
-    let traced = with_flag(persisting, alloc, "trace")?;
-    let summed = with_flag(traced, alloc, "summary")?;
-    let tightened = with_flag(summed, alloc, "tight")?;
-    let command = with_flag(tightened, alloc, "cost")?;
+    let opted = with_options(worded, alloc, &OPTION_NAMES)?;
+    let command = opted.arg(files(alloc))?;
     Ok(command)
 }
 

@@ -1,7 +1,7 @@
 -- What a call from C comes to.
 use Rattle.std.specs.Prelude.{ℕ, ℤ, pos, ◌≡◌, ◌⊎◌, List, ◌++◌, length, drop, nat_le, if◌then◌else◌}
 use Rattle.answer.specs.Answers.{Answers}
-use Rattle.answer.specs.Statuses.{number_of, HasText}
+use Rattle.answer.specs.Statuses.{number_of, status_of}
 use Rattle.answer.specs.declared.answer.Answer.{Answer}
 use Rattle.answer.specs.declared.status.Status.TheVariants.{NoMemory}
 use Rattle.cli.specs.declared.command.Command.{Command}
@@ -15,8 +15,7 @@ placed text room = if nat_le (length text) (length room) then text ++ drop (leng
 pub record IsGiven (command : Command) (bytes old new : List ℕ) (wanted : ℕ) (number : ℤ) : Type 0 where
   pub answer : Answer
   pub answers : Answers command bytes answer
-  pub has_text : HasText answer.status
-  pub given : number ≡ pos (number_of answer.status)
+  pub given : number ≡ pos (number_of (status_of answer.status))
   pub counted : wanted ≡ length answer.text
   pub in_room : new ≡ placed answer.text old
 

@@ -9,11 +9,11 @@ use Rattle.framec_c.specs.declared.export.Export.TheVariants.{Check, Cull, Place
 
 -- as a command line has it, without options
 abbrev pub command_of : Export → Command
-command_of Check = Submission submissions.Check
-command_of Cull = Frame frames.Cull
-command_of Place = Frame frames.Place
-command_of Bound = Frame frames.Bound
+command_of Check = Submission (submissions.Check false)
+command_of Cull = Frame (frames.Cull false)
+command_of Place = Frame (frames.Place false)
+command_of Bound = Frame (frames.Bound false)
 command_of Compile = Frame (frames.Compile false)
-command_of Auto = Frame (frames.Auto false)
+command_of Auto = Frame frames.Auto
 command_of Meaning = Frame frames.Meaning
 command_of Migrate = Frame frames.Migrate

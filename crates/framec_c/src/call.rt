@@ -1,7 +1,7 @@
 //! A command on bytes, answered into the caller's room.
 
 ghost use Rattle.std.specs.Prelude.{◌≡◌, ◌≤◌, ◌++◌, pos, length, drop, nat_le};
-ghost use Rattle.answer.specs.Statuses.{number_of};
+ghost use Rattle.answer.specs.Statuses.{number_of, status_of};
 ghost use Rattle.framec_c.specs.Calls.{Gives, placed};
 ghost use Rattle.framec_c.specs.Exports.{command_of};
 
@@ -22,13 +22,13 @@ pub fn call(alloc: Global, export: Export, input: &[u8], output: &mut [u8], want
 }
 
 fn give(answer: &Answer, output: &mut [u8], wanted: &mut u64) -> i32
-    ensures number { result ≡ pos (number_of answer.now.status) }
+    ensures number { result ≡ pos (number_of (status_of answer.now.status)) }
     ensures wanted { wanted.new ≡ length answer.now.text }
     ensures output { output.new ≡ placed answer.now.text output.old }
 {
     *wanted = answer.text.len() as u64;
     place(output, answer.text.as_slice());
-    number_of(answer.status)
+    number_of(Status::from(answer.status))
 }
 
 // Memory ran out: there is no text.

@@ -23,12 +23,12 @@ pub fn command_of(export: Export) -> Command
     ensures { result ≡ command_of export }
 {
     match export {
-        Export::Check => Command::Submission(SubmissionCommand::Check),
-        Export::Cull => Command::Frame(FrameCommand::Cull),
-        Export::Place => Command::Frame(FrameCommand::Place),
-        Export::Bound => Command::Frame(FrameCommand::Bound),
+        Export::Check => Command::Submission(SubmissionCommand::Check { json: false }),
+        Export::Cull => Command::Frame(FrameCommand::Cull { json: false }),
+        Export::Place => Command::Frame(FrameCommand::Place { json: false }),
+        Export::Bound => Command::Frame(FrameCommand::Bound { json: false }),
         Export::Compile => Command::Frame(FrameCommand::Compile { tight: false }),
-        Export::Auto => Command::Frame(FrameCommand::Auto { cost: false }),
+        Export::Auto => Command::Frame(FrameCommand::Auto),
         Export::Meaning => Command::Frame(FrameCommand::Meaning),
         Export::Migrate => Command::Frame(FrameCommand::Migrate),
     }

@@ -19,7 +19,7 @@ pub extern "C" fn framec_check(
     output: &mut [u8],
     wanted: &mut u64,
 ) -> i32
-    ensures gives { Gives (Command.Submission SubmissionCommand.Check) input.now output.old output.new wanted.new result }
+    ensures gives { Gives (Command.Submission (SubmissionCommand.Check false)) input.now output.old output.new wanted.new result }
 {
     call(alloc, Export::Check, input, output, wanted)
 }
@@ -32,7 +32,7 @@ pub extern "C" fn framec_cull(
     output: &mut [u8],
     wanted: &mut u64,
 ) -> i32
-    ensures gives { Gives (Command.Frame FrameCommand.Cull) input.now output.old output.new wanted.new result }
+    ensures gives { Gives (Command.Frame (FrameCommand.Cull false)) input.now output.old output.new wanted.new result }
 {
     call(alloc, Export::Cull, input, output, wanted)
 }
@@ -45,7 +45,7 @@ pub extern "C" fn framec_place(
     output: &mut [u8],
     wanted: &mut u64,
 ) -> i32
-    ensures gives { Gives (Command.Frame FrameCommand.Place) input.now output.old output.new wanted.new result }
+    ensures gives { Gives (Command.Frame (FrameCommand.Place false)) input.now output.old output.new wanted.new result }
 {
     call(alloc, Export::Place, input, output, wanted)
 }
@@ -58,7 +58,7 @@ pub extern "C" fn framec_bound(
     output: &mut [u8],
     wanted: &mut u64,
 ) -> i32
-    ensures gives { Gives (Command.Frame FrameCommand.Bound) input.now output.old output.new wanted.new result }
+    ensures gives { Gives (Command.Frame (FrameCommand.Bound false)) input.now output.old output.new wanted.new result }
 {
     call(alloc, Export::Bound, input, output, wanted)
 }
@@ -84,7 +84,7 @@ pub extern "C" fn framec_auto(
     output: &mut [u8],
     wanted: &mut u64,
 ) -> i32
-    ensures gives { Gives (Command.Frame (FrameCommand.Auto false)) input.now output.old output.new wanted.new result }
+    ensures gives { Gives (Command.Frame FrameCommand.Auto) input.now output.old output.new wanted.new result }
 {
     call(alloc, Export::Auto, input, output, wanted)
 }

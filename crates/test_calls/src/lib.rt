@@ -5,5 +5,5 @@ mod answers;
 mod call;
 
 pub use answers::{Answer, answer_from, answer_of, is_given};
-pub use call::{status_of, words_of};
+pub use call::{command_of, status_of};
 pub use top::{Ended, Status, at_rest, framec};

@@ -9,6 +9,8 @@ mod framefile;
 #[cfg(test)]
 mod framefile_texts;
 #[cfg(test)]
+mod objects;
+#[cfg(test)]
 mod opforms;
 #[cfg(test)]
 mod printed;

@@ -1,5 +1,5 @@
 use base::{Name, RunOptions};
-use cli::{Command, command_of};
+use cli::{Command, FileName, Line, line_of};
 use std::alloc::{AllocError, Global};
 use std::process::Abort;
 use std::test::Fail;
@@ -14,21 +14,26 @@ fn words_of(alloc: Global, line: &str) -> Result<Vec<String>, AllocError> {
 }
 
 // Lines, and how their commands are shown.
-const COMMANDS: [(&str, &str); 18] = [
-    ("-- cull", "Frame(Cull)"),
-    ("place", "Frame(Place)"),
-    ("bound", "Frame(Bound)"),
+const COMMANDS: [(&str, &str); 25] = [
+    ("-- cull", "Frame(Cull { json: false })"),
+    ("--json cull", "Frame(Cull { json: true })"),
+    ("place", "Frame(Place { json: false })"),
+    ("place --json", "Frame(Place { json: true })"),
+    ("bound", "Frame(Bound { json: false })"),
+    ("bound --json", "Frame(Bound { json: true })"),
     ("compile", "Frame(Compile { tight: false })"),
     ("--tight compile", "Frame(Compile { tight: true })"),
-    ("auto", "Frame(Auto { cost: false })"),
-    ("auto --cost", "Frame(Auto { cost: true })"),
+    ("auto", "Frame(Auto)"),
+    ("auto --cost", "Frame(Cost { json: false })"),
+    ("auto --json --cost", "Frame(Cost { json: true })"),
     (
         "run --trace --tight --workers 3",
         "Run { options: RunOptions { workers: 3, tend: None }, trace: true, tight: true }",
     ),
     ("meaning", "Frame(Meaning)"),
     ("migrate", "Frame(Migrate)"),
-    ("check", "Submission(Check)"),
+    ("check", "Submission(Check { json: false })"),
+    ("check --json", "Submission(Check { json: true })"),
     ("audit", "Audit"),
     ("gen --number 0", "Gen { number: 0, passes: 64 }"),
     (
@@ -51,6 +56,38 @@ const COMMANDS: [(&str, &str); 18] = [
         "--tend 0 --summary gen --workers 1 --number 1",
         "Summary { number: 1, passes: 64, options: RunOptions { workers: 1, tend: Some(0) } }",
     ),
+];
+
+// Lines with files, how their commands are shown, and the files with a line feed behind each.
+const FILES: [(&str, &str, &str); 12] = [
+    ("cull a", "Frame(Cull { json: false })", "a\n"),
+    ("cull - --json", "Frame(Cull { json: true })", "-\n"),
+    ("cull cull", "Frame(Cull { json: false })", "cull\n"),
+    ("auto auto", "Frame(Auto)", "auto\n"),
+    ("-- migrate --cost", "Frame(Migrate)", "--cost\n"),
+    ("audit ../a.json", "Audit", "../a.json\n"),
+    ("check --json a", "Submission(Check { json: true })", "a\n"),
+    (
+        "check a - b a --",
+        "Submission(Check { json: false })",
+        "a\n-\nb\na\n",
+    ),
+    (
+        "run run",
+        "Run { options: RunOptions { workers: 2, tend: None }, trace: false, tight: false }",
+        "run\n",
+    ),
+    (
+        "run --workers 1 a --trace",
+        "Run { options: RunOptions { workers: 1, tend: None }, trace: true, tight: false }",
+        "a\n",
+    ),
+    (
+        "exec -- --trace",
+        "Exec { options: RunOptions { workers: 2, tend: None }, trace: false }",
+        "--trace\n",
+    ),
+    ("exec a -- --tend 1", "", ""),
 ];
 
 // The line of `flight`, how many workers, the seed, the persisting names with a blank behind each, and the depth.
@@ -96,17 +133,15 @@ const RUNS: [(&str, u32, Option<u64>, bool); 8] = [
     ("exec --trace --tend 5 --workers 4", 4, Some(5), true),
 ];
 
-const NO_COMMANDS: [&str; 68] = [
+const NO_COMMANDS: [&str; 83] = [
     "",
     "Run",
-    "run run",
     "run --help",
     "--version",
     "check --workers 2",
     "meaning --trace",
     "run --workers 17",
     "--tend 1 cull",
-    "exec exec",
     "exec --workers",
     "exec --workers 0",
     "exec --workers 17",
@@ -121,7 +156,6 @@ const NO_COMMANDS: [&str; 68] = [
     "exec --trace --trace",
     "exec --trace=true",
     "exec -t",
-    "exec -- --trace",
     "exec --passes 4",
     "run --number 1",
     "run --summary",
@@ -135,7 +169,6 @@ const NO_COMMANDS: [&str; 68] = [
     "gen --number 1 --summary --tight",
     "auto --tight",
     "auto --cost --cost",
-    "auto auto",
     "cull --cost",
     "audit --workers 2",
     "gen",
@@ -147,10 +180,6 @@ const NO_COMMANDS: [&str; 68] = [
     "gen --number 1 --workers 2",
     "gen --number 1 --tend 2",
     "gen --number 1 --summary --trace",
-    "auto --tight",
-    "auto --cost --cost",
-    "auto auto",
-    "cull --cost",
     "flight --depth 0",
     "flight --depth 9",
     "flight --persist",
@@ -165,20 +194,69 @@ const NO_COMMANDS: [&str; 68] = [
     "flight --tight",
     "run --persist b",
     "run --depth 2",
+    "cull a b",
+    "run a b",
+    "flight a b",
+    "audit a b",
+    "exec a -",
+    "gen --number 1 a",
+    "gen --number 1 -",
+    "gen --summary --number 1 a",
+    "a",
+    "- check",
+    "check -a",
+    "compile --json",
+    "auto --json",
+    "meaning --json",
+    "migrate --json a",
+    "gen --number 1 --json",
+    "run --json",
+    "exec --json",
+    "flight --json",
+    "audit --json",
+    "check --json --json",
+    "cull --json=true",
+    "auto --cost --json=1",
 ];
 
-fn found(alloc: Global, line: &str) -> Result<Option<Command>, Fail> {
+fn found(alloc: Global, line: &str) -> Result<Option<Line>, Fail> {
     let words = words_of(alloc, line)?;
-    Ok(command_of(alloc, words.as_slice())?)
+    Ok(line_of(alloc, words.as_slice())?)
 }
 
-fn is_read_as(rt: &impl Abort, alloc: Global, line: &str, wanted: &str) -> Result<(), Fail> {
-    let found = found(alloc, line)?;
-    let shown = match found {
-        Some(command) => format!(in alloc; "{command:?}")?,
-        None => String::new(alloc),
-    };
-    assert!(rt; shown.as_str() == wanted, "{line}");
+// The files with a line feed behind each.
+fn files_shown(alloc: Global, files: &[FileName]) -> Result<String, Fail> {
+    let mut shown = String::new(alloc);
+    for file in files {
+        shown.push_str(file.as_str())?;
+        shown.push_str("\n")?;
+    }
+    Ok(shown)
+}
+
+// The command of a line, and its files.
+fn shown(alloc: Global, line: &str) -> Result<(String, String), Fail> {
+    match found(alloc, line)? {
+        Some(Line { command, files }) => {
+            let command = format!(in alloc; "{command:?}")?;
+            Ok((command, files_shown(alloc, &files)?))
+        }
+        None => Ok((String::new(alloc), String::new(alloc))),
+    }
+}
+
+fn is_read_as(
+    rt: &impl Abort,
+    alloc: Global,
+    line: &str,
+    wanted: &str,
+    files: &str,
+) -> Result<(), Fail> {
+    let found = shown(alloc, line)?;
+    assert!(rt;
+        found.0.as_str() == wanted && found.1.as_str() == files,
+        "{line}"
+    );
     Ok(())
 }
 
@@ -200,14 +278,16 @@ fn flies(
     names: &str,
     layers: u32,
 ) -> Result<(), Fail> {
-    let found = found(alloc, line)?;
     let Some(
-        Command::Flight {
-            options,
-            persist,
-            depth,
+        Line {
+            command: Command::Flight {
+                options,
+                persist,
+                depth,
+            },
+            files: _,
         },
-    ) = found
+    ) = found(alloc, line)?
     else {
         assert!(rt; false, "{line}");
         return Ok(());
@@ -224,10 +304,13 @@ fn flies(
 fn command_lines(rt: HostRuntime) -> Result<(), Fail> {
     let alloc = rt.alloc();
     for (line, wanted) in &COMMANDS {
-        is_read_as(&rt, alloc, line, wanted)?;
+        is_read_as(&rt, alloc, line, wanted, "")?;
+    }
+    for (line, wanted, files) in &FILES {
+        is_read_as(&rt, alloc, line, wanted, files)?;
     }
     for line in &NO_COMMANDS {
-        is_read_as(&rt, alloc, line, "")?;
+        is_read_as(&rt, alloc, line, "", "")?;
     }
     Ok(())
 }
@@ -240,10 +323,10 @@ fn lines_that_run(rt: HostRuntime) -> Result<(), Fail> {
             "options: RunOptions {{ workers: {workers}, tend: {tend:?} }}, trace: {trace}"
         )?;
         let exec = format!(in alloc; "Exec {{ {options} }}")?;
-        is_read_as(&rt, alloc, line, exec.as_str())?;
+        is_read_as(&rt, alloc, line, exec.as_str(), "")?;
         let frame_line = line.replace(alloc, "exec", "run")?;
         let run = format!(in alloc; "Run {{ {options}, tight: false }}")?;
-        is_read_as(&rt, alloc, frame_line.as_str(), run.as_str())?;
+        is_read_as(&rt, alloc, frame_line.as_str(), run.as_str(), "")?;
     }
     Ok(())
 }

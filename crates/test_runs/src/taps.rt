@@ -1,15 +1,19 @@
 //! Taps that are finished at an event, and taps that stay.
 
+ghost use Rattle.std.specs.Prelude.{IfSome};
+ghost use Rattle.cli.specs.Commands.{IsBounded};
+
 use crate::executing::{FILL, ONE_FILL};
 use base::{Event, List, NoMemory};
 use base_io::{IdleGate, ListTap, SteadySink, SteadySource, Tap, Tell};
+use cli::Command;
 use std::alloc::Global;
 use std::cell::Cell;
 use std::rc::Rc;
 use std::sync::Wait;
 use std::test::Fail;
 use std::thread::Threads;
-use test_calls::{Ended, framec, words_of};
+use test_calls::{Ended, command_of, framec};
 
 // Is finished at an event with this number, from 1. What it heard before is counted outside.
 #[derive(Drop)]
@@ -124,13 +128,15 @@ fn taps_of(
 fn called<R: Threads + Wait + Sync>(
     rt: &R,
     alloc: Global,
-    words: &[String],
+    command: &Option<Command>,
     file: &str,
     taps: &mut Vec<Box<dyn Tap>>,
-) -> Result<Ended, NoMemory> {
+) -> Result<Ended, NoMemory>
+    requires { IfSome command.now IsBounded }
+{
     let mut source = SteadySource::new(List::from_slice(alloc, file.as_bytes())?, 900);
     let sink = &mut SteadySink::new();
-    Ok(framec(rt, alloc, words, &mut source, sink, &IdleGate, taps))
+    Ok(framec(rt, alloc, command, &mut source, sink, &IdleGate, taps))
 }
 
 fn is_left(ended: &Ended, row: &Row) -> bool {
@@ -142,38 +148,44 @@ fn is_left(ended: &Ended, row: &Row) -> bool {
 fn leaves<R: Threads + Wait + Sync>(
     rt: &R,
     alloc: Global,
-    words: &[String],
+    command: &Option<Command>,
     row: &Row,
     taps: &mut Vec<Box<dyn Tap>>,
-) -> Result<bool, NoMemory> {
-    let ended = called(rt, alloc, words, row.file, taps)?;
+) -> Result<bool, NoMemory>
+    requires { IfSome command.now IsBounded }
+{
+    let ended = called(rt, alloc, command, row.file, taps)?;
     Ok(is_left(&ended, row) && taps.len() == row.stay)
 }
 
 fn hear<R: Threads + Wait + Sync>(
     rt: &R,
     alloc: Global,
-    words: &[String],
+    command: &Option<Command>,
     row: &Row,
     heard: &Rc<Cell<u64>>,
-) -> Result<bool, NoMemory> {
+) -> Result<bool, NoMemory>
+    requires { IfSome command.now IsBounded }
+{
     let mut taps = taps_of(alloc, row.lasts, heard)?;
-    leaves(rt, alloc, words, row, &mut taps)
+    leaves(rt, alloc, command, row, &mut taps)
 }
 
 fn is_heard<R: Threads + Wait + Sync>(
     rt: &R,
     alloc: Global,
-    words: &[String],
+    command: &Option<Command>,
     row: &Row,
-) -> Result<bool, NoMemory> {
+) -> Result<bool, NoMemory>
+    requires { IfSome command.now IsBounded }
+{
     let heard = Rc::new(alloc, Cell::new(0u64))?;
-    Ok(hear(rt, alloc, words, row, &heard)? && heard.get() == row.heard)
+    Ok(hear(rt, alloc, command, row, &heard)? && heard.get() == row.heard)
 }
 
 fn is_met<R: Threads + Wait + Sync>(rt: &R, alloc: Global, row: &Row) -> Result<bool, NoMemory> {
-    let words = words_of(alloc, row.line)?;
-    is_heard(rt, alloc, &words, row)
+    let command = command_of(alloc, row.line)?;
+    is_heard(rt, alloc, &command, row)
 }
 
 #[test]

@@ -7,7 +7,7 @@ use std::alloc::Global;
 use std::sync::Wait;
 use std::test::Fail;
 use std::thread::Threads;
-use test_calls::{Status, answer_from, at_rest, words_of};
+use test_calls::{Status, answer_from, at_rest, command_of};
 
 pub(crate) const FILL: &str =
     "{\"format\":1,\"queues\":[{\"name\":\"g\",\"family\":\"graphics\"}],\"resources\":[{\"name\":\"b\",\"buffer\":16}],\"passes\":[{\"name\":\"p\",\"queue\":\"g\",\"writes\":[{\"new\":\"b\"}],\"ops\":[{\"op\":\"fill_buffer\",\"dst\":\"b\",\"offset\":0,\"size\":16,\"word\":7}]}],\"exports\":[\"b\"]}";
@@ -19,7 +19,7 @@ pub(crate) const CANONICAL: &str =
     "{\"exports\":[\"b\"],\"format\":2,\"passes\":[{\"name\":\"p\",\"ops\":[{\"dst\":\"b\",\"offset\":0,\"op\":\"fill_buffer\",\"size\":16,\"word\":7}],\"queue\":\"g\",\"reads\":[],\"side_effect\":false,\"writes\":[{\"new\":\"b\"}]}],\"queues\":[{\"family\":\"graphics\",\"name\":\"g\"}],\"resources\":[{\"buffer\":16,\"name\":\"b\"}]}\n";
 
 // A command line, a piece of the file of the one fill, or all of it, another in its place, the status and the text.
-const FILLS: [(&str, &str, &str, Status, &str); 35] = [
+const FILLS: [(&str, &str, &str, Status, &str); 36] = [
     ("run", FILL, FILL, Status::Done, FILL_TEXT),
     ("run", FILL, CANONICAL, Status::Done, FILL_TEXT),
     (
@@ -177,7 +177,8 @@ const FILLS: [(&str, &str, &str, Status, &str); 35] = [
     ("--help", FILL, FILL, Status::Words, "words\n"),
     ("check --workers 2", FILL, FILL, Status::Words, "words\n"),
     ("run --workers 17", FILL, FILL, Status::Words, "words\n"),
-    ("run run", FILL, FILL, Status::Words, "words\n"),
+    ("run a b", FILL, FILL, Status::Words, "words\n"),
+    ("auto --json", FILL, FILL, Status::Words, "words\n"),
     ("run --version", FILL, FILL, Status::Words, "words\n"),
 ];
 
@@ -192,7 +193,7 @@ fn fills(rt: HostRuntime) -> Result<(), Fail> {
 }
 
 // A fill and two copies, one after another, that nobody exports.
-const CHAIN: &str =
+pub(crate) const CHAIN: &str =
     r#"{"format":1,"queues":[{"name":"g","family":"graphics"}],"resources":[{"name":"x","buffer":4},{"name":"y","buffer":4},{"name":"z","buffer":4}],"passes":[{"name":"a","queue":"g","writes":[{"new":"x"}],"ops":[{"op":"fill_buffer","dst":"x","offset":0,"size":4,"word":7}]},{"name":"b","queue":"g","reads":["x"],"writes":[{"new":"y"}],"ops":[{"op":"copy_buffer","src":"x","dst":"y","src_offset":0,"dst_offset":0,"size":4}]},{"name":"c","queue":"g","reads":["y"],"writes":[{"new":"z"}],"ops":[{"op":"copy_buffer","src":"y","dst":"z","src_offset":0,"dst_offset":0,"size":4}]}],"exports":[]}"#;
 
 const CULLED: &str = "kept 0 culled 3\npass a culled\npass b culled\npass c culled\n";
@@ -233,8 +234,8 @@ fn rests(
     source: &mut SteadySource,
     sink: &mut MemorySink,
 ) -> Result<Option<Status>, NoMemory> {
-    let words = words_of(alloc, word)?;
-    Ok(at_rest(alloc, &words, source, sink))
+    let command = command_of(alloc, word)?;
+    Ok(at_rest(alloc, &command, source, sink))
 }
 
 // Whether these need a device, and read and write nothing.

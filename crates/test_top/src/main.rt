@@ -15,6 +15,8 @@ mod ends;
 #[cfg(test)]
 mod given;
 #[cfg(test)]
+mod objects;
+#[cfg(test)]
 mod placing;
 #[cfg(test)]
 mod tightening;

@@ -6,11 +6,14 @@ use Rattle.std.specs.declared.option.Option.{Option}
 use Rattle.answer.proofs.AnswerLemmas.{no_file, whole_file, without_file}
 use Rattle.answer.specs.Answers as rest
 use Rattle.answer.specs.Answers.{over_input}
+use Rattle.answer.specs.AsJson.{asks_json}
 use Rattle.answer.specs.Inputs.{file_of}
-use Rattle.answer.specs.Statuses.{HasText}
+use Rattle.answer.specs.Statuses.{status_of}
 use Rattle.answer.specs.declared.answer.Answer.{Answer}
 use Rattle.answer.specs.declared.files.File.{File}
 use Rattle.answer.specs.declared.files.File.TheVariants as files
+use Rattle.answer.specs.declared.status.AnswerStatus.{AnswerStatus}
+use Rattle.answer.specs.declared.status.AnswerStatus.TheVariants as answers
 use Rattle.answer.specs.declared.status.Status.{Status}
 use Rattle.answer.specs.declared.status.Status.TheVariants.{Done, Rejected, Refused, Words, ReadFault, WriteFault, NoMemory}
 use Rattle.base.specs.declared.event.Event.{Event}
@@ -24,19 +27,16 @@ use Rattle.top.specs.declared.reply.Reply.{Reply}
 use Rattle.cli.specs.declared.command.Command.{Command}
 use Rattle.cli.specs.declared.command.Command.TheVariants as reads
 
--- a status with a text, or a write fault in its place
-has_answer : (status : Status) → HasText status → IsUnanswered status → ⊥
-has_answer Done has none = none
-has_answer Rejected has none = none
-has_answer Refused has none = none
-has_answer Words has none = none
-has_answer ReadFault has none = has
-has_answer WriteFault has none = has
-has_answer NoMemory has none = has
+-- the status of an answer, or a write fault in its place
+has_answer : (wanted : AnswerStatus) → IsUnanswered (status_of wanted) → ⊥
+has_answer answers.Done none = none
+has_answer answers.Rejected none = none
+has_answer answers.Refused none = none
+has_answer answers.Words none = none
 
-pub stands : (wanted status : Status) → HasText wanted → (status ≡ wanted) ⊎ (status ≡ WriteFault) → IsUnanswered status → ⊥
-stands wanted status has (inl e) none = has_answer wanted has (subst IsUnanswered e none)
-stands wanted status has (inr e) none = subst IsUnanswered e none
+pub stands : (wanted : AnswerStatus) (status : Status) → (status ≡ status_of wanted) ⊎ (status ≡ WriteFault) → IsUnanswered status → ⊥
+stands wanted status (inl e) none = has_answer wanted (subst IsUnanswered e none)
+stands wanted status (inr e) none = subst IsUnanswered e none
 
 pub answered : (command : Command) (left old new : Option (List ℕ)) (told : Option (List Event) → Type 0) (reply : Reply) (status : Status) → AnswersLeft command left reply → EndsAs reply.answer.status reply.answer.text old new status → told reply.history → (IsUnanswered status → ⊥) → IsAnswered command left old new told status
 answered command left old new told reply Done is ends hears some = (reply, is, ends, hears)
@@ -66,7 +66,7 @@ any_bytes reads.Audit bytes other reply none is = absurd (no_file files.Submissi
 
 module _ (command : Command) (left : Option (List ℕ)) (reply : Reply) where
   abbrev Over : File → Type 0
-  Over file = reply ≡ still (over_input file)
+  Over file = reply ≡ still (over_input (asks_json command) file)
 
   unread : (told : Option (List ℕ)) (bytes : List ℕ) → file_of command ≡ None → AnswersBytes command bytes reply → AnswersLeft command told reply
   unread None bytes none is = record { bytes = bytes; told = tt; answers = without_file command bytes Over (AnswersBytes command bytes reply) none is }

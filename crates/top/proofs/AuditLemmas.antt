@@ -10,21 +10,21 @@ use Rattle.check_program.specs.Sound.{IsSound}
 use Rattle.device_model.specs.Devices.{Device}
 use Rattle.program.specs.declared.program.Program.{Program}
 use Rattle.top.specs.Audits.{Judges, verdict_answer}
-use Rattle.answer.specs.Statuses.{number_of}
+use Rattle.answer.specs.Statuses.{number_of, status_of}
 use Rattle.answer.specs.declared.answer.Answer.{Answer}
-use Rattle.answer.specs.declared.status.Status.{Status}
-use Rattle.answer.specs.declared.status.Status.TheVariants.{Done, Rejected}
+use Rattle.answer.specs.declared.status.AnswerStatus.{AnswerStatus}
+use Rattle.answer.specs.declared.status.AnswerStatus.TheVariants.{Done, Rejected}
 
 rejected : Rejected ≡ Done → ⊥
-rejected e = let n : 1 ≡ 0 = ap number_of e in absurd (omega (arith, n))
+rejected e = let n : 1 ≡ 0 = ap (λ status. number_of (status_of status)) e in absurd (omega (arith, n))
 
 done_if_run : (verdict : Verdict) → ((verdict_answer verdict).status ≡ Done) ↔ IsTrue (is_run verdict)
 done_if_run (Run device) = ((λ e. refl), (λ is. refl))
 done_if_run (NotEnabled at) = ((λ e. absurd (rejected e)), (λ is. absurd (false≢true is)))
 done_if_run (Unfinished node) = ((λ e. absurd (rejected e)), (λ is. absurd (false≢true is)))
 
-abbrev status_of : Answer → Status
-status_of answer = answer.status
+abbrev how : Answer → AnswerStatus
+how answer = answer.status
 
 pub judges : (program : Program) (events : List Event) (verdict : Verdict) (answer : Answer) → IsSound program → Says program events verdict → IfRun AllReadApart verdict → IsTrue (is_run verdict) ↔ IsRun program events → answer ≡ verdict_answer verdict → Judges program events answer
 judges program events verdict answer sound says apart run is = record {
@@ -34,8 +34,8 @@ judges program events verdict answer sound says apart run is = record {
   apart = apart;
   whole = is;
   run = (
-    (λ e. run.0 ((done_if_run verdict).0 (sym (ap status_of is) ∙ e))),
-    (λ r. ap status_of is ∙ (done_if_run verdict).1 (run.1 r)),
+    (λ e. run.0 ((done_if_run verdict).0 (sym (ap how is) ∙ e))),
+    (λ r. ap how is ∙ (done_if_run verdict).1 (run.1 r)),
   );
 }
 

@@ -16,6 +16,7 @@ use Rattle.top.specs.Ends.{Ends}
 use Rattle.answer.specs.Inputs.{file_of}
 use Rattle.top.specs.Takes.{TakesAll, TakesFew, file_in}
 use Rattle.top.specs.Outcomes.{EndsAs, IsUnanswered}
+use Rattle.answer.specs.declared.status.AnswerStatus.TheVariants as answers
 use Rattle.answer.specs.declared.status.Status.{Status}
 use Rattle.answer.specs.declared.status.Status.TheVariants.{Done, Rejected, Refused, Words, ReadFault, WriteFault, NoMemory}
 use Rattle.answer.specs.declared.files.File.{File}
@@ -98,7 +99,7 @@ called line command before after told status is answered read write taken whole 
 })
 
 -- words that are no command line: nothing is read
-pub worded : (line : Option Command) (before after : Ends) (told : Option (List Event) → Type 0) (status : Status) → line ≡ None → told None → after.left ≡ before.left → after.read_faults ≡ before.read_faults → EndsAs Words (codes "words\n") before.written after.written status → WriteCause before.write_faults after.write_faults status → (status ≡ Words) ⊎ (status ≡ WriteFault) → Call line before after told status
+pub worded : (line : Option Command) (before after : Ends) (told : Option (List Event) → Type 0) (status : Status) → line ≡ None → told None → after.left ≡ before.left → after.read_faults ≡ before.read_faults → EndsAs answers.Words (codes "words\n") before.written after.written status → WriteCause before.write_faults after.write_faults status → (status ≡ Words) ⊎ (status ≡ WriteFault) → Call line before after told status
 worded line before after told status is none left faults ends write either = subst (λ (l : Option Command). Call l before after told status) (sym is) (record {
   words = λ e. (ends, none);
   answered = λ command e. absurd (true≢false (sym (ap is_some e)));
@@ -114,5 +115,5 @@ worded line before after told status is none left faults ends write either = sub
     by (inr e) = rw e faults
 
     whole_line : ¬ Rose before.write_faults after.write_faults → (status ≡ Words) ⊎ (status ≡ WriteFault) → (status ≡ Words) × Appends before.written after.written (codes "words\n")
-    whole_line steady (inl e) = (e, (subst (EndsAs Words (codes "words\n") before.written after.written) e ends).1)
+    whole_line steady (inl e) = (e, (subst (EndsAs answers.Words (codes "words\n") before.written after.written) e ends).1)
     whole_line steady (inr e) = absurd (steady (subst (WriteCause before.write_faults after.write_faults) e write))

@@ -1,6 +1,7 @@
 pub mod AnswerLemmas
 pub mod AuditLemmas
 pub mod CallLemmas
+pub mod FileLemmas
 pub mod Known
 pub mod RunLemmas
 pub mod SummaryLemmas

@@ -20,10 +20,10 @@ use Rattle.answer.specs.Plain.{Rejects, done, program_refusal}
 use Rattle.device_run.specs.Runs.{read_by}
 use Rattle.top.specs.Texts.{readbacks_text}
 use Rattle.answer.specs.declared.answer.Answer.{Answer}
-use Rattle.answer.specs.declared.status.Status.{Status}
-use Rattle.answer.specs.declared.status.Status.TheVariants.{Done, Rejected, Refused}
+use Rattle.answer.specs.declared.status.AnswerStatus.{AnswerStatus}
+use Rattle.answer.specs.declared.status.AnswerStatus.TheVariants.{Done, Rejected, Refused}
 
-abbrev pub line_answer : Status → AuditLine → Answer
+abbrev pub line_answer : AnswerStatus → AuditLine → Answer
 line_answer status line = record { status = status; text = audit_text line }
 
 -- the text is no trace: its first line that does not fit, or more events than are read
@@ -51,9 +51,9 @@ pub record Judges (program : Program) (events : List Event) (answer : Answer) : 
 
 -- a fault of the submission comes before one of the trace, and that before a hazard
 abbrev pub AuditsTrace : Result Program ProgramFault → Result (List Event) TraceError → Answer → Type 0
-AuditsTrace (Err fault) trace answer = answer ≡ program_refusal fault
+AuditsTrace (Err fault) trace answer = answer ≡ program_refusal false fault
 AuditsTrace (Ok program) (Err end) answer = RefusesTrace end answer
-AuditsTrace (Ok program) (Ok events) answer = Judges program events answer ⊎ Rejects program answer
+AuditsTrace (Ok program) (Ok events) answer = Judges program events answer ⊎ Rejects false program answer
 
 -- a submission in one line, and a trace behind it
 abbrev pub AuditsFile : List ℕ → Answer → Type 0

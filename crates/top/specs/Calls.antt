@@ -8,14 +8,15 @@ use Rattle.top.specs.Ends.{Ends}
 use Rattle.top.specs.Takes.{TakesAll, TakesFew, file_in}
 use Rattle.base.specs.declared.event.Event.{Event}
 use Rattle.top.specs.Outcomes.{EndsAs, IsUnanswered}
+use Rattle.answer.specs.declared.status.AnswerStatus.TheVariants as answers
 use Rattle.answer.specs.declared.status.Status.{Status}
-use Rattle.answer.specs.declared.status.Status.TheVariants.{Words, NoMemory}
+use Rattle.answer.specs.declared.status.Status.TheVariants.{NoMemory}
 use Rattle.cli.specs.declared.command.Command.{Command}
 
 -- the command of the words, the ends before the call and after it, what taps were told of devices, and the status
 pub record Call (line : Option Command) (before after : Ends) (told : Option (List Event) → Type 0) (status : Status) : Type 0 where
   -- words that are no command line
-  pub words : line ≡ None → EndsAs Words (codes "words\n") before.written after.written status × told None
+  pub words : line ≡ None → EndsAs answers.Words (codes "words\n") before.written after.written status × told None
   -- a command: its answer to the bytes that were left is written
   pub answered : (command : Command) → line ≡ Some command → IsAnswered command before.left before.written after.written told status
   -- no more of its file is read than one byte over the limit, and where there is an answer all of it is, or that one byte more

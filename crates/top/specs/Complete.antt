@@ -2,6 +2,7 @@
 use Rattle.std.specs.Prelude.{◌≡◌, ℕ, List, Option, Some, None, codes}
 use Rattle.std.specs.Io.KnownBytes.{Appends}
 use Rattle.top.specs.Answers.{AnswersLeft}
+use Rattle.answer.specs.Statuses.{status_of}
 use Rattle.answer.specs.declared.status.Status.{Status}
 use Rattle.answer.specs.declared.status.Status.TheVariants.{Words}
 use Rattle.top.specs.declared.reply.Reply.{Reply}
@@ -11,7 +12,7 @@ use Rattle.cli.specs.declared.command.Command.{Command}
 pub record Completes (command : Command) (left old new : Option (List ℕ)) (status : Status) : Type 0 where
   pub reply : Reply
   pub answers : AnswersLeft command left reply
-  pub given : status ≡ reply.answer.status
+  pub given : status ≡ status_of reply.answer.status
   pub written : Appends old new reply.answer.text
 
 -- the same of words that are no command line: their line was written

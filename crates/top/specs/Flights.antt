@@ -1,7 +1,7 @@
 -- What `flight` answers.
 use Rattle.std.specs.Prelude.{◌≡◌, ℕ, List, Some}
 use Rattle.answer.specs.Plain.{done}
-use Rattle.answer.specs.declared.status.Status.TheVariants as statuses
+use Rattle.answer.specs.declared.status.AnswerStatus.TheVariants as statuses
 use Rattle.flight_file.specs.Flights.{FliesFile}
 use Rattle.flight_file.specs.declared.outcome.Outcome.{Outcome}
 use Rattle.flight_file.specs.declared.outcome.Outcome.TheVariants.{Flown, Refused}

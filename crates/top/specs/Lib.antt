@@ -1,11 +1,11 @@
 pub mod Answers
-pub mod AtRest
 pub mod Audits
 pub mod Calls
 pub mod Causes
 pub mod Internal
 pub mod Complete
 pub mod Ends
+pub mod Files
 pub mod Flights
 pub mod Headline
 pub mod Outcomes

@@ -2,6 +2,8 @@
 use Rattle.std.specs.Prelude.{ℕ, ◌+◌, ◌≤◌, List, ◌++◌, length, ◌≡◌, ◌⊎◌, Some, None}
 use Rattle.std.specs.declared.option.Option.{Option}
 use Rattle.std.specs.Io.KnownBytes.{Appends, Consumes, Keeps}
+use Rattle.answer.specs.Statuses.{status_of}
+use Rattle.answer.specs.declared.status.AnswerStatus.{AnswerStatus}
 use Rattle.answer.specs.declared.status.Status.{Status}
 use Rattle.answer.specs.declared.status.Status.TheVariants.{ReadFault, WriteFault, NoMemory}
 
@@ -24,11 +26,11 @@ TakesFront text old new = (front : List ℕ) × (rest : List ℕ) × (front ++ r
 
 -- the call ended with the wanted status and its whole text, or for a reason beside it: a read fault and want of memory
 -- wrote nothing, a write fault a front of the text
-abbrev pub EndsAs : Status → List ℕ → Option (List ℕ) → Option (List ℕ) → Status → Type 0
+abbrev pub EndsAs : AnswerStatus → List ℕ → Option (List ℕ) → Option (List ℕ) → Status → Type 0
 EndsAs wanted text old new ReadFault = Keeps old new
 EndsAs wanted text old new NoMemory = Keeps old new
 EndsAs wanted text old new WriteFault = TakesFront text old new
-EndsAs wanted text old new status = (status ≡ wanted) × Appends old new text
+EndsAs wanted text old new status = (status ≡ status_of wanted) × Appends old new text
 
 -- no answer was found: a read failed, or memory ran out
 abbrev pub IsUnanswered : Status → Type 0

@@ -1,6 +1,6 @@
 //! The command `audit`.
 
-ghost use Rattle.std.specs.Prelude.{◌≡◌, ◌⊎◌, ◌≤◌, ◌++◌, length, IfOk, Ok};
+ghost use Rattle.std.specs.Prelude.{◌≡◌, ◌⊎◌, ◌≤◌, ◌++◌, length, false, IfOk, Ok};
 ghost use Rattle.device_audit.specs.Trace.{trace_of};
 ghost use Rattle.device_audit.specs.Verdicts.{IfRun};
 ghost use Rattle.check_program.specs.Sound.{IsSound};
@@ -10,11 +10,10 @@ ghost use Rattle.device_model.specs.Devices.{IsComplete};
 ghost use Rattle.top.specs.Audits.{AuditsFile, AuditsTrace, Judges, line_answer, verdict_answer};
 ghost use Rattle.answer.specs.Plain.{Rejects, done};
 ghost use Rattle.device_run.specs.Runs.{read_by};
-ghost use Rattle.answer.specs.Statuses.{HasText};
 ghost use Rattle.top.specs.Texts.{readbacks_text};
 
 use crate::readbacks::add_readbacks;
-use answer::{Answer, Status, checked, done, program_refusal};
+use answer::{Answer, AnswerStatus, checked, done, program_refusal};
 use base::{Event, NoMemory};
 use check_program::Checked;
 use compile_file::valid_program;
@@ -27,7 +26,7 @@ use std::alloc::Global;
 use std::thread::Threads;
 
 // The answer to a text that is no trace, or to a trace that is no run.
-fn line_answer(alloc: Global, status: Status, line: &AuditLine) -> Result<Answer, NoMemory>
+fn line_answer(alloc: Global, status: AnswerStatus, line: &AuditLine) -> Result<Answer, NoMemory>
     ensures { IfOk result (λ answer. answer ≡ line_answer status line.now) }
 {
     Ok(Answer {
@@ -41,7 +40,6 @@ fn accepted(alloc: Global, device: &Device) -> Result<Answer, NoMemory>
     requires complete { IsComplete device.now }
     requires few { length device.now.history ≤ 65536 }
     ensures run { IfOk result (λ answer. answer ≡ done (audit_text (lines.Run (length device.now.history)) ++ readbacks_text (read_by device.now) (length device.now.program.readbacks))) }
-    ensures has_text { IfOk result (λ answer. HasText answer.status) }
 {
     let events = device.history().len() as u32;
     let mut text = audit_text(alloc, &AuditLine::Run { events })?;
@@ -53,17 +51,20 @@ fn verdict_answer(alloc: Global, verdict: &Verdict) -> Result<Answer, NoMemory>
     requires complete { IfRun IsComplete verdict.now }
     requires few { IfRun (λ device. length device.history ≤ 65536) verdict.now }
     ensures verdict { IfOk result (λ answer. answer ≡ verdict_answer verdict.now) }
-    ensures has_text { IfOk result (λ answer. HasText answer.status) }
 {
     match verdict {
         Verdict::Run(device) => accepted(alloc, device),
         Verdict::NotEnabled { at } => {
-            line_answer(alloc, Status::Rejected, &AuditLine::NotEnabled { at: *at })
+            line_answer(
+                alloc,
+                AnswerStatus::Rejected,
+                &AuditLine::NotEnabled { at: *at },
+            )
         }
         Verdict::Unfinished { node } => {
             line_answer(
                 alloc,
-                Status::Rejected,
+                AnswerStatus::Rejected,
                 &AuditLine::Unfinished { node: *node },
             )
         }
@@ -79,7 +80,6 @@ fn judge<R: Threads + Sync>(
     requires sound { IsSound program.now.program }
     requires few { length events.now ≤ 65536 }
     ensures judges { IfOk result (Judges program.now.program events.now) }
-    ensures has_text { IfOk result (λ answer. HasText answer.status) }
 {
     let verdict = audit(rt, alloc, program, events)?;
     verdict_answer(alloc, &verdict)
@@ -92,10 +92,9 @@ fn audit_events<R: Threads + Sync>(
     events: &[Event],
 ) -> Result<Answer, NoMemory>
     requires { length events.now ≤ 65536 }
-    ensures program { IfOk result (λ answer. Judges program events.now answer ⊎ Rejects program answer) }
-    ensures has_text { IfOk result (λ answer. HasText answer.status) }
+    ensures program { IfOk result (λ answer. Judges program events.now answer ⊎ Rejects false program answer) }
 {
-    match checked(alloc, program) {
+    match checked(alloc, false, program) {
         Ok(checked) => judge(rt, alloc, &checked, events),
         Err(answer) => answer,
     }
@@ -108,15 +107,14 @@ fn audit_trace<R: Threads + Sync>(
     trace: &[u8],
 ) -> Result<Answer, NoMemory>
     ensures trace { IfOk result (AuditsTrace (Ok program) (trace_of trace.now)) }
-    ensures has_text { IfOk result (λ answer. HasText answer.status) }
 {
     match read_trace(alloc, trace) {
         Ok(events) => audit_events(rt, alloc, program, events.as_slice()),
         Err(TraceError::Text { line }) => {
-            line_answer(alloc, Status::Refused, &AuditLine::Text { line })
+            line_answer(alloc, AnswerStatus::Refused, &AuditLine::Text { line })
         }
         Err(TraceError::Limit { events }) => {
-            line_answer(alloc, Status::Refused, &AuditLine::Limit { events })
+            line_answer(alloc, AnswerStatus::Refused, &AuditLine::Limit { events })
         }
         Err(TraceError::NoMemory) => Err(NoMemory),
     }
@@ -129,12 +127,11 @@ pub fn audit_file<R: Threads + Sync>(
     bytes: &[u8],
 ) -> Result<Answer, NoMemory>
     ensures file { IfOk result (AuditsFile bytes.now) }
-    ensures has_text { IfOk result (λ answer. HasText answer.status) }
 {
     let recording = recording_in(bytes);
     match valid_program(alloc, recording.submission) {
         Ok(program) => audit_trace(rt, alloc, program, recording.trace),
-        Err(ProgramReadError::Refused(fault)) => program_refusal(alloc, &fault),
+        Err(ProgramReadError::Refused(fault)) => program_refusal(alloc, false, &fault),
         Err(ProgramReadError::NoMemory) => Err(NoMemory),
     }
 }

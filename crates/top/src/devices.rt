@@ -1,19 +1,18 @@
 //! The commands that run a program on a device.
 
-ghost use Rattle.std.specs.Prelude.{◌≡◌, ◌≤◌, ◌⊎◌, [], vec_len, vec_capacity, map, string_bytes, Some, None, true, IfOk, IfErr};
+ghost use Rattle.std.specs.Prelude.{◌≡◌, ◌≤◌, ◌⊎◌, [], vec_len, vec_capacity, None, true, IfOk, IfErr, IfSome};
 ghost use Rattle.top.specs.Answers.{AnswersBytes, AnswersLeft, IsAnswered};
 ghost use Rattle.answer.specs.AtRest.{needs_device};
 ghost use Rattle.top.specs.Calls.{Call};
 ghost use Rattle.top.specs.Causes.{ReadCause, WriteCause};
 ghost use Rattle.top.specs.Internal.Served.{RunsOnDevice};
 ghost use Rattle.top.specs.Internal.Steps.{ReadsAnswer};
-ghost use Rattle.answer.specs.Statuses.{HasText};
 ghost use Rattle.top.specs.Ends.{ends};
 ghost use Rattle.answer.specs.Inputs.{file_of};
 ghost use Rattle.top.specs.Takes.{TakesAll, TakesFew, file_in};
 ghost use Rattle.top.specs.Outcomes.{IsUnanswered};
 ghost use Rattle.top.specs.Told.{AreTold};
-ghost use Rattle.cli.specs.Lines.{command_of};
+ghost use Rattle.cli.specs.Commands.{IsBounded};
 
 use crate::audit::audit_file;
 use crate::exec::execute_file;
@@ -24,10 +23,10 @@ use crate::run::run_file;
 use crate::summary::summarize;
 use crate::telling::{deliver, reserved, untold};
 use crate::{Ended, Status};
-use answer::{file_of, over_input};
+use answer::{asks_json, file_of, over_input};
 use base::NoMemory;
 use base_io::{Gate, Sink, Source, Tap};
-use cli::{Command, command_of};
+use cli::Command;
 use flight_file::FlightPlan;
 use std::alloc::Global;
 use std::sync::Wait;
@@ -42,7 +41,6 @@ fn answer_bytes<R: Threads + Wait + Sync, G: Gate + Sync>(
 ) -> Result<Reply, NoMemory>
     requires { RunsOnDevice command.now }
     ensures answer { IfOk result (AnswersBytes command.now bytes.now) }
-    ensures has_text { IfOk result (λ reply. HasText reply.answer.status) }
 {
     match command {
         Command::Run {
@@ -83,7 +81,6 @@ fn answer_input<R: Threads + Wait + Sync, G: Gate + Sync, I: Source>(
 ) -> Result<Reply, Status>
     requires { RunsOnDevice command.now }
     ensures answer { IfOk result (AnswersLeft command.now (I.left input.old)) }
-    ensures has_text { IfOk result (λ reply. HasText reply.answer.status) }
     ensures none { IfErr result (λ status. (status ≡ Status.ReadFault) ⊎ (status ≡ Status.NoMemory)) }
     ensures read { ReadsAnswer (I.faults input.old) (I.faults input.new) result }
     ensures taken { TakesFew (file_of command.now) (I.left input.old) (I.left input.new) }
@@ -92,7 +89,7 @@ fn answer_input<R: Threads + Wait + Sync, G: Gate + Sync, I: Source>(
 {
     match input_of(alloc, file_of(command), input)? {
         Input::Bytes(bytes) => Ok(answer_bytes(rt, alloc, command, bytes.as_slice(), gate)?),
-        Input::Over(file) => Ok(still(over_input(alloc, file)?)),
+        Input::Over(file) => Ok(still(over_input(alloc, asks_json(command), file)?)),
     }
 }
 
@@ -124,41 +121,29 @@ fn answer<R: Threads + Wait + Sync, I: Source, O: Sink, G: Gate + Sync>(
     }
 }
 
-// The command of the words.
-fn command_in(alloc: Global, words: &[String]) -> Result<Command, NoMemory>
-    requires { needs_device (command_of (map string_bytes words.now)) ≡ true }
-    ensures command { IfOk result (λ command. command_of (map string_bytes words.now) ≡ Some command) }
-    ensures served { IfOk result RunsOnDevice }
-{
-    match command_of(alloc, words) {
-        Ok(Some(command)) => Ok(command),
-        Ok(None) => unreachable!(),
-        Err(NoMemory) => Err(NoMemory),
-    }
-}
-
+/// Does the work of a command that needs a device: room for all taps is taken before anything is read.
 #[tactic(auto, using(crate::proofs::CallLemmas::called, crate::proofs::CallLemmas::nothing))]
-/// Does the work of words that need a device: room for all taps is taken before anything is read.
-pub fn answer_words<R: Threads + Wait + Sync, I: Source, O: Sink, G: Gate + Sync>(
+pub fn on_device<R: Threads + Wait + Sync, I: Source, O: Sink, G: Gate + Sync>(
     rt: &R,
     alloc: Global,
-    words: &[String],
+    command: &Option<Command>,
     input: &mut I,
     output: &mut O,
     gate: &G,
     taps: &mut Vec<Box<dyn Tap>>,
 ) -> Ended
-    requires { needs_device (command_of (map string_bytes words.now)) ≡ true }
+    requires needed { needs_device command.now ≡ true }
+    requires bounded { IfSome command.now IsBounded }
     ensures call { let seen = ends I.left I.faults O.taken O.faults in
-        Call (command_of (map string_bytes words.now)) (seen input.old output.old) (seen input.new output.new) (AreTold (λ b. heard b) (λ b. finished b) taps.old.items taps.new.items result.spent.items result.places.items) result.status }
-    ensures unread { file_in (command_of (map string_bytes words.now)) ≡ None → input.new ≡ input.old }
+        Call command.now (seen input.old output.old) (seen input.new output.new) (AreTold (λ b. heard b) (λ b. finished b) taps.old.items taps.new.items result.spent.items result.places.items) result.status }
+    ensures unread { file_in command.now ≡ None → input.new ≡ input.old }
     ensures unwritten { IsUnanswered result.status → output.new ≡ output.old }
 {
-    let Ok(command) = command_in(alloc, words) else {
-        return untold(alloc, Status::NoMemory);
+    let Some(command) = command else {
+        unreachable!()
     };
     let Ok(room) = reserved(alloc, taps.len()) else {
         return untold(alloc, Status::NoMemory);
     };
-    answer(rt, alloc, &command, input, output, gate, taps, room)
+    answer(rt, alloc, command, input, output, gate, taps, room)
 }

@@ -1,9 +1,8 @@
 //! The command `exec`.
 
-ghost use Rattle.std.specs.Prelude.{◌⊎◌, IfOk};
+ghost use Rattle.std.specs.Prelude.{◌⊎◌, false, IfOk};
 ghost use Rattle.check_program.specs.Sound.{IsSound};
 ghost use Rattle.top.specs.Answers.{ExecutesFile};
-ghost use Rattle.answer.specs.Statuses.{HasText};
 ghost use Rattle.compile_file.specs.Files.{program_file};
 ghost use Rattle.top.specs.Headline.{Executes};
 ghost use Rattle.top.specs.Replies.{IsStill};
@@ -34,7 +33,6 @@ fn execute_checked<R: Threads + Wait + Sync, G: Gate + Sync>(
 ) -> Result<Reply, NoMemory>
     requires sound { IsSound program.now.program }
     ensures program { IfOk result (Executes options trace program.now.program) }
-    ensures has_text { IfOk result (λ reply. HasText reply.answer.status) }
 {
     let device = run_program(rt, alloc, program, options, gate)?;
     let text = exec_text(alloc, &device, trace)?;
@@ -49,10 +47,9 @@ fn execute_program<R: Threads + Wait + Sync, G: Gate + Sync>(
     program: ValidProgram,
     gate: &G,
 ) -> Result<Reply, NoMemory>
-    ensures program { IfOk result (λ reply. Executes options trace program reply ⊎ IsStill (Rejects program) reply) }
-    ensures has_text { IfOk result (λ reply. HasText reply.answer.status) }
+    ensures program { IfOk result (λ reply. Executes options trace program reply ⊎ IsStill (Rejects false program) reply) }
 {
-    match checked(alloc, program) {
+    match checked(alloc, false, program) {
         Ok(checked) => execute_checked(rt, alloc, options, trace, &checked, gate),
         Err(answer) => Ok(still(answer?)),
     }
@@ -68,11 +65,10 @@ pub fn execute_file<R: Threads + Wait + Sync, G: Gate + Sync>(
     gate: &G,
 ) -> Result<Reply, NoMemory>
     ensures file { IfOk result (ExecutesFile options trace (program_file bytes.now)) }
-    ensures has_text { IfOk result (λ reply. HasText reply.answer.status) }
 {
     match valid_program(alloc, bytes) {
         Ok(program) => execute_program(rt, alloc, options, trace, program, gate),
-        Err(ProgramReadError::Refused(fault)) => Ok(still(program_refusal(alloc, &fault)?)),
+        Err(ProgramReadError::Refused(fault)) => Ok(still(program_refusal(alloc, false, &fault)?)),
         Err(ProgramReadError::NoMemory) => Err(NoMemory),
     }
 }

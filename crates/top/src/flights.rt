@@ -1,12 +1,11 @@
 //! The command `flight`.
 
 ghost use Rattle.std.specs.Prelude.{◌≡◌, IfOk};
-ghost use Rattle.answer.specs.Statuses.{HasText};
 ghost use Rattle.flight_file.specs.Plans.{CanFly};
 ghost use Rattle.top.specs.Flights.{FliesBytes, reply_of};
 
 use crate::reply::{Reply, still};
-use answer::{Answer, Status, done};
+use answer::{Answer, AnswerStatus, done};
 use base::NoMemory;
 use base_io::Gate;
 use flight_file::{FlightPlan, Outcome, fly_file};
@@ -16,7 +15,6 @@ use std::thread::Threads;
 
 fn reply_of(outcome: Outcome) -> Reply
     ensures reply { result ≡ reply_of outcome }
-    ensures has_text { HasText result.answer.status }
 {
     match outcome {
         Outcome::Flown { text, history } => Reply {
@@ -24,7 +22,7 @@ fn reply_of(outcome: Outcome) -> Reply
             history: Some(history),
         },
         Outcome::Refused { text } => still(Answer {
-            status: Status::Refused,
+            status: AnswerStatus::Refused,
             text,
         }),
     }
@@ -40,7 +38,6 @@ pub fn flight_file<R: Threads + Wait + Sync, G: Gate + Sync>(
 ) -> Result<Reply, NoMemory>
     requires plan { CanFly plan.now }
     ensures file { IfOk result (FliesBytes plan.now.options plan.now.persist.now plan.now.depth bytes.now) }
-    ensures has_text { IfOk result (λ reply. HasText reply.answer.status) }
 {
     let outcome = fly_file(rt, alloc, plan, bytes, gate)?;
     Ok(reply_of(outcome))

@@ -1,7 +1,6 @@
 //! An answer, with what devices did for it.
 
 ghost use Rattle.std.specs.Prelude.{◌≡◌, IfOk};
-ghost use Rattle.answer.specs.Statuses.{HasText};
 ghost use Rattle.top.specs.Replies.{ran, still};
 
 use answer::{Answer, done};
@@ -30,7 +29,6 @@ pub fn still(answer: Answer) -> Reply
 /// The whole text of a command that ran this device.
 pub fn ran(alloc: Global, device: &Device, text: Text) -> Result<Reply, NoMemory>
     ensures reply { IfOk result (λ reply. reply ≡ ran device.now text) }
-    ensures has_text { IfOk result (λ reply. HasText reply.answer.status) }
 {
     Ok(Reply {
         answer: done(text),

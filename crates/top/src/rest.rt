@@ -1,28 +1,25 @@
 //! The part of the top call that needs no device.
 
-ghost use Rattle.std.specs.Prelude.{◌≡◌, ◌⊎◌, IfOk, IfErr, map, string_bytes, Some, None, IfSome, IfNone, true};
+ghost use Rattle.std.specs.Prelude.{◌≡◌, ◌⊎◌, IfOk, IfErr, Some, None, IfSome, IfNone, true};
 ghost use Rattle.top.specs.Answers.{AnswersLeft, IsAnswered};
 ghost use Rattle.answer.specs.AtRest.{needs_device};
-ghost use Rattle.top.specs.AtRest.{IsLeft};
 ghost use Rattle.top.specs.Calls.{Call};
 ghost use Rattle.top.specs.Causes.{ReadCause, WriteCause};
 ghost use Rattle.top.specs.Internal.Served.{IsAtRest};
 ghost use Rattle.top.specs.Internal.Steps.{ReadsAnswer};
-ghost use Rattle.answer.specs.Statuses.{HasText};
 ghost use Rattle.top.specs.Ends.{ends};
 ghost use Rattle.answer.specs.Inputs.{file_of};
 ghost use Rattle.top.specs.Takes.{TakesAll, TakesFew, file_in};
 ghost use Rattle.top.specs.Outcomes.{IsUnanswered};
 ghost use Rattle.top.specs.Replies.{still};
-ghost use Rattle.cli.specs.Lines.{command_of};
+ghost use Rattle.cli.specs.Commands.{IsBounded};
 
 use crate::Status;
 use crate::input::{Input, input_of};
 use crate::output::put;
-use answer::{Answer, answer_bytes, file_of, over_input};
-use base::NoMemory;
+use answer::{Answer, AnswerStatus, answer_bytes, asks_json, file_of, over_input};
 use base_io::{Sink, Source};
-use cli::{Command, command_of};
+use cli::Command;
 use std::alloc::Global;
 
 fn needs_device(command: &Command) -> bool
@@ -38,15 +35,14 @@ fn needs_device(command: &Command) -> bool
     }
 }
 
-// The answer to the input that is read, or the status where there is none.
-fn answer_input<I: Source>(
+/// The answer to the input that is read, or the status where there is none.
+pub(crate) fn answer_input<I: Source>(
     alloc: Global,
     command: &Command,
     input: &mut I,
 ) -> Result<Answer, Status>
     requires { IsAtRest command.now }
     ensures answer { IfOk result (λ answer. AnswersLeft command.now (I.left input.old) (still answer)) }
-    ensures has_text { IfOk result (λ answer. HasText answer.status) }
     ensures none { IfErr result (λ status. (status ≡ Status.ReadFault) ⊎ (status ≡ Status.NoMemory)) }
     ensures read { ReadsAnswer (I.faults input.old) (I.faults input.new) result }
     ensures taken { TakesFew (file_of command.now) (I.left input.old) (I.left input.new) }
@@ -55,7 +51,7 @@ fn answer_input<I: Source>(
 {
     match input_of(alloc, file_of(command), input)? {
         Input::Bytes(bytes) => Ok(answer_bytes(alloc, command, bytes.as_slice())?),
-        Input::Over(file) => Ok(over_input(alloc, file)?),
+        Input::Over(file) => Ok(over_input(alloc, asks_json(command), file)?),
     }
 }
 
@@ -81,34 +77,34 @@ fn answer<I: Source, O: Sink>(
     }
 }
 
-/// Does the whole work of the top call for all words but those that need a device, which are those of `run`, `exec`,
-/// `gen --summary`, `flight` and `audit`: for these it answers none, or that memory ran out, and has read and written nothing.
-/// For other words all holds that holds of the top call.
+/// Does the whole work of the top call for all commands but those that need a device, which are `run`, `exec`, `gen --summary`,
+/// `flight` and `audit`: for these it answers none, and has read and written nothing. For the others, and where there is no
+/// command, all holds that holds of the top call.
 pub fn at_rest<I: Source, O: Sink>(
     alloc: Global,
-    words: &[String],
+    command: &Option<Command>,
     input: &mut I,
     output: &mut O,
 ) -> Option<Status>
-    // The words that are left alone.
-    ensures left { needs_device (command_of (map string_bytes words.now)) ≡ true →
-        IsLeft result × (input.new ≡ input.old) × (output.new ≡ output.old) }
-    ensures none { IfNone result (needs_device (command_of (map string_bytes words.now)) ≡ true) }
+    requires bounded { IfSome command.now IsBounded }
+
+    // The commands that are left alone.
+    ensures left { needs_device command.now ≡ true → (result ≡ None) × (input.new ≡ input.old) × (output.new ≡ output.old) }
+    ensures none { IfNone result (needs_device command.now ≡ true) }
 
     // All others.
     ensures call { let seen = ends I.left I.faults O.taken O.faults in
-        IfSome result (Call (command_of (map string_bytes words.now)) (seen input.old output.old) (seen input.new output.new) (λ history. history ≡ None)) }
-    ensures unread { file_in (command_of (map string_bytes words.now)) ≡ None → input.new ≡ input.old }
+        IfSome result (Call command.now (seen input.old output.old) (seen input.new output.new) (λ history. history ≡ None)) }
+    ensures unread { file_in command.now ≡ None → input.new ≡ input.old }
     ensures unwritten { IfSome result (λ status. IsUnanswered status → output.new ≡ output.old) }
 {
-    match command_of(alloc, words) {
-        Ok(Some(command)) => {
-            if needs_device(&command) {
+    match command {
+        Some(command) => {
+            if needs_device(command) {
                 return None;
             }
-            Some(answer(alloc, &command, input, output))
+            Some(answer(alloc, command, input, output))
         }
-        Ok(None) => Some(put(output, Status::Words, b"words\n")),
-        Err(NoMemory) => Some(Status::NoMemory),
+        None => Some(put(output, AnswerStatus::Words, b"words\n")),
     }
 }

@@ -4,7 +4,6 @@ ghost use Rattle.std.specs.Prelude.{Bool, IfOk};
 ghost use Rattle.compile.specs.Right.{IsRightFor};
 ghost use Rattle.frame.specs.Numbered.{numbered};
 ghost use Rattle.top.specs.Answers.{RunsFile};
-ghost use Rattle.answer.specs.Statuses.{HasText};
 ghost use Rattle.compile_file.specs.Files.{frame_file};
 ghost use Rattle.compile_file.specs.Compiles.{Compiles};
 ghost use Rattle.top.specs.Headline.{RunsFrame};
@@ -38,7 +37,6 @@ fn run_compiled<R: Threads + Wait + Sync, G: Gate + Sync>(
     requires right { IsRightFor (numbered good.now) made.now.program.program }
     ensures frame { (tight : Bool) → Compiles tight (numbered good.now) made.now.kept made.now.placement made.now.program.program →
         IfOk result (RunsFrame options trace tight good.now) }
-    ensures has_text { IfOk result (λ reply. HasText reply.answer.status) }
 {
     let device = run_program(rt, alloc, &made.program, options, gate)?;
     let text = frame_text(alloc, good, &made.kept, &device, trace)?;
@@ -55,7 +53,6 @@ fn run_frame<R: Threads + Wait + Sync, G: Gate + Sync>(
     gate: &G,
 ) -> Result<Reply, NoMemory>
     ensures frame { IfOk result (RunsFrame options trace tight good.now) }
-    ensures has_text { IfOk result (λ reply. HasText reply.answer.status) }
 {
     let made = compiled(alloc, good, tight)?;
     run_compiled(rt, alloc, options, trace, good, &made, gate)
@@ -72,11 +69,10 @@ pub fn run_file<R: Threads + Wait + Sync, G: Gate + Sync>(
     gate: &G,
 ) -> Result<Reply, NoMemory>
     ensures file { IfOk result (RunsFile options trace tight (frame_file bytes.now)) }
-    ensures has_text { IfOk result (λ reply. HasText reply.answer.status) }
 {
     match valid_frame(alloc, bytes) {
         Ok(good) => run_frame(rt, alloc, options, trace, tight, &good, gate),
-        Err(FrameReadError::Refused(fault)) => Ok(still(refusal(alloc, &fault)?)),
+        Err(FrameReadError::Refused(fault)) => Ok(still(refusal(alloc, false, &fault)?)),
         Err(FrameReadError::NoMemory) => Err(NoMemory),
     }
 }

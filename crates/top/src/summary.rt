@@ -10,7 +10,6 @@ ghost use Rattle.top.specs.Internal.Totals.{IsTotal};
 ghost use Rattle.compile_file.specs.Compiles.{Compiles};
 ghost use Rattle.top.specs.Headline.{SummarizesFrame};
 ghost use Rattle.device_run.specs.Runs.{HasRun, read_by};
-ghost use Rattle.answer.specs.Statuses.{HasText};
 ghost use Rattle.top.specs.Summaries.{summary_with};
 ghost use Rattle.frame_cull.specs.Culled.{AreKept};
 
@@ -97,7 +96,6 @@ fn summarize_compiled<R: Threads + Wait + Sync, G: Gate + Sync>(
 ) -> Result<Reply, NoMemory>
     requires compiles { Compiles false (numbered good.now) made.now.kept made.now.placement made.now.program.program }
     ensures frame { IfOk result (SummarizesFrame options good.now) }
-    ensures has_text { IfOk result (λ reply. HasText reply.answer.status) }
 {
     let device = run_program(rt, alloc, &made.program, options, gate)?;
     let total = exported(good, made, &device, options);
@@ -113,7 +111,6 @@ fn summarize_frame<R: Threads + Wait + Sync, G: Gate + Sync>(
     gate: &G,
 ) -> Result<Reply, NoMemory>
     ensures frame { IfOk result (SummarizesFrame options good.now) }
-    ensures has_text { IfOk result (λ reply. HasText reply.answer.status) }
 {
     let made = compiled(alloc, good, false)?;
     summarize_compiled(rt, alloc, options, good, &made, gate)
@@ -131,7 +128,6 @@ pub fn summarize<R: Threads + Wait + Sync, G: Gate + Sync>(
     requires some { 1 ≤ passes }
     requires few { passes ≤ 256 }
     ensures frame { IfOk result (SummarizesFrame options (generated number passes)) }
-    ensures has_text { IfOk result (λ reply. HasText reply.answer.status) }
 {
     let good = generate(alloc, number, passes)?;
     summarize_frame(rt, alloc, options, &good, gate)

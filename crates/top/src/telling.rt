@@ -2,7 +2,7 @@
 
 ghost use Rattle.std.specs.Prelude.{◌≡◌, ◌⊎◌, ◌≤◌, [], vec_len, vec_capacity, IfOk};
 ghost use Rattle.top.specs.Causes.{WriteCause};
-ghost use Rattle.answer.specs.Statuses.{HasText};
+ghost use Rattle.answer.specs.Statuses.{status_of};
 ghost use Rattle.top.specs.Outcomes.{EndsAs};
 ghost use Rattle.top.specs.Told.{AreTold};
 
@@ -64,13 +64,12 @@ pub fn deliver<O: Sink>(
     taps: &mut Vec<Box<dyn Tap>>,
     room: Ended,
 ) -> Ended
-    requires text { HasText reply.now.answer.status }
     requires spent { (room.spent.items ≡ []) × (vec_len taps.old ≤ vec_capacity room.spent) }
     requires places { (room.places.items ≡ []) × (vec_len taps.old ≤ vec_capacity room.places) }
     ensures told { AreTold (λ b. heard b) (λ b. finished b) taps.old.items taps.new.items result.spent.items result.places.items reply.now.history }
     ensures ends { EndsAs reply.now.answer.status reply.now.answer.text (O.taken output.old) (O.taken output.new) result.status }
     ensures cause { WriteCause (O.faults output.old) (O.faults output.new) result.status }
-    ensures either { (result.status ≡ reply.now.answer.status) ⊎ (result.status ≡ Status.WriteFault) }
+    ensures either { (result.status ≡ status_of reply.now.answer.status) ⊎ (result.status ≡ Status.WriteFault) }
 {
     let Ended {
         status: _,

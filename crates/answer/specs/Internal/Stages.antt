@@ -10,8 +10,7 @@ use Rattle.compile_groups.specs.Placed.{sizes}
 use Rattle.compile_groups.specs.declared.grouping.Grouping.{Grouping}
 use Rattle.compile_lifetimes.specs.Ordered.{IsOrdered}
 use Rattle.compile_heap.specs.Placing.{Places, IsLeast}
-use Rattle.report.specs.BoundLines.{bound_text}
-use Rattle.report.specs.PlaceLines.{place_text}
+use Rattle.report_json.specs.Told.{bound_told, place_told}
 use Rattle.frame_cull.specs.Culled.{AreKept}
 
 -- the groups of the passes that are kept
@@ -31,10 +30,10 @@ abbrev pub bytes_in : Frame → List (List ℕ) → ℕ → List ℕ
 bytes_in frame units k = bytes_at units (get_or (numbered frame).exports k 0)
 
 -- the lines of such places
-pub record ArePlaceLines (frame : Frame) (G : Grouping) (text : List ℕ) : Type 0 where
+pub record ArePlaceLines (json : Bool) (frame : Frame) (G : Grouping) (text : List ℕ) : Type 0 where
   pub places : Places
   pub are_placed : ArePlaced G places
-  pub lines : text ≡ place_text frame G places
+  pub lines : text ≡ place_told json frame G places
 
 -- the heap of the least places
 pub record IsHeap (G : Grouping) (ordered : ℕ → ℕ → Bool) (heap : ℕ) : Type 0 where
@@ -43,9 +42,9 @@ pub record IsHeap (G : Grouping) (ordered : ℕ → ℕ → Bool) (heap : ℕ) :
   pub is : heap ≡ places.heap
 
 -- the lines of a bound beside this heap
-pub record AreBoundLines (frame : Frame) (G : Grouping) (ordered : ℕ → ℕ → Bool) (heap : ℕ) (text : List ℕ) : Type 0 where
+pub record AreBoundLines (json : Bool) (frame : Frame) (G : Grouping) (ordered : ℕ → ℕ → Bool) (heap : ℕ) (text : List ℕ) : Type 0 where
   pub bound : Certified
   pub is_bound : IsBound (sizes G) ordered bound
   pub shown : IsShown (sizes G) ordered bound
   pub holds : Holds (sizes G) ordered bound.least
-  pub lines : text ≡ bound_text frame G bound.least heap bound.chosen
+  pub lines : text ≡ bound_told json frame G bound.least heap bound.chosen

@@ -7,7 +7,7 @@ use Rattle.answer.specs.declared.status.Status.TheVariants.{ReadFault, NoMemory}
 
 pub returns-in-Ok-clause-answered : goal.returns-in-Ok-clause-answered
 returns-in-Ok-clause-answered g c =
-    answered c.args.command.now (g.I.Source.left c.args.input.now) (g.O.Sink.taken c.args.output.now) (g.O.Sink.taken c.deliver.new.output) _ c.in-Ok.reply c.deliver.result.status c.in-Ok.ensures.answer c.deliver.ensures.ends c.deliver.ensures.told (stands c.in-Ok.reply.answer.status c.deliver.result.status c.in-Ok.ensures.has_text c.deliver.ensures.either)
+    answered c.args.command.now (g.I.Source.left c.args.input.now) (g.O.Sink.taken c.args.output.now) (g.O.Sink.taken c.deliver.new.output) _ c.in-Ok.reply c.deliver.result.status c.in-Ok.ensures.answer c.deliver.ensures.ends c.deliver.ensures.told (stands c.in-Ok.reply.answer.status c.deliver.result.status c.deliver.ensures.either)
 
 pub returns-in-Err-clause-answered : goal.returns-in-Err-clause-answered
 returns-in-Err-clause-answered g c =

@@ -12,4 +12,4 @@ returns-in-Some-clause-call g c =
 pub returns-in-None-clause-call : goal.returns-in-None-clause-call
 returns-in-None-clause-call g c =
     let left = c.at_rest.ensures.left c.in-None.ensures.none in
-    from_ends (ends g.I.Source.left g.I.Source.faults g.O.Sink.taken g.O.Sink.faults) _ c.args.input.now c.at_rest.new.input c.args.output.now c.at_rest.new.output _ _ _ left.1 left.2 c.answer_words.ensures.call
+    from_ends (ends g.I.Source.left g.I.Source.faults g.O.Sink.taken g.O.Sink.faults) _ c.args.input.now c.at_rest.new.input c.args.output.now c.at_rest.new.output _ _ _ left.1 left.2 c.on_device.ensures.call

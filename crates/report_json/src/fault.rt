@@ -1,0 +1,68 @@
+//! Faults of files.
+
+ghost use Rattle.std.specs.Prelude.{◌≡◌, ◌++◌, OnOk, IfOk, codes};
+ghost use Rattle.report_json.specs.Faults.{fault_json, frame_fault_json, limit_members, program_fault_json};
+ghost use Rattle.report_json.specs.Json.{later, member, number, string};
+
+use crate::object::{end_object, first_string, next_member, next_string};
+use crate::path::add_path;
+use base::{Leg, Limit, List, NoMemory, Text};
+use base_text::Lines;
+use frame::FrameFault;
+use program::ProgramFault;
+use std::alloc::Global;
+
+fn add_number(text: &mut Text, letter: &[u8], fault: u8) -> Result<(), NoMemory>
+    ensures { OnOk result (text.new ≡ text.old ++ codes "," ++ member (codes "fault") (string (letter.now ++ number fault))) }
+{
+    next_member(text, b"fault")?;
+    text.word(b"\"")?;
+    text.word(letter)?;
+    text.number(u64::from(fault))?;
+    text.word(b"\"")
+}
+
+fn add_limit(text: &mut Text, limit: Option<Limit>) -> Result<(), NoMemory>
+    ensures { OnOk result (text.new ≡ text.old ++ later (limit_members limit)) }
+{
+    match limit {
+        Some(limit) => next_string(text, b"limit", limit.name().as_bytes()),
+        None => Ok(()),
+    }
+}
+
+// The object of a fault with this letter and number.
+#[tactic(auto, using(crate::proofs::Members::later_more))]
+fn fault_json(
+    alloc: Global,
+    letter: &[u8],
+    fault: u8,
+    limit: Option<Limit>,
+    location: &[Leg],
+) -> Result<Text, NoMemory>
+    ensures { IfOk result (λ text. text ≡ fault_json letter.now fault limit location.now) }
+{
+    let mut text = List::new(alloc);
+    first_string(&mut text, b"verdict", b"fault")?;
+    add_number(&mut text, letter, fault)?;
+    add_limit(&mut text, limit)?;
+    next_member(&mut text, b"path")?;
+    add_path(&mut text, location)?;
+    end_object(&mut text)?;
+    Ok(text)
+}
+
+/// The object that names the first fault of a frame file, as `{"verdict":"fault","fault":"F3","path":["format"]}`.
+pub(crate) fn frame_fault_json(alloc: Global, fault: &FrameFault) -> Result<Text, NoMemory>
+    ensures { IfOk result (λ text. text ≡ frame_fault_json fault.now) }
+{
+    fault_json(alloc, b"F", fault.number, fault.limit, &fault.location)
+}
+
+/// The object that names the first fault of a submission file, as
+/// `{"verdict":"fault","fault":"G1","limit":"Queues","path":["queues"]}`.
+pub(crate) fn program_fault_json(alloc: Global, fault: &ProgramFault) -> Result<Text, NoMemory>
+    ensures { IfOk result (λ text. text ≡ program_fault_json fault.now) }
+{
+    fault_json(alloc, b"G", fault.number, fault.limit, &fault.location)
+}

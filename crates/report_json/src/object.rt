@@ -1,0 +1,84 @@
+//! Objects at the end of a text, without spaces.
+
+ghost use Rattle.std.specs.Prelude.{◌≡◌, ◌++◌, OnOk, codes};
+ghost use Rattle.report_json.specs.Json.{comma, member, number, string};
+
+use base::{NoMemory, Text};
+use base_text::Lines;
+
+/// Adds a string whose bytes need no escape.
+pub(crate) fn add_string(text: &mut Text, bytes: &[u8]) -> Result<(), NoMemory>
+    ensures { OnOk result (text.new ≡ text.old ++ string bytes.now) }
+{
+    text.word(b"\"")?;
+    text.word(bytes)?;
+    text.word(b"\"")
+}
+
+/// Adds a comma, but before the first entry of a list.
+pub(crate) fn add_comma(text: &mut Text, entry: usize) -> Result<(), NoMemory>
+    ensures { OnOk result (text.new ≡ text.old ++ comma entry) }
+{
+    if entry == 0 {
+        return Ok(());
+    }
+    text.word(b",")
+}
+
+/// Opens an object by the name of its first member.
+pub(crate) fn first_member(text: &mut Text, name: &[u8]) -> Result<(), NoMemory>
+    ensures { OnOk result (text.new ≡ text.old ++ codes "{" ++ string name.now ++ codes ":") }
+{
+    text.word(b"{")?;
+    add_string(text, name)?;
+    text.word(b":")
+}
+
+/// Adds the name of a later member.
+pub(crate) fn next_member(text: &mut Text, name: &[u8]) -> Result<(), NoMemory>
+    ensures { OnOk result (text.new ≡ text.old ++ codes "," ++ string name.now ++ codes ":") }
+{
+    text.word(b",")?;
+    add_string(text, name)?;
+    text.word(b":")
+}
+
+/// Opens an object by its first member, which is a number.
+pub(crate) fn first_number(text: &mut Text, name: &[u8], value: u64) -> Result<(), NoMemory>
+    ensures { OnOk result (text.new ≡ text.old ++ codes "{" ++ member name.now (number value)) }
+{
+    first_member(text, name)?;
+    text.number(value)
+}
+
+/// Opens an object by its first member, which is a string.
+pub(crate) fn first_string(text: &mut Text, name: &[u8], value: &[u8]) -> Result<(), NoMemory>
+    ensures { OnOk result (text.new ≡ text.old ++ codes "{" ++ member name.now (string value.now)) }
+{
+    first_member(text, name)?;
+    add_string(text, value)
+}
+
+/// Adds a later member, which is a number.
+pub(crate) fn next_number(text: &mut Text, name: &[u8], value: u64) -> Result<(), NoMemory>
+    ensures { OnOk result (text.new ≡ text.old ++ codes "," ++ member name.now (number value)) }
+{
+    next_member(text, name)?;
+    text.number(value)
+}
+
+/// Adds a later member, which is a string.
+pub(crate) fn next_string(text: &mut Text, name: &[u8], value: &[u8]) -> Result<(), NoMemory>
+    ensures { OnOk result (text.new ≡ text.old ++ codes "," ++ member name.now (string value.now)) }
+{
+    next_member(text, name)?;
+    add_string(text, value)
+}
+
+/// Ends the one object of a text, and its line.
+pub(crate) fn end_object(text: &mut Text) -> Result<(), NoMemory>
+    ensures { OnOk result (text.new ≡ text.old ++ codes "}" ++ codes "\n") }
+{
+    text.word(b"}")?;
+    text.end_line()
+}
