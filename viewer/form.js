@@ -1,4 +1,5 @@
-// Whether a value has the form of a submission file or a frame, as far as a picture needs it. The first thing that is wrong is told in words.
+// Whether a value has the form of a submission file, a frame or an answer of the program, as far as a picture needs it. The first thing
+// that is wrong is told in words.
 // The program judges more than this (`check`): the page draws whatever can be drawn.
 "use strict";
 Viewer.form = (() => {
@@ -150,6 +151,18 @@ Viewer.form = (() => {
     exports: list(text),
   });
 
+  // The answers of `--json`; one that tells a fault is `check`'s, whoever gives it.
+  const aFault = object({ fault: text, limit: optional(text), path: list(expected((step) => typeof step === "string" || isWhole(step), "a step of a path")) });
+  const [aNode, aPair, aState] = [object({ node: size }), object({ nodes: list(size) }), object({ node: size, piece: size, found: text, wanted: text })];
+  const HAZARDS = { H1: object({ queue: size, node: size }), H2: aPair, H3: aPair, H4: aPair, H5: aState, H6: aState, H7: aNode, H8: object({ node: size, piece: size }), H9: object({ node: size, piece: size, other: size }) };
+  const VERDICTS = { sound: object({ nodes: size }), fault: aFault, hazard: chosen(object({ hazard: word(...Object.keys(HAZARDS)) }), (value) => HAZARDS[value.hazard]) };
+  const ANSWERS = {
+    check: chosen(object({ verdict: word(...Object.keys(VERDICTS)) }), (value) => VERDICTS[value.verdict]),
+    cull: object({ passes: list(object({ name: text, kept: truth })) }),
+    place: object({ heap: size, separate: size }),
+    bound: object({ bound: size, heap: size, units: list(text) }),
+  };
+
   // What the readers find wrong with a value, in words; or null.
   const told = (...readers) => (value) => {
     try {
@@ -161,5 +174,5 @@ Viewer.form = (() => {
     }
   };
 
-  return { wrong: told(submission, numbers), wrongFrame: told(frame) };
+  return { wrong: told(submission, numbers), wrongFrame: told(frame), wrongAnswer: (sort, value) => told(ANSWERS[sort])(value) };
 })();

@@ -28,20 +28,23 @@ Viewer.given = (() => {
     return Viewer.program.of(file);
   }
 
+  // An answer of the program, or null where it is not there.
+  function answer(texts, sort) {
+    if (!texts[sort]) return null;
+    const value = valueOf(sort, texts[sort]);
+    const wrong = Viewer.form.wrongAnswer(sort, value);
+    if (wrong) throw new Wrong(sort, `This is nothing that ${sort} --json prints. ${wrong}.`);
+    return value;
+  }
+
   // Names, where the frame is there. A submission of format 3 has its own.
   function name(program, texts) {
     if (!texts.frame || program.format === 3) return;
     const frame = valueOf("frame", texts.frame);
     const wrong = Viewer.form.wrongFrame(frame);
     if (wrong) throw new Wrong("frame", `This is no frame file. ${wrong}.`);
-    const kept = texts.cull ? Viewer.said.kept(texts.cull) : new Set(frame.passes.map((pass) => pass.name));
-    if (!Viewer.naming.byFrame(program, frame, kept)) throw new Wrong("frame", `This is a frame, but the submission here is not compiled of it, so it has no names for it. ${VIEW}.`);
-  }
-
-  // The fault that `check` tells, in words, or null.
-  function faultOf(verdict) {
-    if (verdict?.kind !== "fault") return null;
-    return `${verdict.line}\n${verdict.lines.length ? verdict.lines.join("\n") : Viewer.words.fault(verdict)}`;
+    const passes = answer(texts, "cull")?.passes.filter((pass) => pass.kept) ?? frame.passes;
+    if (!Viewer.naming.byFrame(program, frame, new Set(passes.map((pass) => pass.name)))) throw new Wrong("frame", `This is a frame, but the submission here is not compiled of it, so it has no names for it. ${VIEW}.`);
   }
 
   // The program of a file with a fault, or null: what framec says of the file is told before what the page says.
@@ -56,17 +59,17 @@ Viewer.given = (() => {
 
   // {program, facts, fault}: where the file has a fault there may be no program.
   function read(texts) {
-    const verdict = texts.check ? Viewer.said.verdict(texts.check) : null;
-    const fault = faultOf(verdict);
+    const check = answer(texts, "check");
+    const verdict = check ? Viewer.said.verdict(check) : null;
+    const fault = verdict?.kind === "fault" ? `${verdict.line}\n${Viewer.words.fault(verdict)}` : null;
     const program = fault ? faulty(texts) : programOf(texts);
     if (!program) return { program, facts: { verdict }, fault };
     name(program, texts);
-    const hazard = verdict?.hazards[0];
     const facts = {
       verdict,
-      hazard: hazard ? Viewer.hazard.explained(program, hazard) : null,
-      place: texts.place ? Viewer.said.place(texts.place) : null,
-      bound: texts.bound ? Viewer.said.bound(texts.bound) : null,
+      hazard: verdict?.hazard ? Viewer.hazard.explained(program, verdict.hazard) : null,
+      place: answer(texts, "place"),
+      bound: answer(texts, "bound"),
       trace: texts.trace ? Viewer.said.trace(texts.trace) : null,
     };
     return { program, facts, fault };

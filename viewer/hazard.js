@@ -1,5 +1,4 @@
-// A hazard: both sides of it, and what is missing, in words. Where the program explains the hazard itself, its lines are shown as
-// they are; else the sentences follow from the hazard's number, its fields and the two nodes in the file.
+// A hazard: both sides of it, and what is missing, in words, by the hazard's number, its fields and the nodes in the file.
 "use strict";
 Viewer.hazard = (() => {
   const pair = (touch, access) => `${touch.stages.join("|") || "no stage"} / ${access || "no access"}`;
@@ -80,7 +79,7 @@ Viewer.hazard = (() => {
     const touches = touchesOf(program, told);
     const sides = told.nodes.map((number, k) => side(program, number, touches[k]));
     const pieces = [...new Set([told.piece, told.other, ...touches.map((touch) => touch?.piece)].filter((number) => number !== undefined))];
-    return { ...told, sides, pieces, what: Viewer.words.hazard(told.hazard), missing: told.missing ?? missing(program, told, touches) };
+    return { ...told, sides, pieces, what: Viewer.words.hazard(told.hazard), missing: missing(program, told, touches) };
   }
 
   return { explained };

@@ -37,8 +37,7 @@ Viewer.panel = (() => {
       const button = make("button", { type: "button", class: "link", text: `${title}${side.head}`, onclick: () => go(side.number) });
       element.append(make("div", { class: "side" }, button, ...side.lines.map((line) => make("p", { class: "line", text: line }))));
     });
-    if (told.lines.length) element.append(make("pre", { text: told.lines.join("\n") }));
-    else if (told.missing) element.append(make("p", { class: "missing", text: told.missing }));
+    if (told.missing) element.append(make("p", { class: "missing", text: told.missing }));
   }
 
   const masks = (item) =>

@@ -110,7 +110,7 @@ Viewer.Picture = class {
     const x = Math.max(view.left + 10, Math.min(view.toX(middle) - width / 2, view.width - width - 10));
     const y = scene.noteTop - view.y;
     const { BOLD, SMALL, write } = Viewer.paint;
-    const lines = Viewer.paint.wrapped(hazard.lines.length ? hazard.lines.join(" ") : `${hazard.what} ${hazard.missing}`, SMALL, width - 20).slice(0, 4);
+    const lines = Viewer.paint.wrapped(`${hazard.what} ${hazard.missing}`, SMALL, width - 20).slice(0, 4);
     Viewer.paint.box(context, x, y, width, 24 + 15 * lines.length, colours.ground, colours.hazard, 5);
     context.textBaseline = "alphabetic";
     write(context, `hazard ${hazard.hazard}`, BOLD, colours.hazard, x + 10, y + 15);

@@ -61,7 +61,7 @@ Viewer.tablesView = (() => {
     const isFound = nodes || pieces ? "Found " : "";
     const title = (text) => (isFound ? `${isFound}${text.toLowerCase()}` : text);
     const hazard = scene.facts.hazard;
-    if (hazard) element.append(make("p", { class: "missing", text: `Hazard ${hazard.hazard}: ${hazard.what} ${hazard.lines.join(" ") || hazard.missing}` }));
+    if (hazard) element.append(make("p", { class: "missing", text: `Hazard ${hazard.hazard}: ${hazard.what} ${hazard.missing}` }));
     const [nodeCount, pieceCount] = isFound ? [nodes?.length ?? 0, pieces?.length ?? 0] : [program.nodes.length, program.pieces.length];
     paged(element, title("Nodes"), NODE_HEADS, nodeCount, (k) => nodeRow(scene, nodes ? nodes[k] : k));
     paged(element, title("Pieces"), PIECE_HEADS, pieceCount, (k) => pieceRow(scene, pieces ? pieces[k] : k));

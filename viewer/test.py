@@ -5,16 +5,15 @@
 
 Every submission of examples/ is dropped on viewer/index.html, and every frame, a frame of 256 passes, a trace, a hazard and a fault
 are opened as pages of `./framec view`. The numbers of the boxes, marks, arrows and rectangles, the names, the marked pair and the
-bound have to be those that this script finds in the texts of `compile`, `check`, `place`, `bound` and `cull`. Broken files have to be
-told in words. Keys, the mouse, search, tables and both themes are tried. Of 20,000 and 65,536 nodes each that is in view has to be drawn
-at each zoom; the times that the page's thread takes for it are printed. No page may write an error to its console, or ask any host for
-anything. Screenshots go to a folder, out/viewer where none is told.
+bound have to be those that this script finds in what `compile` prints, and `check`, `place`, `bound` and `cull` with --json. Broken
+files have to be told in words. Keys, the mouse, search, tables and both themes are tried. Of 20,000 and 65,536 nodes each that is in
+view has to be drawn at each zoom; the times that the page's thread takes for it are printed. No page may write an error to its console,
+or ask any host for anything. Screenshots go to a folder, out/viewer where none is told.
 
 The status is 1 where one does not hold, and 77 where there is no browser: that is no pass.
 """
 
 import json
-import re
 import subprocess
 import sys
 import tempfile
@@ -152,13 +151,18 @@ class Wanted:
         return sorted(found)
 
 
-def marked_of(line):
-    """The nodes that the line of a hazard names, by the table of docs/FORMATS.md."""
-    found = re.match(r"hazard (H\d) (.*)", line)
-    if not found:
+def marked_of(answer):
+    """The nodes that `check --json` names of a hazard."""
+    if not answer or answer["verdict"] != "hazard":
         return []
-    numbers = found[2].split()
-    return [int(word) for word in {"H1": numbers[1:2], "H2": numbers[:2], "H3": numbers[:2], "H4": numbers[:2]}.get(found[1], numbers[:1])]
+    return answer["nodes"] if "nodes" in answer else [answer["node"]]
+
+
+def told_of(answer):
+    """What the page has to tell of an answer of `check --json`, at its top."""
+    if not answer:
+        return "not checked"
+    return f"sound, {answer['nodes']} nodes" if answer["verdict"] == "sound" else f"hazard {answer['hazard']}: node"
 
 
 def count(program):
@@ -186,6 +190,10 @@ class Looks(Tally):
 
     def printed(self, words, text):
         return answer(self.program, words, text)[1].decode()
+
+    def told(self, word, text):
+        """What a command answers with --json."""
+        return json.loads(self.printed(f"{word} --json", text))
 
     def written(self, name, data):
         path = self.room / name
@@ -218,7 +226,7 @@ class Looks(Tally):
         page.wait("Viewer.page.picture.scene !== Viewer.before[0] || document.getElementById('fault').textContent !== 'wait'")
         page.settle()
 
-    def has(self, name, page, submission, line):
+    def has(self, name, page, submission, check):
         """The picture has what the submission has, and what `check` says of it."""
         wanted, drawn = Wanted(submission), page.evaluate(COLLECT)
         self.is_so(f"{name}: boxes", sorted(drawn["boxes"]), wanted.boxes())
@@ -227,18 +235,18 @@ class Looks(Tally):
         self.is_so(f"{name}: arrows", sorted(drawn["arrows"]), wanted.arrows)
         self.is_so(f"{name}: transfers", sorted(drawn["transfers"]), wanted.transfers)
         self.is_so(f"{name}: pieces", sorted(drawn["pieces"]), list(range(wanted.pieces)))
-        self.is_so(f"{name}: marked", sorted(drawn["marked"]), sorted(marked_of(line)))
-        self.holds(f"{name}: {line or 'not checked'} is told", (line or "not checked") in page.evaluate("document.getElementById('verdict').textContent"))
+        self.is_so(f"{name}: marked", sorted(drawn["marked"]), sorted(marked_of(check)))
+        self.holds(f"{name}: {told_of(check)} is told", told_of(check) in page.evaluate("document.getElementById('verdict').textContent"))
         return drawn
 
     def submission(self, page, path):
         text = path.read_bytes()
-        line = self.printed("check", text).strip()
-        self.dropped(page, path, self.written("check.txt", line.encode()))
-        self.has(path.name, page, json.loads(text), line)
-        if line.startswith("hazard "):
+        check = self.told("check", text)
+        self.dropped(page, path, self.written("check.json", check))
+        self.has(path.name, page, json.loads(text), check)
+        if check["verdict"] == "hazard":
             told = page.evaluate("document.getElementById('hazard').textContent")
-            self.holds(f"{path.name}: the hazard is told", f"Hazard {line.split()[1]}" in told and "Missing: " in told)
+            self.holds(f"{path.name}: the hazard is told", f"Hazard {check['hazard']}" in told and "Missing: " in told)
             paths = page.evaluate("Viewer.page.picture.scene.facts.hazard.sides.map((side) => side.lines[0])")
             self.holds(f"{path.name}: both sides are told with their paths", paths and all(one in told for one in paths))
             self.holds(f"{path.name}: what is missing stands in the picture", page.evaluate("Viewer.page.picture.drawn.note.length") > 0)
@@ -247,14 +255,20 @@ class Looks(Tally):
         page = self.opened(HERE / "index.html")
         for path in sorted([*SUBMISSIONS.glob("*.json"), *PROFILE.glob("*.json")]):
             self.submission(page, path)
-        self.dropped(page, SUBMISSIONS / "missing_barrier.json", self.written("check.txt", b"hazard H2 2 3\n"))
+        self.dropped(page, SUBMISSIONS / "missing_barrier.json", self.written("check.json", {"verdict": "hazard", "hazard": "H2", "nodes": [2, 3]}))
         page.key("0")
         page.screenshot(self.folder / "hazard.png")
-        # The same from an object, as `check --json` prints it.
-        for told in ({"verdict": "hazard", "hazard": "H2", "nodes": [2, 3]}, {"verdict": "hazard", "hazards": [{"hazard": "H2", "nodes": [2, 3], "lines": ["because"]}]}):
-            self.dropped(page, SUBMISSIONS / "missing_barrier.json", self.written("check.json", told))
-            self.is_so("a hazard from an object", page.evaluate("Viewer.page.picture.drawn.marked"), [2, 3])
-        self.holds("an explanation is shown as it is", "because" in page.evaluate("document.getElementById('hazard').textContent"))
+        # Answers that are none, or not of this submission.
+        for value, words in [
+            ({"verdict": "hazard", "hazard": "H2"}, "$.nodes: a list is missing"),
+            ({"verdict": "good"}, "$.verdict: one of the words"),
+            ({"bound": 1, "heap": 2}, "$.units: a list is missing"),
+        ]:
+            self.dropped(page, self.written("answer.json", value))
+            told = page.evaluate("document.getElementById('fault').textContent")
+            self.holds(f"{words!r} is told, and not {told!r}", told.startswith("answer.json: This is nothing that ") and words in told)
+        self.dropped(page, SUBMISSIONS / "missing_barrier.json", self.written("check.json", {"verdict": "hazard", "hazard": "H8", "node": 2, "piece": 9}))
+        self.holds("a strange verdict is told", "not of this submission" in page.evaluate("document.getElementById('hazard').textContent"))
         self.ended("submissions", page)
 
     def frame(self, name, text, shot=None):
@@ -262,8 +276,8 @@ class Looks(Tally):
         path = self.made(name, data=text)
         page = self.opened(path)
         compiled = json.loads(self.printed("compile", text))
-        drawn = self.has(name, page, compiled, self.printed("check", json.dumps(compiled).encode()).strip())
-        kept = re.findall(r"^pass (\S+) kept$", self.printed("cull", text), re.M)
+        drawn = self.has(name, page, compiled, self.told("check", json.dumps(compiled).encode()))
+        kept = [one["name"] for one in self.told("cull", text)["passes"] if one["kept"]]
         frame = json.loads(text)
         named = page.evaluate("Viewer.page.picture.scene.program.nodes.filter((node) => node.kind === 'command').map((node) => node.name)")
         operations = [one["name"] for one in frame["passes"] if one["name"] in kept for _ in one.get("ops", [])]
@@ -271,13 +285,12 @@ class Looks(Tally):
         self.is_so(f"{name}: copies of exports", sum(one.endswith(".readback") for one in named), len(compiled["readbacks"]))
         self.is_so(f"{name}: passes without their whole name in a box", sorted(set(operations) - set(drawn["names"])), [])
         rects = page.evaluate(RECTS)
-        heap, *places = self.printed("place", text).splitlines()
-        placed = sorted((int(offset), int(size), unit) for offset, size, unit in (line.split() for line in places))
+        place = self.told("place", text)
+        placed = sorted((one["offset"], one["size"], one["unit"]) for one in place["units"])
         self.is_so(f"{name}: the heap", sorted((one["offset"], one["bytes"], one["name"]) for one in rects if one["memory"] == 0), placed)
         self.is_so(f"{name}: rectangles over each other", self.overlaps(rects), [])
-        bound = int(self.printed("bound", text).split()[1])
-        self.is_so(f"{name}: the bound", drawn["bound"], [bound])
-        self.holds(f"{name}: bytes of the heap are told", f"{int(heap.split()[1]):,} B" in page.evaluate("document.getElementById('chosen').textContent"))
+        self.is_so(f"{name}: the bound", drawn["bound"], [self.told("bound", text)["bound"]])
+        self.holds(f"{name}: bytes of the heap are told", f"{place['heap']:,} B" in page.evaluate("document.getElementById('chosen').textContent"))
         if shot:
             page.key("0")
             page.screenshot(self.folder / f"{shot}.png")
@@ -306,7 +319,7 @@ class Looks(Tally):
         times = page.evaluate("(({ begins, ends }) => [[...begins], [...ends]])(Viewer.page.picture.scene.times)")
         at = [times[1 if one["word"] == "end" else 0][one["node"]] for one in told]
         self.holds("time is the order of events", at == sorted(at) and len(at) > 10)
-        self.has("trace", page, json.loads(self.printed("compile", text)), "accepted 13 nodes")
+        self.has("trace", page, json.loads(self.printed("compile", text)), {"verdict": "sound", "nodes": 13})
         page.screenshot(self.folder / "trace.png")
         page.key("r")
         self.is_so("time by order again", page.evaluate("document.getElementById('time').textContent"), "Time: order")
@@ -322,7 +335,7 @@ class Looks(Tally):
         """Format 3: actions, names, joined barriers, hand-overs, what is external."""
         page = self.opened(HERE / "index.html")
         self.dropped(page, self.written("wide.json", made.wide()))
-        drawn = self.has("wide", page, made.wide(), "")
+        drawn = self.has("wide", page, made.wide(), None)
         self.holds("wide: names", {"draw the scene", "tone map", "present", "screen"} <= set(drawn["names"]))
         self.is_so("wide: memories", page.evaluate("Viewer.page.picture.scene.program.memories.map((memory) => memory.sort)"), ["external", "heap", "external"])
         self.is_so("wide: joined", page.evaluate("Viewer.page.picture.scene.program.nodes.filter((node) => node.joined).map((node) => node.number)"), [1, 4])

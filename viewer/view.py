@@ -36,6 +36,10 @@ def is_frame(text):
     return isinstance(value, dict) and ("passes" in value or "resources" in value) and "memories" not in value
 
 
+def verdict(texts):
+    return json.loads(texts["check"])["verdict"]
+
+
 def texts_of(program, text, traced):
     """What the page is given: the file, and what the program says of it."""
     given = {}
@@ -44,12 +48,13 @@ def texts_of(program, text, traced):
         given["frame"] = text.decode(errors="replace")
         status, compiled = asked(program, ["compile"], text)
         if status:
-            return {**given, "check": compiled}
+            # A fault, which is told as an answer of every command is.
+            return {**given, "check": asked(program, ["place", "--json"], text)[1]}
         submission = compiled.encode()
-        given.update((word, asked(program, [word], text)[1]) for word in ("cull", "place", "bound"))
+        given.update((word, asked(program, [word, "--json"], text)[1]) for word in ("cull", "place", "bound"))
     given["submission"] = submission.decode(errors="replace")
-    given["check"] = asked(program, ["check"], submission)[1]
-    if traced and given["check"].startswith("accepted "):
+    given["check"] = asked(program, ["check", "--json"], submission)[1]
+    if traced and verdict(given) == "sound":
         given["trace"] = asked(program, ["exec", "--trace"], submission)[1]
     return given
 
@@ -89,7 +94,7 @@ def main():
     except OSError as error:
         print(f"view: {error}", file=sys.stderr)
         sys.exit(5)
-    sys.exit(2 if texts["check"].startswith("fault ") else 0)
+    sys.exit(2 if verdict(texts) == "fault" else 0)
 
 
 if __name__ == "__main__":
