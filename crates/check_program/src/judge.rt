@@ -3,13 +3,15 @@
 ghost use Rattle.std.specs.Prelude.{◌≡◌, IfOk};
 ghost use Rattle.check_program.specs.Internal.Decided.{Decides, Judges};
 ghost use Rattle.check_order.specs.Orders.{IsLeast};
-ghost use Rattle.check_sync.specs.Rows.{Rows};
+ghost use Rattle.check_access_order.specs.Rows.{OrderRows};
+ghost use Rattle.check_access_order.specs.Ways.{HasWays};
 ghost use Rattle.check_access.specs.ValidView.{Listed, ValidView};
 ghost use Rattle.check_access.specs.Views.{view_of};
 
 use crate::Hazard;
 use base::{List, NoMemory};
 use check_access::{NodeAccess, View, node_accesses_of, view_of};
+use check_access_order::order_laws;
 use check_order::{Before, Drain, before_of, drain_of};
 use check_state::{first_load_hazard, first_state_hazard};
 use check_sync::first_flaw;
@@ -32,7 +34,8 @@ fn first_hazard(
     accesses: &[NodeAccess],
 ) -> Result<Option<Hazard>, NoMemory>
     requires shaped { ValidView view.now }
-    requires rows { Rows view.now before.now }
+    requires ways { HasWays view.now }
+    requires rows { OrderRows view.now before.now }
     requires listed { Listed view.now accesses.now }
     ensures { IfOk result (λ found. Decides view.now accesses.now found) }
 {
@@ -59,6 +62,7 @@ fn judge_order(
     requires order { IsLeast view.now.nodes order }
     ensures { IfOk result (Judges program.now) }
 {
+    order_laws();
     let before = before_of(alloc, program, view.edges(), order.as_slice())?;
     let accesses = node_accesses_of(alloc, view, order.as_slice())?;
     match first_hazard(alloc, view, &before, accesses.as_slice())? {
