@@ -1,13 +1,10 @@
 -- The accesses that an order lists, and pairs of them.
-use Rattle.std.proofs.Common.{◌≡◌, ◌⊎◌, inl, inr, ℕ, zero, suc, ◌<◌, ◌++◌, List, [], ◌∷◌, length, map, slice_get, Some, None, refl, sym, ap, ◌∙◌, subst, ⊎_elim, cond, eq-eqb, ne_eqb, arith}
+use Rattle.std.proofs.Common.{◌≡◌, ◌⊎◌, inl, inr, ℕ, zero, suc, ◌<◌, ◌++◌, List, [], ◌∷◌, map, slice_get, Some, None, refl, sym, ap, ◌∙◌, subst, ⊎_elim, cond, eq-eqb, ne_eqb, arith}
 use Rattle.std.specs.Option.{option_map, option_map_or}
-use Rattle.std.proofs.lemmas.Bool.{cases_lt}
-use Rattle.std.proofs.lemmas.List.{get_or_past}
 use Rattle.std.proofs.lemmas.Option.{slice_get-map}
 use Rattle.base.proofs.Lists.{got_front}
 use Rattle.check_order.specs.Orders.{Among, Distinct, before_in, Earlier}
-use Rattle.check_access.specs.ValidView.{ValidView, AccessAt, Has, NodeAccessAt}
-use Rattle.check_access.specs.Effects.{no_effect}
+use Rattle.check_access.specs.ValidView.{AccessAt, Has, NodeAccessAt}
 use Rattle.check_access.specs.Views.{View, accesses_of, node_access, node_accesses_of}
 use Rattle.check_access.specs.declared.access.Access.{Access}
 use Rattle.check_access.specs.declared.node_access.NodeAccess.{NodeAccess}

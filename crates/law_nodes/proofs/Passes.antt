@@ -1,6 +1,6 @@
 -- Nodes that make available stand after an access, and those that make visible before it.
 use Rattle.std.proofs.Common.{inl, inr, ℕ, sym, subst}
-use Rattle.base_reach.specs.Paths.{one, then_on}
+use Rattle.base_reach.specs.Paths.{then_on}
 use Rattle.check_access.specs.Views.{View}
 use Rattle.law_nodes.specs.Passing.{Before, UpTo}
 

@@ -7,7 +7,7 @@ use Rattle.base_reach.specs.Paths.{one, then_on}
 use Rattle.vk.specs.Sets.{meets}
 use Rattle.check_order.proofs.Filling.{edge_within}
 use Rattle.check_order.proofs.InOrder.{sync_is_path}
-use Rattle.check_order.specs.Edges.{is_sync, is_host, holds_back, sync_holds_back, edge}
+use Rattle.check_order.specs.Edges.{is_sync, holds_back, sync_holds_back, edge}
 use Rattle.check_access.specs.Views.{View}
 use Rattle.check_access_order.proofs.NodeKinds.{is_the_command, no_command, command_unsynced, link_alone, meets_by, meets_none}
 use Rattle.check_access_order.proofs.Ways.{at, commands, link, Held, held_new, Waits, Lets, up_to_on}

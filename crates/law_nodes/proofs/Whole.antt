@@ -1,7 +1,7 @@
 -- Where commands have one stage, the same accesses are synchronized by both orders, and the first flaw is the same.
 use Rattle.std.proofs.Common.{◌≢◌, inl, inr, ℕ, List, sym, ⊎_elim}
 use Rattle.law_nodes.specs.Synchronized as nodes
-use Rattle.check_sync.specs.Synchronized.{Clashing, Synchronized, PairSynchronized, Flawed, FirstFlaw}
+use Rattle.check_sync.specs.Synchronized.{Synchronized, PairSynchronized, Flawed, FirstFlaw}
 use Rattle.check_sync.specs.declared.sync_hazard.Flaw.{Flaw}
 use Rattle.check_sync.specs.declared.sync_hazard.Flaw.TheVariants.{Unordered, NotAvailable, NotVisible}
 use Rattle.check_access.specs.ValidView.{ValidView, Has, NodeAccessAt, Listed}
