@@ -72,7 +72,7 @@ pub is_same : (o : Option ℕ) (x : ℕ) → is_at o x ≡ true → o ≡ Some x
 is_same None x e = absurd (clash e)
 is_same (Some y) x e = ap (λ z. Some z) (eqb-true y x e)
 
-at_it : (o : Option ℕ) (x : ℕ) → o ≡ Some x → is_at o x ≡ true
+pub at_it : (o : Option ℕ) (x : ℕ) → o ≡ Some x → is_at o x ≡ true
 at_it o x e = ap (λ z. is_at z x) e ∙ eq-eqb x x refl
 
 pub never_false : (w : Bool) (o : Option ℕ) → (w ≡ true → (x : ℕ) × (o ≡ Some x)) → (w && is_none o) ≡ false

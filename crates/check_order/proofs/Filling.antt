@@ -11,23 +11,26 @@ use Rattle.base.proofs.Absence.{some_same}
 use Rattle.vk.specs.Sets as sets
 use Rattle.check_order.specs.Before.{place, joined}
 use Rattle.check_order.specs.Internal.Filling.{Tabled, AllEdges, Filling, Added, Covered, takes_over, Passes, QueueDone, NodeDone}
-use Rattle.check_order.specs.Edges.{is_wait, is_host, is_signal, is_sync, is_at, signals, holds_back, next_signal, meeting, node_at, goes_to, signalled, edge}
+use Rattle.check_order.specs.Edges.{is_wait, is_host, is_signal, is_sync, is_at, signals, holds_back, sync_holds_back, next_signal, meeting, node_at, goes_to, signalled, edge, sync_edge}
 use Rattle.check_order.specs.Nodes.{no_node}
 use Rattle.check_order.specs.declared.kind.Kind.{Kind}
 use Rattle.check_order.specs.declared.kind.Kind.TheVariants.{Command}
 use Rattle.check_order.specs.declared.node.Node.{Node}
-use Rattle.check_order.proofs.Bridge.{EdgeCase, edge_cases, met_wait}
+use Rattle.check_order.proofs.Bridge.{EdgeCase, edge_cases, met_wait, at_it}
 use Rattle.base.proofs.Booleans.{clash}
 use Rattle.check_order.proofs.Lines.{met_sync}
 use Rattle.base_reach.specs.Pairs.{Pairs, has}
 use Rattle.base_reach.specs.Paths.{Path, one, then_on}
 
 -- the edge of x to what it holds back
-pub held_edge : (nodes : List Node) (x y : ℕ) → x < y → holds_back (node_at nodes x) (node_at nodes y) ≡ true → edge nodes x y ≡ true
-held_edge nodes x y lt h = or_left (nat_lt x y && holds_back (node_at nodes x) (node_at nodes y)) (signalled nodes x y || is_at (meeting nodes (node_at nodes y).kind) x) (and_from (nat_lt x y) (holds_back (node_at nodes x) (node_at nodes y)) (lt-ltb x y lt) h)
+pub held_edge : (nodes : List Node) (x y : ℕ) → x < y → sync_holds_back (node_at nodes x) (node_at nodes y) ≡ true → sync_edge nodes x y ≡ true
+held_edge nodes x y lt h = or_left (nat_lt x y && sync_holds_back (node_at nodes x) (node_at nodes y)) (signalled nodes x y || is_at (meeting nodes (node_at nodes y).kind) x) (and_from (nat_lt x y) (sync_holds_back (node_at nodes x) (node_at nodes y)) (lt-ltb x y lt) h)
 
-pub signal_edge : (nodes : List Node) (x y : ℕ) → signalled nodes x y ≡ true → edge nodes x y ≡ true
-signal_edge nodes x y h = or_right (nat_lt x y && holds_back (node_at nodes x) (node_at nodes y)) (signalled nodes x y || is_at (meeting nodes (node_at nodes y).kind) x) (or_left (signalled nodes x y) (is_at (meeting nodes (node_at nodes y).kind) x) h)
+pub signal_edge : (nodes : List Node) (x y : ℕ) → signalled nodes x y ≡ true → sync_edge nodes x y ≡ true
+signal_edge nodes x y h = or_right (nat_lt x y && sync_holds_back (node_at nodes x) (node_at nodes y)) (signalled nodes x y || is_at (meeting nodes (node_at nodes y).kind) x) (or_left (signalled nodes x y) (is_at (meeting nodes (node_at nodes y).kind) x) h)
+
+pub met_edge : (nodes : List Node) (x y : ℕ) → meeting nodes (node_at nodes y).kind ≡ Some x → sync_edge nodes x y ≡ true
+met_edge nodes x y e = or_right (nat_lt x y && sync_holds_back (node_at nodes x) (node_at nodes y)) (signalled nodes x y || is_at (meeting nodes (node_at nodes y).kind) x) (or_right (signalled nodes x y) (is_at (meeting nodes (node_at nodes y).kind) x) (at_it (meeting nodes (node_at nodes y).kind) x e))
 
 pub goes_next : (nodes : List Node) (x y : ℕ) → is_signal (node_at nodes x).kind ≡ true → next_signal nodes x ≡ Some y → signalled nodes x y ≡ true
 goes_next nodes x y s e = and_from (is_signal (node_at nodes x).kind) (goes_to nodes y (next_signal nodes x)) s (ap (λ o. goes_to nodes y o) e ∙ eq-eqb y y refl)
@@ -41,21 +44,21 @@ meets_more a b c h m = ⊎_elim (λ e. absurd (clash (sym (ap (λ t. not t) (eq-
     none : bit_and a c ≡ 0 → bit_and b c ≡ 0
     none e = ap (λ z. bit_and z c) (sym (eqb-true (bit_and a b) b h)) ∙ ap (λ z. bit_and z c) (and_comm a b) ∙ and_assoc c b a ∙ ap (λ z. bit_and b z) e ∙ and_zero_r b
 
-pub passes : (nodes : List Node) (x y : ℕ) → x < y → holds_back (node_at nodes x) (node_at nodes y) ≡ true → takes_over (node_at nodes y) (node_at nodes x) ≡ true → Passes nodes x y
+pub passes : (nodes : List Node) (x y : ℕ) → x < y → sync_holds_back (node_at nodes x) (node_at nodes y) ≡ true → takes_over (node_at nodes y) (node_at nodes x) ≡ true → Passes nodes x y
 passes nodes x y lt h t w less fits k = (held_edge nodes x y lt h, held_edge nodes y w less on)
   where
-    on : holds_back (node_at nodes y) (node_at nodes w) ≡ true
+    on : sync_holds_back (node_at nodes y) (node_at nodes w) ≡ true
     on =
         let a = node_at nodes x in
         let b = node_at nodes y in
         let c = node_at nodes w in
-        let p = and_parts (a.queue == b.queue) ((is_sync a.kind || is_sync b.kind) && sets.meets a.dst_stages.0 b.src_stages.0) h in
-        let q = and_parts (a.queue == c.queue) ((is_sync a.kind || is_sync c.kind) && sets.meets a.dst_stages.0 c.src_stages.0) k in
-        let r = and_parts (is_sync a.kind || is_sync c.kind) (sets.meets a.dst_stages.0 c.src_stages.0) q.1 in
+        let p = and_parts (a.queue == b.queue) ((is_sync a.kind && is_sync b.kind) && sets.meets a.dst_stages.0 b.src_stages.0) h in
+        let q = and_parts (a.queue == c.queue) ((is_sync a.kind && is_sync c.kind) && sets.meets a.dst_stages.0 c.src_stages.0) k in
+        let r = and_parts (is_sync a.kind && is_sync c.kind) (sets.meets a.dst_stages.0 c.src_stages.0) q.1 in
         let s = and_parts (is_sync b.kind) (sets.has b.dst_stages.0 a.dst_stages.0) t in
-        and_from (b.queue == c.queue) ((is_sync b.kind || is_sync c.kind) && sets.meets b.dst_stages.0 c.src_stages.0)
+        and_from (b.queue == c.queue) ((is_sync b.kind && is_sync c.kind) && sets.meets b.dst_stages.0 c.src_stages.0)
         (eq-eqb b.queue c.queue (sym (eqb-true a.queue b.queue p.0) ∙ eqb-true a.queue c.queue q.0))
-        (and_from (is_sync b.kind || is_sync c.kind) (sets.meets b.dst_stages.0 c.src_stages.0) (or_left (is_sync b.kind) (is_sync c.kind) s.0) (meets_more b.dst_stages.0 a.dst_stages.0 c.src_stages.0 s.1 r.1))
+        (and_from (is_sync b.kind && is_sync c.kind) (sets.meets b.dst_stages.0 c.src_stages.0) (and_from (is_sync b.kind) (is_sync c.kind) s.0 (and_parts (is_sync a.kind) (is_sync c.kind) r.0).1) (meets_more b.dst_stages.0 a.dst_stages.0 c.src_stages.0 s.1 r.1))
 
 -- what is of a kind stands in the list
 within_list : (nodes : List Node) (test : Kind → Bool) → test Command ≡ false → (n : ℕ) → test (node_at nodes n).kind ≡ true → n < length nodes
@@ -84,15 +87,34 @@ edge_within nodes x y h = go (edge_cases nodes x y h)
     go (inr (inr (inl a))) = ((met_sync nodes (node_at nodes y).kind x a).0, within_list nodes is_wait refl y (met_wait nodes (node_at nodes y).kind x a))
     go (inr (inr (inr a))) = (within_list nodes is_signal refl x a.1, within_list nodes is_host refl y a.0)
 
+-- an edge between synchronizing nodes is one between nodes
+pub sync_is_edge : (nodes : List Node) (x y : ℕ) → sync_edge nodes x y ≡ true → edge nodes x y ≡ true
+sync_is_edge nodes x y h = ⊎_elim
+    (λ k. or_left (nat_lt x y && holds_back (node_at nodes x) (node_at nodes y)) (signalled nodes x y || is_at (meeting nodes (node_at nodes y).kind) x) (held k))
+    (λ k. or_right (nat_lt x y && holds_back (node_at nodes x) (node_at nodes y)) (signalled nodes x y || is_at (meeting nodes (node_at nodes y).kind) x) k)
+    (or_cases (nat_lt x y && sync_holds_back (node_at nodes x) (node_at nodes y)) (signalled nodes x y || is_at (meeting nodes (node_at nodes y).kind) x) h)
+  where
+    held : (nat_lt x y && sync_holds_back (node_at nodes x) (node_at nodes y)) ≡ true → (nat_lt x y && holds_back (node_at nodes x) (node_at nodes y)) ≡ true
+    held k =
+        let a = node_at nodes x in
+        let b = node_at nodes y in
+        let p = and_parts (nat_lt x y) (sync_holds_back a b) k in
+        let q = and_parts (a.queue == b.queue) ((is_sync a.kind && is_sync b.kind) && sets.meets a.dst_stages.0 b.src_stages.0) p.1 in
+        let r = and_parts (is_sync a.kind && is_sync b.kind) (sets.meets a.dst_stages.0 b.src_stages.0) q.1 in
+        and_from (nat_lt x y) (holds_back a b) p.0 (and_from (a.queue == b.queue) ((is_sync a.kind || is_sync b.kind) && sets.meets a.dst_stages.0 b.src_stages.0) q.0 (and_from (is_sync a.kind || is_sync b.kind) (sets.meets a.dst_stages.0 b.src_stages.0) (or_left (is_sync a.kind) (is_sync b.kind) (and_parts (is_sync a.kind) (is_sync b.kind) r.0).0) r.1))
+
+pub sync_within : (nodes : List Node) (x y : ℕ) → sync_edge nodes x y ≡ true → (x < length nodes) × (y < length nodes)
+sync_within nodes x y h = edge_within nodes x y (sync_is_edge nodes x y h)
+
 -- a set with one edge more
-pub add_one : (nodes : List Node) (places : List ℕ) (old new : Pairs) (x y : ℕ) → Filling nodes places old → edge nodes x y ≡ true → new.count ≡ old.count → ((a b : ℕ) → has new a b ≡ (((a == place places x) && (b == place places y)) || has old a b)) → Filling nodes places new × Added old new × (joined new places x y ≡ true)
+pub add_one : (nodes : List Node) (places : List ℕ) (old new : Pairs) (x y : ℕ) → Filling nodes places old → sync_edge nodes x y ≡ true → new.count ≡ old.count → ((a b : ℕ) → has new a b ≡ (((a == place places x) && (b == place places y)) || has old a b)) → Filling nodes places new × Added old new × (joined new places x y ≡ true)
 add_one nodes places old new x y F e count is = (record { tabled = subst (λ n. Tabled nodes places n) (sym count) F.tabled; edges = edges }, record { count = count; kept = kept }, there)
   where
     edges : AllEdges nodes places new
     edges a b h = ⊎_elim
         (λ k.
         let p = and_parts (a == place places x) (b == place places y) k in
-        let w = edge_within nodes x y e in
+        let w = sync_within nodes x y e in
         (x, y, record { from = eqb-true a (place places x) p.0; to = eqb-true b (place places y) p.1; from_node = w.0; to_node = w.1; is_edge = e }))
         (λ k. F.edges a b k)
         (or_cases ((a == place places x) && (b == place places y)) (has old a b) (sym (is a b) ∙ h))
@@ -114,13 +136,13 @@ covered_on nodes places old new x y S (inl h) = inl (S.kept (place places x) (pl
 covered_on nodes places old new x y S (inr h) = inr h
 
 -- one node of the line more
-pub line_more : (nodes : List Node) (places : List ℕ) (old new : Pairs) (x n : ℕ) → Added old new → QueueDone nodes places old x n → (holds_back (node_at nodes x) (node_at nodes n) ≡ true → joined new places x n ≡ true) → QueueDone nodes places new x (n + 1)
+pub line_more : (nodes : List Node) (places : List ℕ) (old new : Pairs) (x n : ℕ) → Added old new → QueueDone nodes places old x n → (sync_holds_back (node_at nodes x) (node_at nodes n) ≡ true → joined new places x n ≡ true) → QueueDone nodes places new x (n + 1)
 line_more nodes places old new x n S D there y lt less h = ⊎_elim
     (λ l. covered_on nodes places old new x y S (D y lt l h))
-    (λ g. let e : n ≡ y = omega (arith, g, less) in inl (subst (λ z. joined new places x z ≡ true) e (there (subst (λ z. holds_back (node_at nodes x) (node_at nodes z) ≡ true) (sym e) h))))
+    (λ g. let e : n ≡ y = omega (arith, g, less) in inl (subst (λ z. joined new places x z ≡ true) e (there (subst (λ z. sync_holds_back (node_at nodes x) (node_at nodes z) ≡ true) (sym e) h))))
     (cases_lt y n)
 
-pub line_rest : (nodes : List Node) (places : List ℕ) (old new : Pairs) (x n : ℕ) → Added old new → QueueDone nodes places old x n → (holds_back (node_at nodes x) (node_at nodes n) ≡ true → joined new places x n ≡ true) → Passes nodes x n → QueueDone nodes places new x (length nodes)
+pub line_rest : (nodes : List Node) (places : List ℕ) (old new : Pairs) (x n : ℕ) → Added old new → QueueDone nodes places old x n → (sync_holds_back (node_at nodes x) (node_at nodes n) ≡ true → joined new places x n ≡ true) → Passes nodes x n → QueueDone nodes places new x (length nodes)
 line_rest nodes places old new x n S D there P y lt less h = ⊎_elim
     (λ l. line_more nodes places old new x n S D there y lt l h)
     (λ g. let t = P y (omega (arith, g)) less h in inr (n, t.0, t.1))
@@ -142,12 +164,12 @@ node_done nodes places first second third n S T line signal met = record {
 }
 
 -- x holds y back
-pub held_one : (nodes : List Node) (places : List ℕ) (old new : Pairs) (x y : ℕ) (from to : Node) → from ≡ node_at nodes x → to ≡ node_at nodes y → x < y → holds_back from to ≡ true → Filling nodes places old → new.count ≡ old.count → ((a b : ℕ) → has new a b ≡ (((a == place places x) && (b == place places y)) || has old a b)) → Filling nodes places new × Added old new × (joined new places x y ≡ true)
-held_one nodes places old new x y from to e f lt h F count is = add_one nodes places old new x y F (held_edge nodes x y lt (subst (λ z. holds_back z (node_at nodes y) ≡ true) e (subst (λ z. holds_back from z ≡ true) f h))) count is
+pub held_one : (nodes : List Node) (places : List ℕ) (old new : Pairs) (x y : ℕ) (from to : Node) → from ≡ node_at nodes x → to ≡ node_at nodes y → x < y → sync_holds_back from to ≡ true → Filling nodes places old → new.count ≡ old.count → ((a b : ℕ) → has new a b ≡ (((a == place places x) && (b == place places y)) || has old a b)) → Filling nodes places new × Added old new × (joined new places x y ≡ true)
+held_one nodes places old new x y from to e f lt h F count is = add_one nodes places old new x y F (held_edge nodes x y lt (subst (λ z. sync_holds_back z (node_at nodes y) ≡ true) e (subst (λ z. sync_holds_back from z ≡ true) f h))) count is
 
-pub held_passes : (nodes : List Node) (x y : ℕ) (from to : Node) (over : Bool) → from ≡ node_at nodes x → to ≡ node_at nodes y → x < y → holds_back from to ≡ true → over ≡ takes_over to from → over ≡ true → Passes nodes x y
+pub held_passes : (nodes : List Node) (x y : ℕ) (from to : Node) (over : Bool) → from ≡ node_at nodes x → to ≡ node_at nodes y → x < y → sync_holds_back from to ≡ true → over ≡ takes_over to from → over ≡ true → Passes nodes x y
 held_passes nodes x y from to over e f lt h is on = passes nodes x y lt
-    (subst (λ z. holds_back z (node_at nodes y) ≡ true) e (subst (λ z. holds_back from z ≡ true) f h))
+    (subst (λ z. sync_holds_back z (node_at nodes y) ≡ true) e (subst (λ z. sync_holds_back from z ≡ true) f h))
     (subst (λ z. takes_over (node_at nodes y) z ≡ true) e (subst (λ z. takes_over z from ≡ true) f (sym is ∙ on)))
 
 -- one host read more
@@ -172,48 +194,48 @@ next_done nodes places new x n e there y h =
 
 -- when all edges are added or covered, a path of pairs is a path of edges
 module _ (nodes : List Node) (places : List ℕ) (pairs : Pairs) (F : Filling nodes places pairs) (D : (n : ℕ) → n < length nodes → NodeDone nodes places pairs n) where
-  cover : (n x y : ℕ) → place places y < place places x + n → edge nodes x y ≡ true → Path (λ a b. has pairs a b) (place places x) (place places y)
+  cover : (n x y : ℕ) → place places y < place places x + n → sync_edge nodes x y ≡ true → Path (λ a b. has pairs a b) (place places x) (place places y)
   cover zero x y near e = let f = F.tabled.forward x y e in absurd (omega (arith, f, near))
   cover (suc n) x y near e = ⊎_elim
-      (λ a. let p = and_parts (nat_lt x y) (holds_back (node_at nodes x) (node_at nodes y)) a in by (λ a b l k. cover n a b l k) ((D x w.0).line y (ltb-true x y p.0) w.1 p.1))
+      (λ a. let p = and_parts (nat_lt x y) (sync_holds_back (node_at nodes x) (node_at nodes y)) a in by (λ a b l k. cover n a b l k) ((D x w.0).line y (ltb-true x y p.0) w.1 p.1))
       (λ a. ⊎_elim
       (λ b. one ((D x w.0).signal y w.1 b))
       (λ b. one ((D y w.1).met x (at_some (meeting nodes (node_at nodes y).kind) b)))
       (or_cases (signalled nodes x y) (is_at (meeting nodes (node_at nodes y).kind) x) a))
-      (or_cases (nat_lt x y && holds_back (node_at nodes x) (node_at nodes y)) (signalled nodes x y || is_at (meeting nodes (node_at nodes y).kind) x) e)
+      (or_cases (nat_lt x y && sync_holds_back (node_at nodes x) (node_at nodes y)) (signalled nodes x y || is_at (meeting nodes (node_at nodes y).kind) x) e)
     where
       w : (x < length nodes) × (y < length nodes)
-      w = edge_within nodes x y e
+      w = sync_within nodes x y e
 
       at_some : (o : Option ℕ) → is_at o x ≡ true → o ≡ Some x
       at_some None h = absurd (clash h)
       at_some (Some m) h = ap (λ z. Some z) (eqb-true m x h)
 
-      by : ((a b : ℕ) → place places b < place places a + n → edge nodes a b ≡ true → Path (λ a b. has pairs a b) (place places a) (place places b)) → Covered nodes places pairs x y → Path (λ a b. has pairs a b) (place places x) (place places y)
+      by : ((a b : ℕ) → place places b < place places a + n → sync_edge nodes a b ≡ true → Path (λ a b. has pairs a b) (place places a) (place places b)) → Covered nodes places pairs x y → Path (λ a b. has pairs a b) (place places x) (place places y)
       by rest (inl h) = one h
       by rest (inr t) =
           let f = F.tabled.forward x t.0 t.1 in
           let g = F.tabled.forward t.0 y t.2 in
           then_on (rest x t.0 (omega (arith, f, g, near)) t.1) (rest t.0 y (omega (arith, f, g, near)) t.2)
 
-  forth : (x y : ℕ) → Path (edge nodes) x y → Path (λ a b. has pairs a b) (place places x) (place places y)
+  forth : (x y : ℕ) → Path (sync_edge nodes) x y → Path (λ a b. has pairs a b) (place places x) (place places y)
   forth x y (one e) = cover (place places y + 1) x y (omega arith) e
   forth x y (then_on {b = z} p q) = then_on (forth x z p) (forth z y q)
 
-  back : (a b : ℕ) → Path (λ a b. has pairs a b) a b → (x : ℕ) × (y : ℕ) × (a ≡ place places x) × (b ≡ place places y) × (x < length nodes) × (y < length nodes) × Path (edge nodes) x y
+  back : (a b : ℕ) → Path (λ a b. has pairs a b) a b → (x : ℕ) × (y : ℕ) × (a ≡ place places x) × (b ≡ place places y) × (x < length nodes) × (y < length nodes) × Path (sync_edge nodes) x y
   back a b (one h) = let t = F.edges a b h in (t.0, t.1, t.2.from, t.2.to, t.2.from_node, t.2.to_node, one t.2.is_edge)
   back a b (then_on {b = m} p q) =
       let s = back a m p in
       let t = back m b q in
       let same : s.1 ≡ t.0 = F.tabled.once s.1 t.0 s.5 t.4 (sym s.3 ∙ t.2) in
-      (s.0, t.1, s.2, t.3, s.4, t.5, then_on s.6 (subst (λ z. Path (edge nodes) z t.1) (sym same) t.6))
+      (s.0, t.1, s.2, t.3, s.4, t.5, then_on s.6 (subst (λ z. Path (sync_edge nodes) z t.1) (sym same) t.6))
 
-  pub same_paths : (x y : ℕ) → x < length nodes → y < length nodes → Path (λ a b. has pairs a b) (place places x) (place places y) ↔ Path (edge nodes) x y
+  pub same_paths : (x y : ℕ) → x < length nodes → y < length nodes → Path (λ a b. has pairs a b) (place places x) (place places y) ↔ Path (sync_edge nodes) x y
   same_paths x y fx fy = (there, forth x y)
     where
-      there : Path (λ a b. has pairs a b) (place places x) (place places y) → Path (edge nodes) x y
+      there : Path (λ a b. has pairs a b) (place places x) (place places y) → Path (sync_edge nodes) x y
       there p =
           let t = back (place places x) (place places y) p in
           let ex : x ≡ t.0 = F.tabled.once x t.0 fx t.4 t.2 in
           let ey : y ≡ t.1 = F.tabled.once y t.1 fy t.5 t.3 in
-          subst (λ z. Path (edge nodes) z y) (sym ex) (subst (λ z. Path (edge nodes) t.0 z) (sym ey) t.6)
+          subst (λ z. Path (sync_edge nodes) z y) (sym ex) (subst (λ z. Path (sync_edge nodes) t.0 z) (sym ey) t.6)

@@ -1,10 +1,10 @@
 -- Happens-before and the orders of the nodes.
 use Rattle.std.proofs.Common.{◌≡◌, ◌≢◌, ◌⊎◌, inl, inr, ℕ, ◌<◌, List, [], ◌∷◌, length, sym, ap, subst, ⊎_elim, eq-eqb, ne_eqb, cond}
 use Rattle.std.proofs.lemmas.Bool.{cases_eq}
-use Rattle.check_order.specs.Edges.{edge}
+use Rattle.check_order.specs.Edges.{edge, sync_edge}
 use Rattle.check_order.specs.Orders.{Among, before_in, Earlier, Order}
 use Rattle.check_order.specs.declared.node.Node.{Node}
-use Rattle.check_order.proofs.Filling.{edge_within}
+use Rattle.check_order.proofs.Filling.{edge_within, sync_is_edge}
 use Rattle.base_reach.specs.Paths.{Path, one, then_on}
 
 pub up_to : (u n : ℕ) (list : List ℕ) → u ≡ n → before_in (u ∷ list) n ≡ []
@@ -49,3 +49,8 @@ goes_not_back nodes order O x y p = not_both order x y (goes_forward nodes order
 pub path_within : (nodes : List Node) (x y : ℕ) → Path (edge nodes) x y → (x < length nodes) × (y < length nodes)
 path_within nodes x y (one e) = edge_within nodes x y e
 path_within nodes x y (then_on {b = m} p q) = ((path_within nodes x m p).0, (path_within nodes m y q).1)
+
+-- a path over synchronizing nodes is one over all nodes
+pub sync_is_path : (nodes : List Node) (x y : ℕ) → Path (sync_edge nodes) x y → Path (edge nodes) x y
+sync_is_path nodes x y (one e) = one (sync_is_edge nodes x y e)
+sync_is_path nodes x y (then_on {b = m} p q) = then_on (sync_is_path nodes x m p) (sync_is_path nodes m y q)

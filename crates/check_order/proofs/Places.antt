@@ -3,10 +3,10 @@ use Rattle.std.proofs.Common.{◌≡◌, ◌⊎◌, ◌↔◌, inl, inr, ℕ, ze
 use Rattle.std.proofs.lemmas.Bool.{cases_eq, cases_lt}
 use Rattle.check_order.specs.Before.{place, joined}
 use Rattle.check_order.specs.Internal.Filling.{Tabled, Filling, NodeDone}
-use Rattle.check_order.specs.Edges.{edge}
+use Rattle.check_order.specs.Edges.{sync_edge}
 use Rattle.check_order.specs.Orders.{Among, Distinct, before_in, Earlier, Order}
 use Rattle.check_order.specs.declared.node.Node.{Node}
-use Rattle.check_order.proofs.Filling.{edge_within, same_paths}
+use Rattle.check_order.proofs.Filling.{sync_is_edge, sync_within, same_paths}
 use Rattle.base_reach.specs.Pairs.{Pairs, has}
 use Rattle.base_reach.specs.Paths.{Path}
 
@@ -124,14 +124,14 @@ module _ (nodes : List Node) (order places : List ℕ) (O : Order nodes order) (
     below = λ n lt. (placed n lt).0;
     once = λ x y fx fy e. sym (placed x fx).1 ∙ ap (λ z. get_or order z 0) e ∙ (placed y fy).1;
     forward = λ x y e.
-        let w = edge_within nodes x y e in
+        let w = sync_within nodes x y e in
         let p = placed x w.0 in
         let q = placed y w.1 in
-        earlier_less order x y (place places x) (place places y) O.once p.0 q.0 p.1 q.1 (O.forward x y (O.all y w.1) e);
+        earlier_less order x y (place places x) (place places y) O.once p.0 q.0 p.1 q.1 (O.forward x y (O.all y w.1) (sync_is_edge nodes x y e));
   }
 
 -- rows with all edges, closed
-pub closed_rows : (nodes : List Node) (places : List ℕ) (pairs new : Pairs) → Filling nodes places pairs → ((n : ℕ) → n < length nodes → NodeDone nodes places pairs n) → ((a b : ℕ) → (has new a b ≡ true) ↔ Path (λ x y. has pairs x y) a b) → (x y : ℕ) → x < length nodes → y < length nodes → (joined new places x y ≡ true) ↔ Path (edge nodes) x y
+pub closed_rows : (nodes : List Node) (places : List ℕ) (pairs new : Pairs) → Filling nodes places pairs → ((n : ℕ) → n < length nodes → NodeDone nodes places pairs n) → ((a b : ℕ) → (has new a b ≡ true) ↔ Path (λ x y. has pairs x y) a b) → (x y : ℕ) → x < length nodes → y < length nodes → (joined new places x y ≡ true) ↔ Path (sync_edge nodes) x y
 closed_rows nodes places pairs new F D is x y fx fy =
     let s = same_paths nodes places pairs F D x y fx fy in
     let t = is (place places x) (place places y) in

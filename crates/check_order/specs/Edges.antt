@@ -74,3 +74,15 @@ abbrev pub edge : List Node → ℕ → ℕ → Bool
 edge nodes x y =
     (nat_lt x y && holds_back (node_at nodes x) (node_at nodes y))
     || (signalled nodes x y || is_at (meeting nodes (node_at nodes y).kind) x)
+
+-- AMONG SYNCHRONIZING NODES ALONE
+
+-- the first holds the second back, where it stands before it on its queue, and neither is a command
+abbrev pub sync_holds_back : Node → Node → Bool
+sync_holds_back a b = (a.queue == b.queue) && ((is_sync a.kind && is_sync b.kind) && meets a.dst_stages.0 b.src_stages.0)
+
+-- as `edge`, but none from a command or to one
+abbrev pub sync_edge : List Node → ℕ → ℕ → Bool
+sync_edge nodes x y =
+    (nat_lt x y && sync_holds_back (node_at nodes x) (node_at nodes y))
+    || (signalled nodes x y || is_at (meeting nodes (node_at nodes y).kind) x)

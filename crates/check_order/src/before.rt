@@ -1,11 +1,10 @@
-//! What happens before what.
+//! What happens before what among synchronizing nodes.
 
 ghost use Rattle.std.specs.Prelude.{◌≡◌, ◌<◌, ◌≤◌, ◌↔◌, ℕ, length, true, get_or, None, Some, IfOk};
 ghost use Rattle.base.specs.Maxima.{max_nodes};
 ghost use Rattle.check_order.specs.Before.{joined, happens, place};
 ghost use Rattle.check_order.specs.Internal.Filling.{Filling, Added, Tabled, Passes, QueueDone, NodeDone};
-ghost use Rattle.check_order.specs.Edges.{edge, node_at, holds_back, signalled, meeting, is_signal, is_host, next_signal};
-ghost use Rattle.check_order.specs.Laws.{IsWithin};
+ghost use Rattle.check_order.specs.Edges.{sync_edge, node_at, sync_holds_back, signalled, meeting, is_signal, is_host, next_signal};
 ghost use Rattle.check_order.specs.Nodes.{program_nodes};
 ghost use Rattle.check_order.specs.Orders.{Order, Distinct};
 ghost use Rattle.base_reach.specs.Pairs.{has};
@@ -18,7 +17,8 @@ use program::ValidProgram;
 use std::alloc::Global;
 use std::marker::Model;
 
-/// What happens before what: the pairs of nodes that a path of direct edges joins. It has one bit for each two nodes.
+/// What happens before what: the pairs of synchronizing nodes (barriers, waits, signals and host reads) that a path of edges
+/// between these joins. It has one bit for each two nodes; those of commands are never set.
 #[derive(Debug, Drop)]
 pub struct Before {
     // Over the places of an order, in which each edge goes forward.
@@ -45,7 +45,7 @@ fn add_held(rows: &mut Rows, edges: &Edges, places: &[u32], x: usize, y: usize) 
     requires y { y < length edges.now }
     ensures filling { Filling edges.now places.now rows.new }
     ensures added { Added rows.old rows.new }
-    ensures there { holds_back (node_at edges.now x) (node_at edges.now y) ≡ true → joined rows.new places.now x y ≡ true }
+    ensures there { sync_holds_back (node_at edges.now x) (node_at edges.now y) ≡ true → joined rows.new places.now x y ≡ true }
     ensures passes { result ≡ true → Passes edges.now x y }
 {
     let from = edges.node(x);
@@ -176,7 +176,7 @@ fn rows_of(alloc: Global, edges: &Edges, order: &[u32], places: &[u32]) -> Resul
     requires few { length order.now ≤ max_nodes }
     requires tabled { Tabled edges.now places.now (length order.now) }
     ensures count { IfOk result (λ rows. rows.count ≡ length order.now) }
-    ensures paths { IfOk result (λ rows. (x y : ℕ) → x < length edges.now → y < length edges.now → (joined rows places.now x y ≡ true) ↔ Path (edge edges.now) x y) }
+    ensures paths { IfOk result (λ rows. (x y : ℕ) → x < length edges.now → y < length edges.now → (joined rows places.now x y ≡ true) ↔ Path (sync_edge edges.now) x y) }
 {
     let mut rows = Rows::empty(alloc, order.len() as u32)?;
     add_all(&mut rows, edges, places);
@@ -184,7 +184,8 @@ fn rows_of(alloc: Global, edges: &Edges, order: &[u32], places: &[u32]) -> Resul
     Ok(rows)
 }
 
-/// What happens before what in a program. The edges are those of the program, and the order is one of its nodes.
+/// What happens before what among the synchronizing nodes of a program. The edges are those of the program, and the order is one
+/// of its nodes.
 pub fn before_of(
     alloc: Global,
     program: &ValidProgram,
@@ -194,8 +195,7 @@ pub fn before_of(
     requires edges { edges.now ≡ program_nodes program.now }
     requires order { Order (program_nodes program.now) order.now }
     ensures count { IfOk result (λ before. length before.places ≡ length (program_nodes program.now)) }
-    ensures happens { IfOk result (λ before. (x y : ℕ) → x < length (program_nodes program.now) → y < length (program_nodes program.now) → (happens before x y ≡ true) ↔ Path (edge (program_nodes program.now)) x y) }
-    ensures within { IfOk result (λ before. IsWithin (program_nodes program.now)) }
+    ensures happens { IfOk result (λ before. (x y : ℕ) → x < length (program_nodes program.now) → y < length (program_nodes program.now) → (happens before x y ≡ true) ↔ Path (sync_edge (program_nodes program.now)) x y) }
 {
     let places = places_of(alloc, order, edges.count())?;
     let rows = rows_of(alloc, edges, order, &places)?;

@@ -2,7 +2,7 @@
 
 ghost use Rattle.std.specs.Prelude.{◌≡◌, ◌<◌, ◌≤◌, length, true, IfOk};
 ghost use Rattle.base.specs.Maxima.{max_nodes};
-ghost use Rattle.check_order.specs.Edges.{edge, node_at, is_at, is_signal, next_signal, meeting, signalled};
+ghost use Rattle.check_order.specs.Edges.{node_at, is_signal, next_signal, meeting};
 ghost use Rattle.check_order.specs.Internal.Tables.{link_of};
 ghost use Rattle.check_order.specs.Nodes.{program_nodes};
 
@@ -14,8 +14,8 @@ use program::ValidProgram;
 use std::alloc::Global;
 use std::marker::Model;
 
-/// The direct edges of a program. They are not listed, since there can be as many as half the square of the number of
-/// nodes: each answer is computed from the nodes and their signals.
+/// The direct edges of a program: its nodes, and what signals and waits are joined to. They are not listed, since there can be as
+/// many as half the square of the number of nodes.
 #[derive(Debug, Drop)]
 pub struct Edges {
     nodes: List<Node>,
@@ -42,15 +42,6 @@ pub fn direct(alloc: Global, program: &ValidProgram) -> Result<Edges, NoMemory>
     let nodes = program_nodes(alloc, program)?;
     let links = links_of(alloc, &nodes)?;
     Ok(Edges { nodes, links })
-}
-
-fn is_at(link: Option<usize>, n: usize) -> bool
-    ensures { result ≡ is_at link n }
-{
-    match link {
-        Some(m) => m == n,
-        None => false,
-    }
 }
 
 impl Edges {
@@ -95,32 +86,5 @@ impl Edges {
             Kind::Wait { .. } => self.link(n),
             _ => None,
         }
-    }
-
-    // Whether `to` is the next signal, or `from` the last one and `to` a host read.
-    fn signals(&self, from: usize, to: usize) -> bool
-        requires from { from < length self.now }
-        requires to { to < length self.now }
-        ensures { result ≡ signalled self.now from to }
-    {
-        if !self.node(from).kind.is_signal() {
-            return false;
-        }
-        match self.next(from) {
-            Some(next) => next == to,
-            None => self.node(to).kind.is_host(),
-        }
-    }
-
-    /// Whether node `x` has a direct edge to node `y`.
-    pub fn has(&self, x: u32, y: u32) -> bool
-        requires x { x < length self.now }
-        requires y { y < length self.now }
-        ensures { result ≡ edge self.now x y }
-    {
-        let (x, y) = (x as usize, y as usize);
-        x < y && self.node(x).holds_back(&self.node(y))
-            || self.signals(x, y)
-            || is_at(self.met(y), x)
     }
 }

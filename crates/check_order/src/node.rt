@@ -3,7 +3,7 @@
 ghost use Rattle.std.specs.Prelude.{◌≡◌, ◌≤◌, IfOk, length};
 ghost use Rattle.base.specs.Maxima.{max_nodes};
 ghost use Rattle.check_order.specs.Internal.Filling.{takes_over};
-ghost use Rattle.check_order.specs.Edges.{signals, reaches, holds_back};
+ghost use Rattle.check_order.specs.Edges.{signals, reaches, sync_holds_back};
 ghost use Rattle.vk.specs.Roles.{op_stage};
 ghost use Rattle.check_order.specs.Nodes.{node, wait_node, barrier_node, item_node, signal_node, host_node, entry_node, program_nodes};
 ghost use Rattle.program.specs.Entries.{seen};
@@ -43,12 +43,12 @@ impl Node {
         self.queue == queue && self.kind.has_value(value)
     }
 
-    /// Whether it holds the other back, where it stands before it on its queue.
+    /// Whether it holds the other back, where it stands before it on its queue. No command holds back or is held back.
     pub(crate) fn holds_back(&self, other: &Node) -> bool
-        ensures { result ≡ holds_back self.now other.now }
+        ensures { result ≡ sync_holds_back self.now other.now }
     {
         self.queue == other.queue
-            && (self.kind.is_sync() || other.kind.is_sync())
+            && (self.kind.is_sync() && other.kind.is_sync())
             && self.dst_stages.intersects(other.src_stages)
     }
 

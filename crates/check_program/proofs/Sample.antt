@@ -18,11 +18,10 @@ use Rattle.base.specs.Texels.{band, low_bytes}
 use Rattle.check_order.specs.Edges.{edge, is_wait, node_at}
 use Rattle.check_order.specs.Orders.{Among, Order, IsLeast}
 use Rattle.check_order.proofs.Filling.{edge_within}
-use Rattle.check_order.proofs.InOrder.{comes_never_back}
 use Rattle.base_reach.specs.Paths.{one, then_on}
 use Rattle.check_state.specs.Initialized.{Initialized, InitializedAt}
 use Rattle.check_state.specs.StateValid.{StateValid, StateValidAt}
-use Rattle.check_sync.specs.Passing.{Before}
+use Rattle.check_access_order.specs.Order.{InOrder}
 use Rattle.check_sync.specs.Synchronized.{PairSynchronized, SynchronizedBelow}
 use Rattle.check_sync.proofs.Whole.{synchronized_all}
 use Rattle.check_access.specs.ValidView.{ValidView, NodeAccessAt}
@@ -150,11 +149,11 @@ of_two P p q zero a e = subst (λ b. P 0 b) (ap (inside store) e) p
 of_two P p q (suc zero) a e = subst (λ b. P 1 b) (ap (inside load) e) q
 of_two P p q (suc (suc j)) a e = absurd (let lt = slice_get_within (node_accesses_of V order) (suc (suc j)) a e in omega (arith, lt))
 
-reaches_host : Before V 0 3
-reaches_host = then_on {b = 1} (one refl) (then_on {b = 2} (one refl) (one refl))
+reaches_host : InOrder V 0 store.access 3 load.access
+reaches_host = (1, 3, refl, inr (then_on {b = 2} (one refl) (one refl)), refl)
 
 passed_on : PairSynchronized V store load
-passed_on clashing = (reaches_host, λ changed kept. (1, 1, (refl, refl), inl refl, (inr (refl, then_on {b = 2} (one refl) (one refl)), refl)))
+passed_on clashing = (reaches_host, λ changed kept. (1, 1, (refl, refl), inl refl, (then_on {b = 2} (one refl) (one refl), refl)))
 
 all_synchronized : SynchronizedBelow V (node_accesses_of V order) 2
 all_synchronized i j a b first second lt below = of_two (λ n c. j ≡ n → i < j → j < 2 → NodeAccessAt (node_accesses_of V order) i a → PairSynchronized V a c)
@@ -175,7 +174,7 @@ sample_sound = (
   order,
   record {
     order_is = is_least;
-    synchronized = synchronized_all V order (comes_never_back V.nodes) shaped_sample in_order all_synchronized;
+    synchronized = synchronized_all V order shaped_sample in_order all_synchronized;
     state_valid = state_valid_sample;
     initialized = initialized_sample;
   },

@@ -1,6 +1,6 @@
 -- Two fills with a barrier between them: not sound where the barrier does not make the first one's store available, nor where it
 -- does not make memory visible to the second.
-use Rattle.std.proofs.Common.{◌≡◌, ℕ, zero, suc, true, [], ◌∷◌, None, refl, arith}
+use Rattle.std.proofs.Common.{◌≡◌, inl, ℕ, zero, suc, true, [], ◌∷◌, None, refl, arith}
 use Rattle.std.proofs.lemmas.Bool.{false≢true}
 use Rattle.base.specs.declared.op.Op.TheVariants.{FillBuffer}
 use Rattle.base.specs.declared.shape.Family.TheVariants.{Graphics}
@@ -9,12 +9,11 @@ use Rattle.vk.specs.Accesses.{transfer_write}
 use Rattle.vk.specs.Stages.{clear}
 use Rattle.vk.specs.declared.sharing.Sharing.TheVariants.{Exclusive}
 use Rattle.check_program.specs.Sound.{IsSound}
-use Rattle.base_reach.specs.Paths.{one, then_on}
 use Rattle.program.specs.FirstFault.{first_broken}
 use Rattle.program.specs.declared.program.Item.TheVariants.{Command, BufferBarrier}
 use Rattle.program.specs.declared.program.Memory.TheVariants.{Plain}
 use Rattle.program.specs.declared.program.Program.{Program}
-use Rattle.check_sync.specs.Passing.{Passed}
+use Rattle.check_access_order.specs.Passing.{Passed}
 use Rattle.check_access.specs.Effects.{access}
 use Rattle.check_access.specs.Views.{view_of, makes_available, makes_visible}
 use Rattle.check_access.specs.declared.access.Access.{Access}
@@ -56,7 +55,7 @@ store = access 0 (Store cleaner None)
 
 -- where it is sound, what the first fill left is passed on to the second
 passed_on : (from to : ℕ) → IsSound (fills from to) → Passed (view_of (fills from to)) 0 store 2 store
-passed_on from to sound = sound.1.synchronized.passed 0 2 store store (0, refl) (0, refl) (record { apart = λ e. omega (arith, e); clash = refl }) (then_on {b = 1} (one refl) (one refl)) refl refl
+passed_on from to sound = sound.1.synchronized.passed 0 2 store store (0, refl) (0, refl) (record { apart = λ e. omega (arith, e); clash = refl }) (1, 1, refl, inl refl, refl) refl refl
 
 -- NOT MADE AVAILABLE
 

@@ -3,13 +3,15 @@
 ghost use Rattle.std.specs.Prelude.{◌≡◌, IfOk};
 ghost use Rattle.check_program.specs.Internal.Decided.{Decides, Judges};
 ghost use Rattle.check_order.specs.Orders.{IsLeast};
-ghost use Rattle.check_sync.specs.Rows.{Rows};
+ghost use Rattle.check_access_order.specs.Rows.{OrderRows};
+ghost use Rattle.check_access_order.specs.Ways.{HasWays};
 ghost use Rattle.check_access.specs.ValidView.{Listed, ValidView};
 ghost use Rattle.check_access.specs.Views.{view_of};
 
 use crate::Hazard;
 use base::NoMemory;
 use check_access::{NodeAccess, View, node_accesses_of, view_of};
+use check_access_order::order_laws;
 use check_order::{Before, Drain, before_of, drain_of};
 use check_state::{first_load_hazard, first_state_hazard};
 use check_sync::first_flaw;
@@ -24,7 +26,8 @@ fn first_in_accesses(
     accesses: &[NodeAccess],
 ) -> Result<Option<Hazard>, NoMemory>
     requires shaped { ValidView view.now }
-    requires rows { Rows view.now before.now }
+    requires ways { HasWays view.now }
+    requires rows { OrderRows view.now before.now }
     requires listed { Listed view.now accesses.now }
     ensures { IfOk result (λ found. Decides view.now accesses.now found) }
 {
@@ -52,6 +55,7 @@ fn first_in_order(
     requires order { IsLeast view.now.nodes order.now }
     ensures { IfOk result (Judges program.now) }
 {
+    order_laws();
     let before = before_of(alloc, program, view.edges(), order)?;
     let accesses = node_accesses_of(alloc, view, order)?;
     first_in_accesses(alloc, view, &before, accesses.as_slice())

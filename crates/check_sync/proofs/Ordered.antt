@@ -1,13 +1,10 @@
 -- The accesses that an order lists, and pairs of them.
-use Rattle.std.proofs.Common.{◌≡◌, ◌⊎◌, inl, inr, ℕ, zero, suc, ◌<◌, ◌++◌, List, [], ◌∷◌, length, map, slice_get, Some, None, refl, sym, ap, ◌∙◌, subst, ⊎_elim, cond, eq-eqb, ne_eqb, arith}
+use Rattle.std.proofs.Common.{◌≡◌, ◌⊎◌, inl, inr, ℕ, zero, suc, ◌<◌, ◌++◌, List, [], ◌∷◌, map, slice_get, Some, None, refl, sym, ap, ◌∙◌, subst, ⊎_elim, cond, eq-eqb, ne_eqb, arith}
 use Rattle.std.specs.Option.{option_map, option_map_or}
-use Rattle.std.proofs.lemmas.Bool.{cases_lt}
-use Rattle.std.proofs.lemmas.List.{get_or_past}
 use Rattle.std.proofs.lemmas.Option.{slice_get-map}
 use Rattle.base.proofs.Lists.{got_front}
 use Rattle.check_order.specs.Orders.{Among, Distinct, before_in, Earlier}
-use Rattle.check_access.specs.ValidView.{ValidView, AccessAt, Has, NodeAccessAt}
-use Rattle.check_access.specs.Effects.{no_effect}
+use Rattle.check_access.specs.ValidView.{AccessAt, Has, NodeAccessAt}
 use Rattle.check_access.specs.Views.{View, accesses_of, node_access, node_accesses_of}
 use Rattle.check_access.specs.declared.access.Access.{Access}
 use Rattle.check_access.specs.declared.node_access.NodeAccess.{NodeAccess}
@@ -51,13 +48,6 @@ of_node n (x ∷ xs) (suc i) a h = of_node n xs i a h
 
 accesses_of_node : (V : View) (n : ℕ) (a : NodeAccess) → In a (map (node_access n) (accesses_of V n)) → (a.node ≡ n) × Has V a.node a.access
 accesses_of_node V n a (i, h) = let t = of_node n (accesses_of V n) i a h in (t.0, (i, subst (λ m. AccessAt V m i a.access) (sym t.0) t.1))
-
--- what has accesses is a node
-pub has_within : (V : View) (n : ℕ) (a : Access) → ValidView V → Has V n a → n < length V.nodes
-has_within V n a S (i, h) = ⊎_elim
-    (λ lt. subst (λ m. n < m) S.effects lt)
-    (λ past. none a (subst (λ u. slice_get u.accesses i ≡ Some a) (get_or_past V.effects n no_effect past) h))
-    (cases_lt n (length V.effects))
 
 -- each access of a node of the order is listed
 pub listed_in : (V : View) (order : List ℕ) (n : ℕ) (a : Access) → Among n order → Has V n a → In (node_access n a) (node_accesses_of V order)

@@ -1,6 +1,6 @@
 -- Behind a change all is synchronized that was synchronized with it.
-use Rattle.std.proofs.Common.{◌≡◌, ◌≢◌, ◌⊎◌, inl, inr, ℕ, ◌+◌, ◌-◌, ◌<◌, ◌≤◌, ◌==◌, ◌&&◌, ◌||◌, Bool, true, false, List, length, take, get_or, sym, ap, ◌∙◌, subst, ⊎_elim, eqb-true, arith}
-use Rattle.std.proofs.lemmas.Bool.{cases_Bool, cases_eq, false≢true, cases_lt, and_parts, or_cases, or_left, or_right}
+use Rattle.std.proofs.Common.{◌≡◌, ◌≢◌, ◌⊎◌, inl, inr, ℕ, ◌+◌, ◌-◌, ◌<◌, ◌≤◌, ◌==◌, ◌&&◌, ◌||◌, Bool, true, false, List, length, take, get_or, refl, sym, ap, ◌∙◌, subst, ⊎_elim, eqb-true, arith}
+use Rattle.std.proofs.lemmas.Bool.{cases_Bool, cases_eq, false≢true, cases_lt, and_parts, or_cases, or_from, or_left, or_right}
 use Rattle.std.proofs.lemmas.List.{take_all}
 use Rattle.std.proofs.lemmas.List.Folds.{list_any_more}
 use Rattle.std.specs.List.{list_any}
@@ -19,7 +19,10 @@ use Rattle.check_sync.specs.Internal.Places.{no_node_access, node_access_at, pie
 use Rattle.check_sync.specs.Synchronized.{PairSynchronized, SynchronizedBelow}
 use Rattle.check_sync.specs.declared.sync_hazard.SyncHazard.{SyncHazard}
 use Rattle.check_sync.proofs.Clashes.{overlap_turned}
-use Rattle.check_sync.proofs.Through.{itself, clash_change, through}
+use Rattle.check_sync.proofs.Through.{through}
+use Rattle.check_sync.proofs.Through.{itself, clash_change}
+use Rattle.check_access_order.specs.Order.{Leaves, Enters}
+use Rattle.check_access_order.specs.Ways.{HasWays}
 
 here : (accesses : List NodeAccess) (i : ℕ) → i < length accesses → NodeAccessAt accesses i (node_access_at accesses i)
 here accesses i h = slice_get-get_or accesses i no_node_access h
@@ -47,19 +50,36 @@ apart V accesses i j S L h far C = absurd (none (clash_cases V (node_access_at a
 still : (d : AccessKind) → clashes_with_loads d ≡ false → (changes d ≡ false) × (transfers d ≡ false)
 still d h = (⊎_elim (λ e. absurd (false≢true (sym h ∙ or_left (changes d) (transfers d) e))) (λ e. e) (cases_Bool (changes d)), ⊎_elim (λ e. absurd (false≢true (sym h ∙ or_right (changes d) (transfers d) e))) (λ e. e) (cases_Bool (transfers d)))
 
-module _ (V : View) (accesses : List NodeAccess) (S : ValidView V) (L : Listed V accesses) (j q : ℕ) (within : j < length accesses) (G : PlacesSynchronizedBelow V accesses j) (over : overlap V (piece_of accesses j) q ≡ true) (own : q < length V.pieces) where
+-- a load is synchronized with loads
+pub loads_synchronized : (V : View) (accesses : List NodeAccess) (i j : ℕ) → clashes_with_loads (kind_of accesses j) ≡ false → (IsIn false accesses i → SynchronizedAt V accesses i j) → SynchronizedAt V accesses i j
+loads_synchronized V accesses i j load h = go (clashes_with_loads (kind_of accesses i)) refl
+  where
+    both : clashes_with_loads (kind_of accesses i) ≡ false → ((overlap V (piece_of accesses i) (piece_of accesses j) ≡ true) × ((changes (kind_of accesses i) || changes (kind_of accesses j)) ≡ true)) ⊎ ((piece_of accesses i ≡ piece_of accesses j) × ((transfers (kind_of accesses i) || transfers (kind_of accesses j)) ≡ true)) → ⊥
+    both e (inl c) = false≢true (sym (or_from (changes (kind_of accesses i)) (changes (kind_of accesses j)) (still (kind_of accesses i) e).0 (still (kind_of accesses j) load).0) ∙ c.1)
+    both e (inr c) = false≢true (sym (or_from (transfers (kind_of accesses i)) (transfers (kind_of accesses j)) (still (kind_of accesses i) e).1 (still (kind_of accesses j) load).1) ∙ c.1)
+
+    go : (t : Bool) → clashes_with_loads (kind_of accesses i) ≡ t → SynchronizedAt V accesses i j
+    go true e = h e
+    go false e = λ c. absurd (both e (clash_cases V (node_access_at accesses i).access (node_access_at accesses j).access c.clash))
+
+module _ (V : View) (accesses : List NodeAccess) (S : ValidView V) (H : HasWays V) (L : Listed V accesses) (j q : ℕ) (within : j < length accesses) (G : PlacesSynchronizedBelow V accesses j) (over : overlap V (piece_of accesses j) q ≡ true) (own : q < length V.pieces) where
   -- a change of the piece that is synchronized with j stands for all earlier accesses of the piece
   pub behind : (m : ℕ) → m < j → piece_of accesses m ≡ q → changes (kind_of accesses m) ≡ true → SynchronizedAt V accesses m j → (i : ℕ) → i < m → piece_of accesses i ≡ q → SynchronizedAt V accesses i j
   behind m lm em change good i li ei =
       let lm_in : m < length accesses = omega (arith, lm, within) in
       let li_in : i < length accesses = omega (arith, li, lm_in) in
-      through V (node_access_at accesses i) (node_access_at accesses m) (node_access_at accesses j) change (G i m li lm) good
+      let a : NodeAccess = node_access_at accesses i in
+      let c : NodeAccess = node_access_at accesses m in
+      let b : NodeAccess = node_access_at accesses j in
+      through V a c b change (G i m li lm) good
       (clash_change V (node_access_at accesses i).access (node_access_at accesses m).access
       (subst (λ p. overlap V p (piece_of accesses m) ≡ true) (sym ei) (subst (λ p. overlap V q p ≡ true) (sym em) (itself V q S own)))
       (or_right (changes (kind_of accesses i)) (changes (kind_of accesses m)) change))
       (clash_change V (node_access_at accesses m).access (node_access_at accesses j).access
       (subst (λ p. overlap V p (piece_of accesses j) ≡ true) (sym em) (overlap_turned V (piece_of accesses j) q over))
       (or_left (changes (kind_of accesses m)) (changes (kind_of accesses j)) change))
+      (λ e o. (o.0, o.1, H.leaves a.node o.0 a.access c.access (L.in_order i m a c (here accesses i li_in) (here accesses m lm_in) li e) change (ei ∙ sym em) (subst (λ n. Leaves V n c.access o.0) (sym e) o.2), o.3, o.4))
+      (λ e o. (o.0, o.1, o.2, o.3, subst (λ n. Enters V o.1 n b.access) e (H.enters c.node o.1 c.access b.access (L.in_order m j c b (here accesses m lm_in) (here accesses j within) lm e) change (subst (λ p. overlap V p (piece_of accesses j) ≡ true) (sym em) (overlap_turned V (piece_of accesses j) q over)) o.4)))
       (λ e h. L.last i m (node_access_at accesses i) (node_access_at accesses m) (here accesses i li_in) (here accesses m lm_in) li e h)
       (λ e. L.last m j (node_access_at accesses m) (node_access_at accesses j) (here accesses m lm_in) (here accesses j within) lm e change)
 

@@ -1,38 +1,42 @@
 -- Accesses that touch the same memory are in order, and changes are passed on.
 use Rattle.std.specs.Prelude.{◌≡◌, ◌≢◌, ◌⊎◌, ℕ, ◌<◌, List, true, false}
+use Rattle.check_sync.specs.declared.sync_hazard.Flaw.{Flaw}
+use Rattle.check_sync.specs.declared.sync_hazard.Flaw.TheVariants.{Unordered, NotAvailable, NotVisible}
 use Rattle.check_access.specs.AccessKinds.{changes, transfers}
 use Rattle.check_access.specs.ValidView.{Has, NodeAccessAt}
 use Rattle.check_access.specs.Views.{View, clash}
 use Rattle.check_access.specs.declared.access.Access.{Access}
 use Rattle.check_access.specs.declared.node_access.NodeAccess.{NodeAccess}
-use Rattle.check_sync.specs.Passing.{Before, Available, Passed}
-use Rattle.check_sync.specs.declared.sync_hazard.Flaw.{Flaw}
-use Rattle.check_sync.specs.declared.sync_hazard.Flaw.TheVariants.{Unordered, NotAvailable, NotVisible}
+use Rattle.check_access_order.specs.Order.{InOrder}
+use Rattle.check_access_order.specs.Passing.{Available, Passed}
 
 -- access a of node x and access b of node y
 pub record Clashing (V : View) (x : ℕ) (a : Access) (y : ℕ) (b : Access) : Type 0 where
   pub apart : x ≢ y
   pub clash : clash V a b ≡ true
 
--- of each two accesses that clash one node is before the other, and a change is passed on to what is no transfer
+-- of each two accesses that clash one is before the other, and a change is passed on to what is no transfer
 pub record Synchronized (V : View) : Type 0 where
-  pub ordered : (x y : ℕ) (a b : Access) → Has V x a → Has V y b → Clashing V x a y b → Before V x y ⊎ Before V y x
-  pub passed : (x y : ℕ) (a b : Access) → Has V x a → Has V y b → Clashing V x a y b → Before V x y → changes a.kind ≡ true → transfers b.kind ≡ false → Passed V x a y b
+  pub ordered : (x y : ℕ) (a b : Access) → Has V x a → Has V y b → Clashing V x a y b → InOrder V x a y b ⊎ InOrder V y b x a
+  pub passed : (x y : ℕ) (a b : Access) → Has V x a → Has V y b → Clashing V x a y b → InOrder V x a y b → changes a.kind ≡ true → transfers b.kind ≡ false → Passed V x a y b
 
 -- THE FIRST PAIR
+
+abbrev pub Ordered : View → NodeAccess → NodeAccess → Type 0
+Ordered V a b = InOrder V a.node a.access b.node b.access
 
 -- an earlier access and a later one
 abbrev pub PassedOn : View → NodeAccess → NodeAccess → Type 0
 PassedOn V a b = changes a.access.kind ≡ true → transfers b.access.kind ≡ false → Passed V a.node a.access b.node b.access
 
 abbrev pub PairSynchronized : View → NodeAccess → NodeAccess → Type 0
-PairSynchronized V a b = Clashing V a.node a.access b.node b.access → Before V a.node b.node × PassedOn V a b
+PairSynchronized V a b = Clashing V a.node a.access b.node b.access → Ordered V a b × PassedOn V a b
 
 -- why they are not synchronized
 abbrev pub Flawed : Flaw → View → NodeAccess → NodeAccess → Type 0
-Flawed Unordered V a b = Before V a.node b.node → ⊥
-Flawed NotAvailable V a b = Before V a.node b.node × (changes a.access.kind ≡ true) × (transfers b.access.kind ≡ false) × (Available V a.node a.access b.node → ⊥)
-Flawed NotVisible V a b = Before V a.node b.node × (changes a.access.kind ≡ true) × (transfers b.access.kind ≡ false) × Available V a.node a.access b.node × (Passed V a.node a.access b.node b.access → ⊥)
+Flawed Unordered V a b = Ordered V a b → ⊥
+Flawed NotAvailable V a b = Ordered V a b × (changes a.access.kind ≡ true) × (transfers b.access.kind ≡ false) × (Available V a.node a.access b.node b.access → ⊥)
+Flawed NotVisible V a b = Ordered V a b × (changes a.access.kind ≡ true) × (transfers b.access.kind ≡ false) × Available V a.node a.access b.node b.access × (Passed V a.node a.access b.node b.access → ⊥)
 
 -- each pair is synchronized whose later access stands below n
 abbrev pub SynchronizedBelow : View → List NodeAccess → ℕ → Type 0

@@ -1,17 +1,22 @@
 //! Whether an earlier access and a later one are synchronized.
 
-ghost use Rattle.std.specs.Prelude.{◌≡◌, ◌↔◌, ◌<◌, ◌≤◌, ◌==◌, ◌||◌, length, true, false, IfSome, MatchOption};
+ghost use Rattle.std.specs.Prelude.{Option, ◌≡◌, ◌↔◌, ◌<◌, ◌≤◌, ◌==◌, ◌||◌, length, true, false, IfSome, MatchOption};
 ghost use Rattle.base.specs.Maxima.{max_nodes};
 ghost use Rattle.check_access.specs.AccessKinds.{changes, transfers};
 ghost use Rattle.check_sync.specs.Internal.Around.{up_from, down_from};
 ghost use Rattle.check_sync.specs.Internal.Passings.{AvailableAt, VisibleFrom, InvisibleFrom, NotPassed};
 ghost use Rattle.check_sync.specs.Internal.Places.{Known, HasFlaw};
-ghost use Rattle.check_sync.specs.Passing.{MadeAvailableBy, MadeVisibleBy, UpTo, Reaches, Passed};
+ghost use Rattle.check_access_order.specs.Order.{UpTo, LeavesIn, EntersIn};
+ghost use Rattle.check_access_order.specs.Stages.{stage_by};
+ghost use Rattle.check_access.specs.declared.access.AccessKind.TheVariants.{Load};
+ghost use Rattle.vk.specs.declared.layout.Layout.{Layout};
+ghost use Rattle.check_access_order.specs.Passing.{MadeAvailableBy, MadeVisibleBy, Reaches, Passed};
 ghost use Rattle.check_sync.specs.Synchronized.{PairSynchronized};
 
 use crate::Flaw;
 use crate::listing::Listing;
-use check_access::{AccessKind, NodeAccess};
+use check_access::{AccessKind, Agent, NodeAccess};
+use check_access_order::{lets_in, stage_by, waits_for};
 
 // Number `k` of those below `count`, which go from `start` up and then on from 0.
 fn up_from(start: u32, count: u32, k: u32) -> u32
@@ -53,13 +58,40 @@ impl<'a> Listing<'a> {
         x == y || self.happens_before(x, y)
     }
 
-    // Whether node `y` is right before node `n`, or anywhere before a host read.
-    fn reaches(&self, y: u32, n: u32) -> bool
-        requires y { y < length self.now.view.nodes }
+    // Whether what the agent does at node `n` leaves into node `x`.
+    fn leaves(&self, agent: Agent, n: u32, x: u32) -> bool
         requires n { n < length self.now.view.nodes }
-        ensures { (result ≡ true) ↔ Reaches self.now.view y n }
+        requires x { x < length self.now.view.nodes }
+        ensures { (result ≡ true) ↔ LeavesIn self.now.view.nodes (stage_by agent) n x }
     {
-        self.view.edges().has(y, n) || self.view.node(n).kind.is_host() && self.happens_before(y, n)
+        match stage_by(agent) {
+            Some(stage) => waits_for(self.view, stage, n, x),
+            None => n == x,
+        }
+    }
+
+    // Whether node `y` enters what the agent does at node `m`.
+    fn enters(&self, agent: Agent, y: u32, m: u32) -> bool
+        requires y { y < length self.now.view.nodes }
+        requires m { m < length self.now.view.nodes }
+        ensures { (result ≡ true) ↔ EntersIn self.now.view.nodes (stage_by agent) y m }
+    {
+        match stage_by(agent) {
+            Some(stage) => lets_in(self.view, stage, y, m),
+            None => y == m,
+        }
+    }
+
+    // Whether node `y` enters the load, or is anywhere before a read by the host.
+    fn reaches_load(&self, agent: Agent, y: u32, m: u32) -> bool
+        requires y { y < length self.now.view.nodes }
+        requires m { m < length self.now.view.nodes }
+        ensures { (layout : Option Layout) → (result ≡ true) ↔ Reaches (Load agent layout) self.now.view y m }
+    {
+        match agent {
+            Agent::Host => self.happens_before(y, m),
+            Agent::Of { .. } => self.enters(agent, y, m),
+        }
     }
 
     // Whether node `x` makes available what the access left.
@@ -70,10 +102,10 @@ impl<'a> Listing<'a> {
     {
         match a.access.kind {
             AccessKind::Store { agent, .. } => {
-                self.view.makes_available(x, agent, a.access.piece)
-                    && self.view.edges().has(a.node, x)
+                self.view.makes_available(x, agent, a.access.piece) && self.leaves(agent, a.node, x)
             }
-            _ => x == a.node,
+            AccessKind::Load { agent, .. } => self.leaves(agent, a.node, x),
+            _ => a.node == x,
         }
     }
 
@@ -84,8 +116,12 @@ impl<'a> Listing<'a> {
         ensures { (result ≡ true) ↔ MadeVisibleBy self.now.view b.node b.access y }
     {
         match b.access.kind {
-            AccessKind::Load { agent, .. } | AccessKind::Store { agent, .. } => {
-                self.view.makes_visible(y, agent, b.access.piece) && self.reaches(y, b.node)
+            AccessKind::Load { agent, .. } => {
+                self.view.makes_visible(y, agent, b.access.piece)
+                    && self.reaches_load(agent, y, b.node)
+            }
+            AccessKind::Store { agent, .. } => {
+                self.view.makes_visible(y, agent, b.access.piece) && self.enters(agent, y, b.node)
             }
             _ => y == b.node,
         }
@@ -134,14 +170,14 @@ impl<'a> Listing<'a> {
         }
     }
 
-    // Whether node `x` makes available what the first left, and is node `m` or comes before it.
-    fn is_available_at(&self, a: NodeAccess, x: u32, m: u32) -> bool
+    // Whether node `x` makes available what the first left, and the second is entered from it on.
+    fn is_available_at(&self, a: NodeAccess, x: u32, b: NodeAccess) -> bool
         requires a { Known self.now.view a }
         requires x { x < length self.now.view.nodes }
-        requires m { m < length self.now.view.nodes }
-        ensures { (result ≡ true) ↔ AvailableAt self.now.view a x m }
+        requires b { Known self.now.view b }
+        ensures { (result ≡ true) ↔ AvailableAt self.now.view a x b }
     {
-        self.is_available_by(a, x) && self.is_up_to(x, m)
+        self.is_available_by(a, x) && self.is_entered_from(x, b)
     }
 
     // Why what the first left does not reach the second, if it does not.
@@ -154,7 +190,7 @@ impl<'a> Listing<'a> {
         let mut invisible_from = None;
         for k in 0..count {
             let x = up_from(a.node, count, k);
-            if self.is_available_at(a, x, b.node) {
+            if self.is_available_at(a, x, b) {
                 if self.is_still_visible_from(invisible_from, x, b) {
                     return None;
                 }
@@ -176,7 +212,7 @@ impl<'a> Listing<'a> {
         if a.node == b.node || !self.view.clash(a.access, b.access) {
             return None;
         }
-        if !self.happens_before(a.node, b.node) {
+        if !self.is_in_order(a, b) {
             return Some(Flaw::Unordered);
         }
         if !a.access.kind.changes() || b.access.kind.transfers() {

@@ -16,9 +16,10 @@ use Rattle.check_state.specs.Initialized as initialized_specs
 use Rattle.check_state.specs.Initialized.{Initialized}
 use Rattle.check_state.specs.PieceStates.{on_piece, last_on, changes_bytes, last_change, layout_after, owner_after, first_owner}
 use Rattle.check_state.specs.StateValid.{StateValid, needs_owner}
-use Rattle.check_sync.proofs.Ordered.{has_within, listed_in, listed_of, not_earlier}
-use Rattle.check_sync.specs.Passing.{Before}
-use Rattle.check_sync.specs.Synchronized.{Synchronized}
+use Rattle.check_access_order.proofs.Sites.{has_within}
+use Rattle.check_sync.proofs.Ordered.{listed_in, listed_of, not_earlier}
+use Rattle.law_nodes.specs.Passing.{Before}
+use Rattle.law_nodes.specs.Synchronized.{Synchronized}
 use Rattle.check_access.proofs.KindFacts.{layout_changes, load_keeps, wanting_keeps}
 use Rattle.check_access.specs.AccessKinds.{changes, loads, sets_layout, sets_owner, transfers, wanted}
 use Rattle.check_access.proofs.Listing.{listed}

@@ -21,8 +21,8 @@ use Rattle.vk.specs.Layouts.{layout_number}
 use Rattle.vk.specs.declared.layout.Layout.{Layout}
 use Rattle.check_order.specs.Edges.{edge, is_host, node_at}
 use Rattle.check_order.specs.Orders.{Order}
-use Rattle.check_sync.specs.Passing.{Before}
-use Rattle.check_sync.specs.Synchronized.{Synchronized}
+use Rattle.law_nodes.specs.Passing.{Before}
+use Rattle.law_nodes.specs.Synchronized.{Synchronized}
 use Rattle.check_access.specs.AccessKinds.{stores, loads, wanted, sets_layout, sets_owner, is_discard, is_acquire}
 use Rattle.check_access.specs.ValidView.{ValidView, Has}
 use Rattle.check_access.specs.Views.{View, accesses_of, overlap, family_at, shared_at, node_access}

@@ -5,7 +5,7 @@ use Rattle.vk.specs.declared.layout.Layout.{Layout}
 use Rattle.vk.specs.declared.layout.Layout.TheVariants as layouts
 use Rattle.check_state.specs.PieceStates.{layout_after, owner_after}
 use Rattle.check_state.specs.StateValid.{needs_owner}
-use Rattle.check_sync.specs.Passing.{Before}
+use Rattle.law_nodes.specs.Passing.{Before}
 use Rattle.check_access.specs.AccessKinds.{changes, loads, stores, sets_layout, sets_owner, wanted}
 use Rattle.check_access.specs.ValidView.{Has}
 use Rattle.check_access.specs.Views.{View, overlap, imported_at, family_at, node_access}

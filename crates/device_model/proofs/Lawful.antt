@@ -8,6 +8,7 @@ use Rattle.base.specs.Shapes.{bytes_of}
 use Rattle.check_program.specs.Sound.{IsSound}
 use Rattle.check_order.proofs.InOrder.{comes_never_back}
 use Rattle.check_order.specs.Orders.{Order}
+use Rattle.check_access_order.proofs.Singles.{single}
 use Rattle.check_state.specs.PieceStates.{first_owner}
 use Rattle.device_model.proofs.Before.{finds}
 use Rattle.device_model.proofs.Cases.{IsNumbered}
@@ -20,6 +21,8 @@ use Rattle.device_model.proofs.Viewed.{IsOf, OneStage, store_change, Rest, to_la
 use Rattle.device_model.specs.Agents.{agent_at, agent_number}
 use Rattle.device_model.specs.Outputs.{stored}
 use Rattle.device_model.specs.Steps.{agent_count}
+use Rattle.law_nodes.proofs.Whole.{same_synchronized}
+use Rattle.law_nodes.specs.Synchronized.{Synchronized}
 use Rattle.program.specs.declared.program.Program.{Program}
 use Rattle.check_access.specs.Views.{View, view_of, accesses_of, node_accesses_of, piece_at}
 use Rattle.check_access.specs.declared.access.Access.{Access}
@@ -70,4 +73,7 @@ module _ (program : Program) (C : Commands program) where
 
   pub law_sound : IsSound program → Sound (law_of program)
   law_sound sound = sound_of V (out_of program) C.formed.shaped one_stage law_formed (comes_never_back V.nodes sound.0 sound.1.order_is.order)
-      sound.1.synchronized sound.0 sound.1.order_is.order (first_owner V (node_accesses_of V sound.0)) (finds V C.formed sound.0 sound.1.order_is.order sound.1.synchronized sound.1.state_valid sound.1.initialized)
+      by_nodes sound.0 sound.1.order_is.order (first_owner V (node_accesses_of V sound.0)) (finds V C.formed sound.0 sound.1.order_is.order by_nodes sound.1.state_valid sound.1.initialized)
+    where
+      by_nodes : Synchronized V
+      by_nodes = (same_synchronized V C.formed.shaped (single program)).0 sound.1.synchronized

@@ -28,7 +28,7 @@ use Rattle.device_model.specs.Ready.{kind_at}
 use Rattle.device_model.specs.Steps.{store_of}
 use Rattle.program.specs.Rules.{shapes_of}
 use Rattle.program.specs.declared.program.Program.{Program}
-use Rattle.check_sync.proofs.Ordered.{has_within}
+use Rattle.check_access_order.proofs.Sites.{has_within}
 use Rattle.check_access.specs.AccessKinds.{loads}
 use Rattle.check_access.specs.ValidView.{Has}
 use Rattle.check_access.specs.Views.{View, view_of, accesses_of, piece_at, imported_at}

@@ -52,7 +52,7 @@ use Rattle.program.specs.declared.program.Piece.{Piece}
 use Rattle.program.specs.declared.program.Program.{Program}
 use Rattle.program.specs.declared.rule.Rule.{Rule}
 use Rattle.program.specs.declared.rule.Rule.TheVariants as rules
-use Rattle.check_sync.proofs.Ordered.{has_within}
+use Rattle.check_access_order.proofs.Sites.{has_within}
 use Rattle.check_access.proofs.Viewing.{shaped}
 use Rattle.check_access.specs.AccessKinds.{loads, is_acquire}
 use Rattle.check_access.specs.ValidView.{ValidView, Has}

@@ -27,9 +27,9 @@ use Rattle.check_order.specs.Edges.{edge, is_host, is_sync, node_at}
 use Rattle.check_order.specs.declared.kind.Kind.{Kind}
 use Rattle.check_order.specs.declared.kind.Kind.TheVariants as kinds
 use Rattle.base_reach.specs.Paths as old
-use Rattle.check_sync.proofs.Ordered.{has_within}
-use Rattle.check_sync.specs.Passing.{Before, UpTo, Reaches, AvailableBy, VisibleBy, Passed}
-use Rattle.check_sync.specs.Synchronized.{Synchronized}
+use Rattle.check_access_order.proofs.Sites.{has_within}
+use Rattle.law_nodes.specs.Passing.{Before, UpTo, Reaches, AvailableBy, VisibleBy, Passed}
+use Rattle.law_nodes.specs.Synchronized.{Synchronized}
 use Rattle.check_access.specs.AccessKinds.{changes, transfers, sets_layout, sets_owner, is_acquire}
 use Rattle.check_access.specs.ValidView.{ValidView, AccessAt, Has, IsByQueue, IsByBarrier}
 use Rattle.check_access.specs.Views.{View, accesses_of, clash, overlap, makes_available, makes_visible, has_agent, is_on, queue_at, effect_at, piece_at, is_before_end, shared_at}

@@ -3,9 +3,10 @@ use Rattle.std.proofs.Common.{◌≡◌, ◌⊎◌, inl, inr, ℕ, Bool, true, r
 use Rattle.law_plan.proofs.Passing.{Enters, Synchronizes, enters_then, synchronizes_through}
 use Rattle.law_plan.specs.Masks.{Leaves}
 use Rattle.base_reach.specs.Paths.{Path, one, then_on}
-use Rattle.check_sync.proofs.Passes.{up_to_on}
-use Rattle.check_sync.specs.Passing.{Before, UpTo, Passed}
-use Rattle.check_sync.specs.Synchronized.{Clashing, Synchronized}
+use Rattle.law_nodes.proofs.Passes.{up_to_on}
+use Rattle.law_nodes.specs.Passing.{Before, UpTo, Passed}
+use Rattle.check_sync.specs.Synchronized.{Clashing}
+use Rattle.law_nodes.specs.Synchronized.{Synchronized}
 use Rattle.check_access.specs.ValidView.{Has}
 use Rattle.check_access.specs.Views.{View}
 use Rattle.check_access.specs.declared.access.Access.{Access}

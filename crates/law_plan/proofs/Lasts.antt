@@ -11,7 +11,7 @@ use Rattle.law_plan.specs.Nodes.{Nodes}
 use Rattle.law_plan.specs.Plans.{Plan}
 use Rattle.law_plan.specs.Spots.{Spot}
 use Rattle.check_state.specs.PieceStates.{on_piece}
-use Rattle.check_sync.specs.Passing.{Before}
+use Rattle.law_nodes.specs.Passing.{Before}
 use Rattle.check_access.specs.AccessKinds.{changes, transfers}
 use Rattle.check_access.specs.ValidView.{Has}
 use Rattle.check_access.specs.Views.{View, clash, node_access, overlap}

@@ -23,7 +23,7 @@ use Rattle.check_order.specs.Orders.{Order}
 use Rattle.check_state.specs.PieceStates.{last_on, layout_after, on_piece}
 use Rattle.check_state.specs.StateValid.{LayoutAt}
 use Rattle.check_sync.proofs.Ordered.{listed_of}
-use Rattle.check_sync.specs.Synchronized.{Synchronized}
+use Rattle.law_nodes.specs.Synchronized.{Synchronized}
 use Rattle.check_access.proofs.KindFacts.{layout_changes, wanting_keeps}
 use Rattle.check_access.specs.AccessKinds.{changes, sets_layout, sets_owner, transfers, wanted}
 use Rattle.check_access.specs.ValidView.{Has, NodeAccessAt, ValidView}

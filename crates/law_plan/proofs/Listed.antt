@@ -10,8 +10,8 @@ use Rattle.check_order.specs.Orders.{Earlier, Order}
 use Rattle.check_state.specs.PieceStates.{last_that}
 use Rattle.check_sync.proofs.Ordered.{listed_of}
 use Rattle.check_sync.proofs.Through.{change_plain}
-use Rattle.check_sync.specs.Passing.{Before}
-use Rattle.check_sync.specs.Synchronized.{Synchronized}
+use Rattle.law_nodes.specs.Passing.{Before}
+use Rattle.law_nodes.specs.Synchronized.{Synchronized}
 use Rattle.check_access.specs.AccessKinds.{changes, sets_owner, transfers}
 use Rattle.check_access.specs.ValidView.{Has, NodeAccessAt, Precedes, ValidView}
 use Rattle.check_access.specs.Views.{View, clash, node_access, node_accesses_of}

@@ -23,8 +23,8 @@ use Rattle.base_reach.specs.Paths.{then_on}
 use Rattle.check_state.specs.Initialized.{Initializes, InitializedAt}
 use Rattle.check_state.specs.PieceStates.{changes_bytes, last_change}
 use Rattle.check_sync.proofs.Ordered.{listed_of}
-use Rattle.check_sync.specs.Passing.{Before}
-use Rattle.check_sync.specs.Synchronized.{Synchronized}
+use Rattle.law_nodes.specs.Passing.{Before}
+use Rattle.law_nodes.specs.Synchronized.{Synchronized}
 use Rattle.check_access.proofs.KindFacts.{load_keeps}
 use Rattle.check_access.specs.AccessKinds.{changes, is_discard, loads, stores}
 use Rattle.check_access.specs.ValidView.{Has, NodeAccessAt, ValidView}

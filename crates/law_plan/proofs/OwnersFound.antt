@@ -22,7 +22,7 @@ use Rattle.check_order.specs.Orders.{Order}
 use Rattle.check_state.specs.PieceStates.{first_owner, found_owner, on_piece, on_queue, owner_after}
 use Rattle.check_state.specs.StateValid.{acquires, OwnerAt}
 use Rattle.check_sync.proofs.Ordered.{listed_of}
-use Rattle.check_sync.specs.Synchronized.{Synchronized}
+use Rattle.law_nodes.specs.Synchronized.{Synchronized}
 use Rattle.check_access.specs.AccessKinds.{is_discard, sets_owner}
 use Rattle.check_access.specs.ValidView.{Has, NodeAccessAt, ValidView}
 use Rattle.check_access.specs.Views.{View, family_at, node_access, node_accesses_of, shared_at}

@@ -6,8 +6,8 @@ use Rattle.law_plan.specs.Masks.{Takes, Gives, Leaves}
 use Rattle.law_plan.specs.Nodes.{IsCommand, IsBarrier}
 use Rattle.check_order.specs.Edges.{edge}
 use Rattle.base_reach.specs.Paths.{one, then_on}
-use Rattle.check_sync.proofs.Passes.{up_to_on}
-use Rattle.check_sync.specs.Passing.{Before, UpTo, AvailableBy, VisibleBy, Available, Passed}
+use Rattle.law_nodes.proofs.Passes.{up_to_on}
+use Rattle.law_nodes.specs.Passing.{Before, UpTo, AvailableBy, VisibleBy, Available, Passed}
 use Rattle.check_access.specs.ValidView.{Has}
 use Rattle.check_access.specs.Views.{View}
 use Rattle.check_access.specs.declared.access.Access.{Access}

@@ -13,7 +13,7 @@ use Rattle.law_plan.specs.Spots.{Spot, at_prologue, at_member, at_release, at_re
 use Rattle.check_order.proofs.Lines.{sync_no_host}
 use Rattle.check_order.specs.Edges.{is_host, is_sync, node_at}
 use Rattle.base_reach.specs.Paths.{Path, then_on}
-use Rattle.check_sync.specs.Passing.{Before, UpTo}
+use Rattle.law_nodes.specs.Passing.{Before, UpTo}
 use Rattle.check_access.specs.ValidView.{Has}
 use Rattle.check_access.specs.Views.{View, clash}
 use Rattle.check_access.specs.declared.access.Access.{Access}

@@ -1,6 +1,6 @@
 -- What has the facts of a plan is sound.
 use Rattle.std.proofs.Common.{ℕ, List}
-use Rattle.check_program.specs.Sound.{Sound}
+use Rattle.law_nodes.specs.Sound.{SoundByNodes}
 use Rattle.law_plan.proofs.Layouts.{laid_at}
 use Rattle.law_plan.proofs.Loads.{initialized_at}
 use Rattle.law_plan.proofs.OwnersFound.{owner_at}
@@ -11,11 +11,11 @@ use Rattle.law_plan.specs.Nodes.{Nodes}
 use Rattle.law_plan.specs.Plans.{Plan}
 use Rattle.check_order.specs.Laws.{IsAsymmetric, IsIrreflexive}
 use Rattle.check_order.specs.Orders.{IsLeast, Order}
-use Rattle.check_sync.specs.Synchronized.{Synchronized}
+use Rattle.law_nodes.specs.Synchronized.{Synchronized}
 use Rattle.check_access.specs.ValidView.{ValidView}
 use Rattle.check_access.specs.Views.{View}
 
-pub facts_sound : (F : Plan) (V : View) (N : Nodes) → IsIrreflexive V.nodes → IsAsymmetric V.nodes → ValidView V → Facts F V N → (order : List ℕ) → IsLeast V.nodes order → Sound V order
+pub facts_sound : (F : Plan) (V : View) (N : Nodes) → IsIrreflexive V.nodes → IsAsymmetric V.nodes → ValidView V → Facts F V N → (order : List ℕ) → IsLeast V.nodes order → SoundByNodes V order
 facts_sound F V N I A S R order L = record {
   order_is = L;
   synchronized = T;

@@ -14,8 +14,8 @@ use Rattle.law_plan.specs.Masks.{Leaves}
 use Rattle.law_plan.specs.Nodes.{Nodes}
 use Rattle.law_plan.specs.Plans.{Plan, leads}
 use Rattle.law_plan.specs.Spots.{Spot, at_prologue, at_member, at_release, at_reader, OfPrologue, OfMember, OfRelease}
-use Rattle.check_sync.specs.Passing.{Before, UpTo, AvailableBy, VisibleBy}
-use Rattle.check_sync.specs.Synchronized.{Synchronized}
+use Rattle.law_nodes.specs.Passing.{Before, UpTo, AvailableBy, VisibleBy}
+use Rattle.law_nodes.specs.Synchronized.{Synchronized}
 use Rattle.check_access.specs.AccessKinds.{changes}
 use Rattle.check_access.specs.ValidView.{Has}
 use Rattle.check_access.specs.Views.{View, clash}

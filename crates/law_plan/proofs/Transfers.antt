@@ -21,8 +21,8 @@ use Rattle.check_order.specs.Orders.{Order}
 use Rattle.check_state.specs.PieceStates.{kind_of, last_transfer, next_transfer, on_piece}
 use Rattle.check_state.specs.StateValid.{MatchAt, Matches}
 use Rattle.check_sync.proofs.Ordered.{listed_of}
-use Rattle.check_sync.specs.Passing.{Before}
-use Rattle.check_sync.specs.Synchronized.{Synchronized}
+use Rattle.law_nodes.specs.Passing.{Before}
+use Rattle.law_nodes.specs.Synchronized.{Synchronized}
 use Rattle.check_access.specs.AccessKinds.{changes, transfers}
 use Rattle.check_access.specs.ValidView.{Has, NodeAccessAt, Precedes, ValidView}
 use Rattle.check_access.specs.Views.{View, clash, node_access, node_accesses_of, overlap}

@@ -22,7 +22,7 @@ use Rattle.check_order.specs.Edges.{is_host, is_signal, is_wait, node_at}
 use Rattle.check_order.specs.Nodes.{node}
 use Rattle.check_order.specs.declared.kind.Kind.TheVariants.{Command, Barrier, Signal, Host}
 use Rattle.base_reach.specs.Paths.{one, then_on}
-use Rattle.check_sync.specs.Passing.{Before}
+use Rattle.law_nodes.specs.Passing.{Before}
 use Rattle.check_access.specs.AccessKinds.{loads, wanted}
 use Rattle.check_access.specs.Effects.{plain_effect}
 use Rattle.check_access.specs.ValidView.{Has}

@@ -5,7 +5,7 @@ use Rattle.law_plan.specs.Masks.{Takes}
 use Rattle.law_plan.specs.Nodes.{Nodes, IsBarrier}
 use Rattle.law_plan.specs.Plans.{Plan}
 use Rattle.law_plan.specs.Spots.{OfMember}
-use Rattle.check_sync.specs.Passing.{UpTo}
+use Rattle.law_nodes.specs.Passing.{UpTo}
 use Rattle.check_access.specs.Views.{View, overlap}
 use Rattle.check_access.specs.declared.access.Access.{Access}
 

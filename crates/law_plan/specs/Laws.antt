@@ -1,6 +1,6 @@
 -- Laws of recorded programs.
 use Rattle.std.specs.Prelude.{ℕ, ◌<◌, List, length}
-use Rattle.check_program.specs.Sound.{Sound}
+use Rattle.law_nodes.specs.Sound.{SoundByNodes}
 use Rattle.law_plan.specs.Crossings.{Later, IsFull}
 use Rattle.law_plan.specs.Facts.{Facts}
 use Rattle.law_plan.specs.Levels.{Leveled, Under, by_level}
@@ -15,9 +15,9 @@ use Rattle.check_access.specs.Views.{View}
 abbrev pub Crosses : Plan → View → Nodes → Type 0
 Crosses F V N = IsFull V → Places F V N → (c d : ℕ) → Reach F c d → Later V.nodes (N.command c) (N.command d)
 
--- a shaped view that has the facts of a plan is sound in its least order
+-- a shaped view that has the facts of a plan is sound by its nodes in their least order
 abbrev pub MakesSound : Plan → View → Nodes → Type 0
-MakesSound F V N = ValidView V → Facts F V N → (order : List ℕ) → IsLeast V.nodes order → Sound V order
+MakesSound F V N = ValidView V → Facts F V N → (order : List ℕ) → IsLeast V.nodes order → SoundByNodes V order
 
 -- of two numbers the one with the lower level stands first, and on one level the lower one
 abbrev pub LowerFirst : (ℕ → ℕ) → ℕ → Type 0

@@ -6,7 +6,7 @@ use Rattle.law_plan.specs.Nodes.{Nodes}
 use Rattle.law_plan.specs.Plans.{Plan}
 use Rattle.law_plan.specs.Spots.{OfMember, OfReader}
 use Rattle.check_order.specs.Edges.{node_at}
-use Rattle.check_sync.specs.Passing.{UpTo, MadeVisibleBy}
+use Rattle.law_nodes.specs.Passing.{UpTo, MadeVisibleBy}
 use Rattle.check_access.specs.Views.{View}
 use Rattle.check_access.specs.declared.access.Access.{Access}
 

@@ -11,7 +11,7 @@ use check_order::before_laws;
 
 /// Where signals and waits are of ALL_COMMANDS and nodes in their places, what one command needs of another comes before it, on
 /// one queue or over a signal and a wait (`crosses`). A shaped view that has the facts of a plan, each about one group, is sound
-/// in its least order (`sound`). It does nothing.
+/// by its nodes in their least order (`sound`). It does nothing.
 pub fn crossing_laws()
     ensures crosses { (F : Plan) (V : View) (N : Nodes) → Crosses F V N }
     ensures sound { (F : Plan) (V : View) (N : Nodes) → MakesSound F V N }

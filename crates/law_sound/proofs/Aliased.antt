@@ -43,7 +43,7 @@ use Rattle.compile_record.specs.declared.mark.Mark.TheVariants.{Prologue as OfPr
 use Rattle.program.specs.declared.program.Item.{Item}
 use Rattle.program.specs.declared.program.Item.TheVariants as item
 use Rattle.program.specs.declared.program.Program.{Program}
-use Rattle.check_sync.specs.Passing.{UpTo}
+use Rattle.law_nodes.specs.Passing.{UpTo}
 use Rattle.compile_timeline.specs.Steps.{IsScript}
 use Rattle.compile_barriers.specs.Masks.{barrier_masks, entry_masks}
 use Rattle.compile_barriers.specs.Prologues.{earlier, first, is_transfer, masks_of, prologue_between, prologue_of}

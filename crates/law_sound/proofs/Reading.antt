@@ -36,7 +36,7 @@ use Rattle.compile_record.specs.Standing.{host_item, host_step}
 use Rattle.program.specs.Entries.{OfHost}
 use Rattle.program.specs.declared.program.Item.{Item}
 use Rattle.program.specs.declared.program.Program.{Program}
-use Rattle.check_sync.specs.Passing.{VisibleBy}
+use Rattle.law_nodes.specs.Passing.{VisibleBy}
 use Rattle.compile_timeline.specs.Places.{signal_number}
 use Rattle.compile_timeline.specs.Steps.{has_item, is_item}
 use Rattle.compile_timeline.specs.declared.step.Step.{Step}

@@ -18,7 +18,7 @@ use Rattle.compile_groups.specs.Placed.{sizes}
 use Rattle.compile_lifetimes.specs.Ordered.{IsOrdered}
 use Rattle.compile_heap.specs.Placing.{Places, IsLeast}
 use Rattle.compile_record.specs.Recorded.{heap_with, recorded}
-use Rattle.check_sync.specs.Passing.{UpTo}
+use Rattle.law_nodes.specs.Passing.{UpTo}
 use Rattle.check_access.specs.Views.{View, imported_at, overlap, view_of}
 
 -- of each program that is compiled of a valid frame, by its plan and its nodes

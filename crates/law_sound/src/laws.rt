@@ -4,8 +4,10 @@ ghost use Rattle.law_sound.specs.Laws.{OfCompiled, IsGrouped, AreOrdered, HaveBa
 ghost use Rattle.law_plan.specs.Nodes.{Places, Roles};
 
 use check_access::view_law;
+use check_access_order::order_laws;
 use compile_groups::group_laws;
 use compile_record::script_laws;
+use law_nodes::node_laws;
 use law_plan::crossing_laws;
 use law_schedule::cut_laws;
 use law_valid::faultless_law;
@@ -52,4 +54,6 @@ pub fn sound_law()
     aliases_law();
     faultless_law();
     view_law();
+    order_laws();
+    node_laws();
 }

@@ -1,6 +1,7 @@
 use crate::sketched::shaped;
 use base::NoMemory;
 use check_access::{node_accesses_of, view_of};
+use check_access_order::order_laws;
 use check_order::{Drain, before_of, drain_of};
 use check_sync::*;
 use program::ValidProgram;
@@ -36,6 +37,7 @@ fn sync_hazard(alloc: Global, shaped: &ValidProgram) -> Result<Option<SyncHazard
     match drain_of(alloc, shaped, view.edges())? {
         Drain::Stuck { .. } => Err(NoMemory),
         Drain::Whole(order) => {
+            order_laws();
             let before = before_of(alloc, shaped, view.edges(), &order)?;
             let accesses = node_accesses_of(alloc, &view, &order)?;
             first_flaw(alloc, &view, &before, &accesses)

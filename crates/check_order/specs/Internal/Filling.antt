@@ -2,7 +2,7 @@
 use Rattle.std.specs.Prelude.{◌≡◌, ◌⊎◌, ℕ, ◌<◌, ◌&&◌, Bool, true, List, length, Some}
 use Rattle.vk.specs.Sets as sets
 use Rattle.check_order.specs.Before.{place, joined}
-use Rattle.check_order.specs.Edges.{is_sync, holds_back, signalled, meeting, node_at, edge}
+use Rattle.check_order.specs.Edges.{is_sync, sync_holds_back, signalled, meeting, node_at, sync_edge}
 use Rattle.check_order.specs.declared.node.Node.{Node}
 use Rattle.base_reach.specs.Pairs.{Pairs, has}
 
@@ -11,7 +11,7 @@ pub record Tabled (nodes : List Node) (places : List ℕ) (count : ℕ) : Type 0
   pub size : length places ≡ length nodes
   pub below : (n : ℕ) → n < length nodes → place places n < count
   pub once : (x y : ℕ) → x < length nodes → y < length nodes → place places x ≡ place places y → x ≡ y
-  pub forward : (x y : ℕ) → edge nodes x y ≡ true → place places x < place places y
+  pub forward : (x y : ℕ) → sync_edge nodes x y ≡ true → place places x < place places y
 
 -- each pair stands for an edge
 pub record IsEdge (nodes : List Node) (places : List ℕ) (a b x y : ℕ) : Type 0 where
@@ -19,7 +19,7 @@ pub record IsEdge (nodes : List Node) (places : List ℕ) (a b x y : ℕ) : Type
   pub to : b ≡ place places y
   pub from_node : x < length nodes
   pub to_node : y < length nodes
-  pub is_edge : edge nodes x y ≡ true
+  pub is_edge : sync_edge nodes x y ≡ true
 
 abbrev pub AllEdges : List Node → List ℕ → Pairs → Type 0
 AllEdges nodes places pairs = (a b : ℕ) → has pairs a b ≡ true → (x : ℕ) × (y : ℕ) × IsEdge nodes places a b x y
@@ -35,7 +35,7 @@ pub record Added (old new : Pairs) : Type 0 where
 
 -- the pair is there, or another node stands between
 abbrev pub Covered : List Node → List ℕ → Pairs → ℕ → ℕ → Type 0
-Covered nodes places pairs x y = (joined pairs places x y ≡ true) ⊎ ((z : ℕ) × (edge nodes x z ≡ true) × (edge nodes z y ≡ true))
+Covered nodes places pairs x y = (joined pairs places x y ≡ true) ⊎ ((z : ℕ) × (sync_edge nodes x z ≡ true) × (sync_edge nodes z y ≡ true))
 
 -- a barrier, wait or signal that holds back all that the other does
 abbrev pub takes_over : Node → Node → Bool
@@ -43,10 +43,10 @@ takes_over a b = is_sync a.kind && sets.has a.dst_stages.0 b.dst_stages.0
 
 -- what x holds back after y is held back by y, which x holds back
 abbrev pub Passes : List Node → ℕ → ℕ → Type 0
-Passes nodes x y = (w : ℕ) → y < w → w < length nodes → holds_back (node_at nodes x) (node_at nodes w) ≡ true → (edge nodes x y ≡ true) × (edge nodes y w ≡ true)
+Passes nodes x y = (w : ℕ) → y < w → w < length nodes → sync_holds_back (node_at nodes x) (node_at nodes w) ≡ true → (sync_edge nodes x y ≡ true) × (sync_edge nodes y w ≡ true)
 
 abbrev pub QueueDone : List Node → List ℕ → Pairs → ℕ → ℕ → Type 0
-QueueDone nodes places pairs x until = (y : ℕ) → x < y → y < until → holds_back (node_at nodes x) (node_at nodes y) ≡ true → Covered nodes places pairs x y
+QueueDone nodes places pairs x until = (y : ℕ) → x < y → y < until → sync_holds_back (node_at nodes x) (node_at nodes y) ≡ true → Covered nodes places pairs x y
 
 -- the edges to later nodes of its queue and from a signal, and the one to a wait
 pub record NodeDone (nodes : List Node) (places : List ℕ) (pairs : Pairs) (n : ℕ) : Type 0 where

@@ -1,6 +1,6 @@
 -- What a listing holds.
 use Rattle.check_sync.specs.Internal.Listings.{InView, IsListing}
-use Rattle.check_sync.specs.Rows.{Rows}
+use Rattle.check_access_order.specs.Rows.{OrderRows}
 use Rattle.check_sync.specs.declared.listing.Listing.TheInside.{Inside}
 
 abbrev pub in_view : Inside → InView
@@ -8,4 +8,4 @@ in_view inside = record { view = inside.view.now; accesses = inside.accesses.now
 
 pub record IsKnown (inside : Inside) : Type 0 where
   pub listing : IsListing (in_view inside)
-  pub rows : Rows inside.view.now inside.before.now
+  pub rows : OrderRows inside.view.now inside.before.now

@@ -6,7 +6,8 @@ use Rattle.check_access.specs.declared.access.Agent.TheVariants.{Of}
 use Rattle.check_access.specs.declared.access.AccessKind.{AccessKind}
 use Rattle.check_access.specs.declared.access.AccessKind.TheVariants.{Load}
 use Rattle.check_access.specs.declared.node_access.NodeAccess.{NodeAccess}
-use Rattle.check_sync.specs.Synchronized.{Clashing, Flawed, PairSynchronized}
+use Rattle.check_sync.specs.Synchronized.{Clashing}
+use Rattle.check_sync.specs.Synchronized.{Flawed, PairSynchronized}
 use Rattle.check_sync.specs.declared.sync_hazard.Flaw.{Flaw}
 use Rattle.check_sync.specs.declared.sync_hazard.SyncHazard.{SyncHazard}
 

@@ -1,4 +1,3 @@
-use Rattle.check_order.proofs.InOrder.{path_within}
 use Rattle.check_order.proofs.Places.{order_few, order_in, order_tabled, order_placed}
 use Rattle.check_order.specs.Nodes.{program_nodes}
 use Rattle.check_order.proofs.before.before_of.Goals as goal
@@ -19,6 +18,3 @@ pub invariant_of-result : goal.invariant_of-result
 invariant_of-result c = record {
   below = order_placed (program_nodes c.args.program.now) c.args.edges.now c.args.order.now c.count.result c.requires.edges c.requires.order c.count.ensures.count c.in_ok-places.places.items c.in_ok-rows.rows.count c.in_ok-places.ensures.length c.in_ok-places.ensures.places c.in_ok-rows.ensures.count;
 }
-
-pub returns-clause-within : goal.returns-clause-within
-returns-clause-within c = path_within (program_nodes c.args.program.now)

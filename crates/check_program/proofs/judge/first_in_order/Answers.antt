@@ -1,16 +1,21 @@
 use Rattle.std.proofs.Common.{◌≡◌, ◌<◌, ◌∙◌, sym, subst}
 use Rattle.check_program.proofs.Verdicts.{all_judged}
-use Rattle.check_order.specs.Orders.{Order}
+use Rattle.check_access_order.specs.Ways.{HasWays}
 use Rattle.check_sync.proofs.Whole.{rows_of}
-use Rattle.check_access.specs.ValidView.{Listed}
-use Rattle.check_access.specs.Views.{node_accesses_of}
+use Rattle.check_access.specs.ValidView.{Listed, ValidView}
+use Rattle.check_access.specs.Views.{view_of, node_accesses_of}
 use Rattle.check_program.proofs.judge.first_in_order.Goals as goal
 
 pub node_accesses_of-requires : goal.node_accesses_of-requires
 node_accesses_of-requires c = λ n m. subst (λ count. n < count) (sym c.requires.shaped.effects) (c.requires.order.order.only n m)
 
+pub first_in_accesses-requires-clause-ways : goal.first_in_accesses-requires-clause-ways
+first_in_accesses-requires-clause-ways c =
+    subst (λ V. HasWays V) (sym c.requires.view)
+    (c.order_laws.ensures.ways (view_of c.args.program.now) (subst (λ V. ValidView V) c.requires.view c.requires.shaped) (c.order_laws.ensures.single c.args.program.now))
+
 pub first_in_accesses-requires-clause-rows : goal.first_in_accesses-requires-clause-rows
-first_in_accesses-requires-clause-rows c = rows_of c.args.program.now c.args.view.now c.in_ok-before.before c.requires.view c.in_ok-before.ensures.count c.in_ok-before.ensures.happens c.in_ok-before.ensures.within
+first_in_accesses-requires-clause-rows c = rows_of c.args.program.now c.args.view.now c.in_ok-before.before c.requires.view c.in_ok-before.ensures.count c.in_ok-before.ensures.happens
 
 pub first_in_accesses-requires-clause-listed : goal.first_in_accesses-requires-clause-listed
 first_in_accesses-requires-clause-listed c =

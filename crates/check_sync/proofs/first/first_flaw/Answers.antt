@@ -7,4 +7,4 @@ pub returns-clause-first : goal.returns-clause-first
 returns-clause-first c = subst (λ l. IfOk c.first.result (FindsFirst l.view l.accesses)) c.new.ensures c.first.ensures
 
 pub returns-clause-synchronized : goal.returns-clause-synchronized
-returns-clause-synchronized c = all_decided c.args.view.now c.args.accesses.now c.first.result c.before_laws.ensures.forward c.before_laws.ensures.irreflexive c.requires.shaped (subst (λ l. IfOk c.first.result (FindsFirst l.view l.accesses)) c.new.ensures c.first.ensures)
+returns-clause-synchronized c = all_decided c.args.view.now c.args.accesses.now c.first.result c.requires.shaped (subst (λ l. IfOk c.first.result (FindsFirst l.view l.accesses)) c.new.ensures c.first.ensures)

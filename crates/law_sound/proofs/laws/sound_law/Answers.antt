@@ -15,9 +15,10 @@ returns c = λ frame kept ordered places good is_ordered least accessed.
     let P = c.places_law.ensures in
     let A = c.aliases_law.ensures in
     let found = c.cut_laws.ensures.least program (steps G heap) G.families refl (c.script_laws.ensures.in_turn frame kept heap good) in
-    let none = c.faultless_law.ensures frame (record { program = program; kept = kept; placement = places }) good (record { ordered = ordered; is_ordered = is_ordered; least = least; recorded = refl }) in (
+    let none = c.faultless_law.ensures frame (record { program = program; kept = kept; placement = places }) good (record { ordered = ordered; is_ordered = is_ordered; least = least; recorded = refl }) in
+    let shaped = c.view_law.ensures program none in (
       found.0,
-      c.crossing_laws.ensures.sound (plan_of G heap) (view_of program) (nodes_of G heap) (c.view_law.ensures program none)
+      (c.node_laws.ensures.sound (view_of program) shaped (c.order_laws.ensures.single program) found.0).1 (c.crossing_laws.ensures.sound (plan_of G heap) (view_of program) (nodes_of G heap) shaped
           (facts (plan_of G heap) (view_of program) (nodes_of G heap) (c.cut_laws.ensures.full program (steps G heap) G.families refl)
           (P.grouped frame kept ordered places good is_ordered least)
           (P.roles frame kept ordered places good is_ordered least)
@@ -27,5 +28,5 @@ returns c = λ frame kept ordered places good is_ordered least accessed.
           (A.before frame kept ordered places good is_ordered least)
           (A.kept frame kept ordered places good is_ordered least)
           accessed)
-          found.0 found.1,
+          found.0 found.1),
     )

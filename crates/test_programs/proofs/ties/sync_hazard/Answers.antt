@@ -1,6 +1,8 @@
 use Rattle.std.proofs.Common.{◌≡◌, ◌<◌, rules, sym, subst}
 use Rattle.check_order.specs.Orders.{Order}
-use Rattle.check_access.specs.ValidView.{Listed}
+use Rattle.check_access.specs.ValidView.{ValidView, Listed}
+use Rattle.check_access.specs.Views.{view_of}
+use Rattle.check_access_order.specs.Ways.{HasWays}
 use Rattle.check_sync.proofs.Whole.{rows_of}
 use Rattle.test_programs.proofs.ties.sync_hazard.Goals as goal
 
@@ -9,8 +11,13 @@ node_accesses_of-requires c =
     let whole : Order c.in_ok-view.view.nodes c.deref-in-Whole.result.now = search rules in
     λ n m. subst (λ count. n < count) (sym c.in_ok-view.ensures.shaped.effects) (whole.only n m)
 
+pub first_flaw-requires-clause-ways : goal.first_flaw-requires-clause-ways
+first_flaw-requires-clause-ways c =
+    subst (λ V. HasWays V) (sym c.in_ok-view.ensures.view)
+    (c.order_laws-in-Whole.ensures.ways (view_of c.args.shaped.now) (subst (λ V. ValidView V) c.in_ok-view.ensures.view c.in_ok-view.ensures.shaped) (c.order_laws-in-Whole.ensures.single c.args.shaped.now))
+
 pub first_flaw-requires-clause-rows : goal.first_flaw-requires-clause-rows
-first_flaw-requires-clause-rows c = rows_of c.args.shaped.now c.in_ok-view.view c.in_ok-before-in-Whole.before c.in_ok-view.ensures.view c.in_ok-before-in-Whole.ensures.count c.in_ok-before-in-Whole.ensures.happens c.in_ok-before-in-Whole.ensures.within
+first_flaw-requires-clause-rows c = rows_of c.args.shaped.now c.in_ok-view.view c.in_ok-before-in-Whole.before c.in_ok-view.ensures.view c.in_ok-before-in-Whole.ensures.count c.in_ok-before-in-Whole.ensures.happens
 
 pub first_flaw-requires-clause-listed : goal.first_flaw-requires-clause-listed
 first_flaw-requires-clause-listed c =

@@ -11,7 +11,7 @@ returns-then-changes c same =
     let known : IsListing c.args.self.now = c.access.ensures.listing in
     let pos : 0 < c.back.m = omega (arith, c.back-test.true) in
     let change : changes (kind_of c.args.self.now.accesses (c.back.m - 1)) ≡ true = ap (λ a. changes a.access.kind) (sym c.access.ensures.is) ∙ sym c.changes.ensures ∙ c.if-changes.true in
-    stop c.args.self.now.view c.args.self.now.accesses known.shaped known.listed c.args.j c.args.q c.requires.j c.requires.below c.requires.over c.requires.q c.args.chain.now.loads c.back.m pos c.back.invariant.low (c.back.invariant.its.its pos) c.back.invariant.seen change (c.is_synchronized.ensures c.if-not-is_synchronized.false)
+    stop c.args.self.now.view c.args.self.now.accesses known.shaped known.ways known.listed c.args.j c.args.q c.requires.j c.requires.below c.requires.over c.requires.q c.args.chain.now.loads c.back.m pos c.back.invariant.low (c.back.invariant.its.its pos) c.back.invariant.seen change (c.is_synchronized.ensures c.if-not-is_synchronized.false)
 
 pub back-preserved : goal.back-preserved
 back-preserved c =
@@ -24,5 +24,5 @@ back-preserved c =
     record {
       low = omega (arith, K.low, c.back.invariant.low);
       its = latest_self c.args.chain.now.loads c.args.self.now.accesses (c.back.m - 1) c.args.q c.before-m.result K;
-      seen = back c.args.self.now.view c.args.self.now.accesses known.shaped known.listed c.args.j c.args.q c.requires.j c.requires.below c.requires.over c.requires.q c.args.chain.now.loads c.back.m pos c.back.invariant.low c.back.invariant.seen (c.is_synchronized.ensures c.if-not-is_synchronized.false) c.before-m.result K;
+      seen = back c.args.self.now.view c.args.self.now.accesses known.shaped known.ways known.listed c.args.j c.args.q c.requires.j c.requires.below c.requires.over c.requires.q c.args.chain.now.loads c.back.m pos c.back.invariant.low c.back.invariant.seen (c.is_synchronized.ensures c.if-not-is_synchronized.false) c.before-m.result K;
     }

@@ -1,7 +1,7 @@
 use Rattle.std.proofs.Common.{◌≡◌, below_more, length, sym, ◌∙◌, subst, arith}
 use Rattle.std.proofs.lemmas.Bool.{false≢true}
-use Rattle.check_sync.specs.Passing.{UpTo, MadeVisibleBy}
-use Rattle.check_sync.specs.Internal.Listings.{IsListing}
+use Rattle.check_access_order.specs.Order.{UpTo}
+use Rattle.check_access_order.specs.Passing.{MadeVisibleBy}
 use Rattle.check_sync.proofs.Passes.{none_visible}
 use Rattle.check_sync.proofs.listing.Listing.is_visible_from.Goals as goal
 
@@ -12,5 +12,4 @@ pub returns : goal.returns
 returns c =
     let done : c.loop-k.k ≡ c.count-count.result = omega (arith, c.loop-k-test.false, c.loop-k.auto.k-end) in
     let count : c.count-count.result ≡ length c.args.self.now.view.nodes = subst (λ v. c.count-count.result ≡ length v.view.nodes) c.self.view_is c.count-count.ensures.count in
-    let known : IsListing c.args.self.now = subst IsListing c.self.view_is c.self.invariant.listing in
-    (λ e. absurd (false≢true e), λ h. absurd (none_visible c.args.self.now.view known.within c.args.x c.args.b c.count-count.result c.loop-k.k count done c.requires.b c.loop-k.invariant h))
+    (λ e. absurd (false≢true e), λ h. absurd (none_visible c.args.self.now.view c.args.x c.args.b c.count-count.result c.loop-k.k count done c.requires.b c.loop-k.invariant h))

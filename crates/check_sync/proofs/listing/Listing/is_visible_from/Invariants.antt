@@ -1,6 +1,7 @@
 use Rattle.std.proofs.Common.{ℕ, ◌<◌}
 use Rattle.check_sync.specs.Internal.Around.{down_from}
-use Rattle.check_sync.specs.Passing.{UpTo, MadeVisibleBy}
+use Rattle.check_access_order.specs.Order.{UpTo}
+use Rattle.check_access_order.specs.Passing.{MadeVisibleBy}
 use Rattle.check_sync.proofs.listing.Listing.is_visible_from.Given as goal
 
 abbrev pub invariant-loop-k : goal.invariant-loop-k

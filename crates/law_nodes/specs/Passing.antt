@@ -1,4 +1,4 @@
--- When what an access leaves reaches a later one.
+-- When what an access leaves reaches a later one, by paths over all nodes.
 use Rattle.std.specs.Prelude.{◌≡◌, ◌⊎◌, ℕ, true}
 use Rattle.check_order.specs.Edges.{edge, is_host, node_at}
 use Rattle.base_reach.specs.Paths.{Path}

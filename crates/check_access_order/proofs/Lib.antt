@@ -1,0 +1,11 @@
+pub mod Ends
+pub mod Firsts
+pub mod Forward
+pub mod Joined
+pub mod NodeKinds
+pub mod Singles
+pub mod Sites
+pub mod StagesOf
+pub mod Through
+pub mod Ways
+mod Worked

@@ -1,0 +1,5 @@
+pub mod Passed
+pub mod Passes
+pub mod Sites
+pub mod Ways
+pub mod Whole
