@@ -1,12 +1,12 @@
 //! A lower bound of the heap.
 
-ghost use Rattle.std.specs.Prelude.{◌≡◌, ◌<◌, ◌≤◌, ◌++◌, OnOk, IfOk, length};
+ghost use Rattle.std.specs.Prelude.{◌≡◌, ◌<◌, ◌≤◌, ◌++◌, OnOk, IfOk, codes, length};
 ghost use Rattle.std.specs.List.{All};
 ghost use Rattle.base.specs.Maxima.{max_units};
 ghost use Rattle.frame.specs.Numbered.{numbered};
 ghost use Rattle.compile_groups.specs.Placed.{placed};
 ghost use Rattle.report_json.specs.Bounds.{bound_json, chosen_unit};
-ghost use Rattle.report_json.specs.Json.{entries};
+ghost use Rattle.report_json.specs.Json.{array, entries, member, number};
 
 use crate::object::{add_comma, end_object, first_number, next_member, next_number};
 use crate::unit::add_unit;
@@ -34,6 +34,29 @@ fn add_chosen(
     Ok(())
 }
 
+fn add_bounds(text: &mut Text, least: u64, heap: u32) -> Result<(), NoMemory>
+    ensures { OnOk result (text.new ≡ text.old ++ codes "{" ++ member (codes "bound") (number least) ++ codes "," ++ member (codes "heap") (number heap)) }
+{
+    first_number(text, b"bound", least)?;
+    next_number(text, b"heap", u64::from(heap))
+}
+
+fn add_units(
+    text: &mut Text,
+    frame: &ValidFrame,
+    units: &[u32],
+    chosen: &[u32],
+) -> Result<(), NoMemory>
+    requires units { All (λ unit. unit < length (numbered frame.now).units) units.now }
+    requires chosen { All (λ k. k < length units.now) chosen.now }
+    ensures { OnOk result (text.new ≡ text.old ++ codes "," ++ member (codes "units") (array (chosen_unit frame.now units.now) chosen.now)) }
+{
+    next_member(text, b"units")?;
+    text.word(b"[")?;
+    add_chosen(text, frame, units, chosen)?;
+    text.word(b"]")
+}
+
 /// The object that `bound --json` prints: a number of bytes that no heap is smaller than, beside the size of the heap, and
 /// the names of the placed units that show it, which are chosen by their places among the placed ones.
 #[tactic(auto, using(report::proofs::Places::placed_known))]
@@ -50,12 +73,8 @@ pub(crate) fn bound_json(
     ensures { IfOk result (λ text. text ≡ bound_json frame.now groups.now least heap chosen.now) }
 {
     let mut text = List::new(alloc);
-    first_number(&mut text, b"bound", least)?;
-    next_number(&mut text, b"heap", u64::from(heap))?;
-    next_member(&mut text, b"units")?;
-    text.word(b"[")?;
-    add_chosen(&mut text, frame, groups.placed(), chosen)?;
-    text.word(b"]")?;
+    add_bounds(&mut text, least, heap)?;
+    add_units(&mut text, frame, groups.placed(), chosen)?;
     end_object(&mut text)?;
     Ok(text)
 }

@@ -2,7 +2,7 @@
 
 ghost use Rattle.std.specs.Prelude.{◌≡◌, ◌≤◌, ◌++◌, ◌-◌, OnOk, IfOk, codes, length};
 ghost use Rattle.report_json.specs.Culls.{cull_json, kept_count, pass_object, pass_of};
-ghost use Rattle.report_json.specs.Json.{entries, member, number, truth};
+ghost use Rattle.report_json.specs.Json.{array, entries, member, number, truth};
 
 use crate::object::{add_comma, end_object, first_number, first_string, next_member, next_number};
 use base::{List, NoMemory, Text};
@@ -48,6 +48,17 @@ fn add_passes(text: &mut Text, passes: &[Pass], kept: &Kept) -> Result<(), NoMem
     Ok(())
 }
 
+fn add_all(text: &mut Text, passes: &[Pass], kept: &Kept) -> Result<(), NoMemory>
+    requires few { length passes.now ≤ 256 }
+    requires all { length kept.now ≡ length passes.now }
+    ensures { OnOk result (text.new ≡ text.old ++ codes "," ++ member (codes "passes") (array (pass_of kept.now) passes.now)) }
+{
+    next_member(text, b"passes")?;
+    text.word(b"[")?;
+    add_passes(text, passes, kept)?;
+    text.word(b"]")
+}
+
 /// The object that `cull --json` prints: how many passes are kept and culled, and what becomes of each.
 #[tactic(auto, using(report::proofs::Passes::few))]
 pub(crate) fn cull_json(alloc: Global, frame: &ValidFrame, kept: &Kept) -> Result<Text, NoMemory>
@@ -57,10 +68,7 @@ pub(crate) fn cull_json(alloc: Global, frame: &ValidFrame, kept: &Kept) -> Resul
     let passes = &frame.frame().passes;
     let mut text = List::new(alloc);
     add_counts(&mut text, kept, passes.len())?;
-    next_member(&mut text, b"passes")?;
-    text.word(b"[")?;
-    add_passes(&mut text, passes, kept)?;
-    text.word(b"]")?;
+    add_all(&mut text, passes, kept)?;
     end_object(&mut text)?;
     Ok(text)
 }

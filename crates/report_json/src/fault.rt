@@ -1,7 +1,8 @@
 //! Faults of files.
 
-ghost use Rattle.std.specs.Prelude.{◌≡◌, ◌++◌, OnOk, IfOk, codes};
-ghost use Rattle.report_json.specs.Faults.{fault_json, frame_fault_json, limit_members, program_fault_json};
+ghost use Rattle.std.specs.Prelude.{◌≡◌, ◌∷◌, [], ◌++◌, OnOk, IfOk, codes};
+ghost use Rattle.report_json.specs.Faults.{fault_json, frame_fault_json, limit_members, path_json, program_fault_json};
+ghost use Rattle.report_json.specs.Verdicts.{verdict};
 ghost use Rattle.report_json.specs.Json.{later, member, number, string};
 
 use crate::object::{end_object, first_string, next_member, next_string};
@@ -31,8 +32,34 @@ fn add_limit(text: &mut Text, limit: Option<Limit>) -> Result<(), NoMemory>
     }
 }
 
-// The object of a fault with this letter and number.
+fn add_place(text: &mut Text, location: &[Leg]) -> Result<(), NoMemory>
+    ensures { OnOk result (text.new ≡ text.old ++ codes "," ++ member (codes "path") (path_json location.now)) }
+{
+    next_member(text, b"path")?;
+    add_path(text, location)
+}
+
+// What stands behind the number.
 #[tactic(auto, using(crate::proofs::Members::later_more))]
+fn add_limit_and_place(
+    text: &mut Text,
+    limit: Option<Limit>,
+    location: &[Leg],
+) -> Result<(), NoMemory>
+    ensures { OnOk result (text.new ≡ text.old ++ later (limit_members limit ++ member (codes "path") (path_json location.now) ∷ [])) }
+{
+    add_limit(text, limit)?;
+    add_place(text, location)
+}
+
+fn begin_fault(text: &mut Text, letter: &[u8], fault: u8) -> Result<(), NoMemory>
+    ensures { OnOk result (text.new ≡ text.old ++ codes "{" ++ verdict (codes "fault") ++ codes "," ++ member (codes "fault") (string (letter.now ++ number fault))) }
+{
+    first_string(text, b"verdict", b"fault")?;
+    add_number(text, letter, fault)
+}
+
+// The object of a fault with this letter and number.
 fn fault_json(
     alloc: Global,
     letter: &[u8],
@@ -43,11 +70,8 @@ fn fault_json(
     ensures { IfOk result (λ text. text ≡ fault_json letter.now fault limit location.now) }
 {
     let mut text = List::new(alloc);
-    first_string(&mut text, b"verdict", b"fault")?;
-    add_number(&mut text, letter, fault)?;
-    add_limit(&mut text, limit)?;
-    next_member(&mut text, b"path")?;
-    add_path(&mut text, location)?;
+    begin_fault(&mut text, letter, fault)?;
+    add_limit_and_place(&mut text, limit, location)?;
     end_object(&mut text)?;
     Ok(text)
 }
