@@ -1,5 +1,5 @@
 -- A move that a tender draws is one of the device, and leaves nodes and timelines as they are.
-use Rattle.std.proofs.Common.{◌≡◌, ◌*◌, ◌+◌, ◌<◌, ℕ, List, true, false, length, get_or, nat_le, nat_lt, slice_get, refl, ap, ◌∙◌, subst, arith}
+use Rattle.std.proofs.Common.{◌≡◌, ◌*◌, ◌+◌, ◌<◌, true, false, length, get_or, nat_le, nat_lt, slice_get, refl, ap, ◌∙◌, subst, arith}
 use Rattle.std.specs.Option.{option_map_or}
 use Rattle.std.proofs.lemmas.Bool.{and_from, lt-ltb, le-leb}
 use Rattle.std.proofs.lemmas.List.{get_or-map, length-map}

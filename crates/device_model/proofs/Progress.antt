@@ -6,7 +6,7 @@ use Rattle.law_runs.proofs.Devices.{device_progressed}
 use Rattle.law_runs.specs.Device.{MayBegin, MaySynchronize, DeviceGoesOn}
 use Rattle.base.specs.declared.event.Event.{Event}
 use Rattle.base.specs.declared.event.Event.TheVariants.{Begin, End, Sync, Move, Host}
-use Rattle.device_cache.specs.Lines.{Bytes, range}
+use Rattle.device_cache.specs.Lines.{Bytes}
 use Rattle.check_program.specs.Sound.{IsSound}
 use Rattle.check_order.proofs.Bridge.{meets_edge}
 use Rattle.check_order.proofs.Filling.{edge_within}

@@ -79,7 +79,7 @@ module _ (seed agents : ℕ) (sizes : List ℕ) where
   pub ends : (a b : Option Device) (left : ℕ) (g : Lcg) → moves_from g left agents sizes ≡ [] → Both a b (λ d e. TendsOn d e seed left g agents sizes) → TendsAll a b seed agents sizes
   ends a b left g none = both_so a b (λ d e. TendsOn d e seed left g agents sizes) (Tended seed agents sizes) (λ d e so_far. over d e seed left agents sizes g none so_far)
 
-  module _ (a b c : Option Device) (k : ℕ) (g : Lcg) (event : Event) (below : k < 256) (draws : Draws agents sizes g event) where
+  module _ (a b c : Option Device) (k : ℕ) (g : Lcg) (m : CacheMove) (below : k < 256) (draws : Draws agents sizes g m) where
     one_less : 256 - k ≡ suc (256 - (k + 1))
     one_less = omega (arith, below)
 
