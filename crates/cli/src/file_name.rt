@@ -29,6 +29,7 @@ impl FileName {
         })
     }
 
+    /// The text of the name.
     pub fn as_str(&self) -> &str
         ensures { result.now ≡ self.now }
     {

@@ -64,6 +64,7 @@ impl Meter {
         self.hide(rt);
     }
 
+    /// Input is there, or a failure to read it.
     pub fn end_wait(&self) {
         self.waits.store(false, Ordering::SeqCst);
     }
