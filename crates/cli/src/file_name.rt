@@ -1,6 +1,7 @@
 //! Names of files.
 
-ghost use Rattle.std.specs.Prelude.{◌≡◌, IfOk};
+ghost use Rattle.std.specs.Prelude.{◌≡◌, IfOk, codes};
+ghost use Rattle.std.specs.Str.{bytes_eq};
 
 use base::NoMemory;
 use std::alloc::Global;
@@ -29,6 +30,7 @@ impl FileName {
         })
     }
 
+    /// The text of the name.
     pub fn as_str(&self) -> &str
         ensures { result.now ≡ self.now }
     {
@@ -36,7 +38,9 @@ impl FileName {
     }
 
     /// Whether it stands for standard input.
-    pub fn is_standard_input(&self) -> bool {
+    pub fn is_standard_input(&self) -> bool
+        ensures { result ≡ bytes_eq self.now (codes "-") }
+    {
         self.as_str() == "-"
     }
 }

@@ -10,11 +10,6 @@ use std::sync::Wait;
 use std::{fs, io};
 use top::Opener;
 
-/// What a command reads from.
-pub type Opened<'a, R> = ReadSource<
-    Input<MeterReader<'a, R, <R as io::Input>::Reader>, <R as Files>::File>,
->;
-
 /// Opens files, and tells the meter of each.
 #[derive(Drop)]
 pub struct Disk<'a, R> {
@@ -28,14 +23,14 @@ impl<'a, R: io::Input + Files + Eprint + Wait> Disk<'a, R> {
     }
 
     /// Standard input.
-    pub fn standard(&self) -> Opened<'a, R> {
+    pub fn standard(&self) -> ReadSource<Input<MeterReader<'a, R, R::Reader>, R::File>> {
         let reader = MeterReader::new(self.rt, self.meter, self.rt.reader());
         ReadSource::new(Input::Standard(reader))
     }
 }
 
 impl<'a, R: io::Input + Files + Eprint + Wait> Opener for Disk<'a, R> {
-    type File = Opened<'a, R>;
+    type File = ReadSource<Input<MeterReader<'a, R, R::Reader>, R::File>>;
 
     fn open(&mut self, name: &FileName) -> Self::File {
         self.meter.begin_file();

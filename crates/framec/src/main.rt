@@ -130,9 +130,7 @@ fn answer_and_show<R: Threads + Wait + Sync + Clock + Eprint + Files + Input + P
 
 // Words that are no command line have their answer on standard output, and on standard error how help is called.
 fn tell_help<R: Eprint>(rt: &R) {
-    let _ = eprintln!(rt;
-        "framec: this is no command line; ./framec --help tells the commands, and ./framec COMMAND --help the options of one"
-    );
+    let _ = eprintln!(rt; "framec: this is no command line; ./framec --help lists the commands");
 }
 
 fn main(rt: HostRuntime) -> ExitCode {

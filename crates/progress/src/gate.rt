@@ -10,6 +10,7 @@ pub struct MeterGate<'a> {
 }
 
 impl<'a> MeterGate<'a> {
+    /// A gate that counts for this meter.
     pub fn new(meter: &'a Meter) -> MeterGate<'a> {
         MeterGate { meter }
     }

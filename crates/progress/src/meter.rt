@@ -64,6 +64,7 @@ impl Meter {
         self.hide(rt);
     }
 
+    /// Input is there, or a failure to read it.
     pub fn end_wait(&self) {
         self.waits.store(false, Ordering::SeqCst);
     }
@@ -80,7 +81,8 @@ impl Meter {
                 *line = Line::Shown;
                 self.write(rt, start);
             }
-            self.ended
+            let (_line, _) = self
+                .ended
                 .wait_timeout(rt, line, Duration::from_millis(STEP));
         }
     }
@@ -96,7 +98,10 @@ impl Meter {
     }
 
     fn write<R: Clock + Eprint>(&self, rt: &R, start: Instant) {
-        let seconds = start.elapsed(rt).map_or(0, |elapsed| elapsed.as_secs());
+        let Ok(elapsed) = start.elapsed(rt) else {
+            return;
+        };
+        let seconds = elapsed.as_secs();
         let commands = self.commands.load(Ordering::SeqCst);
         let begun = self.begun.load(Ordering::SeqCst);
         let _ = eprint!(rt; "{WIPE}framec: {seconds} s");

@@ -14,6 +14,7 @@ pub struct MeterReader<'a, R: Wait + Eprint, T> {
 }
 
 impl<'a, R: Wait + Eprint, T: Read> MeterReader<'a, R, T> {
+    /// This reader, with the line of this meter.
     pub fn new(rt: &'a R, meter: &'a Meter, inner: T) -> Self {
         MeterReader { rt, meter, inner }
     }

@@ -17,6 +17,7 @@ pub struct MeterSink<'a, R: Wait + Eprint, O> {
 }
 
 impl<'a, R: Wait + Eprint, O: Sink> MeterSink<'a, R, O> {
+    /// This sink, with the line of this meter.
     pub fn new(rt: &'a R, meter: &'a Meter, inner: O) -> Self
         ensures taken { ⟦<MeterSink<'a, R, O> as Sink>⟧.taken result ≡ O.taken inner }
         ensures faults { ⟦<MeterSink<'a, R, O> as Sink>⟧.faults result ≡ O.faults inner }
