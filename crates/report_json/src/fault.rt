@@ -1,7 +1,7 @@
 //! Faults of files.
 
 ghost use Rattle.std.specs.Prelude.{◌≡◌, ◌++◌, OnOk, IfOk, codes};
-ghost use Rattle.report_json.specs.Faults.{fault_json, frame_fault_json, limit_members, program_fault_json};
+ghost use Rattle.report_json.specs.Faults.{fault_json, frame_fault_json, path_json, place_members, program_fault_json};
 ghost use Rattle.report_json.specs.Json.{later, member, number, string};
 
 use crate::object::{end_object, first_string, next_member, next_string};
@@ -12,6 +12,7 @@ use frame::FrameFault;
 use program::ProgramFault;
 use std::alloc::Global;
 
+#[tactic(auto, unfolding(crate::specs::Json::member, crate::specs::Json::string))]
 fn add_number(text: &mut Text, letter: &[u8], fault: u8) -> Result<(), NoMemory>
     ensures { OnOk result (text.new ≡ text.old ++ codes "," ++ member (codes "fault") (string (letter.now ++ number fault))) }
 {
@@ -22,17 +23,28 @@ fn add_number(text: &mut Text, letter: &[u8], fault: u8) -> Result<(), NoMemory>
     text.word(b"\"")
 }
 
-fn add_limit(text: &mut Text, limit: Option<Limit>) -> Result<(), NoMemory>
-    ensures { OnOk result (text.new ≡ text.old ++ later (limit_members limit)) }
+#[tactic(auto, unfolding(crate::specs::Json::member))]
+fn next_path(text: &mut Text, location: &[Leg]) -> Result<(), NoMemory>
+    ensures { OnOk result (text.new ≡ text.old ++ codes "," ++ member (codes "path") (path_json location.now)) }
+{
+    next_member(text, b"path")?;
+    add_path(text, location)
+}
+
+// The limit, where there is one, and the path.
+fn add_place(text: &mut Text, limit: Option<Limit>, location: &[Leg]) -> Result<(), NoMemory>
+    ensures { OnOk result (text.new ≡ text.old ++ later (place_members limit location.now)) }
 {
     match limit {
-        Some(limit) => next_string(text, b"limit", limit.name().as_bytes()),
-        None => Ok(()),
+        Some(limit) => {
+            next_string(text, b"limit", limit.name().as_bytes())?;
+            next_path(text, location)
+        }
+        None => next_path(text, location),
     }
 }
 
 // The object of a fault with this letter and number.
-#[tactic(auto, using(crate::proofs::Members::later_more))]
 fn fault_json(
     alloc: Global,
     letter: &[u8],
@@ -45,9 +57,7 @@ fn fault_json(
     let mut text = List::new(alloc);
     first_string(&mut text, b"verdict", b"fault")?;
     add_number(&mut text, letter, fault)?;
-    add_limit(&mut text, limit)?;
-    next_member(&mut text, b"path")?;
-    add_path(&mut text, location)?;
+    add_place(&mut text, limit, location)?;
     end_object(&mut text)?;
     Ok(text)
 }

@@ -2,8 +2,8 @@
 
 ghost use Rattle.std.specs.Prelude.{◌≡◌, ◌∷◌, [], ◌++◌, OnOk, IfOk, codes};
 ghost use Rattle.report.specs.Hazards.{owner_name};
-ghost use Rattle.report_json.specs.Json.{later};
-ghost use Rattle.report_json.specs.Verdicts.{between, check_json, flaw_name, hazard_json, hazard_members, load_members, mismatch, node_of, numbered, piece_of, state_members};
+ghost use Rattle.report_json.specs.Json.{later, member, pair};
+ghost use Rattle.report_json.specs.Verdicts.{between, check_json, flaw_name, hazard_json, hazard_members, load_members, mismatch, node_of, numbered, piece_of, state_members, stuck_members};
 
 use crate::object::{end_object, first_string, next_member, next_number, next_string};
 use base::{Family, List, NoMemory, Text};
@@ -38,17 +38,30 @@ fn at_piece(text: &mut Text, name: &[u8], node: u32, piece: u32) -> Result<(), N
     next_number(text, b"piece", u64::from(piece))
 }
 
-// One of two nodes.
-fn add_between(text: &mut Text, name: &[u8], first: u32, second: u32) -> Result<(), NoMemory>
-    ensures { OnOk result (text.new ≡ text.old ++ later (between name.now first second)) }
+fn add_pair(text: &mut Text, first: u32, second: u32) -> Result<(), NoMemory>
+    ensures { OnOk result (text.new ≡ text.old ++ pair first second) }
 {
-    next_string(text, b"hazard", name)?;
-    next_member(text, b"nodes")?;
     text.word(b"[")?;
     text.number(u64::from(first))?;
     text.word(b",")?;
     text.number(u64::from(second))?;
     text.word(b"]")
+}
+
+#[tactic(auto, unfolding(crate::specs::Json::member))]
+fn next_nodes(text: &mut Text, first: u32, second: u32) -> Result<(), NoMemory>
+    ensures { OnOk result (text.new ≡ text.old ++ codes "," ++ member (codes "nodes") (pair first second)) }
+{
+    next_member(text, b"nodes")?;
+    add_pair(text, first, second)
+}
+
+// One of two nodes.
+fn add_between(text: &mut Text, name: &[u8], first: u32, second: u32) -> Result<(), NoMemory>
+    ensures { OnOk result (text.new ≡ text.old ++ later (between name.now first second)) }
+{
+    next_string(text, b"hazard", name)?;
+    next_nodes(text, first, second)
 }
 
 // One of a piece that is in another state than the one wanted.
@@ -123,15 +136,20 @@ fn add_load(text: &mut Text, load_hazard: LoadHazard) -> Result<(), NoMemory>
     }
 }
 
+// The queue that is stuck, and its next node.
+fn add_stuck(text: &mut Text, queue: u32, node: u32) -> Result<(), NoMemory>
+    ensures { OnOk result (text.new ≡ text.old ++ later (stuck_members queue node)) }
+{
+    next_string(text, b"hazard", b"H1")?;
+    next_number(text, b"queue", u64::from(queue))?;
+    next_number(text, b"node", u64::from(node))
+}
+
 fn add_hazard(text: &mut Text, hazard: &Hazard) -> Result<(), NoMemory>
     ensures { OnOk result (text.new ≡ text.old ++ later (hazard_members hazard.now)) }
 {
     match *hazard {
-        Hazard::Stuck { queue, node } => {
-            next_string(text, b"hazard", b"H1")?;
-            next_number(text, b"queue", u64::from(queue))?;
-            next_number(text, b"node", u64::from(node))
-        }
+        Hazard::Stuck { queue, node } => add_stuck(text, queue, node),
         Hazard::Sync(
             SyncHazard {
                 first,

@@ -5,11 +5,11 @@ ghost use Rattle.std.specs.List.{All, sum};
 ghost use Rattle.base.specs.Maxima.{max_units, max_resource_bytes};
 ghost use Rattle.frame.specs.Numbered.{numbered};
 ghost use Rattle.compile_groups.specs.Placed.{placed};
-ghost use Rattle.report_json.specs.Json.{entries, member, number};
+ghost use Rattle.report_json.specs.Json.{array, entries, member, number};
 ghost use Rattle.report_json.specs.Places.{place_json, place_object, placed_at};
 
 use crate::object::{add_comma, end_object, first_number, next_member, next_number};
-use crate::unit::add_unit;
+use crate::unit::next_unit;
 use base::{List, NoMemory, Text};
 use base_text::Lines;
 use compile_groups::Groups;
@@ -38,8 +38,7 @@ fn add_place(
 {
     first_number(text, b"offset", u64::from(offset))?;
     next_number(text, b"size", u64::from(size))?;
-    next_member(text, b"unit")?;
-    add_unit(text, frame, unit)?;
+    next_unit(text, frame, unit)?;
     text.word(b"}")
 }
 
@@ -64,6 +63,27 @@ fn add_places(
     Ok(())
 }
 
+// The member that has them all.
+#[tactic(auto, unfolding(crate::specs::Json::member))]
+fn next_places(
+    text: &mut Text,
+    frame: &ValidFrame,
+    units: &[u32],
+    sizes: &[u32],
+    placement: &Placement,
+) -> Result<(), NoMemory>
+    requires few { length units.now ≤ max_units }
+    requires units { All (λ unit. unit < length (numbered frame.now).units) units.now }
+    requires sizes { length sizes.now ≡ length units.now }
+    requires places { length placement.now.offsets ≡ length units.now }
+    ensures { OnOk result (text.new ≡ text.old ++ codes "," ++ member (codes "units") (array (placed_at frame.now placement.now.offsets sizes.now) units.now)) }
+{
+    next_member(text, b"units")?;
+    text.word(b"[")?;
+    add_places(text, frame, units, sizes, placement)?;
+    text.word(b"]")
+}
+
 /// The object that `place --json` prints: the size of the heap beside what the placed units would take one by one, and for
 /// each of them its first byte, its size and its name.
 #[tactic(auto, using(report::proofs::Places::placed_known, report::proofs::Places::as_many))]
@@ -80,10 +100,7 @@ pub(crate) fn place_json(
     let mut text = List::new(alloc);
     let sizes = groups.sizes();
     add_heap(&mut text, sizes, placement.heap())?;
-    next_member(&mut text, b"units")?;
-    text.word(b"[")?;
-    add_places(&mut text, frame, groups.placed(), sizes, placement)?;
-    text.word(b"]")?;
+    next_places(&mut text, frame, groups.placed(), sizes, placement)?;
     end_object(&mut text)?;
     Ok(text)
 }
