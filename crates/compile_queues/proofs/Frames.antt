@@ -50,11 +50,11 @@ same_ops (name ∷ names) (pass ∷ passes) room i = ap (λ rest. if nat_lt room
 same_rects : (names : List (List ℕ)) (passes : List Pass) (room p : ℕ) → spend_in spend_pass room p (passes_on names passes) ≡ spend_in spend_pass room p passes
 same_rects [] passes room p = refl
 same_rects (name ∷ names) [] room p = refl
-same_rects (name ∷ names) (pass ∷ passes) room p = by_left (spend_pass room p pass)
+same_rects (name ∷ names) (pass ∷ passes) room p = by_left (λ rest. same_rects names passes rest (suc p)) (spend_pass room p pass)
   where
-    by_left : (left : Result ℕ Location) → go_on (λ rest. spend_in spend_pass rest (suc p) (passes_on names passes)) left ≡ go_on (λ rest. spend_in spend_pass rest (suc p) passes) left
-    by_left (Ok rest) = same_rects names passes rest (suc p)
-    by_left (Err place) = refl
+    by_left : ((rest : ℕ) → spend_in spend_pass rest (suc p) (passes_on names passes) ≡ spend_in spend_pass rest (suc p) passes) → (left : Result ℕ Location) → go_on (λ rest. spend_in spend_pass rest (suc p) (passes_on names passes)) left ≡ go_on (λ rest. spend_in spend_pass rest (suc p) passes) left
+    by_left others (Ok rest) = others rest
+    by_left others (Err place) = refl
 
 same_names : (names : List (List ℕ)) (passes : List Pass) → map (λ p. p.name) (passes_on names passes) ≡ map (λ p. p.name) passes
 same_names [] passes = refl

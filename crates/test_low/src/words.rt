@@ -14,7 +14,7 @@ fn words_of(alloc: Global, line: &str) -> Result<Vec<String>, AllocError> {
 }
 
 // Lines, and how their commands are shown.
-const COMMANDS: [(&str, &str); 25] = [
+const COMMANDS: [(&str, &str); 23] = [
     ("-- cull", "Frame(Cull { json: false })"),
     ("--json cull", "Frame(Cull { json: true })"),
     ("place", "Frame(Place { json: false })"),
