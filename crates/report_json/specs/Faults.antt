@@ -27,16 +27,17 @@ leg_at k leg = leg_json leg
 abbrev pub path_json : List Leg → List ℕ
 path_json place = array leg_at place
 
--- the name of the quantity that is over its limit, where the fault has one
-abbrev pub limit_members : Option Limit → List (List ℕ)
-limit_members None = []
-limit_members (Some limit) = member (codes "limit") (string (limit_name limit)) ∷ []
+abbrev pub path_member : List Leg → List ℕ
+path_member place = member (codes "path") (path_json place)
+
+-- the name of the quantity that is over its limit, where the fault has one, and the place
+abbrev pub place_members : Option Limit → List Leg → List (List ℕ)
+place_members None place = path_member place ∷ []
+place_members (Some limit) place = member (codes "limit") (string (limit_name limit)) ∷ path_member place ∷ []
 
 -- a fault by the letter of its kind of file, its number, its limit and its place
 abbrev pub fault_json : List ℕ → ℕ → Option Limit → List Leg → List ℕ
-fault_json letter fault limit place = answer
-    (verdict (codes "fault"))
-    (member (codes "fault") (string (letter ++ number fault)) ∷ (limit_members limit ++ member (codes "path") (path_json place) ∷ []))
+fault_json letter fault limit place = answer (verdict (codes "fault")) (member (codes "fault") (string (letter ++ number fault)) ∷ place_members limit place)
 
 abbrev pub frame_fault_json : FrameFault → List ℕ
 frame_fault_json fault = fault_json (codes "F") fault.number fault.limit fault.location

@@ -6,15 +6,15 @@ abbrev pub number : ℕ → List ℕ
 number n = decimal n
 
 -- a string whose bytes need no escape
-abbrev pub string : List ℕ → List ℕ
+unfoldable pub string : List ℕ → List ℕ
 string bytes = codes "\"" ++ bytes ++ codes "\""
 
 abbrev pub truth : Bool → List ℕ
 truth true = codes "true"
 truth false = codes "false"
 
-abbrev pub member : List ℕ → List ℕ → List ℕ
-member name value = string name ++ codes ":" ++ value
+unfoldable pub member : List ℕ → List ℕ → List ℕ
+member name value = string name ++ (codes ":" ++ value)
 
 -- the members behind another one
 abbrev pub later : List (List ℕ) → List ℕ
@@ -36,6 +36,10 @@ entries entry k (x ∷ xs) = comma k ++ (entry k x ++ entries entry (suc k) xs)
 
 abbrev pub array : {X : Type 0} → (ℕ → X → List ℕ) → List X → List ℕ
 array entry xs = codes "[" ++ entries entry 0 xs ++ codes "]"
+
+-- a list of two numbers
+abbrev pub pair : ℕ → ℕ → List ℕ
+pair a b = codes "[" ++ (number a ++ (codes "," ++ (number b ++ codes "]")))
 
 -- an answer is one object, and a line feed
 abbrev pub answer : List ℕ → List (List ℕ) → List ℕ

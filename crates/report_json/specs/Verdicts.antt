@@ -11,7 +11,7 @@ use Rattle.check_state.specs.declared.state_hazard.StateHazard.TheVariants.{BadL
 use Rattle.check_sync.specs.declared.sync_hazard.Flaw.{Flaw}
 use Rattle.check_sync.specs.declared.sync_hazard.Flaw.TheVariants.{Unordered, NotAvailable, NotVisible}
 use Rattle.report.specs.Hazards.{owner_name}
-use Rattle.report_json.specs.Json.{number, string, member, array, answer}
+use Rattle.report_json.specs.Json.{number, string, member, pair, answer}
 
 -- whether a file is sound, or has a hazard or a fault
 abbrev pub verdict : List ℕ → List ℕ
@@ -27,21 +27,12 @@ numbered name = member (codes "hazard") (string name)
 abbrev pub node_of : ℕ → List ℕ
 node_of node = member (codes "node") (number node)
 
-abbrev pub queue_of : ℕ → List ℕ
-queue_of queue = member (codes "queue") (number queue)
-
 abbrev pub piece_of : ℕ → List ℕ
 piece_of piece = member (codes "piece") (number piece)
 
-abbrev pub two_numbers : ℕ → ℕ → List ℕ
-two_numbers first second = array (λ k n. number n) (first ∷ second ∷ [])
-
-abbrev pub nodes_of : ℕ → ℕ → List ℕ
-nodes_of first second = member (codes "nodes") (two_numbers first second)
-
 -- a hazard between two nodes
 abbrev pub between : List ℕ → ℕ → ℕ → List (List ℕ)
-between name first second = numbered name ∷ nodes_of first second ∷ []
+between name first second = numbered name ∷ member (codes "nodes") (pair first second) ∷ []
 
 -- a hazard at a piece that is in another state than the one wanted
 abbrev pub mismatch : List ℕ → ℕ → ℕ → List ℕ → List ℕ → List (List ℕ)
@@ -61,8 +52,11 @@ abbrev pub load_members : LoadHazard → List (List ℕ)
 load_members (Undefined node piece) = numbered (codes "H8") ∷ node_of node ∷ piece_of piece ∷ []
 load_members (Aliased node piece other) = numbered (codes "H9") ∷ node_of node ∷ piece_of piece ∷ member (codes "other") (number other) ∷ []
 
+abbrev pub stuck_members : ℕ → ℕ → List (List ℕ)
+stuck_members queue node = numbered (codes "H1") ∷ member (codes "queue") (number queue) ∷ node_of node ∷ []
+
 abbrev pub hazard_members : Hazard → List (List ℕ)
-hazard_members (Stuck queue node) = numbered (codes "H1") ∷ queue_of queue ∷ node_of node ∷ []
+hazard_members (Stuck queue node) = stuck_members queue node
 hazard_members (Sync sync_hazard) = between (flaw_name sync_hazard.flaw) sync_hazard.first sync_hazard.second
 hazard_members (State state_hazard) = state_members state_hazard
 hazard_members (Load load_hazard) = load_members load_hazard

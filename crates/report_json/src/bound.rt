@@ -2,11 +2,10 @@
 
 ghost use Rattle.std.specs.Prelude.{◌≡◌, ◌<◌, ◌≤◌, ◌++◌, OnOk, IfOk, codes, length};
 ghost use Rattle.std.specs.List.{All};
-ghost use Rattle.base.specs.Maxima.{max_units};
 ghost use Rattle.frame.specs.Numbered.{numbered};
 ghost use Rattle.compile_groups.specs.Placed.{placed};
 ghost use Rattle.report_json.specs.Bounds.{bound_json, chosen_unit};
-ghost use Rattle.report_json.specs.Json.{array, entries, member, number};
+ghost use Rattle.report_json.specs.Json.{array, entries, member};
 
 use crate::object::{add_comma, end_object, first_number, next_member, next_number};
 use crate::unit::add_unit;
@@ -34,14 +33,9 @@ fn add_chosen(
     Ok(())
 }
 
-fn add_bounds(text: &mut Text, least: u64, heap: u32) -> Result<(), NoMemory>
-    ensures { OnOk result (text.new ≡ text.old ++ codes "{" ++ member (codes "bound") (number least) ++ codes "," ++ member (codes "heap") (number heap)) }
-{
-    first_number(text, b"bound", least)?;
-    next_number(text, b"heap", u64::from(heap))
-}
-
-fn add_units(
+// The member that has them all.
+#[tactic(auto, unfolding(crate::specs::Json::member))]
+fn next_chosen(
     text: &mut Text,
     frame: &ValidFrame,
     units: &[u32],
@@ -73,8 +67,9 @@ pub(crate) fn bound_json(
     ensures { IfOk result (λ text. text ≡ bound_json frame.now groups.now least heap chosen.now) }
 {
     let mut text = List::new(alloc);
-    add_bounds(&mut text, least, heap)?;
-    add_units(&mut text, frame, groups.placed(), chosen)?;
+    first_number(&mut text, b"bound", least)?;
+    next_number(&mut text, b"heap", u64::from(heap))?;
+    next_chosen(&mut text, frame, groups.placed(), chosen)?;
     end_object(&mut text)?;
     Ok(text)
 }

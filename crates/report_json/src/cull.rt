@@ -2,9 +2,11 @@
 
 ghost use Rattle.std.specs.Prelude.{◌≡◌, ◌≤◌, ◌++◌, ◌-◌, OnOk, IfOk, codes, length};
 ghost use Rattle.report_json.specs.Culls.{cull_json, kept_count, pass_object, pass_of};
-ghost use Rattle.report_json.specs.Json.{array, entries, member, number, truth};
+ghost use Rattle.report_json.specs.Json.{array, entries, member, number};
 
-use crate::object::{add_comma, end_object, first_number, first_string, next_member, next_number};
+use crate::object::{
+    add_comma, end_object, first_number, first_string, next_member, next_number, next_truth,
+};
 use base::{List, NoMemory, Text};
 use base_text::Lines;
 use frame::{Pass, ValidFrame};
@@ -20,18 +22,11 @@ fn add_counts(text: &mut Text, kept: &Kept, passes: usize) -> Result<(), NoMemor
     next_number(text, b"culled", (passes - count) as u64)
 }
 
-fn truth(value: bool) -> &'static [u8]
-    ensures { result.now ≡ truth value }
-{
-    if value { b"true" } else { b"false" }
-}
-
 fn add_pass(text: &mut Text, pass: &Pass, kept: bool) -> Result<(), NoMemory>
     ensures { OnOk result (text.new ≡ text.old ++ pass_object pass.now kept) }
 {
     first_string(text, b"name", pass.name.as_bytes())?;
-    next_member(text, b"kept")?;
-    text.word(truth(kept))?;
+    next_truth(text, b"kept", kept)?;
     text.word(b"}")
 }
 
@@ -48,7 +43,9 @@ fn add_passes(text: &mut Text, passes: &[Pass], kept: &Kept) -> Result<(), NoMem
     Ok(())
 }
 
-fn add_all(text: &mut Text, passes: &[Pass], kept: &Kept) -> Result<(), NoMemory>
+// The member that has them all.
+#[tactic(auto, unfolding(crate::specs::Json::member))]
+fn next_passes(text: &mut Text, passes: &[Pass], kept: &Kept) -> Result<(), NoMemory>
     requires few { length passes.now ≤ 256 }
     requires all { length kept.now ≡ length passes.now }
     ensures { OnOk result (text.new ≡ text.old ++ codes "," ++ member (codes "passes") (array (pass_of kept.now) passes.now)) }
@@ -68,7 +65,7 @@ pub(crate) fn cull_json(alloc: Global, frame: &ValidFrame, kept: &Kept) -> Resul
     let passes = &frame.frame().passes;
     let mut text = List::new(alloc);
     add_counts(&mut text, kept, passes.len())?;
-    add_all(&mut text, passes, kept)?;
+    next_passes(&mut text, passes, kept)?;
     end_object(&mut text)?;
     Ok(text)
 }

@@ -1,8 +1,7 @@
 //! Faults of files.
 
-ghost use Rattle.std.specs.Prelude.{◌≡◌, ◌∷◌, [], ◌++◌, OnOk, IfOk, codes};
-ghost use Rattle.report_json.specs.Faults.{fault_json, frame_fault_json, limit_members, path_json, program_fault_json};
-ghost use Rattle.report_json.specs.Verdicts.{verdict};
+ghost use Rattle.std.specs.Prelude.{◌≡◌, ◌++◌, OnOk, IfOk, codes};
+ghost use Rattle.report_json.specs.Faults.{fault_json, frame_fault_json, path_json, place_members, program_fault_json};
 ghost use Rattle.report_json.specs.Json.{later, member, number, string};
 
 use crate::object::{end_object, first_string, next_member, next_string};
@@ -13,6 +12,7 @@ use frame::FrameFault;
 use program::ProgramFault;
 use std::alloc::Global;
 
+#[tactic(auto, unfolding(crate::specs::Json::member, crate::specs::Json::string))]
 fn add_number(text: &mut Text, letter: &[u8], fault: u8) -> Result<(), NoMemory>
     ensures { OnOk result (text.new ≡ text.old ++ codes "," ++ member (codes "fault") (string (letter.now ++ number fault))) }
 {
@@ -23,40 +23,25 @@ fn add_number(text: &mut Text, letter: &[u8], fault: u8) -> Result<(), NoMemory>
     text.word(b"\"")
 }
 
-fn add_limit(text: &mut Text, limit: Option<Limit>) -> Result<(), NoMemory>
-    ensures { OnOk result (text.new ≡ text.old ++ later (limit_members limit)) }
-{
-    match limit {
-        Some(limit) => next_string(text, b"limit", limit.name().as_bytes()),
-        None => Ok(()),
-    }
-}
-
-fn add_place(text: &mut Text, location: &[Leg]) -> Result<(), NoMemory>
+#[tactic(auto, unfolding(crate::specs::Json::member))]
+fn next_path(text: &mut Text, location: &[Leg]) -> Result<(), NoMemory>
     ensures { OnOk result (text.new ≡ text.old ++ codes "," ++ member (codes "path") (path_json location.now)) }
 {
     next_member(text, b"path")?;
     add_path(text, location)
 }
 
-// What stands behind the number.
-#[tactic(auto, using(crate::proofs::Members::later_more))]
-fn add_limit_and_place(
-    text: &mut Text,
-    limit: Option<Limit>,
-    location: &[Leg],
-) -> Result<(), NoMemory>
-    ensures { OnOk result (text.new ≡ text.old ++ later (limit_members limit ++ member (codes "path") (path_json location.now) ∷ [])) }
+// The limit, where there is one, and the path.
+fn add_place(text: &mut Text, limit: Option<Limit>, location: &[Leg]) -> Result<(), NoMemory>
+    ensures { OnOk result (text.new ≡ text.old ++ later (place_members limit location.now)) }
 {
-    add_limit(text, limit)?;
-    add_place(text, location)
-}
-
-fn begin_fault(text: &mut Text, letter: &[u8], fault: u8) -> Result<(), NoMemory>
-    ensures { OnOk result (text.new ≡ text.old ++ codes "{" ++ verdict (codes "fault") ++ codes "," ++ member (codes "fault") (string (letter.now ++ number fault))) }
-{
-    first_string(text, b"verdict", b"fault")?;
-    add_number(text, letter, fault)
+    match limit {
+        Some(limit) => {
+            next_string(text, b"limit", limit.name().as_bytes())?;
+            next_path(text, location)
+        }
+        None => next_path(text, location),
+    }
 }
 
 // The object of a fault with this letter and number.
@@ -70,8 +55,9 @@ fn fault_json(
     ensures { IfOk result (λ text. text ≡ fault_json letter.now fault limit location.now) }
 {
     let mut text = List::new(alloc);
-    begin_fault(&mut text, letter, fault)?;
-    add_limit_and_place(&mut text, limit, location)?;
+    first_string(&mut text, b"verdict", b"fault")?;
+    add_number(&mut text, letter, fault)?;
+    add_place(&mut text, limit, location)?;
     end_object(&mut text)?;
     Ok(text)
 }

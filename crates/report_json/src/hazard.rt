@@ -2,8 +2,8 @@
 
 ghost use Rattle.std.specs.Prelude.{◌≡◌, ◌∷◌, [], ◌++◌, OnOk, IfOk, codes};
 ghost use Rattle.report.specs.Hazards.{owner_name};
-ghost use Rattle.report_json.specs.Json.{later, member, string};
-ghost use Rattle.report_json.specs.Verdicts.{between, check_json, flaw_name, hazard_json, hazard_members, load_members, mismatch, node_of, nodes_of, numbered, piece_of, queue_of, state_members, two_numbers};
+ghost use Rattle.report_json.specs.Json.{later, member, pair};
+ghost use Rattle.report_json.specs.Verdicts.{between, check_json, flaw_name, hazard_json, hazard_members, load_members, mismatch, node_of, numbered, piece_of, state_members, stuck_members};
 
 use crate::object::{end_object, first_string, next_member, next_number, next_string};
 use base::{Family, List, NoMemory, Text};
@@ -30,14 +30,6 @@ fn at_node(text: &mut Text, name: &[u8], node: u32) -> Result<(), NoMemory>
     next_number(text, b"node", u64::from(node))
 }
 
-// One of a queue.
-fn at_queue(text: &mut Text, name: &[u8], queue: u32) -> Result<(), NoMemory>
-    ensures { OnOk result (text.new ≡ text.old ++ later (numbered name.now ∷ queue_of queue ∷ [])) }
-{
-    next_string(text, b"hazard", name)?;
-    next_number(text, b"queue", u64::from(queue))
-}
-
 // One of a node and a piece.
 fn at_piece(text: &mut Text, name: &[u8], node: u32, piece: u32) -> Result<(), NoMemory>
     ensures { OnOk result (text.new ≡ text.old ++ later (numbered name.now ∷ node_of node ∷ piece_of piece ∷ [])) }
@@ -46,9 +38,8 @@ fn at_piece(text: &mut Text, name: &[u8], node: u32, piece: u32) -> Result<(), N
     next_number(text, b"piece", u64::from(piece))
 }
 
-// A list of two numbers.
-fn add_two(text: &mut Text, first: u32, second: u32) -> Result<(), NoMemory>
-    ensures { OnOk result (text.new ≡ text.old ++ two_numbers first second) }
+fn add_pair(text: &mut Text, first: u32, second: u32) -> Result<(), NoMemory>
+    ensures { OnOk result (text.new ≡ text.old ++ pair first second) }
 {
     text.word(b"[")?;
     text.number(u64::from(first))?;
@@ -57,11 +48,12 @@ fn add_two(text: &mut Text, first: u32, second: u32) -> Result<(), NoMemory>
     text.word(b"]")
 }
 
-fn add_nodes(text: &mut Text, first: u32, second: u32) -> Result<(), NoMemory>
-    ensures { OnOk result (text.new ≡ text.old ++ codes "," ++ nodes_of first second) }
+#[tactic(auto, unfolding(crate::specs::Json::member))]
+fn next_nodes(text: &mut Text, first: u32, second: u32) -> Result<(), NoMemory>
+    ensures { OnOk result (text.new ≡ text.old ++ codes "," ++ member (codes "nodes") (pair first second)) }
 {
     next_member(text, b"nodes")?;
-    add_two(text, first, second)
+    add_pair(text, first, second)
 }
 
 // One of two nodes.
@@ -69,21 +61,7 @@ fn add_between(text: &mut Text, name: &[u8], first: u32, second: u32) -> Result<
     ensures { OnOk result (text.new ≡ text.old ++ later (between name.now first second)) }
 {
     next_string(text, b"hazard", name)?;
-    add_nodes(text, first, second)
-}
-
-// One of a piece that is in this state.
-fn add_found(
-    text: &mut Text,
-    name: &[u8],
-    node: u32,
-    piece: u32,
-    found: &[u8],
-) -> Result<(), NoMemory>
-    ensures { OnOk result (text.new ≡ text.old ++ later (numbered name.now ∷ node_of node ∷ piece_of piece ∷ member (codes "found") (string found.now) ∷ [])) }
-{
-    at_piece(text, name, node, piece)?;
-    next_string(text, b"found", found)
+    next_nodes(text, first, second)
 }
 
 // One of a piece that is in another state than the one wanted.
@@ -97,7 +75,8 @@ fn add_mismatch(
 ) -> Result<(), NoMemory>
     ensures { OnOk result (text.new ≡ text.old ++ later (mismatch name.now node piece found.now wanted.now)) }
 {
-    add_found(text, name, node, piece, found)?;
+    at_piece(text, name, node, piece)?;
+    next_string(text, b"found", found)?;
     next_string(text, b"wanted", wanted)
 }
 
@@ -157,14 +136,20 @@ fn add_load(text: &mut Text, load_hazard: LoadHazard) -> Result<(), NoMemory>
     }
 }
 
+// The queue that is stuck, and its next node.
+fn add_stuck(text: &mut Text, queue: u32, node: u32) -> Result<(), NoMemory>
+    ensures { OnOk result (text.new ≡ text.old ++ later (stuck_members queue node)) }
+{
+    next_string(text, b"hazard", b"H1")?;
+    next_number(text, b"queue", u64::from(queue))?;
+    next_number(text, b"node", u64::from(node))
+}
+
 fn add_hazard(text: &mut Text, hazard: &Hazard) -> Result<(), NoMemory>
     ensures { OnOk result (text.new ≡ text.old ++ later (hazard_members hazard.now)) }
 {
     match *hazard {
-        Hazard::Stuck { queue, node } => {
-            at_queue(text, b"H1", queue)?;
-            next_number(text, b"node", u64::from(node))
-        }
+        Hazard::Stuck { queue, node } => add_stuck(text, queue, node),
         Hazard::Sync(
             SyncHazard {
                 first,

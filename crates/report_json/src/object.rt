@@ -1,18 +1,25 @@
 //! Objects at the end of a text, without spaces.
 
 ghost use Rattle.std.specs.Prelude.{◌≡◌, ◌++◌, OnOk, codes};
-ghost use Rattle.report_json.specs.Json.{comma, member, number, string};
+ghost use Rattle.report_json.specs.Json.{comma, member, number, string, truth};
 
 use base::{NoMemory, Text};
 use base_text::Lines;
 
 /// Adds a string whose bytes need no escape.
+#[tactic(auto, unfolding(crate::specs::Json::string))]
 pub(crate) fn add_string(text: &mut Text, bytes: &[u8]) -> Result<(), NoMemory>
     ensures { OnOk result (text.new ≡ text.old ++ string bytes.now) }
 {
     text.word(b"\"")?;
     text.word(bytes)?;
     text.word(b"\"")
+}
+
+fn truth(value: bool) -> &'static [u8]
+    ensures { result.now ≡ truth value }
+{
+    if value { b"true" } else { b"false" }
 }
 
 /// Adds a comma, but before the first entry of a list.
@@ -44,6 +51,7 @@ pub(crate) fn next_member(text: &mut Text, name: &[u8]) -> Result<(), NoMemory>
 }
 
 /// Opens an object by its first member, which is a number.
+#[tactic(auto, unfolding(crate::specs::Json::member))]
 pub(crate) fn first_number(text: &mut Text, name: &[u8], value: u64) -> Result<(), NoMemory>
     ensures { OnOk result (text.new ≡ text.old ++ codes "{" ++ member name.now (number value)) }
 {
@@ -52,6 +60,7 @@ pub(crate) fn first_number(text: &mut Text, name: &[u8], value: u64) -> Result<(
 }
 
 /// Opens an object by its first member, which is a string.
+#[tactic(auto, unfolding(crate::specs::Json::member))]
 pub(crate) fn first_string(text: &mut Text, name: &[u8], value: &[u8]) -> Result<(), NoMemory>
     ensures { OnOk result (text.new ≡ text.old ++ codes "{" ++ member name.now (string value.now)) }
 {
@@ -60,6 +69,7 @@ pub(crate) fn first_string(text: &mut Text, name: &[u8], value: &[u8]) -> Result
 }
 
 /// Adds a later member, which is a number.
+#[tactic(auto, unfolding(crate::specs::Json::member))]
 pub(crate) fn next_number(text: &mut Text, name: &[u8], value: u64) -> Result<(), NoMemory>
     ensures { OnOk result (text.new ≡ text.old ++ codes "," ++ member name.now (number value)) }
 {
@@ -68,11 +78,21 @@ pub(crate) fn next_number(text: &mut Text, name: &[u8], value: u64) -> Result<()
 }
 
 /// Adds a later member, which is a string.
+#[tactic(auto, unfolding(crate::specs::Json::member))]
 pub(crate) fn next_string(text: &mut Text, name: &[u8], value: &[u8]) -> Result<(), NoMemory>
     ensures { OnOk result (text.new ≡ text.old ++ codes "," ++ member name.now (string value.now)) }
 {
     next_member(text, name)?;
     add_string(text, value)
+}
+
+/// Adds a later member, which is a truth value.
+#[tactic(auto, unfolding(crate::specs::Json::member))]
+pub(crate) fn next_truth(text: &mut Text, name: &[u8], value: bool) -> Result<(), NoMemory>
+    ensures { OnOk result (text.new ≡ text.old ++ codes "," ++ member name.now (truth value)) }
+{
+    next_member(text, name)?;
+    text.word(truth(value))
 }
 
 /// Ends the one object of a text, and its line.

@@ -40,6 +40,7 @@ fn add_key(text: &mut Text, key: &[u8]) -> Result<(), NoMemory>
     Ok(())
 }
 
+#[tactic(auto, unfolding(crate::specs::Json::string))]
 fn add_leg(text: &mut Text, leg: &Leg) -> Result<(), NoMemory>
     ensures { OnOk result (text.new ≡ text.old ++ leg_json leg.now) }
 {

@@ -9,7 +9,7 @@ ghost use Rattle.report_json.specs.Json.{array, entries, member, number};
 ghost use Rattle.report_json.specs.Places.{place_json, place_object, placed_at};
 
 use crate::object::{add_comma, end_object, first_number, next_member, next_number};
-use crate::unit::add_unit;
+use crate::unit::next_unit;
 use base::{List, NoMemory, Text};
 use base_text::Lines;
 use compile_groups::Groups;
@@ -38,8 +38,7 @@ fn add_place(
 {
     first_number(text, b"offset", u64::from(offset))?;
     next_number(text, b"size", u64::from(size))?;
-    next_member(text, b"unit")?;
-    add_unit(text, frame, unit)?;
+    next_unit(text, frame, unit)?;
     text.word(b"}")
 }
 
@@ -64,7 +63,9 @@ fn add_places(
     Ok(())
 }
 
-fn add_units(
+// The member that has them all.
+#[tactic(auto, unfolding(crate::specs::Json::member))]
+fn next_places(
     text: &mut Text,
     frame: &ValidFrame,
     units: &[u32],
@@ -99,7 +100,7 @@ pub(crate) fn place_json(
     let mut text = List::new(alloc);
     let sizes = groups.sizes();
     add_heap(&mut text, sizes, placement.heap())?;
-    add_units(&mut text, frame, groups.placed(), sizes, placement)?;
+    next_places(&mut text, frame, groups.placed(), sizes, placement)?;
     end_object(&mut text)?;
     Ok(text)
 }
