@@ -184,7 +184,7 @@ const LENGTHS: [usize; 16] = [61, 57, 53, 49, 45, 41, 37, 33, 29, 25, 21, 17, 13
 fn whole_rest_at_each_write(rt: HostRuntime) -> Result<(), Fail> {
     let alloc = rt.alloc();
     assert!(&rt; ends_on(&rt, alloc, "run", &mut SteadySink::new(), Status::Done)?);
-    assert!(&rt; is_offered(&rt, alloc, "run run", Status::Words, &[6, 2])?);
+    assert!(&rt; is_offered(&rt, alloc, "run run run", Status::Words, &[6, 2])?);
     assert!(&rt; is_offered(&rt, alloc, "run", Status::Done, &LENGTHS)?);
     Ok(())
 }
