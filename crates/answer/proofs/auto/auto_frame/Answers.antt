@@ -3,8 +3,8 @@ use Rattle.answer.proofs.AnswerLemmas.{migrated}
 use Rattle.answer.proofs.auto.auto_frame.Goals as goal
 use Rattle.answer.specs.Answers.{ChoosesQueues}
 
-pub returns-clause-frame : goal.returns-clause-frame
-returns-clause-frame c =
+pub returns : goal.returns
+returns c =
     let chosen = c.in_ok-choice.choice.frame in
     let is = c.in_ok-choice.ensures in
     let written = migrated chosen c.in_ok-text.text c.end_line.new.self (rw c.frame.ensures.frame at c.in_ok-text.ensures.text) (rw c.frame.ensures.frame at c.in_ok-text.ensures.good) is.good c.in_ok-end_line.ensures.ok in

@@ -7,8 +7,8 @@ use Rattle.answer.proofs.AnswerLemmas.{compiled}
 use Rattle.answer.proofs.compiling.compile_frame.Goals as goal
 use Rattle.answer.specs.Answers.{CompilesFrame}
 
-pub returns-clause-frame : goal.returns-clause-frame
-returns-clause-frame c =
+pub returns : goal.returns
+returns c =
     let made = c.in_ok-made in
     let text = c.in_ok-text.text in
     let same : c.program.result.now ≡ made.made.program.program = c.program.ensures.program ∙ (c.deref.ensures ∙ c.shaped.ensures.program) in

@@ -3,5 +3,5 @@ use Rattle.frame.specs.declared.frame.Frame.{Frame}
 use Rattle.answer.proofs.generating.generate_frame.Goals as goal
 use Rattle.answer.specs.Answers.{MigratesFrame}
 
-pub returns-clause-frame : goal.returns-clause-frame
-returns-clause-frame c = subst (λ (f : Frame). IfOk c.migrate_frame.result (MigratesFrame f)) c.in_ok-good.ensures c.migrate_frame.ensures.frame
+pub returns : goal.returns
+returns c = subst (λ (f : Frame). IfOk c.migrate_frame.result (MigratesFrame f)) c.in_ok-good.ensures c.migrate_frame.ensures

@@ -3,6 +3,6 @@ use Rattle.answer.proofs.ExportLemmas.{means_frame}
 use Rattle.answer.proofs.meaning.mean_frame.Goals as goal
 use Rattle.answer.specs.Answers.{MeansFrame}
 
-pub returns-clause-frame : goal.returns-clause-frame
-returns-clause-frame c =
+pub returns : goal.returns
+returns c =
     subst (MeansFrame c.args.good.now) (sym c.done.ensures) (means_frame c.args.good.now c.in_ok-exports.exports c.in_ok-text.text c.in_ok-exports.ensures.bytes c.in_ok-text.ensures)

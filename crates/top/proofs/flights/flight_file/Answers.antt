@@ -1,4 +1,4 @@
 use Rattle.top.proofs.flights.flight_file.Goals as goal
 
-pub returns-clause-file : goal.returns-clause-file
-returns-clause-file g c = record { outcome = c.in_ok-outcome.outcome; flies = c.in_ok-outcome.ensures; whole = c.reply_of.ensures.reply }
+pub returns : goal.returns
+returns g c = record { outcome = c.in_ok-outcome.outcome; flies = c.in_ok-outcome.ensures; whole = c.reply_of.ensures }

@@ -3,5 +3,5 @@ use Rattle.frame.specs.declared.frame.Frame.{Frame}
 use Rattle.top.proofs.summary.summarize.Goals as goal
 use Rattle.top.specs.Headline.{SummarizesFrame}
 
-pub returns-clause-frame : goal.returns-clause-frame
-returns-clause-frame g c = subst (λ (f : Frame). IfOk c.summarize_frame.result (SummarizesFrame c.args.options f)) c.in_ok-good.ensures c.summarize_frame.ensures.frame
+pub returns : goal.returns
+returns g c = subst (λ (f : Frame). IfOk c.summarize_frame.result (SummarizesFrame c.args.options f)) c.in_ok-good.ensures c.summarize_frame.ensures
