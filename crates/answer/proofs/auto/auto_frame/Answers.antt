@@ -4,7 +4,8 @@ use Rattle.answer.proofs.auto.auto_frame.Goals as goal
 use Rattle.answer.specs.Answers.{ChoosesQueues}
 
 pub returns : goal.returns
-returns c =
+returns c = record {
+  frame =
     let chosen = c.in_ok-choice.choice.frame in
     let is = c.in_ok-choice.ensures in
     let written = migrated chosen c.in_ok-text.text c.end_line.new.self (rw c.frame.ensures.frame at c.in_ok-text.ensures.text) (rw c.frame.ensures.frame at c.in_ok-text.ensures.good) is.good c.in_ok-end_line.ensures.ok in
@@ -23,3 +24,4 @@ returns c =
       whole = written.whole;
       again = written.again;
     })
+}

@@ -4,4 +4,4 @@ use Rattle.answer.proofs.generating.generate_frame.Goals as goal
 use Rattle.answer.specs.Answers.{MigratesFrame}
 
 pub returns : goal.returns
-returns c = subst (λ (f : Frame). IfOk c.migrate_frame.result (MigratesFrame f)) c.in_ok-good.ensures c.migrate_frame.ensures
+returns c = record { frame = subst (λ (f : Frame). IfOk c.migrate_frame.result (MigratesFrame f)) c.in_ok-good.ensures c.migrate_frame.ensures.frame }

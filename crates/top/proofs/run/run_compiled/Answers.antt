@@ -6,5 +6,7 @@ use Rattle.top.proofs.run.run_compiled.Goals as goal
 use Rattle.top.specs.Headline.{RunsFrame}
 
 pub returns : goal.returns
-returns g c tight compiles =
-    if_ok c.ran.result (λ reply is. subst (RunsFrame c.args.options c.args.trace tight c.args.good.now) (sym is) (runs_frame c.args.options c.args.trace tight c.args.good.now (submitted c.args.made.now) c.in_ok-device.device c.in_ok-text.text compiles c.in_ok-device.ensures c.in_ok-text.ensures)) c.ran.ensures
+returns g c = record {
+  frame = λ tight. λ compiles.
+    if_ok c.ran.result (λ reply is. subst (RunsFrame c.args.options c.args.trace tight c.args.good.now) (sym is) (runs_frame c.args.options c.args.trace tight c.args.good.now (submitted c.args.made.now) c.in_ok-device.device c.in_ok-text.text compiles c.in_ok-device.ensures c.in_ok-text.ensures)) c.ran.ensures.reply
+}
