@@ -11,5 +11,5 @@ judge-requires-clause-sound g c κs lives = subst IsSound (sym c.in-Ok.ensures.o
 pub returns-in-Ok : goal.returns-in-Ok
 returns-in-Ok g c = record {
   program =
-    if_ok c.judge.result (λ answer is. inl (subst (λ (p : Program). Judges p c.args.events.now answer) c.in-Ok.ensures.ok.0 is)) c.judge.ensures.judges
+      if_ok c.judge.result (λ answer is. inl (subst (λ (p : Program). Judges p c.args.events.now answer) c.in-Ok.ensures.ok.0 is)) c.judge.ensures.judges;
 }

@@ -8,6 +8,6 @@ verdict_answer-requires-clause-few g c = few_events c.args.program.now.program c
 pub returns : goal.returns
 returns g c = record {
   judges =
-    let verdict = c.in_ok-verdict.verdict in
-    if_ok c.verdict_answer.result (λ answer is. judges c.args.program.now.program c.args.events.now verdict answer c.requires.sound c.in_ok-verdict.ensures.says c.in_ok-verdict.ensures.apart c.in_ok-verdict.ensures.run is) c.verdict_answer.ensures.verdict
+      let verdict = c.in_ok-verdict.verdict in
+      if_ok c.verdict_answer.result (λ answer is. judges c.args.program.now.program c.args.events.now verdict answer c.requires.sound c.in_ok-verdict.ensures.says c.in_ok-verdict.ensures.apart c.in_ok-verdict.ensures.run is) c.verdict_answer.ensures.verdict;
 }

@@ -11,5 +11,5 @@ execute_checked-requires-clause-sound g c κs lives = subst IsSound (sym c.in-Ok
 pub returns-in-Ok : goal.returns-in-Ok
 returns-in-Ok g c = record {
   program =
-    if_ok c.execute_checked.result (λ answer is. inl (subst (λ (p : Program). Executes c.args.options c.args.trace p answer) c.in-Ok.ensures.ok.0 is)) c.execute_checked.ensures.program
+      if_ok c.execute_checked.result (λ answer is. inl (subst (λ (p : Program). Executes c.args.options c.args.trace p answer) c.in-Ok.ensures.ok.0 is)) c.execute_checked.ensures.program;
 }

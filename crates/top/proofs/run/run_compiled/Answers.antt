@@ -8,5 +8,5 @@ use Rattle.top.specs.Headline.{RunsFrame}
 pub returns : goal.returns
 returns g c = record {
   frame = λ tight. λ compiles.
-    if_ok c.ran.result (λ reply is. subst (RunsFrame c.args.options c.args.trace tight c.args.good.now) (sym is) (runs_frame c.args.options c.args.trace tight c.args.good.now (submitted c.args.made.now) c.in_ok-device.device c.in_ok-text.text compiles c.in_ok-device.ensures c.in_ok-text.ensures)) c.ran.ensures.reply
+      if_ok c.ran.result (λ reply is. subst (RunsFrame c.args.options c.args.trace tight c.args.good.now) (sym is) (runs_frame c.args.options c.args.trace tight c.args.good.now (submitted c.args.made.now) c.in_ok-device.device c.in_ok-text.text compiles c.in_ok-device.ensures c.in_ok-text.ensures)) c.ran.ensures.reply;
 }

@@ -11,9 +11,9 @@ use Rattle.device_run.specs.Runs.{read_by}
 pub returns : goal.returns
 returns g c = record {
   frame =
-    let made = submitted c.args.made.now in
-    let device = c.in_ok-device.device in
-    let text = c.in_ok-text.text in
-    let is = summary_is (numbered c.args.good.now) made (read_by device) c.exported-total.result text c.exported-total.ensures c.in_ok-text.ensures in
-    if_ok c.ran.result (λ reply is'. subst (SummarizesFrame c.args.options c.args.good.now) (sym is') (summarizes_frame c.args.options c.args.good.now made device text c.requires.compiles c.in_ok-device.ensures is)) c.ran.ensures.reply
+      let made = submitted c.args.made.now in
+      let device = c.in_ok-device.device in
+      let text = c.in_ok-text.text in
+      let is = summary_is (numbered c.args.good.now) made (read_by device) c.exported-total.result text c.exported-total.ensures c.in_ok-text.ensures in
+      if_ok c.ran.result (λ reply is'. subst (SummarizesFrame c.args.options c.args.good.now) (sym is') (summarizes_frame c.args.options c.args.good.now made device text c.requires.compiles c.in_ok-device.ensures is)) c.ran.ensures.reply;
 }
