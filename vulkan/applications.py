@@ -39,6 +39,8 @@ WORK = "opt/framec"
 LAYER = "VK_LAYER_FRAMEC_capture"
 VALIDATION = "VK_LAYER_KHRONOS_validation"
 DEVICE = "/usr/share/vulkan/icd.d/lvp_icd.json"
+# What the capture layer prints when the file is whole.
+WROTE = "framec capture: wrote"
 
 
 class Missing(Exception):
@@ -80,13 +82,14 @@ class Tree:
     def environment(self, application, layers, capture):
         own = {"PATH": "/usr/local/bin:/usr/bin:/bin:/usr/games", "HOME": "/root", "LANG": "C.UTF-8", "XDG_RUNTIME_DIR": "/tmp",
                "DISPLAY": f":{self.display}", "VK_ICD_FILENAMES": DEVICE}
+        layers = (*layers, *application.layers)
         if layers:
-            own |= {"VK_ADD_LAYER_PATH": f"/{WORK}/build/capture", "VK_INSTANCE_LAYERS": ":".join(layers),
+            own |= {"VK_ADD_LAYER_PATH": f"/{WORK}/build/capture:/{WORK}/build/families", "VK_INSTANCE_LAYERS": ":".join(layers),
                     "VK_LAYER_SETTINGS_PATH": f"/{WORK}/source/vk_layer_settings.txt"}
         return own | application.environment | capture
 
     def run(self, application, layers=(), capture=None, command=None, until=None, seconds=None):
-        """Runs a program to its end, or until a file is there, or for so many seconds."""
+        """Runs a program to its end, or, where it has none, until it has printed something, or for so many seconds."""
         variables = self.environment(application, layers, capture or {})
         words = ["chroot", self.path, "env", "-i", *(f"{name}={value}" for name, value in variables.items()), *(command or application.command)]
         log = self.path / WORK / "log"
@@ -94,10 +97,11 @@ class Tree:
         limit = time.monotonic() + (seconds or application.seconds)
         with log.open("wb") as out:
             process = subprocess.Popen(words, stdout=out, stderr=subprocess.STDOUT)
-            while process.poll() is None and time.monotonic() < limit and not (until and not application.ends and until.exists()):
+            while process.poll() is None and time.monotonic() < limit:
+                if until and not application.ends and until in log.read_text(errors="replace"):
+                    break
                 time.sleep(0.02)
             if process.poll() is None:
-                time.sleep(0.5 if until else 0)
                 process.terminate()
             try:
                 process.wait(timeout=10)
@@ -118,7 +122,9 @@ class Result:
     told: list = field(default_factory=list)
     explanation: captured.Explanation = None
     behind: str = ""
+    # What the validation layer says in the captured frames, in the whole run, and where the file is replayed.
     messages: str = ""
+    whole_run: str = ""
     replayed: str = ""
     mattering: list = field(default_factory=list)
     left_out: str = ""
@@ -149,7 +155,7 @@ class Trial:
         file = self.tree.path / WORK / "capture.json"
         file.unlink(missing_ok=True)
         variables = {"FRAMEC_CAPTURE": application.spec(inside)} | (more or {})
-        printed = self.tree.run(application, layers, variables, until=file).printed
+        printed = self.tree.run(application, layers, variables, until=WROTE).printed
         return printed, file.read_text() if file.exists() else None
 
     def try_one(self, application):
@@ -193,7 +199,7 @@ class Trial:
         inside = re.search(r"framec capture: begins.*?framec capture: ends", printed, re.DOTALL)
         own = re.findall(r"(?:SYNC-HAZARD|VUID)[\w-]+", inside.group(0)) if inside else []
         every = re.findall(r"\[ ((?:SYNC-HAZARD|VUID)[\w-]+) \]", printed)
-        result.messages = f"{counted(own)}; whole run: {counted(every)}"
+        result.messages, result.whole_run = counted(own), counted(every)
 
     def replay(self, result):
         """What the validation layer says where the file itself is replayed."""
@@ -233,24 +239,30 @@ def counted(messages):
 
 
 def print_verdicts(results):
-    print("| program | taken | queues, pieces, nodes | bytes | check s | `check` | the validation layer, in these frames; whole run | the layer, file replayed |")
-    print("|---|---|---|---|---|---|---|---|")
+    print("| program | taken | queues, pieces, nodes | bytes | check s | `check` | the validation layer, in these frames | in the whole run | "
+          "the file replayed |")
+    print("|---|---|---|---|---|---|---|---|---|")
     for result in results:
         if result.program is None:
-            print(f"| {result.application.name} | {result.application.taken()} | | | | not captured | | |")
+            print(f"| {result.application.name} | {result.application.taken()} | | | | not captured | | | |")
             continue
         size = result.file.stat().st_size
-        parts = (f"{len(result.program['queues'])}, {len(result.program['pieces'])}, {len(captured.nodes_of(result.program))}")
-        print(f"| {result.application.name} | {result.application.taken()} | {parts} | {size:,} | {result.seconds:.3f} | {result.verdict} | "
-              f"{result.messages} | {result.replayed} |")
+        parts = f"{len(result.program['queues'])}, {len(result.program['pieces'])}, {len(captured.nodes_of(result.program))}"
+        verdict = "accepted" if result.accepted else result.verdict
+        print(f"| {result.application.name} | {result.application.taken()} | {parts} | {size:,} | {result.seconds:.3f} | {verdict} | "
+              f"{result.messages} | {result.whole_run} | {result.replayed} |")
 
 
 def print_hazards(results):
-    print("\n| program | cause | whose | the two nodes |\n|---|---|---|---|")
+    """The hazards by their causes; programs that show the same stand in one row."""
+    rows = {}
     for result in results:
         if result.explanation:
-            print(f"| {result.application.name} | {result.explanation.cause} | {CAUSES.get(result.explanation.cause, 'not known')} | "
-                  f"{result.explanation.text} |")
+            rows.setdefault((result.explanation.cause, result.explanation.text), []).append(result.application.name)
+    print("\n| program | cause | whose | the two nodes |\n|---|---|---|---|")
+    for (cause, text), names in rows.items():
+        print(f"| {'; '.join(names)} | {cause} | {CAUSES.get(cause, 'not known')} | {text} |")
+    for result in results:
         if result.behind:
             print(f"| {result.application.name}, presents taken as waiting | {result.behind} | | |")
 

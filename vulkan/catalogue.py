@@ -17,6 +17,8 @@ class Application:
     count: int
     unit: str = "frames"
     environment: dict = field(default_factory=dict)
+    # Layers that it always runs on, nearest to the driver.
+    layers: tuple = ()
     ends: bool = True
     seconds: int = 60
     rate: str = None
@@ -64,10 +66,13 @@ GTK = {"GSK_RENDERER": "vulkan", "GTK_A11Y": "none"}
 QT = {"QT_QPA_PLATFORM": "xcb", "QSG_RHI_BACKEND": "vulkan"}
 SHADER_EFFECTS = "/usr/lib/x86_64-linux-gnu/qt6/examples/quick/shadereffects/bin/shadereffectsexample"
 SPINNING_CUBE = "/usr/libexec/installed-tests/SDL3/testgpu_spinning_cube"
+# The second family alone presents, so the program hands its images over.
+FAMILIES = {"environment": {"FRAMEC_FAMILIES_PRESENT": "1"}, "layers": ("VK_LAYER_FRAMEC_families",)}
 BLUR = ("-filter_hw_device", "v", "-vf", "format=yuv420p,hwupload,avgblur_vulkan,hwdownload,format=yuv420p")
 
 APPLICATIONS = [
     Application("vkcube", ["vkcube", "--c", "60"], 20, 4, rate_command=["vkcube", "--c", "600"], rate_frames=600),
+    Application("vkcube, two families", ["vkcube", "--c", "60", "--gpu_number", "0"], 20, 4, **FAMILIES),
     Application("vkmark texture", vkmark("texture"), 5, 2, rate=FPS),
     Application("vkmark shading", vkmark("shading"), 5, 2, rate=FPS),
     Application("vkmark desktop", vkmark("desktop"), 5, 2, rate=FPS),
