@@ -121,11 +121,16 @@ class Result:
     seconds: float = 0.0
     told: list = field(default_factory=list)
     explanation: captured.Explanation = None
+    # What `check` says of a copy that shows what else is wrong, and what is taken otherwise there.
     behind: str = ""
+    taken: str = ""
     # What the validation layer says in the captured frames, in the whole run, and where the file is replayed.
     messages: str = ""
     whole_run: str = ""
     replayed: str = ""
+    # Numbers of dependencies; those without which `check` finds a hazard, with its verdict; and what it says where the layer
+    # leaves the first of those out.
+    numbers: list = field(default_factory=list)
     mattering: list = field(default_factory=list)
     left_out: str = ""
 
@@ -184,10 +189,12 @@ class Trial:
         if result.explanation is None or result.explanation.cause not in CAUSES:
             self.wrong.append(f"{result.application.name}: {result.verdict} has no known cause")
             return
-        if result.explanation.cause.startswith("presents without"):
-            mended = captured.with_waiting_presents(result.program)
+        if result.explanation.cause in captured.MENDED:
+            taken, mend = captured.MENDED[result.explanation.cause]
+            mended = mend(result.program)
             verdict, _ = self.check(json.dumps(mended))
             behind = captured.explain(mended, verdict)
+            result.taken = taken
             result.behind = f"{verdict}: {behind.cause} ({behind.text})" if behind else verdict
 
     def ask_validation(self, result):
@@ -215,20 +222,18 @@ class Trial:
 
     def leave_out(self, result):
         """Finds which dependencies matter, and has the layer leave out the first of them."""
-        numbers = captured.dependencies_of(result.program)
-        for number in numbers:
+        result.numbers = captured.dependencies_of(result.program)
+        for number in result.numbers:
             verdict, _ = self.check(json.dumps(captured.without_dependency(result.program, number)))
             if verdict.startswith("hazard"):
                 result.mattering.append((number, verdict))
         if not result.mattering:
-            result.left_out = f"none of {len(numbers)} matters"
             return
         number, wanted = result.mattering[0]
         _, text = self.captured_text(result.application, more={"FRAMEC_CAPTURE_LEAVE_OUT": str(number)})
-        verdict = self.check(text)[0] if text else "not captured"
-        result.left_out = f"{len(result.mattering)} of {len(numbers)} matter; number {number} left out: {verdict}"
-        if verdict.split()[:2] != wanted.split()[:2]:
-            self.wrong.append(f"{result.application.name}: number {number} left out gives {verdict}, not {wanted}")
+        result.left_out = self.check(text)[0] if text else "not captured"
+        if result.left_out.split()[:2] != wanted.split()[:2]:
+            self.wrong.append(f"{result.application.name}: number {number} left out gives {result.left_out}, not {wanted}")
 
 
 def counted(messages):
@@ -264,21 +269,20 @@ def print_hazards(results):
         print(f"| {'; '.join(names)} | {cause} | {CAUSES.get(cause, 'not known')} | {text} |")
     for result in results:
         if result.behind:
-            print(f"| {result.application.name}, presents taken as waiting | {result.behind} | | |")
+            print(f"| {result.application.name}, {result.taken} | {result.behind} | | |")
 
 
 def print_left_out(results):
-    print("\n| program | dependencies left out |\n|---|---|")
+    print("\n| program | dependencies that matter | number left out | `check` |\n|---|---|---|---|")
     for result in results:
-        if result.left_out:
-            print(f"| {result.application.name} | {result.left_out} |")
+        if result.numbers:
+            number = result.mattering[0][0] if result.mattering else ""
+            print(f"| {result.application.name} | {len(result.mattering)} of {len(result.numbers)} | {number} | {result.left_out} |")
 
 
 def print_told(results):
-    print("\n| program | what the file cannot say |\n|---|---|")
-    for result in results:
-        for line in result.told:
-            print(f"| {result.application.name} | {line} |")
+    rows = [f"| {result.application.name} | {line} |" for result in results for line in result.told]
+    print("\n" + "\n".join(["| program | what the file cannot say |", "|---|---|", *rows] if rows else ["No program used what the file cannot say."]))
 
 
 def measure(trial, application, runs):

@@ -102,5 +102,6 @@ CAUSES = {
     "a transition is not ordered before a stage that uses the piece": "the program's",
     "a transition is not behind a use before it": "the program's",
     "two actions touch the piece with no dependency between that names their stages": "the program's",
+    "an acquire of ownership is behind no wait, or names no stage that a wait holds back": "the program's",
     "a render pass without an external dependency ends a layout change in NONE": "the program's",
 }

@@ -147,9 +147,10 @@ void Resolver::add(std::vector<FileItem> &out, const ActionItem &item) {
     }
 }
 
-Masks Resolver::said(const Masks &masks, std::vector<FileBarrier> &beside) const {
-    const SaidMask src = said_mask(masks.src_stages, masks.src_access, Side::source, capture.other_stages);
-    const SaidMask dst = said_mask(masks.dst_stages, masks.dst_access, Side::destination, capture.other_stages);
+Masks Resolver::said(const Masks &masks, VkQueueFlags family, std::vector<FileBarrier> &beside) {
+    const SaidMask src = said_mask(masks.src_stages, masks.src_access, Side::source, family, capture.other_stages);
+    const SaidMask dst = said_mask(masks.dst_stages, masks.dst_access, Side::destination, family, capture.other_stages);
+    if (src.foreign || dst.foreign) capture.summary.count(foreign_stages);
     const Masks said{src.stages, src.access, dst.stages, dst.access};
     if (src.all_beside || dst.all_beside) {
         FileBarrier order = order_alone(said);
@@ -190,19 +191,19 @@ std::vector<FileBarrier> Resolver::barriers_of(const Barrier &barrier, VkQueueFl
     std::vector<FileBarrier> made;
     if (const auto *global = std::get_if<GlobalBarrier>(&barrier)) {
         FileBarrier one;
-        one.masks = said(global->masks, beside);
+        one.masks = said(global->masks, family, beside);
         made = {one};
     } else if (const auto *buffer = std::get_if<BufferBarrier>(&barrier)) {
         FileBarrier one;
         one.kind = FileBarrier::Kind::buffer;
-        one.masks = said(buffer->masks, beside);
+        one.masks = said(buffer->masks, family, beside);
         set_families(one, buffer->families, family);
         made = over_pieces(one, pieces.of(buffer->range));
     } else {
         const auto &image = std::get<ImageBarrier>(barrier);
         FileBarrier one;
         one.kind = FileBarrier::Kind::image;
-        one.masks = said(image.masks, beside);
+        one.masks = said(image.masks, family, beside);
         one.from = layout_word(image.from, image.range.image->linear);
         one.to = layout_word(image.to, image.range.image->linear);
         set_families(one, image.families, family);
