@@ -1,7 +1,7 @@
 #!/usr/bin/env python3
 """Captures frames of programs of the distribution, checks them, and prints the tables of docs/VULKAN.md.
 
-    vulkan/applications.py TREE --check PROGRAM [--out DIR] [--only NAME ..] [--runs 3] [--display 91]
+    vulkan/applications.py TREE --check PROGRAM [--out DIR] [--only NAME ..] [--runs 3] [--display 91] [--seconds 60]
                            [--without captures|rates|replay|syncval|left-out ..]
 
 TREE is what vulkan/tree.sh has set up, and PROGRAM a `framec` whose `check` takes format 3. The layers and the replay are built inside
@@ -50,9 +50,10 @@ class Missing(Exception):
 class Tree:
     """The tree with the programs, and what runs in it."""
 
-    def __init__(self, path, display):
+    def __init__(self, path, display, seconds):
         self.path = path
         self.display = display
+        self.seconds = seconds
 
     def prepare(self):
         if not (self.path / ".ready").exists():
@@ -94,7 +95,7 @@ class Tree:
         words = ["chroot", self.path, "env", "-i", *(f"{name}={value}" for name, value in variables.items()), *(command or application.command)]
         log = self.path / WORK / "log"
         watch = Watch()
-        limit = time.monotonic() + (seconds or application.seconds)
+        limit = time.monotonic() + (seconds or self.seconds)
         with log.open("wb") as out:
             process = subprocess.Popen(words, stdout=out, stderr=subprocess.STDOUT)
             while process.poll() is None and time.monotonic() < limit:
@@ -301,11 +302,12 @@ def main():
     parser.add_argument("--only", nargs="*", default=[])
     parser.add_argument("--runs", type=int, default=3)
     parser.add_argument("--display", type=int, default=91)
+    parser.add_argument("--seconds", type=int, default=60, help="how long a program may run; more on a busy machine")
     parser.add_argument("--without", nargs="*", default=[], choices=["captures", "rates", "replay", "syncval", "left-out"])
     args = parser.parse_args()
     args.out.mkdir(parents=True, exist_ok=True)
     chosen = [application for application in APPLICATIONS if not args.only or any(word in application.name for word in args.only)]
-    tree = Tree(args.tree.resolve(), args.display)
+    tree = Tree(args.tree.resolve(), args.display, args.seconds)
     trial = Trial(tree, args.check.resolve(), args.out, args.without)
     server, results, rates = None, [], []
     try:

@@ -10,7 +10,7 @@ RATE_SECONDS = 4
 
 @dataclass
 class Application:
-    """A program, what of it is captured, and how long it may run."""
+    """A program, and what of it is captured."""
     name: str
     command: list
     first: int
@@ -20,7 +20,6 @@ class Application:
     # Layers that it always runs on, nearest to the driver.
     layers: tuple = ()
     ends: bool = True
-    seconds: int = 60
     rate: str = None
     rate_command: list = None
     rate_frames: int = None
