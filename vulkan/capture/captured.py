@@ -53,10 +53,9 @@ def nodes_of(program):
 
 
 def order_of(program, node):
-    """When a node was submitted, as far as the codes of actions tell it: they count in the order of submission."""
-    batch = program["queues"][node.queue]["batches"][node.batch]
-    codes = [item["code"] for item in batch["items"] if item["item"] == "command"]
-    return max(codes, default=-1)
+    """When a node was submitted, as far as the codes of actions of its queue tell it: they count in the order of submission."""
+    batches = program["queues"][node.queue]["batches"][: node.batch + 1]
+    return max((item["code"] for batch in batches for item in batch["items"] if item["item"] == "command"), default=-1)
 
 
 def dependencies_of(program):
