@@ -90,7 +90,7 @@ class Tree:
         return own | application.environment | capture
 
     def run(self, application, layers=(), capture=None, command=None, until=None, seconds=None):
-        """Runs a program to its end, or, where it has none, until it has printed something, or for so many seconds."""
+        """Runs a program to its end, or until it has printed something, or for so many seconds."""
         variables = self.environment(application, layers, capture or {})
         words = ["chroot", self.path, "env", "-i", *(f"{name}={value}" for name, value in variables.items()), *(command or application.command)]
         log = self.path / WORK / "log"
@@ -99,7 +99,7 @@ class Tree:
         with log.open("wb") as out:
             process = subprocess.Popen(words, stdout=out, stderr=subprocess.STDOUT)
             while process.poll() is None and time.monotonic() < limit:
-                if until and not application.ends and until in log.read_text(errors="replace"):
+                if until and until in log.read_text(errors="replace"):
                     break
                 time.sleep(0.02)
             if process.poll() is None:
@@ -155,13 +155,13 @@ class Trial:
         done = subprocess.run([self.check_program, "check"], input=text, capture_output=True, text=True)
         return (done.stdout or done.stderr).strip(), time.monotonic() - start
 
-    def captured_text(self, application, layers=(LAYER,), more=None):
-        """Captures once: what the program printed, and the file."""
+    def captured_text(self, application, layers=(LAYER,), more=None, to_the_end=False):
+        """Captures once: what the program printed, and the file. The program is ended behind it where it has no end or needs none."""
         inside = f"/{WORK}/capture.json"
         file = self.tree.path / WORK / "capture.json"
         file.unlink(missing_ok=True)
         variables = {"FRAMEC_CAPTURE": application.spec(inside)} | (more or {})
-        printed = self.tree.run(application, layers, variables, until=WROTE).printed
+        printed = self.tree.run(application, layers, variables, until=None if to_the_end and application.ends else WROTE).printed
         return printed, file.read_text() if file.exists() else None
 
     def try_one(self, application):
@@ -199,7 +199,7 @@ class Trial:
             result.behind = f"{verdict}: {behind.cause} ({behind.text})" if behind else verdict
 
     def ask_validation(self, result):
-        printed, text = self.captured_text(result.application, (LAYER, VALIDATION))
+        printed, text = self.captured_text(result.application, (LAYER, VALIDATION), to_the_end=True)
         if text is None:
             result.messages = "did not run"
             self.wrong.append(f"{result.application.name}: did not run under the validation layer")
