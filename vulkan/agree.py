@@ -252,7 +252,7 @@ def is_json(file):
     return True
 
 
-# What is counted of a group, as the head of its column.
+# What is counted of a group, as the head of its column. One without any count is not printed.
 COLUMNS = {
     "programs": "how many",
     "accepted": "accepted",
@@ -268,9 +268,10 @@ COLUMNS = {
 
 
 def print_tables(tables):
-    print(f"\n| files | {' | '.join(COLUMNS.values())} |\n|{'---|' * (1 + len(COLUMNS))}")
+    shown = [key for key in COLUMNS if any(counts[key] for counts in tables.groups.values())]
+    print(f"\n| files | {' | '.join(COLUMNS[key] for key in shown)} |\n|{'---|' * (1 + len(shown))}")
     for group, counts in tables.groups.items():
-        print(f"| {group} | {' | '.join(str(counts[key]) for key in COLUMNS)} |")
+        print(f"| {group} | {' | '.join(str(counts[key]) for key in shown)} |")
     print("\n| `check`, and the layer | cause | where the standard says it | right | programs |\n|---|---|---|---|---|")
     for (cause, layer), counts in sorted(tables.causes.items(), key=lambda one: -one[1].total()):
         print(f"| {', '.join(sorted(counts))}; {layer} | {cause.name}: {cause.text} | {cause.where} | {cause.right} | {counts.total()} |")
