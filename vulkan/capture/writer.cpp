@@ -248,6 +248,10 @@ void tell_limits(const Capture &capture, const Writer &writer, size_t bytes) {
 }  // namespace
 
 void write_file(Capture &capture) {
+    if (capture.queues().empty()) {
+        std::fprintf(stderr, "framec capture: nothing was submitted meanwhile: nothing is written\n");
+        return;
+    }
     Writer writer(capture);
     const std::string text = writer.text();
     const std::string &path = settings()->file;
