@@ -35,6 +35,8 @@ ORDERS = ((), ("--reverse",))
 STUCK, NOT_TOGETHER = 6, 8
 # Hazards on which the layer's other checks have rules: layouts, and acquires without a release.
 OTHER_CHECKS = ("hazard H5", "hazard H7")
+# Hazards of two accesses, which are what synchronization validation looks for.
+UNORDERED = ("H2", "H3", "H4")
 STAGES = ("examples", "frames", "unsound", "actions")
 # Groups of files with names, which are told one by one.
 NAMED = ("examples", "given files")
@@ -44,11 +46,11 @@ Outcome = collections.namedtuple("Outcome", "name text verdict answers core")
 
 
 class Tables:
-    """Counts of agreements and of differences, and what went wrong."""
+    """Counts of what came out for each group of files, of the differences by their causes, and of what went wrong."""
 
     def __init__(self, kept):
-        self.same, self.causes, self.vuids = collections.Counter(), collections.Counter(), collections.Counter()
-        self.random = collections.Counter()
+        self.groups = collections.defaultdict(collections.Counter)
+        self.causes, self.vuids = collections.defaultdict(collections.Counter), collections.Counter()
         self.wrong = 0
         self.kept = kept
 
@@ -58,11 +60,12 @@ class Tables:
         file.write_bytes(outcome.text)
         print(f"{outcome.name}: {what}; the file is {file}", file=sys.stderr)
 
-    def differ(self, outcome, cause, what):
+    def differ(self, outcome, cause, said, layer):
+        """Counts what `check` said and what the layer did by its cause."""
         if cause is None:
-            self.fail(outcome, what + ", and no cause is found")
+            self.fail(outcome, f"{said}, {layer}, and no cause is found")
         else:
-            self.causes[(cause, what)] += 1
+            self.causes[(cause, layer)][said] += 1
 
 
 def flagged(answers):
@@ -71,18 +74,20 @@ def flagged(answers):
 
 def tell(tables, outcome, group):
     """Sorts one outcome into the tables."""
+    counts = tables.groups[group]
+    counts["programs"] += 1
     hazard = outcome.verdict.split()[1] if outcome.verdict.startswith("hazard") else None
     if hazard is None and not outcome.verdict.startswith("accepted"):
         tables.fail(outcome, f"check says {outcome.verdict!r}")
         return
     statuses = {answer.status for answer in outcome.answers}
     if statuses == {NOT_TOGETHER}:
-        tables.same[f"{group}: uses that Vulkan cannot make together"] += 1
+        counts["not together"] += 1
         return
     if hazard == "H1" or STUCK in statuses:
-        same = hazard == "H1" and statuses == {STUCK}
-        tables.same[f"{group}: stuck for both"] += same
-        if not same:
+        if hazard == "H1" and statuses == {STUCK}:
+            counts["stuck"] += 1
+        else:
             tables.fail(outcome, f"{outcome.verdict}, but the replays ended with {statuses}")
         return
     if not statuses <= {0, 1}:
@@ -90,44 +95,47 @@ def tell(tables, outcome, group):
         return
     submission = Submission(json.loads(outcome.text))
     if hazard is None:
-        accepted(tables, outcome, group, submission)
+        accepted(tables, outcome, counts, submission)
     else:
-        refused(tables, outcome, group, submission, hazard)
+        refused(tables, outcome, counts, submission, hazard)
 
 
-def accepted(tables, outcome, group, submission):
+def accepted(tables, outcome, counts, submission):
+    counts["accepted"] += 1
     if flagged(outcome.answers):
-        tables.differ(outcome, causes.of_message(submission, outcome.verdict), "accepted, flagged")
+        tables.differ(outcome, causes.of_message(submission, outcome.verdict), "accepted", "flagged")
     others = sorted({name for answer in outcome.core for name, _ in answer.others()})
     for name in others:
         tables.vuids[name] += 1
         if not causes.asks_less(submission, name):
             tables.fail(outcome, f"accepted, and the layer names {name}")
     if not flagged(outcome.answers) and not others:
-        tables.same[f"{group}: accepted, and no message"] += 1
+        counts["no message"] += 1
 
 
-def refused(tables, outcome, group, submission, hazard):
+def refused(tables, outcome, counts, submission, hazard):
     seen = flagged(outcome.answers)
-    if hazard in ("H2", "H3", "H4"):
-        tables.random[(group, "flagged" if seen else "silent")] += 1
+    counts["unordered" if hazard in UNORDERED else "other hazards"] += 1
+    if hazard in UNORDERED:
         if seen:
-            tables.same[f"{group}: {hazard}, and flagged"] += 1
+            counts["flagged"] += 1
         else:
-            tables.differ(outcome, causes.of_silence(submission, outcome.verdict), f"{hazard}, silent")
+            tables.differ(outcome, causes.of_silence(submission, outcome.verdict), hazard, "silent")
     elif any(answer.others() for answer in outcome.core):
-        tables.same[f"{group}: {hazard}, and a VUID of the layer's other checks"] += 1
+        counts["other checks"] += 1
     elif seen:
-        tables.differ(outcome, causes.of_message(submission, outcome.verdict), f"{hazard}, flagged")
+        tables.differ(outcome, causes.of_message(submission, outcome.verdict), hazard, "flagged")
     else:
-        tables.differ(outcome, causes.of_silence(submission, outcome.verdict), f"{hazard}, silent")
+        tables.differ(outcome, causes.of_silence(submission, outcome.verdict), hazard, "silent")
 
 
 def print_row(outcome):
     """What `check` and the layer say of one file; by its other checks where it is asked for them."""
-    hazards = {name for answer in outcome.answers for name, _ in answer.hazards()}
+    hazards = {name.removeprefix("SYNC-HAZARD-") for answer in outcome.answers for name, _ in answer.hazards()}
     others = {name for answer in outcome.core for name, _ in answer.others()}
-    print(f"| {outcome.name} | {outcome.verdict} | {', '.join(sorted(hazards | others))} |")
+    if hazards or others or not outcome.verdict.startswith("accepted"):
+        verdict = "accepted" if outcome.verdict.startswith("accepted") else outcome.verdict
+        print(f"| {outcome.name} | `{verdict}` | {', '.join(sorted(hazards | others))} |")
 
 
 class Trial:
@@ -155,6 +163,8 @@ class Trial:
 
     def each(self, group, make, count):
         """Makes and tells so many outcomes, several at a time."""
+        if group in NAMED:
+            print("\n| file | `check` | the layer |\n|---|---|---|")
         with ThreadPoolExecutor(self.options.jobs) as pool:
             for outcome in pool.map(make, range(count)):
                 tell(self.tables, outcome, group)
@@ -162,17 +172,17 @@ class Trial:
                     print_row(outcome)
                 if outcome.verdict.startswith("accepted"):
                     self.bytes_equal(outcome, group)
-        print(f"{group}: {count}", flush=True)
+        print(f"done: {group}: {dict(self.tables.groups[group])}", file=sys.stderr, flush=True)
 
     def bytes_equal(self, outcome, group):
         """Where nothing is an action, the read-backs are those of `exec`."""
         if b'"action"' in outcome.text:
             return
         _, printed = self.compiler_of(outcome.text).ask(["exec"], outcome.text)
-        for answer in outcome.answers:
-            if answer.readbacks != printed:
-                self.tables.fail(outcome, "other bytes than exec's")
-        self.tables.same[f"{group}: bytes of exec in both orders"] += 1
+        if all(answer.readbacks == printed for answer in outcome.answers):
+            self.tables.groups[group]["bytes"] += 1
+        else:
+            self.tables.fail(outcome, "other bytes than exec's")
 
     def rng(self, *words):
         return random.Random("/".join(map(str, (self.options.seed, *words))))
@@ -242,25 +252,36 @@ def is_json(file):
     return True
 
 
+# What is counted of a group, as the head of its column. One without any count is not printed.
+COLUMNS = {
+    "programs": "how many",
+    "accepted": "accepted",
+    "no message": "no message in either order",
+    "bytes": "bytes of `exec` in both",
+    "unordered": "H2 to H4",
+    "flagged": "flagged by both",
+    "other hazards": "H5 to H9",
+    "other checks": "of these named by the layer's other checks",
+    "stuck": "stuck for both",
+    "not together": "uses that Vulkan cannot make together",
+}
+
+
 def print_tables(tables):
-    print("\n| what both say | programs |\n|---|---|")
-    for what, count in sorted(tables.same.items()):
-        print(f"| {what} | {count} |")
-    print("\n| `check`, and the layer | cause | where it is written | right | programs |\n|---|---|---|---|---|")
-    for (cause, what), count in sorted(tables.causes.items(), key=lambda one: (one[0][1], one[0][0].name)):
-        print(f"| {what} | {cause.name}: {cause.text} | {cause.where} | {cause.right} | {count} |")
+    shown = [key for key in COLUMNS if any(counts[key] for counts in tables.groups.values())]
+    print(f"\n| files | {' | '.join(COLUMNS[key] for key in shown)} |\n|{'---|' * (1 + len(shown))}")
+    for group, counts in tables.groups.items():
+        print(f"| {group} | {' | '.join(str(counts[key]) for key in shown)} |")
+    print("\n| `check`, and the layer | cause | where the standard says it | right | programs |\n|---|---|---|---|---|")
+    for (cause, layer), counts in sorted(tables.causes.items(), key=lambda one: -one[1].total()):
+        print(f"| {', '.join(sorted(counts))}; {layer} | {cause.name}: {cause.text} | {cause.where} | {cause.right} | {counts.total()} |")
     for name, count in sorted(tables.vuids.items()):
-        print(f"| accepted, other message | {name} | {causes.ASKED.get(name, '')} | layer | {count} |")
+        print(f"| accepted, other message | {causes.ASKED.get(name, '')} | {name} | layer | {count} |")
 
 
 def flagged_by_both(tables):
-    """How many of the random programs with H2 to H4 both refuse; whether in each group they are at least half."""
-    enough = True
-    for group in sorted({group for group, _ in tables.random}):
-        both, all_of_them = tables.random[(group, "flagged")], tables.random[(group, "flagged")] + tables.random[(group, "silent")]
-        print(f"{group}: {both} of {all_of_them} with H2 to H4 are flagged by both")
-        enough = enough and (group in NAMED or 2 * both >= all_of_them)
-    return enough
+    """Whether both refuse at least half of the random programs with H2 to H4, in each group."""
+    return all(group in NAMED or 2 * counts["flagged"] >= counts["unordered"] for group, counts in tables.groups.items())
 
 
 def main():
@@ -298,7 +319,7 @@ def main():
             getattr(trial, stage)()
     print_tables(trial.tables)
     enough = flagged_by_both(trial.tables)
-    print(f"{trial.tables.wrong} without a cause")
+    print(f"\n{trial.tables.wrong} without a cause or with other bytes")
     sys.exit(0 if enough and not trial.tables.wrong else 1)
 
 

@@ -1,7 +1,7 @@
 #!/usr/bin/env python3
 """Captures frames of programs of the distribution, checks them, and prints the tables of docs/VULKAN.md.
 
-    vulkan/applications.py TREE --check PROGRAM [--out DIR] [--only NAME ..] [--runs 3] [--display 91]
+    vulkan/applications.py TREE --check PROGRAM [--out DIR] [--only NAME ..] [--runs 3] [--display 91] [--seconds 60]
                            [--without captures|rates|replay|syncval|left-out ..]
 
 TREE is what vulkan/tree.sh has set up, and PROGRAM a `framec` whose `check` takes format 3. The layers and the replay are built inside
@@ -39,6 +39,8 @@ WORK = "opt/framec"
 LAYER = "VK_LAYER_FRAMEC_capture"
 VALIDATION = "VK_LAYER_KHRONOS_validation"
 DEVICE = "/usr/share/vulkan/icd.d/lvp_icd.json"
+# What the capture layer prints when the file is whole.
+WROTE = "framec capture: wrote"
 
 
 class Missing(Exception):
@@ -48,9 +50,10 @@ class Missing(Exception):
 class Tree:
     """The tree with the programs, and what runs in it."""
 
-    def __init__(self, path, display):
+    def __init__(self, path, display, seconds):
         self.path = path
         self.display = display
+        self.seconds = seconds
 
     def prepare(self):
         if not (self.path / ".ready").exists():
@@ -80,24 +83,26 @@ class Tree:
     def environment(self, application, layers, capture):
         own = {"PATH": "/usr/local/bin:/usr/bin:/bin:/usr/games", "HOME": "/root", "LANG": "C.UTF-8", "XDG_RUNTIME_DIR": "/tmp",
                "DISPLAY": f":{self.display}", "VK_ICD_FILENAMES": DEVICE}
+        layers = (*layers, *application.layers)
         if layers:
-            own |= {"VK_ADD_LAYER_PATH": f"/{WORK}/build/capture", "VK_INSTANCE_LAYERS": ":".join(layers),
+            own |= {"VK_ADD_LAYER_PATH": f"/{WORK}/build/capture:/{WORK}/build/families", "VK_INSTANCE_LAYERS": ":".join(layers),
                     "VK_LAYER_SETTINGS_PATH": f"/{WORK}/source/vk_layer_settings.txt"}
         return own | application.environment | capture
 
     def run(self, application, layers=(), capture=None, command=None, until=None, seconds=None):
-        """Runs a program to its end, or until a file is there, or for so many seconds."""
+        """Runs a program to its end, or until it has printed something, or for so many seconds."""
         variables = self.environment(application, layers, capture or {})
         words = ["chroot", self.path, "env", "-i", *(f"{name}={value}" for name, value in variables.items()), *(command or application.command)]
         log = self.path / WORK / "log"
         watch = Watch()
-        limit = time.monotonic() + (seconds or application.seconds)
+        limit = time.monotonic() + (seconds or self.seconds)
         with log.open("wb") as out:
             process = subprocess.Popen(words, stdout=out, stderr=subprocess.STDOUT)
-            while process.poll() is None and time.monotonic() < limit and not (until and not application.ends and until.exists()):
+            while process.poll() is None and time.monotonic() < limit:
+                if until and until in log.read_text(errors="replace"):
+                    break
                 time.sleep(0.02)
             if process.poll() is None:
-                time.sleep(0.5 if until else 0)
                 process.terminate()
             try:
                 process.wait(timeout=10)
@@ -117,9 +122,16 @@ class Result:
     seconds: float = 0.0
     told: list = field(default_factory=list)
     explanation: captured.Explanation = None
+    # What `check` says of a copy that shows what else is wrong, and what is taken otherwise there.
     behind: str = ""
+    taken: str = ""
+    # What the validation layer says in the captured frames, in the whole run, and where the file is replayed.
     messages: str = ""
+    whole_run: str = ""
     replayed: str = ""
+    # Numbers of dependencies; those without which `check` finds a hazard, with its verdict; and what it says where the layer
+    # leaves the first of those out.
+    numbers: list = field(default_factory=list)
     mattering: list = field(default_factory=list)
     left_out: str = ""
 
@@ -143,13 +155,13 @@ class Trial:
         done = subprocess.run([self.check_program, "check"], input=text, capture_output=True, text=True)
         return (done.stdout or done.stderr).strip(), time.monotonic() - start
 
-    def captured_text(self, application, layers=(LAYER,), more=None):
-        """Captures once: what the program printed, and the file."""
+    def captured_text(self, application, layers=(LAYER,), more=None, to_the_end=False):
+        """Captures once: what the program printed, and the file. The program is ended behind it where it has no end or needs none."""
         inside = f"/{WORK}/capture.json"
         file = self.tree.path / WORK / "capture.json"
         file.unlink(missing_ok=True)
         variables = {"FRAMEC_CAPTURE": application.spec(inside)} | (more or {})
-        printed = self.tree.run(application, layers, variables, until=file).printed
+        printed = self.tree.run(application, layers, variables, until=None if to_the_end and application.ends else WROTE).printed
         return printed, file.read_text() if file.exists() else None
 
     def try_one(self, application):
@@ -178,14 +190,16 @@ class Trial:
         if result.explanation is None or result.explanation.cause not in CAUSES:
             self.wrong.append(f"{result.application.name}: {result.verdict} has no known cause")
             return
-        if result.explanation.cause.startswith("presents without"):
-            mended = captured.with_waiting_presents(result.program)
+        if result.explanation.cause in captured.MENDED:
+            taken, mend = captured.MENDED[result.explanation.cause]
+            mended = mend(result.program)
             verdict, _ = self.check(json.dumps(mended))
             behind = captured.explain(mended, verdict)
+            result.taken = taken
             result.behind = f"{verdict}: {behind.cause} ({behind.text})" if behind else verdict
 
     def ask_validation(self, result):
-        printed, text = self.captured_text(result.application, (LAYER, VALIDATION))
+        printed, text = self.captured_text(result.application, (LAYER, VALIDATION), to_the_end=True)
         if text is None:
             result.messages = "did not run"
             self.wrong.append(f"{result.application.name}: did not run under the validation layer")
@@ -193,7 +207,7 @@ class Trial:
         inside = re.search(r"framec capture: begins.*?framec capture: ends", printed, re.DOTALL)
         own = re.findall(r"(?:SYNC-HAZARD|VUID)[\w-]+", inside.group(0)) if inside else []
         every = re.findall(r"\[ ((?:SYNC-HAZARD|VUID)[\w-]+) \]", printed)
-        result.messages = f"{counted(own)}; whole run: {counted(every)}"
+        result.messages, result.whole_run = counted(own), counted(every)
 
     def replay(self, result):
         """What the validation layer says where the file itself is replayed."""
@@ -209,20 +223,18 @@ class Trial:
 
     def leave_out(self, result):
         """Finds which dependencies matter, and has the layer leave out the first of them."""
-        numbers = captured.dependencies_of(result.program)
-        for number in numbers:
+        result.numbers = captured.dependencies_of(result.program)
+        for number in result.numbers:
             verdict, _ = self.check(json.dumps(captured.without_dependency(result.program, number)))
             if verdict.startswith("hazard"):
                 result.mattering.append((number, verdict))
         if not result.mattering:
-            result.left_out = f"none of {len(numbers)} matters"
             return
         number, wanted = result.mattering[0]
         _, text = self.captured_text(result.application, more={"FRAMEC_CAPTURE_LEAVE_OUT": str(number)})
-        verdict = self.check(text)[0] if text else "not captured"
-        result.left_out = f"{len(result.mattering)} of {len(numbers)} matter; number {number} left out: {verdict}"
-        if verdict.split()[:2] != wanted.split()[:2]:
-            self.wrong.append(f"{result.application.name}: number {number} left out gives {verdict}, not {wanted}")
+        result.left_out = self.check(text)[0] if text else "not captured"
+        if result.left_out.split()[:2] != wanted.split()[:2]:
+            self.wrong.append(f"{result.application.name}: number {number} left out gives {result.left_out}, not {wanted}")
 
 
 def counted(messages):
@@ -233,40 +245,45 @@ def counted(messages):
 
 
 def print_verdicts(results):
-    print("| program | taken | queues, pieces, nodes | bytes | check s | `check` | the validation layer, in these frames; whole run | the layer, file replayed |")
-    print("|---|---|---|---|---|---|---|---|")
+    print("| program | taken | queues, pieces, nodes | bytes | check s | `check` | the validation layer, in these frames | in the whole run | "
+          "the file replayed |")
+    print("|---|---|---|---|---|---|---|---|---|")
     for result in results:
         if result.program is None:
-            print(f"| {result.application.name} | {result.application.taken()} | | | | not captured | | |")
+            print(f"| {result.application.name} | {result.application.taken()} | | | | not captured | | | |")
             continue
         size = result.file.stat().st_size
-        parts = (f"{len(result.program['queues'])}, {len(result.program['pieces'])}, {len(captured.nodes_of(result.program))}")
-        print(f"| {result.application.name} | {result.application.taken()} | {parts} | {size:,} | {result.seconds:.3f} | {result.verdict} | "
-              f"{result.messages} | {result.replayed} |")
+        parts = f"{len(result.program['queues'])}, {len(result.program['pieces'])}, {len(captured.nodes_of(result.program))}"
+        verdict = "accepted" if result.accepted else result.verdict
+        print(f"| {result.application.name} | {result.application.taken()} | {parts} | {size:,} | {result.seconds:.3f} | {verdict} | "
+              f"{result.messages} | {result.whole_run} | {result.replayed} |")
 
 
 def print_hazards(results):
-    print("\n| program | cause | whose | the two nodes |\n|---|---|---|---|")
+    """The hazards by their causes; programs that show the same stand in one row."""
+    rows = {}
     for result in results:
         if result.explanation:
-            print(f"| {result.application.name} | {result.explanation.cause} | {CAUSES.get(result.explanation.cause, 'not known')} | "
-                  f"{result.explanation.text} |")
+            rows.setdefault((result.explanation.cause, result.explanation.text), []).append(result.application.name)
+    print("\n| program | cause | whose | the two nodes |\n|---|---|---|---|")
+    for (cause, text), names in rows.items():
+        print(f"| {'; '.join(names)} | {cause} | {CAUSES.get(cause, 'not known')} | {text} |")
+    for result in results:
         if result.behind:
-            print(f"| {result.application.name}, presents taken as waiting | {result.behind} | | |")
+            print(f"| {result.application.name}, {result.taken} | {result.behind} | | |")
 
 
 def print_left_out(results):
-    print("\n| program | dependencies left out |\n|---|---|")
+    print("\n| program | dependencies that matter | number left out | `check` |\n|---|---|---|---|")
     for result in results:
-        if result.left_out:
-            print(f"| {result.application.name} | {result.left_out} |")
+        if result.numbers:
+            number = result.mattering[0][0] if result.mattering else ""
+            print(f"| {result.application.name} | {len(result.mattering)} of {len(result.numbers)} | {number} | {result.left_out} |")
 
 
 def print_told(results):
-    print("\n| program | what the file cannot say |\n|---|---|")
-    for result in results:
-        for line in result.told:
-            print(f"| {result.application.name} | {line} |")
+    rows = [f"| {result.application.name} | {line} |" for result in results for line in result.told]
+    print("\n" + "\n".join(["| program | what the file cannot say |", "|---|---|", *rows] if rows else ["No program used what the file cannot say."]))
 
 
 def measure(trial, application, runs):
@@ -285,11 +302,12 @@ def main():
     parser.add_argument("--only", nargs="*", default=[])
     parser.add_argument("--runs", type=int, default=3)
     parser.add_argument("--display", type=int, default=91)
+    parser.add_argument("--seconds", type=int, default=60, help="how long a program may run; more on a busy machine")
     parser.add_argument("--without", nargs="*", default=[], choices=["captures", "rates", "replay", "syncval", "left-out"])
     args = parser.parse_args()
     args.out.mkdir(parents=True, exist_ok=True)
     chosen = [application for application in APPLICATIONS if not args.only or any(word in application.name for word in args.only)]
-    tree = Tree(args.tree.resolve(), args.display)
+    tree = Tree(args.tree.resolve(), args.display, args.seconds)
     trial = Trial(tree, args.check.resolve(), args.out, args.without)
     server, results, rates = None, [], []
     try:

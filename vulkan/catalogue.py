@@ -10,15 +10,16 @@ RATE_SECONDS = 4
 
 @dataclass
 class Application:
-    """A program, what of it is captured, and how long it may run."""
+    """A program, and what of it is captured."""
     name: str
     command: list
     first: int
     count: int
     unit: str = "frames"
     environment: dict = field(default_factory=dict)
+    # Layers that it always runs on, nearest to the driver.
+    layers: tuple = ()
     ends: bool = True
-    seconds: int = 60
     rate: str = None
     rate_command: list = None
     rate_frames: int = None
@@ -64,16 +65,21 @@ GTK = {"GSK_RENDERER": "vulkan", "GTK_A11Y": "none"}
 QT = {"QT_QPA_PLATFORM": "xcb", "QSG_RHI_BACKEND": "vulkan"}
 SHADER_EFFECTS = "/usr/lib/x86_64-linux-gnu/qt6/examples/quick/shadereffects/bin/shadereffectsexample"
 SPINNING_CUBE = "/usr/libexec/installed-tests/SDL3/testgpu_spinning_cube"
+FAMILIES = ("VK_LAYER_FRAMEC_families",)
 BLUR = ("-filter_hw_device", "v", "-vf", "format=yuv420p,hwupload,avgblur_vulkan,hwdownload,format=yuv420p")
 
 APPLICATIONS = [
     Application("vkcube", ["vkcube", "--c", "60"], 20, 4, rate_command=["vkcube", "--c", "600"], rate_frames=600),
+    # The second family alone presents, so it hands its images over.
+    Application("vkcube, two families", ["vkcube", "--c", "60", "--gpu_number", "0"], 20, 4, environment={"FRAMEC_FAMILIES_PRESENT": "1"},
+                layers=FAMILIES),
     Application("vkmark texture", vkmark("texture"), 5, 2, rate=FPS),
     Application("vkmark shading", vkmark("shading"), 5, 2, rate=FPS),
     Application("vkmark desktop", vkmark("desktop"), 5, 2, rate=FPS),
     Application("vkmark texture, headless", vkmark("texture", "headless"), 5, 2, rate=FPS),
     Application("mpv", mpv(60), 20, 4, rate_command=mpv(60), rate_frames=60),
     Application("mpv, its first frames", mpv(20), 1, 3),
+    Application("mpv, three families", mpv(20), 10, 3, layers=FAMILIES),
     Application("SDL GPU, spinning cube", [SPINNING_CUBE], 20, 4, environment={"SDL_GPU_DRIVER": "vulkan"}, ends=False, rate=SDL_FPS),
     Application("Qt Quick, shader effects", [SHADER_EFFECTS], 20, 4, environment=QT, ends=False),
     Application("GTK fishbowl", ["gtk4-demo", "--run=fishbowl"], 20, 2, environment=GTK, ends=False),
@@ -84,6 +90,7 @@ APPLICATIONS = [
                 unit="submissions"),
     Application("FFmpeg libplacebo", ffmpeg(12, "-vf", "libplacebo=w=320:h=180"), 40, 20, unit="submissions",
                 rate_command=ffmpeg(60, "-vf", "libplacebo=w=320:h=180"), rate_frames=60),
+    Application("FFmpeg libplacebo, three families", ffmpeg(12, "-vf", "libplacebo=w=320:h=180"), 40, 20, unit="submissions", layers=FAMILIES),
     Application("FFmpeg blur", ffmpeg(12, *BLUR), 20, 20, unit="submissions", rate_command=ffmpeg(60, *BLUR), rate_frames=60),
     Application("OpenGL by zink, shadow", glmark2("shadow", 3), 5, 3, environment=ZINK, rate=FPS, rate_command=glmark2("shadow", RATE_SECONDS)),
     Application("OpenGL by zink, its first frames", glmark2("shadow", 3), 0, 2, environment=ZINK),
@@ -97,5 +104,6 @@ CAUSES = {
     "a transition is not ordered before a stage that uses the piece": "the program's",
     "a transition is not behind a use before it": "the program's",
     "two actions touch the piece with no dependency between that names their stages": "the program's",
+    "an acquire of ownership is behind no wait, or names no stage that a wait holds back": "the program's",
     "a render pass without an external dependency ends a layout change in NONE": "the program's",
 }

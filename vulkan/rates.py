@@ -63,6 +63,7 @@ class Rates:
         for k in range(runs):
             for kind, layers, capture in kinds[k % len(kinds) :] + kinds[: k % len(kinds)]:
                 self.found[kind].append(rate_of(tree, application, layers, capture))
+        self.load = os.getloadavg()[0]
 
     def middle(self, kind, what):
         return statistics.median(getattr(rate, what) for rate in self.found[kind])
@@ -80,7 +81,10 @@ class Rates:
 
 
 def print_rates(rates):
-    print(f"\nFrames a second, medians of runs that alternate, on {len(os.sched_getaffinity(0))} processors.\n")
+    if not rates:
+        return
+    load = f"load {min(one.load for one in rates):.0f} to {max(one.load for one in rates):.0f}"
+    print(f"\nFrames a second, medians of runs that alternate, on {len(os.sched_getaffinity(0))} processors, {load}.\n")
     print("| program | runs | without the layer | not asked | of that without | by processor time | recorded | of that without | "
           "by processor time |")
     print("|---|---|---|---|---|---|---|---|---|")

@@ -3,6 +3,9 @@
 import copy
 from dataclasses import dataclass
 
+UNORDERED_PRESENT = "presents without waiting for a semaphore"
+UNORDERED_ACQUIRE = "an acquire of ownership is behind no wait, or names no stage that a wait holds back"
+
 
 @dataclass
 class Node:
@@ -20,6 +23,10 @@ class Node:
     @property
     def transition(self):
         return self.kind == "item" and self.entry["item"] == "image" and self.entry["from"] != self.entry["to"]
+
+    @property
+    def acquires(self):
+        return self.kind == "item" and self.entry["item"] == "acquire"
 
     @property
     def presents(self):
@@ -46,10 +53,9 @@ def nodes_of(program):
 
 
 def order_of(program, node):
-    """When a node was submitted, as far as the codes of actions tell it: they count in the order of submission."""
-    batch = program["queues"][node.queue]["batches"][node.batch]
-    codes = [item["code"] for item in batch["items"] if item["item"] == "command"]
-    return max(codes, default=-1)
+    """When a node was submitted, as far as the codes of actions of its queue tell it: they count in the order of submission."""
+    batches = program["queues"][node.queue]["batches"][: node.batch + 1]
+    return max((item["code"] for batch in batches for item in batch["items"] if item["item"] == "command"), default=-1)
 
 
 def dependencies_of(program):
@@ -92,6 +98,24 @@ def with_waiting_presents(program):
             last = max(before, key=lambda other: other.entry["code"])
             value = program["queues"][last.queue]["batches"][last.batch]["signal"]["value"]
             batch["waits"].append({"queue": last.queue, "value": value, "stage": "ALL_COMMANDS"})
+    return made
+
+
+def with_waiting_acquires(program):
+    """A copy in which each acquire of ownership names all stages, and its batch waits there for the release, to see what else is wrong."""
+    made = copy.deepcopy(program)
+    releases = {}
+    for node in nodes_of(program):
+        if node.kind == "item" and node.entry["item"] == "release":
+            releases.setdefault(node.entry["piece"], []).append(node)
+    for node in nodes_of(made):
+        if not node.acquires or not releases.get(node.entry["piece"]):
+            continue
+        node.entry["dst_stage"] = "ALL_COMMANDS"
+        release = releases[node.entry["piece"]].pop(0)
+        value = program["queues"][release.queue]["batches"][release.batch]["signal"]["value"]
+        waits = made["queues"][node.queue]["batches"][node.batch]["waits"]
+        waits.append({"queue": release.queue, "value": value, "stage": "ALL_COMMANDS"})
     return made
 
 
@@ -152,6 +176,8 @@ def shared_pieces(program, one, other):
 
 def cause_of(program, one, other, piece):
     """The cause of an unordered pair."""
+    if one.acquires or other.acquires:
+        return cause_of_acquire(program, one if one.acquires else other)
     presents = [node for node in (one, other) if node.presents]
     if presents:
         rest = other if presents[0] is one else one
@@ -165,10 +191,17 @@ def cause_of(program, one, other, piece):
     return None
 
 
+def cause_of_acquire(program, acquire):
+    waits = program["queues"][acquire.queue]["batches"][acquire.batch]["waits"]
+    if waits and acquire.entry["dst_stage"]:
+        return None
+    return UNORDERED_ACQUIRE
+
+
 def cause_of_present(program, present, rest):
     batch = program["queues"][present.queue]["batches"][present.batch]
     if order_of(program, present) > order_of(program, rest):
-        return "presents without waiting for a semaphore" if not batch["waits"] else None
+        return UNORDERED_PRESENT if not batch["waits"] else None
     return "does not wait, at the stage of its barrier, for the acquire"
 
 
@@ -180,3 +213,10 @@ def cause_behind(transition, action, piece):
     if any(stage not in told for stage in stages):
         return "a transition is not ordered before a stage that uses the piece"
     return None
+
+
+# For some causes: a copy of the file that shows what else is wrong, and what is taken otherwise in it.
+MENDED = {
+    UNORDERED_PRESENT: ("presents taken as waiting", with_waiting_presents),
+    UNORDERED_ACQUIRE: ("acquires taken as waiting at all stages", with_waiting_acquires),
+}

@@ -6,6 +6,7 @@
 #include "chain.hpp"
 #include "flatten.hpp"
 #include "hooks.hpp"
+#include "masks.hpp"
 #include "ranges.hpp"
 #include "recorder.hpp"
 #include "semaphores.hpp"
@@ -88,11 +89,13 @@ void add_wait(Batch &batch, const SemaphoreUse &wait) {
 // The signals of a batch by their stages; the last one is of all commands, for fences and
 // whatever waits for the queue.
 Point signal_all(Capture &capture, size_t queue, const std::vector<SemaphoreUse> &signals) {
+    const VkPipelineStageFlags2 there = stages_of(capture.queues()[queue].family);
+    const auto wanted = [&](const SemaphoreUse &signal) { return signal_stages(signal.stages) & there; };
     std::vector<VkPipelineStageFlags2> stages;
     for (const SemaphoreUse &signal : signals) {
-        const auto wanted = signal_stages(signal.stages);
-        if (wanted == 0 || wanted == VK_PIPELINE_STAGE_2_ALL_COMMANDS_BIT || std::ranges::count(stages, wanted) > 0) continue;
-        stages.push_back(wanted);
+        if (signal_stages(signal.stages) & ~there) capture.summary.count(foreign_stages);
+        const bool is_new = wanted(signal) != 0 && std::ranges::count(stages, wanted(signal)) == 0;
+        if (is_new && wanted(signal) != VK_PIPELINE_STAGE_2_ALL_COMMANDS_BIT) stages.push_back(wanted(signal));
     }
     stages.push_back(VK_PIPELINE_STAGE_2_ALL_COMMANDS_BIT);
     Point last;
@@ -100,7 +103,7 @@ Point signal_all(Capture &capture, size_t queue, const std::vector<SemaphoreUse>
         if (place > 0) capture.open_batch(queue);
         last = capture.close_batch(queue, stages[place]);
         for (const SemaphoreUse &signal : signals) {
-            if (signal_stages(signal.stages) == stages[place]) set_signal(signal, {last});
+            if (wanted(signal) == stages[place]) set_signal(signal, {last});
         }
     }
     return last;

@@ -119,11 +119,20 @@ template <class List> std::string joined_words(const List &list, uint64_t mask) 
 
 }  // namespace
 
-SaidMask said_mask(VkPipelineStageFlags2 stages, VkAccessFlags2 access, Side side, VkPipelineStageFlags2 other_stages) {
+VkPipelineStageFlags2 stages_of(VkQueueFlags family) {
+    constexpr VkPipelineStageFlags2 of_all = VK_PIPELINE_STAGE_2_ALL_COMMANDS_BIT | VK_PIPELINE_STAGE_2_HOST_BIT |
+                                             VK_PIPELINE_STAGE_2_ALL_TRANSFER_BIT | moves | VK_PIPELINE_STAGE_2_CLEAR_BIT;
+    if (family & VK_QUEUE_GRAPHICS_BIT) return every;
+    return family & VK_QUEUE_COMPUTE_BIT ? of_all | VK_PIPELINE_STAGE_2_COMPUTE_SHADER_BIT | VK_PIPELINE_STAGE_2_DRAW_INDIRECT_BIT : of_all;
+}
+
+SaidMask said_mask(VkPipelineStageFlags2 stages, VkAccessFlags2 access, Side side, VkQueueFlags family,
+                   VkPipelineStageFlags2 other_stages) {
     const VkPipelineStageFlags2 end =
         side == Side::source ? VK_PIPELINE_STAGE_2_BOTTOM_OF_PIPE_BIT : VK_PIPELINE_STAGE_2_TOP_OF_PIPE_BIT;
     SaidMask said;
-    said.stages = known_stages(stages);
+    said.stages = known_stages(stages) & stages_of(family);
+    said.foreign = said.stages != known_stages(stages);
     if ((stages & other_stages) != other_stages) said.stages &= ~VK_PIPELINE_STAGE_2_VERTEX_SHADER_BIT;
     said.access = supported(access, said.stages);
     if (!(stages & end)) return said;

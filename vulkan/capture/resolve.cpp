@@ -147,10 +147,13 @@ void Resolver::add(std::vector<FileItem> &out, const ActionItem &item) {
     }
 }
 
-Masks Resolver::said(const Masks &masks, std::vector<FileBarrier> &beside) const {
-    const SaidMask src = said_mask(masks.src_stages, masks.src_access, Side::source, capture.other_stages);
-    const SaidMask dst = said_mask(masks.dst_stages, masks.dst_access, Side::destination, capture.other_stages);
-    const Masks said{src.stages, src.access, dst.stages, dst.access};
+// What a release says of its second side, and an acquire of its first, is ignored.
+Masks Resolver::said(const Masks &masks, FileBarrier::Kind kind, VkQueueFlags family, std::vector<FileBarrier> &beside) {
+    const bool has_src = kind != FileBarrier::Kind::acquire, has_dst = kind != FileBarrier::Kind::release;
+    const SaidMask src = said_mask(masks.src_stages, masks.src_access, Side::source, family, capture.other_stages);
+    const SaidMask dst = said_mask(masks.dst_stages, masks.dst_access, Side::destination, family, capture.other_stages);
+    if ((has_src && src.foreign) || (has_dst && dst.foreign)) capture.summary.count(foreign_stages);
+    const Masks said{src.stages, has_src ? src.access : 0, dst.stages, has_dst ? dst.access : 0};
     if (src.all_beside || dst.all_beside) {
         FileBarrier order = order_alone(said);
         if (src.all_beside) order.masks.src_stages = VK_PIPELINE_STAGE_2_ALL_COMMANDS_BIT;
@@ -171,7 +174,6 @@ void Resolver::set_families(FileBarrier &made, const Families &told, VkQueueFlag
     made.kind = releases ? FileBarrier::Kind::release : FileBarrier::Kind::acquire;
     made.from_family = from;
     made.to_family = to;
-    (releases ? made.masks.dst_access : made.masks.src_access) = 0;
 }
 
 // A barrier of what has no piece orders all the same.
@@ -190,22 +192,22 @@ std::vector<FileBarrier> Resolver::barriers_of(const Barrier &barrier, VkQueueFl
     std::vector<FileBarrier> made;
     if (const auto *global = std::get_if<GlobalBarrier>(&barrier)) {
         FileBarrier one;
-        one.masks = said(global->masks, beside);
+        one.masks = said(global->masks, one.kind, family, beside);
         made = {one};
     } else if (const auto *buffer = std::get_if<BufferBarrier>(&barrier)) {
         FileBarrier one;
         one.kind = FileBarrier::Kind::buffer;
-        one.masks = said(buffer->masks, beside);
         set_families(one, buffer->families, family);
+        one.masks = said(buffer->masks, one.kind, family, beside);
         made = over_pieces(one, pieces.of(buffer->range));
     } else {
         const auto &image = std::get<ImageBarrier>(barrier);
         FileBarrier one;
         one.kind = FileBarrier::Kind::image;
-        one.masks = said(image.masks, beside);
+        set_families(one, image.families, family);
+        one.masks = said(image.masks, one.kind, family, beside);
         one.from = layout_word(image.from, image.range.image->linear);
         one.to = layout_word(image.to, image.range.image->linear);
-        set_families(one, image.families, family);
         made = over_pieces(one, pieces.of(image.range));
     }
     made.insert(made.end(), beside.begin(), beside.end());

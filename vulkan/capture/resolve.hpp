@@ -57,7 +57,7 @@ class Resolver {
     std::vector<FileBarrier> barriers_of(const Barrier &barrier, VkQueueFlags family);
     void set_families(FileBarrier &made, const Families &told, VkQueueFlags family) const;
     std::vector<FileBarrier> over_pieces(const FileBarrier &model, const std::vector<size_t> &found);
-    Masks said(const Masks &masks, std::vector<FileBarrier> &beside) const;
+    Masks said(const Masks &masks, FileBarrier::Kind kind, VkQueueFlags family, std::vector<FileBarrier> &beside);
     void follow(FileBarrier &barrier);
 
     Capture &capture;

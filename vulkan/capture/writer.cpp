@@ -163,10 +163,11 @@ class Writer {
 
     std::string batch_text(size_t queue, size_t number) {
         const Batch &batch = capture.queues()[queue].batches[number];
-        const auto waits = waits_of(batch);
+        const VkQueueFlags family = capture.queues()[queue].family;
+        const auto waits = waits_of(batch, family);
         std::vector<std::string> items;
         for (const FileItem &item : resolver.items()[queue][number]) add_item(items, item);
-        const SaidMask stages = said_mask(batch.signal_stages, 0, Side::source, capture.other_stages);
+        const SaidMask stages = said_mask(batch.signal_stages, 0, Side::source, family, capture.other_stages);
         nodes += waits.size() + items.size() + 1;
         Object object;
         object.raw("waits", list(waits, "   ", [&](const FileWait &wait) {
@@ -190,10 +191,11 @@ class Writer {
     }
 
     // A wait at BOTTOM_OF_PIPE or NONE orders nothing and is left out.
-    std::vector<FileWait> waits_of(const Batch &batch) const {
+    std::vector<FileWait> waits_of(const Batch &batch, VkQueueFlags family) const {
         std::vector<FileWait> waits;
         for (const Wait &wait : batch.waits) {
-            const SaidMask said = said_mask(wait.stages, 0, Side::destination, capture.other_stages);
+            const SaidMask said = said_mask(wait.stages, 0, Side::destination, family, capture.other_stages);
+            if (said.foreign) capture.summary.count(foreign_stages);
             if (said.stages == 0) continue;
             for (const Point &point : points_of(wait)) waits.push_back({point, said.stages});
         }
@@ -246,6 +248,10 @@ void tell_limits(const Capture &capture, const Writer &writer, size_t bytes) {
 }  // namespace
 
 void write_file(Capture &capture) {
+    if (capture.queues().empty()) {
+        std::fprintf(stderr, "framec capture: nothing was submitted meanwhile: nothing is written\n");
+        return;
+    }
     Writer writer(capture);
     const std::string text = writer.text();
     const std::string &path = settings()->file;

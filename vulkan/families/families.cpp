@@ -16,20 +16,22 @@ constexpr std::array<VkQueueFlags, family_count> flags_of_families = {
     VK_QUEUE_TRANSFER_BIT,
 };
 
-VkQueueFamilyProperties of_the_device(VkPhysicalDevice device) {
-    uint32_t count = 0;
-    const auto queue_families = instances.of(device).families;
-    queue_families(device, &count, nullptr);
-    std::vector<VkQueueFamilyProperties> own(count);
-    queue_families(device, &count, own.data());
-    return own.at(0);
-}
+VkQueueFamilyProperties &basic(VkQueueFamilyProperties &properties) { return properties; }
+VkQueueFamilyProperties &basic(VkQueueFamilyProperties2 &properties) { return properties.queueFamilyProperties; }
 
-VkQueueFamilyProperties shown(VkPhysicalDevice device, uint32_t family) {
-    VkQueueFamilyProperties properties = of_the_device(device);
-    properties.queueFlags = flags_of_families.at(family);
-    properties.queueCount = queues_of_a_family;
-    return properties;
+// Each family shown is what `ask` says of the device's first one, with other flags and queues.
+template <typename Properties, typename Ask> void families_of(uint32_t *count, Properties *properties, Ask ask) {
+    if (properties == nullptr) {
+        *count = family_count;
+        return;
+    }
+    *count = std::min(*count, family_count);
+    for (uint32_t family = 0; family < *count; ++family) {
+        uint32_t one = 1;
+        ask(&one, &properties[family]);
+        basic(properties[family]).queueFlags = flags_of_families.at(family);
+        basic(properties[family]).queueCount = queues_of_a_family;
+    }
 }
 
 DeviceTable &device_of_queue(VkQueue queue) { return *reinterpret_cast<Queue *>(queue)->device; }
@@ -79,23 +81,13 @@ uint32_t family_of(DeviceTable &table, VkCommandBuffer buffer) {
 } // namespace
 
 void VKAPI_CALL queue_family_properties(VkPhysicalDevice device, uint32_t *count, VkQueueFamilyProperties *properties) {
-    if (properties == nullptr) {
-        *count = family_count;
-        return;
-    }
-    *count = std::min(*count, family_count);
-    for (uint32_t family = 0; family < *count; ++family)
-        properties[family] = shown(device, family);
+    const auto ask = instances.of(device).families;
+    families_of(count, properties, [&](uint32_t *one, VkQueueFamilyProperties *filled) { ask(device, one, filled); });
 }
 
 void VKAPI_CALL queue_family_properties2(VkPhysicalDevice device, uint32_t *count, VkQueueFamilyProperties2 *properties) {
-    if (properties == nullptr) {
-        *count = family_count;
-        return;
-    }
-    *count = std::min(*count, family_count);
-    for (uint32_t family = 0; family < *count; ++family)
-        properties[family].queueFamilyProperties = shown(device, family);
+    const auto ask = instances.of(device).families2;
+    families_of(count, properties, [&](uint32_t *one, VkQueueFamilyProperties2 *filled) { ask(device, one, filled); });
 }
 
 // FRAMEC_FAMILIES_PRESENT names the one family that presents; without it each one does.

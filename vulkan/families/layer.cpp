@@ -21,6 +21,8 @@ VkResult VKAPI_CALL create_instance(const VkInstanceCreateInfo *info, const VkAl
     const VkResult result = loader::make_instance(info, allocator, instance, *made);
     if (result != VK_SUCCESS)
         return result;
+    made->find(made->families2, "vkGetPhysicalDeviceQueueFamilyProperties2");
+    made->find(made->families2, "vkGetPhysicalDeviceQueueFamilyProperties2KHR");
     made->find(made->surface_support, "vkGetPhysicalDeviceSurfaceSupportKHR");
     instances.keep(*instance, std::move(made));
     return VK_SUCCESS;

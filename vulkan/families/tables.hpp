@@ -41,6 +41,7 @@ struct DeviceTable {
 };
 
 struct InstanceTable : loader::Instance {
+    PFN_vkGetPhysicalDeviceQueueFamilyProperties2 families2 = nullptr;
     PFN_vkGetPhysicalDeviceSurfaceSupportKHR surface_support = nullptr;
 };
 

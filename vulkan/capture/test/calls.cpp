@@ -2,13 +2,16 @@
 //
 //   capture-calls CASE
 //
-// The case `functions` reads names of commands, and prints for each one that the device has the file that it leads into.
+// The case `functions` reads names of commands, and prints for each one that the device has the file that it leads into. The case
+// `costs` prints how many nanoseconds of processor time some calls take.
 // Status 2: there is no such case; 3: Vulkan failed.
 
 #include <dlfcn.h>
 #include <vulkan/vulkan.h>
 
+#include <algorithm>
 #include <cstdio>
+#include <ctime>
 #include <functional>
 #include <iostream>
 #include <map>
@@ -110,9 +113,9 @@ class Context {
                 VkSemaphore signal = VK_NULL_HANDLE) {
         submit(queues.front(), commands, fence, chain, wait, signal);
     }
-    void submit(const Queue &on, VkCommandBuffer commands, VkFence fence, const void *chain, VkSemaphore wait, VkSemaphore signal) {
+    void submit(const Queue &on, VkCommandBuffer commands, VkFence fence, const void *chain, VkSemaphore wait, VkSemaphore signal,
+                VkPipelineStageFlags stage = VK_PIPELINE_STAGE_TRANSFER_BIT) {
         need(vkEndCommandBuffer(commands), "vkEndCommandBuffer");
-        const VkPipelineStageFlags stage = VK_PIPELINE_STAGE_TRANSFER_BIT;
         const VkSubmitInfo info{VK_STRUCTURE_TYPE_SUBMIT_INFO, chain,   wait != VK_NULL_HANDLE, &wait, &stage, 1, &commands,
                                 signal != VK_NULL_HANDLE,      &signal};
         need(vkQueueSubmit(on.handle, 1, &info, fence), "vkQueueSubmit");
@@ -359,6 +362,7 @@ void layouts(Context &context, VkImageLayout brought) {
 struct Halves {
     bool release = true, acquire = true, wait = true;
     VkImageLayout acquired = VK_IMAGE_LAYOUT_TRANSFER_SRC_OPTIMAL;
+    VkPipelineStageFlags waited = VK_PIPELINE_STAGE_TRANSFER_BIT;
 };
 
 // A half of a transfer. A release makes available what was stored, an acquire makes it visible.
@@ -393,7 +397,7 @@ template <class Store, class Load> void two_families(Context &context, const Hal
     context.submit(from, commands, VK_NULL_HANDLE, nullptr, VK_NULL_HANDLE, signal);
     commands = context.commands(to);
     load(commands);
-    context.submit(to, commands, VK_NULL_HANDLE, nullptr, halves.wait ? signal : VK_NULL_HANDLE, VK_NULL_HANDLE);
+    context.submit(to, commands, VK_NULL_HANDLE, nullptr, halves.wait ? signal : VK_NULL_HANDLE, VK_NULL_HANDLE, halves.waited);
 }
 
 void buffer_for_another_family(Context &context, const Halves &halves) {
@@ -453,6 +457,39 @@ void functions(Context &context) {
     }
 }
 
+double processor_time() {
+    timespec now{};
+    clock_gettime(CLOCK_THREAD_CPUTIME_ID, &now);
+    return static_cast<double>(now.tv_sec) * 1e9 + static_cast<double>(now.tv_nsec);
+}
+
+// What one of many calls costs this thread, the least of some rounds. Each round begins with a new command buffer.
+void print_cost(Context &context, const char *name, const std::function<void(VkCommandBuffer)> &call) {
+    constexpr int rounds = 20, calls = 2000;
+    double least = 1e9;
+    for (int round = 0; round < rounds; ++round) {
+        const auto commands = context.commands();
+        const double start = processor_time();
+        for (int k = 0; k < calls; ++k) call(commands);
+        least = std::min(least, (processor_time() - start) / calls);
+        need(vkQueueWaitIdle(context.queue), "vkQueueWaitIdle");
+    }
+    std::printf("%s %.0f\n", name, least);
+}
+
+void costs(Context &context) {
+    const auto one = context.buffer(), other = context.buffer();
+    const VkSubmitInfo nothing{VK_STRUCTURE_TYPE_SUBMIT_INFO, nullptr, 0, nullptr, nullptr, 0, nullptr, 0, nullptr};
+    const VkViewport viewport{0, 0, 1, 1, 0, 1};
+    print_cost(context, "vkCmdSetViewport", [&](VkCommandBuffer commands) { vkCmdSetViewport(commands, 0, 1, &viewport); });
+    print_cost(context, "vkCmdPipelineBarrier", barrier);
+    print_cost(context, "vkCmdFillBuffer", [&](VkCommandBuffer commands) { fill(commands, one); });
+    print_cost(context, "vkCmdCopyBuffer", [&](VkCommandBuffer commands) { copy(commands, one, other); });
+    print_cost(context, "vkQueueSubmit", [&](VkCommandBuffer) {
+        need(vkQueueSubmit(context.queue, 1, &nothing, VK_NULL_HANDLE), "vkQueueSubmit");
+    });
+}
+
 using Case = std::function<void(Context &)>;
 
 const std::map<std::string, Case> &cases() {
@@ -475,8 +512,12 @@ const std::map<std::string, Case> &cases() {
         {"layout", [](Context &context) { layouts(context, VK_IMAGE_LAYOUT_TRANSFER_DST_OPTIMAL); }},
         {"layout-wrong", [](Context &context) { layouts(context, VK_IMAGE_LAYOUT_GENERAL); }},
         {"functions", functions},
+        {"costs", costs},
         {"transfer", [](Context &context) { buffer_for_another_family(context, {}); }},
         {"transfer-unordered", [](Context &context) { buffer_for_another_family(context, {true, true, false}); }},
+        {"transfer-foreign-stage", [](Context &context) {
+             buffer_for_another_family(context, {true, true, true, VK_IMAGE_LAYOUT_UNDEFINED, VK_PIPELINE_STAGE_COLOR_ATTACHMENT_OUTPUT_BIT});
+         }},
         {"transfer-without-acquire", [](Context &context) { buffer_for_another_family(context, {true, false}); }},
         {"transfer-without-release", [](Context &context) { buffer_for_another_family(context, {false, true}); }},
         {"transfer-forgotten", [](Context &context) { buffer_for_another_family(context, {false, false}); }},

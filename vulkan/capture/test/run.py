@@ -40,6 +40,7 @@ CASES = {
     "layout-wrong": ("hazard H5", None),
     "transfer": ("accepted", None),
     "transfer-unordered": ("hazard H2", None),
+    "transfer-foreign-stage": ("hazard H2", "stages that the queue's family does not have"),
     "transfer-without-acquire": ("hazard H7", None),
     "transfer-without-release": ("hazard H7", None),
     "transfer-forgotten": ("hazard H6", None),
@@ -48,6 +49,10 @@ CASES = {
     "transfer-back": ("accepted", None),
     "transfer-back-forgotten": ("hazard H6", None),
 }
+
+# A capture whose first frame never comes, so that every call is recorded.
+NEVER = "4000000000,1,/dev/null"
+COST_RUNS = 3
 
 # What the layer takes of a device where nothing is captured: it has to know when a device ends.
 OWN_FUNCTIONS = {"vkGetDeviceProcAddr", "vkDestroyDevice"}
@@ -91,6 +96,19 @@ class Runner:
         lines = [line.split() for line in self.calls("functions", (CAPTURE,), capture, names).stdout.splitlines()]
         return len(lines), {name for name, file in lines if Path(file).name == LIBRARY}
 
+    def costs(self, *more):
+        """Nanoseconds that some calls take."""
+        return {name: int(cost) for name, cost in (line.split() for line in self.calls("costs", *more).stdout.splitlines())}
+
+    def print_costs(self):
+        """A table of what calls cost without the layer, with it and nothing asked for, and recorded: the least of several runs."""
+        kinds = (((),), ((CAPTURE,),), ((CAPTURE,), NEVER))
+        runs = [[self.costs(*kind) for kind in kinds] for _ in range(COST_RUNS)]
+        print("\n| nanoseconds of a call | without the layer | not asked | recorded |\n|---|---|---|---|")
+        for name in runs[0][0]:
+            least = [min(run[kind][name] for run in runs) for kind in range(len(kinds))]
+            print(f"| {name} | {' | '.join(map(str, least))} |")
+
     def device_tells(self, layers):
         """What vulkaninfo finds, without how much memory is free now."""
         lines = self.run(["vulkaninfo"], layers).stdout.splitlines()
@@ -99,7 +117,7 @@ class Runner:
     def not_asked(self):
         """What is wrong with a program that captures nothing, or nothing."""
         count, own = self.functions(None)
-        _, recorded = self.functions("4000000000,1,/dev/null")
+        _, recorded = self.functions(NEVER)
         print(f"of {count} commands of the device {len(own)} lead into the layer where nothing is captured, {len(recorded)} where frames are")
         if count == 0 or not own <= OWN_FUNCTIONS or not recorded - OWN_FUNCTIONS:
             return f"the layer has {sorted(own)}, and {len(recorded)} while it captures"
@@ -129,6 +147,7 @@ def main():
             print(f"{case}: {fault or 'as it should be'}", flush=True)
     fault = runner.not_asked()
     print(f"nothing captured: {fault or 'as it should be'}")
+    runner.print_costs()
     return 1 if wrong or fault else 0
 
 
