@@ -124,7 +124,13 @@ fn answer_and_show<R: Threads + Wait + Sync + Clock + Eprint + Files + Input + P
     if !shows {
         return answer(rt, &meter, command, files);
     }
-    let (_, status) = thread::join(rt, || meter.show(rt), || answer(rt, &meter, command, files));
+    let (_, status) = thread::join(
+        rt,
+        || meter.show(rt),
+        || -> u8
+            requires { IfSome command.entry.now IsBounded }
+        { answer(rt, &meter, command, files) },
+    );
     status
 }
 

@@ -280,14 +280,19 @@ fn flies(
 ) -> Result<(), Fail> {
     let Some(
         Line {
-            command: Command::Flight {
-                options,
-                persist,
-                depth,
-            },
-            files: _,
+            command,
+            files: _files,
         },
     ) = found(alloc, line)?
+    else {
+        assert!(rt; false, "{line}");
+        return Ok(());
+    };
+    let Command::Flight {
+        options,
+        persist,
+        depth,
+    } = command
     else {
         assert!(rt; false, "{line}");
         return Ok(());

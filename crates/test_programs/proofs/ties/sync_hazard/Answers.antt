@@ -14,7 +14,7 @@ node_accesses_of-requires c =
 pub first_flaw-requires-clause-ways : goal.first_flaw-requires-clause-ways
 first_flaw-requires-clause-ways c =
     subst (λ V. HasWays V) (sym c.in_ok-view.ensures.view)
-    (c.order_laws-in-Whole.ensures.ways (view_of c.args.shaped.now) (subst (λ V. ValidView V) c.in_ok-view.ensures.view c.in_ok-view.ensures.shaped) (c.order_laws-in-Whole.ensures.single c.args.shaped.now))
+    (c.order_laws.ensures.ways (view_of c.args.shaped.now) (subst (λ V. ValidView V) c.in_ok-view.ensures.view c.in_ok-view.ensures.shaped) (c.order_laws.ensures.single c.args.shaped.now))
 
 pub first_flaw-requires-clause-rows : goal.first_flaw-requires-clause-rows
 first_flaw-requires-clause-rows c = rows_of c.args.shaped.now c.in_ok-view.view c.in_ok-before-in-Whole.before c.in_ok-view.ensures.view c.in_ok-before-in-Whole.ensures.count c.in_ok-before-in-Whole.ensures.happens
