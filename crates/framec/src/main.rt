@@ -128,7 +128,7 @@ fn answer_and_show<R: Threads + Wait + Sync + Clock + Eprint + Files + Input + P
         rt,
         || meter.show(rt),
         || -> u8
-            requires { IfSome command.entry.now IsBounded }
+            requires { IfSome command.now IsBounded }
         { answer(rt, &meter, command, files) },
     );
     status
