@@ -39,14 +39,7 @@ fn words_of<R: Env + AllocGlobal>(rt: &R) -> Result<Vec<String>, NoMemory> {
     Ok(words)
 }
 
-// One tap that counts events.
-fn taps_of<R: AllocGlobal>(rt: &R) -> Result<Vec<Box<dyn Tap>>, NoMemory> {
-    let mut taps: Vec<Box<dyn Tap>> = Vec::new(rt.alloc());
-    taps.push(Box::new(rt.alloc(), CountTap::new())?)?;
-    Ok(taps)
-}
-
-// The top call over one source.
+// The top call over one source, with one tap that counts events.
 fn answer_source<R: Threads + Wait + Sync + AllocGlobal, I: Source, O: Sink>(
     rt: &R,
     meter: &Meter,
@@ -56,9 +49,13 @@ fn answer_source<R: Threads + Wait + Sync + AllocGlobal, I: Source, O: Sink>(
 ) -> Status
     requires { IfSome command.now IsBounded }
 {
-    let Ok(mut taps) = taps_of(rt) else {
+    let Ok(tap) = Box::new(rt.alloc(), CountTap::new()) else {
         return Status::NoMemory;
     };
+    let mut taps: Vec<Box<dyn Tap>> = Vec::new(rt.alloc());
+    if taps.push(tap).is_err() {
+        return Status::NoMemory;
+    }
     let gate = MeterGate::new(meter);
     let Ended {
         status,
