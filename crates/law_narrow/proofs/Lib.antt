@@ -1,0 +1,4 @@
+pub mod Both
+pub mod Same
+pub mod Scopes
+pub mod Transport
