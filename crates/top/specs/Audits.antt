@@ -1,5 +1,5 @@
 -- What `audit` answers: whether a trace is a run of a submission.
-use Rattle.std.specs.Prelude.{◌≡◌, ◌⊎◌, ◌↔◌, ℕ, List, ◌++◌, length, Result, Ok, Err}
+use Rattle.std.specs.Prelude.{◌≡◌, ◌⊎◌, ◌↔◌, ℕ, List, ◌++◌, length, false, Result, Ok, Err}
 use Rattle.device_audit.specs.Recordings.{submission_in, trace_in}
 use Rattle.device_audit.specs.Runs.{IsRun}
 use Rattle.device_audit.specs.Trace.{trace_of}
