@@ -1,5 +1,5 @@
 -- What is left out of a wait that stands at a place.
-use Rattle.std.proofs.Common.{◌≡◌, ◌∙◌, ◌==◌, ℕ, true, false, Result, Ok, Err, Some, IfOk, slice_get, slice_set, subst, sym, ap, eq-eqb, eqb-true}
+use Rattle.std.proofs.Common.{◌≡◌, ◌∙◌, ◌==◌, ℕ, true, false, Result, Ok, Err, Some, IfOk, slice_get, slice_set, refl, subst, sym, ap, eq-eqb, eqb-true}
 use Rattle.base.proofs.Booleans.{clash}
 use Rattle.base.specs.declared.shape.Family.{Family}
 use Rattle.vk.specs.Sets.{has}
@@ -11,10 +11,12 @@ use Rattle.program.specs.declared.program.WaitFor.{WaitFor}
 use Rattle.check_tighten.specs.Internal.Rounds.{Tried, Came, WaitTried, StageTried, FitTried, StandsAt, HasWait}
 use Rattle.check_tighten.specs.Edits.{program_with, without_at}
 use Rattle.check_tighten.specs.Own.{single_stages, own_stages, fitted, without_stage}
-use Rattle.check_tighten.specs.Tight.{WaitAt}
+use Rattle.check_tighten.specs.Tight.{Passes, WaitAt}
+use Rattle.check_tighten.specs.Tightened.{LessWait, LessStage, OwnAlone, Succeeds, Tries}
 use Rattle.check_tighten.specs.declared.trial.Trial.{Trial}
 use Rattle.check_tighten.proofs.Programs.{one_queue, one_wait}
 use Rattle.check_tighten.proofs.Trials.{came_without, came_stage, came_fitted}
+use Rattle.check_tighten.proofs.Turning.{tries_some}
 
 -- NO WAIT
 
@@ -75,6 +77,15 @@ module _ (program : Program) (q b k : ℕ) (family : Family) (found : WaitFor) (
   left_tried (Ok trial) h = λ same queue batch wait at. ((h queue batch at.batch_at).refused same).1
   left_tried (Err e) h = tt
 
+  pub left_succeeds : {E : Type 0} (r : Result Trial E) → WithoutTried r → IfOk r (λ trial. trial.changed ≡ true → Succeeds (LessWait q b k) program trial.program)
+  left_succeeds (Ok trial) h = λ changed.
+      let kept = (h s.queue s.batch s.at.batch_at).proved_sound changed in
+      record {
+        candidate = record { queue = s.queue; batch = s.batch; wait = found; at = s.at; is = kept.0 };
+        passes = subst Passes (sym kept.0) kept.1;
+      }
+  left_succeeds (Err e) h = tt
+
   module _ (stage : ℕ) (new : WaitFor) (is : new ≡ without_stage family stage found) where
     pub stage_came : {E : Type 0} (r : Result Trial E) → (i : ℕ) × (slice_get single_stages i ≡ Some stage) → has (own_stages family found.stages.0) stage ≡ true → NewTried r new → HasCome r
     stage_came (Ok trial) one has_it h =
@@ -86,6 +97,13 @@ module _ (program : Program) (q b k : ℕ) (family : Family) (found : WaitFor) (
     pub stage_tried : {E : Type 0} (r : Result Trial E) → NewTried r new → IfOk r (λ trial. trial.changed ≡ false → StageTried program q b k stage)
     stage_tried (Ok trial) h = λ same queue batch wait at has_it. ((as_edited new (λ f. without_stage f stage) is trial h queue batch wait at).refused same).1
     stage_tried (Err e) h = tt
+
+    pub stage_turn : {E : Type 0} (r : Result Trial E) → has (own_stages family found.stages.0) stage ≡ true → NewTried r new → IfOk r (λ trial. Tries (LessStage q b k stage) program trial.program)
+    stage_turn (Ok trial) has_it h =
+        tries_some (LessStage q b k stage) program (program_with q b (slice_set s.batch.waits k (without_stage s.queue.family stage found)) program) trial.program trial.changed
+        (record { queue = s.queue; batch = s.batch; wait = found; at = s.at; own = subst (λ o. has o stage ≡ true) (own_at s.queue s.batch found s.at) has_it; is = refl })
+        (λ c l. subst (λ p. Tried program p trial.program trial.changed) (sym l.is) (as_edited new (λ f. without_stage f stage) is trial h l.queue l.batch l.wait l.at))
+    stage_turn (Err e) has_it h = tt
 
   -- where the stage is none of its own
   pub stage_absent : (stage : ℕ) → has (own_stages family found.stages.0) stage ≡ false → StageTried program q b k stage
@@ -102,6 +120,20 @@ module _ (program : Program) (q b k : ℕ) (family : Family) (found : WaitFor) (
     pub fit_tried : {E : Type 0} (r : Result Trial E) → NewTried r new → IfOk r (λ trial. trial.changed ≡ false → FitTried program q b k)
     fit_tried (Ok trial) h = λ same queue batch wait at other. ((as_edited new fitted is trial h queue batch wait at).refused same).1
     fit_tried (Err e) h = tt
+
+    pub fit_turn : {E : Type 0} (r : Result Trial E) → (found.stages.0 == own_stages family found.stages.0) ≡ false → NewTried r new → IfOk r (λ trial. Tries (OwnAlone q b k) program trial.program)
+    fit_turn (Ok trial) other h =
+        tries_some (OwnAlone q b k) program (program_with q b (slice_set s.batch.waits k (fitted s.queue.family found)) program) trial.program trial.changed
+        (record {
+          queue = s.queue;
+          batch = s.batch;
+          wait = found;
+          at = s.at;
+          others = λ same. clash (sym other ∙ eq-eqb found.stages.0 (own_stages family found.stages.0) (same ∙ sym (own_at s.queue s.batch found s.at)));
+          is = refl;
+        })
+        (λ c l. subst (λ p. Tried program p trial.program trial.changed) (sym l.is) (as_edited new fitted is trial h l.queue l.batch l.wait l.at))
+    fit_turn (Err e) other h = tt
 
   -- where it has its own stages alone
   pub fit_done : (found.stages.0 == own_stages family found.stages.0) ≡ true → FitTried program q b k

@@ -2,10 +2,12 @@
 use Rattle.std.proofs.Common.{◌≡◌, ◌+◌, inl, inr, ℕ, [], ◌∷◌, refl}
 use Rattle.base.specs.declared.shape.Family.TheVariants.{Graphics, Compute, Transfer}
 use Rattle.vk.specs.Stages.{all_commands, all_transfer, color_attachment_output, compute_shader, copy, clear}
+use Rattle.program.specs.declared.program.Program.{Program}
 use Rattle.program.specs.declared.program.WaitFor.{WaitFor}
 use Rattle.check_tighten.specs.Edits.{without_at}
 use Rattle.check_tighten.specs.Own.{own_stages, without_stage}
 use Rattle.check_tighten.specs.Standing.{WaitsStand}
+use Rattle.check_tighten.specs.Tightened.{InTurn, IsTightened}
 
 abbrev wait : ℕ → ℕ → ℕ → WaitFor
 wait queue value set = record { queue = queue; value = value; stages = record { 0 = set } }
@@ -44,3 +46,14 @@ narrowed = inr (inl (record { queue = refl; value = refl; some = refl; stages = 
 -- a wait that was not there does not stand
 invented : WaitsStand [] (wait 1 1 copy ∷ []) → ⊥
 invented s = s
+
+-- where there is no queue, one round changes nothing
+abbrev empty : Program
+empty = record { memories = []; pieces = []; queues = []; readbacks = [] }
+
+nothing_left_out : IsTightened empty empty
+nothing_left_out = (0, (refl, refl))
+
+-- a round of three parts does them in turn
+in_turn : InTurn (λ i program now. now ≡ program) 3 empty empty
+in_turn = (empty, (empty, (empty, refl, refl), refl), refl)

@@ -3,3 +3,4 @@ pub mod Edits
 pub mod Own
 pub mod Standing
 pub mod Tight
+pub mod Tightened

@@ -1,8 +1,9 @@
 //! What is left out of one wait.
 
-ghost use Rattle.std.specs.Prelude.{◌≡◌, ℕ, ◌<◌, ◌≤◌, ◌+◌, false, IfOk, Some, slice_get};
+ghost use Rattle.std.specs.Prelude.{◌≡◌, ℕ, ◌<◌, ◌≤◌, ◌+◌, true, false, IfOk, Some, slice_get};
 ghost use Rattle.check_tighten.specs.Internal.Rounds.{Came, FitTried, StageNumberTried, StageTried, StandsAt, WaitDone, WaitTried, Walked};
 ghost use Rattle.check_tighten.specs.Own.{single_stages};
+ghost use Rattle.check_tighten.specs.Tightened.{InTurn, LessStage, LessWait, OwnAlone, StagesTurn, StageTurn, Succeeds, Tries, WaitTurn};
 
 use crate::own::{SINGLE_STAGES, fitted, single_stage, without_stage};
 use crate::place::{Place, Standing, wait_at};
@@ -16,6 +17,7 @@ use vk::Stages;
 fn leave_wait(alloc: Global, program: Program, place: Place) -> Result<Trial, NoMemory>
     ensures came { IfOk result (λ trial. Came program trial.program trial.changed) }
     ensures tried { IfOk result (λ trial. trial.changed ≡ false → WaitTried program place.queue place.batch place.at) }
+    ensures left { IfOk result (λ trial. trial.changed ≡ true → Succeeds (LessWait place.queue place.batch place.at) program trial.program) }
 {
     match wait_at(&program, place) {
         Some(_) => without(alloc, program, place),
@@ -35,6 +37,7 @@ fn leave_stage_of(
     requires single { (i : ℕ) × (slice_get single_stages i ≡ Some stage.0) }
     ensures came { IfOk result (λ trial. Came program trial.program trial.changed) }
     ensures tried { IfOk result (λ trial. trial.changed ≡ false → StageTried program place.queue place.batch place.at stage.0) }
+    ensures turn { IfOk result (λ trial. Tries (LessStage place.queue place.batch place.at stage.0) program trial.program) }
 {
     if found.has_own(stage) {
         let wait = without_stage(found.family, stage, found.wait);
@@ -54,6 +57,7 @@ fn leave_stage(
     requires { (i : ℕ) × (slice_get single_stages i ≡ Some stage.0) }
     ensures came { IfOk result (λ trial. Came program trial.program trial.changed) }
     ensures tried { IfOk result (λ trial. trial.changed ≡ false → StageTried program place.queue place.batch place.at stage.0) }
+    ensures turn { IfOk result (λ trial. Tries (LessStage place.queue place.batch place.at stage.0) program trial.program) }
 {
     match wait_at(&program, place) {
         Some(found) => leave_stage_of(alloc, program, place, found, stage),
@@ -66,6 +70,7 @@ fn fit_of(alloc: Global, program: Program, place: Place, found: Standing) -> Res
     requires { StandsAt program place.queue place.batch place.at found.family found.wait }
     ensures came { IfOk result (λ trial. Came program trial.program trial.changed) }
     ensures tried { IfOk result (λ trial. trial.changed ≡ false → FitTried program place.queue place.batch place.at) }
+    ensures turn { IfOk result (λ trial. Tries (OwnAlone place.queue place.batch place.at) program trial.program) }
 {
     if found.is_fitted() {
         Ok(Trial::unchanged(program))
@@ -79,6 +84,7 @@ fn fit_of(alloc: Global, program: Program, place: Place, found: Standing) -> Res
 fn fit(alloc: Global, program: Program, place: Place) -> Result<Trial, NoMemory>
     ensures came { IfOk result (λ trial. Came program trial.program trial.changed) }
     ensures tried { IfOk result (λ trial. trial.changed ≡ false → FitTried program place.queue place.batch place.at) }
+    ensures turn { IfOk result (λ trial. Tries (OwnAlone place.queue place.batch place.at) program trial.program) }
 {
     match wait_at(&program, place) {
         Some(found) => fit_of(alloc, program, place, found),
@@ -88,7 +94,8 @@ fn fit(alloc: Global, program: Program, place: Place) -> Result<Trial, NoMemory>
 
 // Stage by stage, in the order of their bits.
 fn leave_stages(alloc: Global, program: Program, place: Place) -> Result<Trial, NoMemory>
-    ensures { IfOk result (λ trial. Walked (StageNumberTried place.queue place.batch place.at) program trial.program trial.changed 5) }
+    ensures walked { IfOk result (λ trial. Walked (StageNumberTried place.queue place.batch place.at) program trial.program trial.changed 5) }
+    ensures turns { IfOk result (λ trial. InTurn (StageTurn place.queue place.batch place.at) 5 program trial.program) }
 {
     let mut now = Trial::unchanged(program);
     for i in 0..SINGLE_STAGES {
@@ -103,6 +110,7 @@ fn fewer_stages(alloc: Global, program: Program, place: Place) -> Result<Trial, 
     ensures came { IfOk result (λ trial. Came program trial.program trial.changed) }
     ensures stages { IfOk result (λ trial. trial.changed ≡ false → (i : ℕ) → i < 5 → StageNumberTried place.queue place.batch place.at program i) }
     ensures fit { IfOk result (λ trial. trial.changed ≡ false → FitTried program place.queue place.batch place.at) }
+    ensures turn { IfOk result (λ trial. StagesTurn place.queue place.batch place.at program trial.program) }
 {
     let left = leave_stages(alloc, program, place)?;
     let next = fit(alloc, left.program, place)?;
@@ -123,6 +131,7 @@ pub fn attempt_wait(alloc: Global, program: Program, place: Place) -> Result<Att
     ensures done { IfOk result (λ attempt. attempt.trial.changed ≡ false → WaitDone place.queue place.batch program place.at) }
     ensures next { IfOk result (λ attempt. attempt.next ≤ place.at + 1) }
     ensures last { IfOk result (λ attempt. attempt.trial.changed ≡ false → attempt.next ≡ place.at + 1) }
+    ensures turn { IfOk result (λ attempt. WaitTurn place.queue place.batch place.at program attempt.trial.program attempt.next) }
 {
     let left = leave_wait(alloc, program, place)?;
     if left.changed {

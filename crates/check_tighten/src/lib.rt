@@ -2,6 +2,7 @@
 #![tactic(auto)]
 
 mod edit;
+mod laws;
 mod leaving;
 mod own;
 mod place;
@@ -9,4 +10,5 @@ mod rounds;
 mod tightening;
 mod trial;
 
+pub use laws::tighten_law;
 pub use tightening::tighten;

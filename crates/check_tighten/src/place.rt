@@ -4,6 +4,7 @@ ghost use Rattle.std.specs.Prelude.{◌≡◌, ◌==◌, IfOk, MatchOption, leng
 ghost use Rattle.vk.specs.Sets.{has};
 ghost use Rattle.check_tighten.specs.Internal.Rounds.{HasWait, StandsAt};
 ghost use Rattle.check_tighten.specs.Own.{own_stages};
+ghost use Rattle.check_tighten.specs.Tightened.{batches_at, waits_at};
 ghost use Rattle.program.specs.Obeys.{BatchAt};
 ghost use Rattle.program.specs.declared.program.Batch.{Batch};
 ghost use Rattle.program.specs.declared.program.Queue.{Queue};
@@ -93,7 +94,7 @@ pub fn waits_at(
 
 /// How many batches a queue has; none, if there is no such queue.
 pub fn batch_count(program: &Program, queue: usize) -> usize
-    ensures { (own : Queue) → slice_get program.now.queues queue ≡ Some own → result ≡ length own.batches }
+    ensures { result ≡ length (batches_at program.now queue) }
 {
     match program.queues.get(queue) {
         Some(queue) => queue.batches.len(),
@@ -103,7 +104,7 @@ pub fn batch_count(program: &Program, queue: usize) -> usize
 
 /// How many waits a batch has; none, if there is no such batch.
 pub fn wait_count(program: &Program, queue: usize, batch: usize) -> usize
-    ensures { (own : Queue) (found : Batch) → BatchAt program.now queue batch own found → result ≡ length found.waits }
+    ensures { result ≡ length (waits_at program.now queue batch) }
 {
     match program.queues.get(queue) {
         Some(queue) => match queue.batches.get(batch) {

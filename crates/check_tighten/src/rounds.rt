@@ -4,6 +4,7 @@ ghost use Rattle.std.specs.Prelude.{◌≡◌, ℕ, false, IfOk};
 ghost use Rattle.check_tighten.specs.Internal.Rounds.{BatchDone, Came, QueueDone};
 ghost use Rattle.check_tighten.specs.Tight.{Passes, Tight};
 ghost use Rattle.check_tighten.specs.Standing.{StandsTo};
+ghost use Rattle.check_tighten.specs.Tightened.{BatchTurn, IsTightened, QueueTurn, Round};
 ghost use Rattle.program.specs.declared.program.Program as programs;
 
 use crate::leaving::attempt_wait;
@@ -22,6 +23,7 @@ fn batch_round(
 ) -> Result<Trial, NoMemory>
     ensures came { IfOk result (λ trial. Came program trial.program trial.changed) }
     ensures done { IfOk result (λ trial. trial.changed ≡ false → BatchDone queue program batch) }
+    ensures turn { IfOk result (λ trial. BatchTurn queue batch program trial.program) }
 {
     let count = wait_count(&program, queue, batch);
     let mut now = Trial::unchanged(program);
@@ -39,6 +41,7 @@ fn batch_round(
 fn queue_round(alloc: Global, program: Program, queue: usize) -> Result<Trial, NoMemory>
     ensures came { IfOk result (λ trial. Came program trial.program trial.changed) }
     ensures done { IfOk result (λ trial. trial.changed ≡ false → QueueDone program queue) }
+    ensures turn { IfOk result (λ trial. QueueTurn queue program trial.program) }
 {
     let count = batch_count(&program, queue);
     let mut now = Trial::unchanged(program);
@@ -53,6 +56,7 @@ fn queue_round(alloc: Global, program: Program, queue: usize) -> Result<Trial, N
 fn round(alloc: Global, program: Program) -> Result<Trial, NoMemory>
     ensures came { IfOk result (λ trial. Came program trial.program trial.changed) }
     ensures done { IfOk result (λ trial. trial.changed ≡ false → (q : ℕ) → QueueDone program q) }
+    ensures turn { IfOk result (λ trial. Round program trial.program) }
 {
     let count = program.queues.len();
     let mut now = Trial::unchanged(program);
@@ -69,6 +73,7 @@ pub fn settled(alloc: Global, program: Program) -> Result<Program, NoMemory>
     requires { Passes program }
     ensures tight { IfOk result (λ now. Tight now) }
     ensures stands { IfOk result (λ now. (given : programs.Program) → StandsTo given program → StandsTo given now) }
+    ensures tightened { IfOk result (λ now. IsTightened program now) }
 {
     let mut now = program;
     loop {

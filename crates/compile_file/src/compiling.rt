@@ -15,7 +15,6 @@ use law_tight::wait_laws;
 use std::alloc::Global;
 
 // The same without the waits that soundness does not need, which change nothing of what the host reads.
-#[tactic(auto, using(crate::proofs::TightLemmas::as_tight))]
 fn tightened(
     alloc: Global,
     good: &ValidFrame,

@@ -1,5 +1,6 @@
 mod Alike
 mod Bytes
+mod DeclaredOrder
 mod Edges
 mod Embedded
 mod Entries

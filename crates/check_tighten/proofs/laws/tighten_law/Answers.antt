@@ -1,0 +1,5 @@
+use Rattle.check_tighten.proofs.OneProgram.{one_tightened}
+use Rattle.check_tighten.proofs.laws.tighten_law.Goals as goal
+
+pub returns : goal.returns
+returns c = record { one = one_tightened }
