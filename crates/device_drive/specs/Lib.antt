@@ -1,3 +1,4 @@
 pub mod Internal
+pub mod Driven
 pub mod Firsts
 pub mod Tended

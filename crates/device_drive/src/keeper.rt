@@ -4,7 +4,7 @@ ghost use Rattle.std.specs.Prelude.{◌≡◌, ◌<◌, ◌+◌, ◌^◌, ℕ, s
 ghost use Rattle.std.specs.Option.{option_map};
 ghost use Rattle.device_cache.specs.Draws.{seeded, Moves};
 ghost use Rattle.base.specs.declared.event.Event.TheVariants as events;
-ghost use Rattle.device_drive.specs.Internal.Keepers.{to_come, Advanced, AsksAlike, Calm, Keeps};
+ghost use Rattle.device_drive.specs.Internal.Keepers.{to_come, Advanced, AsksAlike, Calm, Keeps, Tends};
 ghost use Rattle.device_drive.specs.Tended.{tended_moves};
 ghost use Rattle.program.specs.Obeys.{IsSmall};
 
@@ -66,6 +66,7 @@ impl Keeper {
         requires keeps { Keeps self.old device.old.program }
         ensures advanced { Advanced device.old device.new self.old self.new }
         ensures calm { Calm device.old device.new }
+        ensures tends { Tends device.old device.new self.old self.new }
         ensures made { MatchBool result (device.new.moves + 1 ≡ device.old.moves) (to_come self.new device.new.moves ≡ []) }
     {
         if device.moves_left() == 0 {

@@ -2,12 +2,14 @@
 #![tactic(auto)]
 
 mod keeper;
+mod laws;
 mod moves;
 mod round;
 mod run;
 mod sizes;
 mod tending;
 
+pub use laws::drive_law;
 pub use moves::{has_move, make_move};
 pub use round::{next_node, readback_of};
 pub use run::drive;

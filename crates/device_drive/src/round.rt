@@ -1,7 +1,9 @@
 //! One node after another.
 
-ghost use Rattle.std.specs.Prelude.{◌≡◌, ◌<◌, length, true, IfSome, IfNone, OnOk};
-ghost use Rattle.device_drive.specs.Internal.Keepers.{Advanced, Keeps};
+ghost use Rattle.std.specs.Prelude.{◌≡◌, ◌<◌, [], ◌∷◌, length, true, IfSome, IfNone, OnOk};
+ghost use Rattle.base.specs.declared.event.Event.TheVariants as events;
+ghost use Rattle.device_drive.specs.Driven.{node_events};
+ghost use Rattle.device_drive.specs.Internal.Keepers.{Advanced, Does, Keeps};
 ghost use Rattle.device_drive.specs.Firsts.{IsFirst, NothingReady};
 ghost use Rattle.check_order.specs.Edges.{is_host, is_sync};
 ghost use Rattle.device_model.specs.Devices.{is_ready, NeverStands, NoneBegun};
@@ -44,6 +46,7 @@ fn run_command<R: Threads + Sync>(
     requires idle { NoneBegun device.old }
     requires may { MayGo is_command device.old node }
     ensures advanced { Advanced device.old device.new keeper.old keeper.new }
+    ensures does { OnOk result (Does (events.Begin node ∷ events.End node ∷ []) device.old device.new keeper.old keeper.new) }
     ensures round { OnOk result (Round device.old device.new) }
 {
     keeper.tend(device);
@@ -62,6 +65,7 @@ fn run_sync(device: &mut Device, keeper: &mut Keeper, node: u32)
     requires idle { NoneBegun device.old }
     requires may { MayGo is_sync device.old node }
     ensures advanced { Advanced device.old device.new keeper.old keeper.new }
+    ensures does { Does (events.Sync node ∷ []) device.old device.new keeper.old keeper.new }
     ensures round { Round device.old device.new }
 {
     keeper.tend(device);
@@ -86,6 +90,7 @@ fn run_host(device: &mut Device, keeper: &mut Keeper, node: u32)
     requires idle { NoneBegun device.old }
     requires may { MayGo is_host device.old node }
     ensures advanced { Advanced device.old device.new keeper.old keeper.new }
+    ensures does { Does (events.Host node ∷ []) device.old device.new keeper.old keeper.new }
     ensures round { Round device.old device.new }
 {
     keeper.tend(device);
@@ -105,6 +110,7 @@ pub(crate) fn run_node<R: Threads + Sync>(
     requires idle { NoneBegun device.old }
     requires ready { is_ready device.old node ≡ true }
     ensures advanced { Advanced device.old device.new keeper.old keeper.new }
+    ensures does { OnOk result (Does (node_events device.old node) device.old device.new keeper.old keeper.new) }
     ensures round { OnOk result (Round device.old device.new) }
 {
     match device.kind(node) {

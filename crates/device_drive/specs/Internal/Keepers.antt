@@ -1,8 +1,9 @@
 -- A run on its way: which moves are still to come, and what they leave as it is.
-use Rattle.std.specs.Prelude.{◌≡◌, ◌++◌, ◌<◌, ◌^◌, ℕ, List, [], length, Option, Some, None}
+use Rattle.std.specs.Prelude.{◌≡◌, ◌++◌, ◌<◌, ◌^◌, ℕ, List, [], drop, length, Option, Some, None}
 use Rattle.rand_pcg.specs.Lcg.{Lcg}
 use Rattle.base.specs.declared.event.Event.{Event}
 use Rattle.device_cache.specs.Draws.{moves_from}
+use Rattle.device_drive.specs.Driven.{after_events, after_move, Drives}
 use Rattle.device_drive.specs.Tended.{agents_of, sizes_of}
 use Rattle.device_drive.specs.declared.keeper.Keeper.{Keeper}
 use Rattle.device_model.specs.Devices.{Device, state_of}
@@ -41,3 +42,17 @@ pub record Calm (old new : Device) : Type 0 where
   pub program : new.program ≡ old.program
   pub phase : (state_of new).phase ≡ (state_of old).phase
   pub counter : (state_of new).counter ≡ (state_of old).counter
+
+-- the keeper's next move was made, if there was one
+pub record Tends (old new : Device) (before after : Keeper) : Type 0 where
+  pub device : new ≡ after_move old (to_come before old.moves)
+  pub rest : to_come after new.moves ≡ drop 1 (to_come before old.moves)
+
+-- these events came, each after a move of the keeper while it had one
+pub record Does (events : List Event) (old new : Device) (before after : Keeper) : Type 0 where
+  pub device : new ≡ after_events events old (to_come before old.moves)
+  pub rest : to_come after new.moves ≡ drop (length events) (to_come before old.moves)
+
+-- a run of a device with the keeper's moves
+abbrev pub Leads : Device → Keeper → Device → Type 0
+Leads d keeper new = (nodes : List ℕ) × Drives nodes d (to_come keeper d.moves) new

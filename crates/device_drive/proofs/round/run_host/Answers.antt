@@ -1,9 +1,10 @@
-use Rattle.std.proofs.Common.{◌≡◌, ℕ, true, refl, sym, ap, ◌∙◌, subst}
+use Rattle.std.proofs.Common.{◌≡◌, ℕ, true, [], ◌∷◌, refl, sym, ap, ◌∙◌, subst}
 use Rattle.base.specs.declared.event.Event.TheVariants.{Host}
 use Rattle.device_drive.proofs.Advancing.{with_node}
 use Rattle.device_drive.proofs.Calming.{still_may, round_host}
+use Rattle.device_drive.proofs.Driving.{does_one}
 use Rattle.device_drive.proofs.round.run_host.Goals as goal
-use Rattle.device_drive.specs.Internal.Keepers.{Advanced}
+use Rattle.device_drive.specs.Internal.Keepers.{Advanced, Does}
 use Rattle.check_order.specs.Edges.{is_host}
 use Rattle.device_model.specs.Devices.{Device, did, is_ready}
 use Rattle.device_model.specs.Rounds.{Round}
@@ -25,3 +26,9 @@ pub returns-clause-round : goal.returns-clause-round
 returns-clause-round c =
     let b = c.tend.new.device in
     subst (λ (x : Device). Round c.args.device.now x) (sym (c.host.ensures ∙ ap (λ (k : ℕ). did b (Host k)) c.readback_of-readback.ensures.read)) (round_host c.args.device.now b c.args.node c.requires.idle c.tend.ensures.calm c.requires.may)
+
+pub returns-clause-does : goal.returns-clause-does
+returns-clause-does c =
+    let b = c.tend.new.device in
+    let event = Host c.args.node in
+    subst (λ (x : Device). Does (event ∷ []) c.args.device.now x c.args.keeper.now c.tend.new.self) (sym (c.host.ensures ∙ ap (λ (k : ℕ). did b (Host k)) c.readback_of-readback.ensures.read)) (does_one c.args.device.now b c.args.keeper.now c.tend.new.self event c.tend.ensures.tends)
