@@ -35,12 +35,12 @@ pub record Draws (agents : ℕ) (sizes : List ℕ) (g : Lcg) (m : CacheMove) : T
   pub drawn : m ≡ drawn agents sizes g
   pub inside : Moves agents sizes m
 
-module _ (d e f : Device) (seed left agents : ℕ) (sizes : List ℕ) (g : Lcg) (m : CacheMove) (draws : Draws agents sizes g m) where
-  next : moves_from g (suc left) agents sizes ≡ Move m ∷ moves_from (after_five g) left agents sizes
-  next =
-      ap (λ (b : Bool). if b then Move (drawn agents sizes g) ∷ moves_from (after_five g) left agents sizes else []) draws.may
-      ∙ ap (λ (x : CacheMove). Move x ∷ moves_from (after_five g) left agents sizes) (sym draws.drawn)
+pub next : (left agents : ℕ) (sizes : List ℕ) (g : Lcg) (m : CacheMove) → Draws agents sizes g m → moves_from g (suc left) agents sizes ≡ Move m ∷ moves_from (after_five g) left agents sizes
+next left agents sizes g m draws =
+    ap (λ (b : Bool). if b then Move (drawn agents sizes g) ∷ moves_from (after_five g) left agents sizes else []) draws.may
+    ∙ ap (λ (x : CacheMove). Move x ∷ moves_from (after_five g) left agents sizes) (sym draws.drawn)
 
+module _ (d e f : Device) (seed left agents : ℕ) (sizes : List ℕ) (g : Lcg) (m : CacheMove) (draws : Draws agents sizes g m) where
   module _ (known : agents ≡ agents_of d.program) (long : sizes ≡ sizes_of d.program) (so_far : Tending d e seed (suc left) g agents sizes) where
     pub may : MayMake e m
     may = record {
@@ -54,7 +54,7 @@ module _ (d e f : Device) (seed left agents : ℕ) (sizes : List ℕ) (g : Lcg) 
       events = so_far.events ++ Move m ∷ [];
       went = subst (λ x. Went d x (so_far.events ++ Move m ∷ [])) (sym is) (on so_far.went refl (omega (arith, so_far.room)));
       room = omega (arith, so_far.room, ap (λ (x : Device). x.moves) is);
-      moves = append_assoc so_far.events (Move m ∷ []) (moves_from (after_five g) left agents sizes) ∙ ap (λ moves. so_far.events ++ moves) (sym next) ∙ so_far.moves;
+      moves = append_assoc so_far.events (Move m ∷ []) (moves_from (after_five g) left agents sizes) ∙ ap (λ moves. so_far.events ++ moves) (sym (next left agents sizes g m draws)) ∙ so_far.moves;
     }
 
   -- a hold in which it makes the move that it has drawn

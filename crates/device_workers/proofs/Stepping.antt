@@ -36,7 +36,7 @@ pub all_stepped : {E : Type 0} (old new : Device) (own n : ℕ) → IsChosen old
 all_stepped old new own n chosen (Ok step) goes = stepped old new own n chosen step goes
 all_stepped old new own n chosen (Err e) goes = goes
 
-ready : (d : Device) (own n : ℕ) → IsChosen d own n → is_ready d n ≡ true
+pub ready : (d : Device) (own n : ℕ) → IsChosen d own n → is_ready d n ≡ true
 ready d own n = ⊎_elim (λ next. next.may) (λ other. other.1.next.may)
 
 -- a command begins and ends, and nothing else is begun

@@ -1,14 +1,17 @@
 -- A worker on its way, hold by hold.
-use Rattle.std.proofs.Common.{◌≡◌, ℕ, Option, sym, subst}
+use Rattle.std.proofs.Common.{◌≡◌, ◌+◌, ℕ, Option, refl, sym, ap, ◌∙◌, subst, arith}
 use Rattle.device.specs.declared.job.Command.{Command}
 use Rattle.device_model.specs.Devices.{Device, NoneBegun}
 use Rattle.device_model.specs.Rounds.{IsRound}
-use Rattle.device_workers.proofs.Holding.{both, both_then}
+use Rattle.device.specs.declared.job.Landed.{Landed}
+use Rattle.device_workers.proofs.Holding.{both, both_so, both_then}
 use Rattle.device_workers.proofs.Stepping.{round, finish_step}
-use Rattle.device_workers.specs.Holds.{Lands, Works, here, by_step, by_end, StepsTo, LandsTo, WorksTo, LeavesNone}
+use Rattle.device_workers.specs.Internal.Loops.{StillWorks}
+use Rattle.device_workers.specs.Parts.{WorkerPart, ends_of, CountsStep, CountsEnd, KeepsParts, FindsEnd}
+use Rattle.device_workers.specs.Holds.{Both, Lands, Works, here, by_step, by_end, StepsTo, LandsTo, WorksTo, LeavesNone}
 use Rattle.device_workers.specs.WorkerSteps.{WorkerSteps}
 use Rattle.device_workers.specs.declared.step.WorkerStep.{WorkerStep}
-use Rattle.device_workers.specs.declared.step.WorkerStep.TheVariants.{Compute, Stepped, Wait}
+use Rattle.device_workers.specs.declared.step.WorkerStep.TheVariants.{Compute, Stepped, Complete, Wait}
 
 -- WHICH HOLDS IT MAKES
 
@@ -48,3 +51,30 @@ leaves_round a b c f own job done same rounds before step =
     both_then a c f (Between own job) (λ d e. Lands d e done.node) Leaves
     (λ d e f between lands idle. round between.0 e f own job done same (between.1.0 idle) (rounds between.0 (between.1.0 idle)) between.1.1 lands)
     (both_then a b c Leaves (λ d e. WorkerSteps d e own (Compute job)) (Between own job) (λ d e f so_far hold. (e, (so_far, hold))) before step)
+
+-- WHAT IT COUNTS
+
+plus_none : (n : ℕ) → n + 0 ≡ n
+plus_none n = omega arith
+
+pub still_works : (a : Option WorkerPart) → Both a a StillWorks
+still_works a = both a StillWorks (λ p. record { parts = refl; ends = refl })
+
+pub works_on : (a b c : Option WorkerPart) (step : WorkerStep) → ends_of step ≡ 0 → Both a b StillWorks → Both b c (CountsStep step) → Both a c StillWorks
+works_on a b c step none = both_then a b c StillWorks (CountsStep step) StillWorks
+    (λ p q r still counts. record { parts = counts.parts ∙ still.parts; ends = counts.ends ∙ ap (λ n. q.ends + n) none ∙ plus_none q.ends ∙ still.ends })
+
+pub ends_on : (a b c : Option WorkerPart) (landed : Landed) → Both a b StillWorks → Both b c (CountsEnd landed) → Both a c StillWorks
+ends_on a b c landed = both_then a b c StillWorks (CountsEnd landed) StillWorks
+    (λ p q r still counts. record { parts = counts.parts ∙ still.parts; ends = counts.ends ∙ still.ends })
+
+pub finds : (a b c : Option WorkerPart) → Both a b StillWorks → Both b c (CountsStep Complete) → Both a c FindsEnd
+finds a b c = both_then a b c StillWorks (CountsStep Complete) FindsEnd
+    (λ p q r still counts. counts.ends ∙ ap (λ n. n + 1) still.ends)
+
+pub finds_parts : (a b c : Option WorkerPart) (step : WorkerStep) → Both a b StillWorks → Both b c (CountsStep step) → Both a c KeepsParts
+finds_parts a b c step = both_then a b c StillWorks (CountsStep step) KeepsParts
+    (λ p q r still counts. counts.parts ∙ still.parts)
+
+pub keeps_parts : (a b c : Option WorkerPart) → c ≡ b → Both a b StillWorks → Both a c KeepsParts
+keeps_parts a b c same still = subst (λ x. Both a x KeepsParts) (sym same) (both_so a b StillWorks KeepsParts (λ p q s. s.parts) still)

@@ -10,9 +10,10 @@ use Rattle.device_model.specs.States.{is_begun}
 use Rattle.device_workers.specs.WorkerSteps.{WorkerSteps}
 use Rattle.device_workers.specs.declared.step.WorkerStep.{WorkerStep}
 
--- of a holder that told a device: it tells one again, and this holds of both
-abbrev pub Both : Option Device → Option Device → (Device → Device → Type 0) → Type 0
-Both None new P = Unit {0}
+-- of what a holder tells before and after, if it tells it
+abbrev pub Both : {X : Type 0} → Option X → Option X → (X → X → Type 0) → Type 0
+Both None None P = Unit {0}
+Both None (Some e) P = ⊥
 Both (Some d) None P = ⊥
 Both (Some d) (Some e) P = P d e
 

@@ -1,3 +1,5 @@
 pub mod Internal
 pub mod Holds
+pub mod Parts
+pub mod Worked
 pub mod WorkerSteps

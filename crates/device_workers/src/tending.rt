@@ -1,9 +1,10 @@
 //! The tender beside the workers.
 
 ghost use Rattle.std.specs.Prelude.{◌≡◌, ◌<◌, ◌^◌, ℕ, Some, None, length};
-ghost use Rattle.device_workers.specs.Holds.{Tends, TendsAll};
+ghost use Rattle.device_workers.specs.Holds.{Both, Tends, TendsAll};
+ghost use Rattle.device_workers.specs.Parts.{IfTold, OwesAll, PaysAll};
 
-use crate::hold::Holder;
+use crate::hold::Mover;
 use base::CacheMove;
 use device::Device;
 use device_cache::{MOVES, Tender};
@@ -34,9 +35,11 @@ pub fn moves_of(tend: Option<u64>) -> u32
 
 /// Makes the first `MOVES` moves of the seed's tender, one in each hold, or none where it gives none. It stops at the first move
 /// that the hold does not make.
-pub fn tend_through<H: Holder>(hold: &mut H, seed: u64, agents: u32, sizes: &[u32])
+pub fn tend_through<H: Mover>(hold: &mut H, seed: u64, agents: u32, sizes: &[u32])
     requires few { length sizes.now < 2 ^ 32 }
-    ensures { TendsAll (H.told hold.old) (H.told hold.new) seed agents sizes.now }
+    requires owed { IfTold (H.part hold.old) (OwesAll seed agents sizes.now) }
+    ensures tended { TendsAll (H.told hold.old) (H.told hold.new) seed agents sizes.now }
+    ensures paid { Both (H.part hold.old) (H.part hold.new) PaysAll }
 {
     history_laws();
     let mut tender = Tender::new(seed);

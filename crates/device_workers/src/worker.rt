@@ -1,16 +1,16 @@
 //! The loop of a worker.
 
 ghost use Rattle.std.specs.Prelude.{OnOk};
-ghost use Rattle.device_workers.specs.Holds.{EndsComplete, LeavesNone, WorksTo};
+ghost use Rattle.device_workers.specs.Holds.{Both, EndsComplete, LeavesNone, WorksTo};
+ghost use Rattle.device_workers.specs.Parts.{FindsEnd, KeepsParts};
 
-use crate::hold::{Holder, Shared};
+use crate::hold::Holder;
 use crate::step::WorkerStep;
 use base::NoMemory;
 use base_io::Gate;
-use device::Device;
 use device_model::round_laws;
 use std::alloc::Global;
-use std::sync::{Condvar, Mutex, Wait};
+use std::sync::Wait;
 use std::thread::Threads;
 
 /// Works until a hold finds the device complete, or memory runs out. A command is computed between two holds, in which it begins
@@ -25,6 +25,8 @@ pub fn work_through<R: Threads + Wait + Sync, H: Holder, G: Gate>(
     ensures works { WorksTo (H.told hold.old) (H.told hold.new) own_queue }
     ensures complete { OnOk result (EndsComplete (H.told hold.old) (H.told hold.new)) }
     ensures nothing { LeavesNone (H.told hold.old) (H.told hold.new) }
+    ensures found { OnOk result (Both (H.part hold.old) (H.part hold.new) FindsEnd) }
+    ensures parts { Both (H.part hold.old) (H.part hold.new) KeepsParts }
 {
     round_laws();
     for _ in rt.forever() {
@@ -34,26 +36,11 @@ pub fn work_through<R: Threads + Wait + Sync, H: Holder, G: Gate>(
                 gate.enter(node);
                 let done = job.compute(rt);
                 gate.leave(node);
-                hold.land(done);
+                let _landed = hold.land(done);
             }
             WorkerStep::Complete => return Ok(()),
             WorkerStep::Stepped | WorkerStep::Wait => {}
         }
     }
     unreachable!()
-}
-
-/// The worker of a queue, on a device that others share. A hold of the lock ends the command that it computed, or is a step: the
-/// event of the least ready node of its own queue, else of the other queues in rising order, else a host read. It waits at the
-/// bell only where in this hold no node was ready and not all were done, and answers Ok only where in its last hold all were
-/// done. It leaves with nothing begun of its own, and rings the bell before it does.
-pub fn work<R: Threads + Wait + Sync, G: Gate>(
-    rt: &R,
-    alloc: Global,
-    device: &Mutex<Device>,
-    bell: &Condvar,
-    own_queue: u32,
-    gate: &G,
-) -> Result<(), NoMemory> {
-    work_through(rt, alloc, &mut Shared { rt, device, bell }, own_queue, gate)
 }

@@ -8,6 +8,10 @@ use test_sketch::{SketchError, sketched_program};
 pub const APART: &str =
     "plain:16 plain:16 buffer:16:0:0 buffer:16:1:0 read:0 read:1 ; graphics fill:0:16 all:CLEAR,TRANSFER_WRITE>HOST,HOST_READ signal:1 ; transfer fill:1:16 all:CLEAR,TRANSFER_WRITE>HOST,HOST_READ signal:1";
 
+// Three fills on three queues, which wait for nothing: nodes 0, 3 and 6.
+pub const THREE: &str =
+    "plain:16 plain:16 plain:16 buffer:16:0:0 buffer:16:1:0 buffer:16:2:0 read:0 read:1 read:2 ; graphics fill:0:16 all:CLEAR,TRANSFER_WRITE>HOST,HOST_READ signal:1 ; transfer fill:1:16 all:CLEAR,TRANSFER_WRITE>HOST,HOST_READ signal:1 ; transfer fill:2:16 all:CLEAR,TRANSFER_WRITE>HOST,HOST_READ signal:1";
+
 // A fill on one queue; the other waits for it, and copies what it stored for the host.
 pub const CHAINED: &str =
     "plain:16 plain:16 buffer:16:0:0:shared buffer:16:1:0 read:1 ; graphics fill:0:16 signal:1 ; transfer wait:0:1 copy:0:1:16 all:COPY,TRANSFER_WRITE>HOST,HOST_READ signal:1";

@@ -1,6 +1,6 @@
 use crate::alone::is_own_first;
 use crate::outcome::{Outcome, run_by};
-use crate::programs::{APART, BEHIND, CHAINED, checked};
+use crate::programs::{APART, BEHIND, CHAINED, THREE, checked};
 use base::{Event, NoMemory};
 use base_io::IdleGate;
 use check_program::Checked;
@@ -24,8 +24,8 @@ const ALONE: [Event; 10] = [
     Event::Host { node: 7 },
 ];
 
-// Whether both commands are begun before either ends.
-fn side_by_side(history: &[Event]) -> bool {
+// Whether so many commands are begun before any ends.
+fn side_by_side(history: &[Event], commands: usize) -> bool {
     let first_end = history
         .iter()
         .position(|event| matches!(event, Event::End { .. }));
@@ -33,22 +33,24 @@ fn side_by_side(history: &[Event]) -> bool {
         .iter()
         .take(first_end.unwrap_or(0))
         .filter(|event| matches!(event, Event::Begin { .. }));
-    begun.count() == 2
+    begun.count() == commands
 }
 
-fn are_side_by_side(outcome: &Outcome, gate: &Meeting) -> bool {
-    gate.took_place() && side_by_side(&outcome.history) && outcome.is_whole
+fn are_side_by_side(outcome: &Outcome, commands: u32, gate: &Meeting) -> bool {
+    gate.took_place() && side_by_side(&outcome.history, commands as usize) && outcome.is_whole
 }
 
-// Whether two workers bring two commands to a gate at the same time.
+// Whether so many workers bring as many commands to a gate at the same time.
 fn meet<R: Threads + Wait + Sync>(
     rt: &R,
     alloc: Global,
     program: &Checked,
+    workers: u32,
+    tend: Option<u64>,
     gate: &Meeting,
 ) -> Result<bool, NoMemory> {
-    let outcome = run_by(rt, alloc, program, 2, None, gate)?;
-    Ok(are_side_by_side(&outcome, gate))
+    let outcome = run_by(rt, alloc, program, workers, tend, gate)?;
+    Ok(are_side_by_side(&outcome, workers, gate))
 }
 
 // Whether a worker that waits while the other one computes is called for the second of two commands, which meet.
@@ -86,8 +88,10 @@ fn comes_through<R: Threads + Wait + Sync>(
 // What is done with a program.
 #[derive(Clone, Copy)]
 enum Way {
-    // Two workers meet.
-    Meeting,
+    // Two workers meet, beside a tender with this seed if there is one.
+    Meeting(Option<u64>),
+    // Three workers meet.
+    Three,
     // They meet behind a command for which one of them waits.
     Called,
     // One worker takes every queue.
@@ -105,7 +109,8 @@ fn goes<R: Threads + Wait + Sync>(
     way: Way,
 ) -> Result<bool, NoMemory> {
     match way {
-        Way::Meeting => meet(rt, alloc, program, &Meeting::new(0, 3)),
+        Way::Meeting(tend) => meet(rt, alloc, program, 2, tend, &Meeting::new(0, 3)),
+        Way::Three => meet(rt, alloc, program, 3, None, &Meeting::of_three(0, 3, 6)),
         Way::Called => is_called(rt, alloc, program, &Meeting::new(3, 7)),
         Way::Alone => is_alone(rt, alloc, program),
         Way::OwnFirst => is_own_first(rt, alloc, program),
@@ -126,7 +131,19 @@ fn holds<R: Threads + Wait + Sync>(
 
 #[test]
 fn two_commands_meet(rt: HostRuntime) -> Result<(), Fail> {
-    assert!(&rt; holds(&rt, rt.alloc(), APART, Way::Meeting)?);
+    assert!(&rt; holds(&rt, rt.alloc(), APART, Way::Meeting(None))?);
+    Ok(())
+}
+
+#[test]
+fn two_commands_meet_beside_a_tender(rt: HostRuntime) -> Result<(), Fail> {
+    assert!(&rt; holds(&rt, rt.alloc(), APART, Way::Meeting(Some(1)))?);
+    Ok(())
+}
+
+#[test]
+fn three_commands_meet(rt: HostRuntime) -> Result<(), Fail> {
+    assert!(&rt; holds(&rt, rt.alloc(), THREE, Way::Three)?);
     Ok(())
 }
 
