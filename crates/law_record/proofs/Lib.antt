@@ -1,0 +1,15 @@
+mod Befores
+mod Begun
+mod Carrying
+mod Commanding
+mod Compiled
+mod Counted
+mod Needing
+mod Needs
+mod Nodes
+mod Operands
+mod Rising
+mod Signalling
+mod Spotted
+mod Waiting
+mod Worked

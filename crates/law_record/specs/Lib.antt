@@ -1,0 +1,9 @@
+pub mod Begun
+pub mod Carried
+pub mod Needed
+pub mod Reasons
+pub mod Rising
+pub mod Signalled
+pub mod Spots
+pub mod Table
+pub mod WantedWaits
