@@ -1,0 +1,5 @@
+pub mod Asked
+pub mod Bits
+pub mod Internal
+pub mod Firsts
+pub mod Points

@@ -1,0 +1,11 @@
+pub mod Enough
+pub mod Given
+pub mod Lays
+pub mod Marks
+pub mod Nodes
+pub mod Onto
+pub mod Ready
+pub mod Same
+pub mod Signals
+pub mod Told
+pub mod Turns

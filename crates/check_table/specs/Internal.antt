@@ -1,0 +1,4 @@
+-- What clauses of private functions cite.
+pub mod Asked
+pub mod Channels
+pub mod Laying

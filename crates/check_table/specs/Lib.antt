@@ -1,0 +1,6 @@
+pub mod Channels
+pub mod Internal
+pub mod Joined
+pub mod Laid
+pub mod Laws
+pub mod Tables
