@@ -1,6 +1,7 @@
 -- Places of a frame.
 use Rattle.std.proofs.Common.{◌≡◌, ◌≤◌, ℕ, Bool, List, length, ap, subst, ◌∙◌, arith, is_some}
 use Rattle.std.proofs.lemmas.List.{length-map}
+use Rattle.cli.specs.declared.form.Form.{Form}
 use Rattle.base.specs.Shapes.{shape_at, bytes_of}
 use Rattle.frame.specs.Numbered.{NumberedFrame, numbered}
 use Rattle.frame.specs.declared.frame.Frame.{Frame}
@@ -26,13 +27,13 @@ known_units frame G are =
     omega (arith, here, same)
 
 -- the lines of least places are what the command answers
-pub placed_frame : (json : Bool) (frame : Frame) (G : Grouping) (text : List ℕ) → AreGrouped (numbered frame) G → ArePlaceLines json frame G text → PlacesFrame json frame (done text)
-placed_frame json frame G text grouped are = let placed = are.are_placed in record {
+pub placed_frame : (form : Form) (frame : Frame) (G : Grouping) (text : List ℕ) → AreGrouped (numbered frame) G → ArePlaceLines form frame G text → PlacesFrame form frame (done text)
+placed_frame form frame G text grouped are = let placed = are.are_placed in record {
   kept = grouped.kept;
   are_kept = grouped.are_kept;
   ordered = placed.ordered;
   is_ordered = subst (λ H. IsOrdered H placed.ordered) grouped.groups placed.is_ordered;
   places = are.places;
   least = subst (λ H. IsLeast (sizes H) placed.ordered are.places) grouped.groups placed.least;
-  whole = ap done (are.lines ∙ ap (λ H. place_told json frame H are.places) grouped.groups);
+  whole = ap done (are.lines ∙ ap (λ H. place_told form frame H are.places) grouped.groups);
 }

@@ -1,10 +1,11 @@
 -- What a command that needs no device answers to the bytes of a file.
 use Rattle.std.specs.Prelude.{◌≡◌, ◌⊎◌, ◌↔◌, ℕ, ◌≤◌, Bool, List, [], ◌++◌, length, None, Result, Ok, Err, codes}
+use Rattle.cli.specs.declared.form.Form.{Form}
 use Rattle.compile_file.specs.Compiles.{Compiles}
 use Rattle.compile_record.specs.declared.compiled.Compiled.{Compiled}
 use Rattle.compile_file.specs.Exports.{exports_text}
 use Rattle.compile_file.specs.Files.{frame_file, program_file}
-use Rattle.answer.specs.AsJson.{asks_json, frame_json, submission_json}
+use Rattle.answer.specs.Forms.{form_of, frame_form, submission_form}
 use Rattle.answer.specs.Inputs.{ByLimit}
 use Rattle.answer.specs.Plain.{Rejects, done, refusal, program_refusal}
 use Rattle.answer.specs.declared.answer.Answer.{Answer}
@@ -43,9 +44,9 @@ use Rattle.cli.specs.declared.command.SubmissionCommand.{SubmissionCommand}
 use Rattle.cli.specs.declared.command.SubmissionCommand.TheVariants.{Check}
 
 -- the answer to more bytes than a file may have
-abbrev pub over_input : Bool → File → Answer
-over_input json files.Frame = refusal json (over_limit Input [])
-over_input json files.Submission = program_refusal json (programs.over_limit Input [])
+abbrev pub over_input : Form → File → Answer
+over_input form files.Frame = refusal form (over_limit Input [])
+over_input form files.Submission = program_refusal form (programs.over_limit Input [])
 
 -- the exports, with the bytes that they have after all passes
 pub record MeansFrame (frame : Frame) (answer : Answer) : Type 0 where
@@ -54,24 +55,24 @@ pub record MeansFrame (frame : Frame) (answer : Answer) : Type 0 where
   pub whole : answer ≡ done (exports_text frame bytes)
 
 -- what becomes of each pass
-pub record CullsFrame (json : Bool) (frame : Frame) (answer : Answer) : Type 0 where
+pub record CullsFrame (form : Form) (frame : Frame) (answer : Answer) : Type 0 where
   pub kept : List Bool
   pub are_kept : AreKept (numbered frame) kept
-  pub whole : answer ≡ done (cull_told json frame kept)
+  pub whole : answer ≡ done (cull_told form frame kept)
 
 -- where the transient units lie: each at its least place, where units that are ordered may share memory
-pub record PlacesFrame (json : Bool) (frame : Frame) (answer : Answer) : Type 0 where
+pub record PlacesFrame (form : Form) (frame : Frame) (answer : Answer) : Type 0 where
   pub kept : List Bool
   pub are_kept : AreKept (numbered frame) kept
   pub ordered : ℕ → ℕ → Bool
   pub is_ordered : IsOrdered (grouping (numbered frame) kept) ordered
   pub places : Places
   pub least : IsLeast (sizes (grouping (numbered frame) kept)) ordered places
-  pub whole : answer ≡ done (place_told json frame (grouping (numbered frame) kept) places)
+  pub whole : answer ≡ done (place_told form frame (grouping (numbered frame) kept) places)
 
 -- how many bytes no legal placement of the transient units is smaller than, with units that show it, beside the heap of their
 -- least places
-pub record BoundsFrame (json : Bool) (frame : Frame) (answer : Answer) : Type 0 where
+pub record BoundsFrame (form : Form) (frame : Frame) (answer : Answer) : Type 0 where
   pub kept : List Bool
   pub are_kept : AreKept (numbered frame) kept
   pub ordered : ℕ → ℕ → Bool
@@ -82,7 +83,7 @@ pub record BoundsFrame (json : Bool) (frame : Frame) (answer : Answer) : Type 0 
   pub is_bound : IsBound (sizes (grouping (numbered frame) kept)) ordered bound
   pub shown : IsShown (sizes (grouping (numbered frame) kept)) ordered bound
   pub holds : Holds (sizes (grouping (numbered frame) kept)) ordered bound.least
-  pub whole : answer ≡ done (bound_told json frame (grouping (numbered frame) kept) bound.least places.heap bound.chosen)
+  pub whole : answer ≡ done (bound_told form frame (grouping (numbered frame) kept) bound.least places.heap bound.chosen)
 
 -- the canonical text of the compiled program and a line feed, from which that program is read again: it is sound, so `check`
 -- accepts the text, where it is within the limit
@@ -110,7 +111,7 @@ pub record ChoosesQueues (frame : Frame) (answer : Answer) : Type 0 where
   pub again : frame_file answer.text ≡ Ok chosen
 
 -- what the frame costs as given and as chosen
-pub record CostsFrame (json : Bool) (frame : Frame) (answer : Answer) : Type 0 where
+pub record CostsFrame (form : Form) (frame : Frame) (answer : Answer) : Type 0 where
   pub chosen : Frame
   pub choice : IsChoice frame chosen
   pub given : ℕ
@@ -118,7 +119,7 @@ pub record CostsFrame (json : Bool) (frame : Frame) (answer : Answer) : Type 0 w
   pub found : ℕ
   pub is_found : IsFrameCost (numbered chosen) found
   pub less : found ≤ given
-  pub whole : answer ≡ done (cost_told json given found)
+  pub whole : answer ≡ done (cost_told form given found)
 
 -- the canonical text and a line feed, from which the frame is read again
 pub record MigratesFrame (frame : Frame) (answer : Answer) : Type 0 where
@@ -131,30 +132,30 @@ GeneratesFrame number passes answer = MigratesFrame (generated number passes) an
 
 -- what is made of a frame without a fault
 abbrev pub AnswersFrame : FrameCommand → Frame → Answer → Type 0
-AnswersFrame (Cull json) frame answer = CullsFrame json frame answer
-AnswersFrame (Place json) frame answer = PlacesFrame json frame answer
-AnswersFrame (Bound json) frame answer = BoundsFrame json frame answer
+AnswersFrame (Cull form) frame answer = CullsFrame form frame answer
+AnswersFrame (Place form) frame answer = PlacesFrame form frame answer
+AnswersFrame (Bound form) frame answer = BoundsFrame form frame answer
 AnswersFrame (Compile tight) frame answer = CompilesFrame tight frame answer
 AnswersFrame Auto frame answer = ChoosesQueues frame answer
-AnswersFrame (Cost json) frame answer = CostsFrame json frame answer
+AnswersFrame (Cost form) frame answer = CostsFrame form frame answer
 AnswersFrame Meaning frame answer = MeansFrame frame answer
 AnswersFrame Migrate frame answer = MigratesFrame frame answer
 
 abbrev pub AnswersFrameFile : FrameCommand → Result Frame FrameFault → Answer → Type 0
 AnswersFrameFile asked (Ok frame) answer = AnswersFrame asked frame answer
-AnswersFrameFile asked (Err fault) answer = answer ≡ refusal (frame_json asked) fault
+AnswersFrameFile asked (Err fault) answer = answer ≡ refusal (frame_form asked) fault
 
-pub record Accepts (json : Bool) (program : Program) (answer : Answer) : Type 0 where
+pub record Accepts (form : Form) (program : Program) (answer : Answer) : Type 0 where
   pub sound : IsSound program
-  pub whole : answer ≡ done (check_told json (length (entries_of program)))
+  pub whole : answer ≡ done (check_told form (length (entries_of program)))
 
 -- what is made of a program without a fault
 abbrev pub AnswersProgram : SubmissionCommand → Program → Answer → Type 0
-AnswersProgram (Check json) program answer = Accepts json program answer ⊎ Rejects json program answer
+AnswersProgram (Check form) program answer = Accepts form program answer ⊎ Rejects form program answer
 
 abbrev pub AnswersProgramFile : SubmissionCommand → Result Program ProgramFault → Answer → Type 0
 AnswersProgramFile asked (Ok program) answer = AnswersProgram asked program answer
-AnswersProgramFile asked (Err fault) answer = answer ≡ program_refusal (submission_json asked) fault
+AnswersProgramFile asked (Err fault) answer = answer ≡ program_refusal (submission_form asked) fault
 
 -- what is made of bytes within the limit; what is generated does not depend on them, and a command that needs a device is answered elsewhere
 abbrev pub AnswersBytes : Command → List ℕ → Answer → Type 0
@@ -169,4 +170,4 @@ AnswersBytes reads.Audit bytes answer = ⊥
 
 -- more bytes than the limit are refused before anything else
 abbrev pub Answers : Command → List ℕ → Answer → Type 0
-Answers command bytes answer = ByLimit command bytes (λ file. answer ≡ over_input (asks_json command) file) (AnswersBytes command bytes answer)
+Answers command bytes answer = ByLimit command bytes (λ file. answer ≡ over_input (form_of command) file) (AnswersBytes command bytes answer)

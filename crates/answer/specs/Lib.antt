@@ -1,7 +1,7 @@
-pub mod Answers
-pub mod AsJson
-pub mod AtRest
 pub mod Internal
+pub mod Answers
+pub mod AtRest
+pub mod Forms
 pub mod Inputs
 pub mod Plain
 pub mod Statuses

@@ -5,6 +5,7 @@ ghost use Rattle.answer.specs.Plain.{done, refusal, program_refusal};
 
 use crate::AnswerStatus;
 use base::{NoMemory, Text};
+use cli::Form;
 use frame::FrameFault;
 use program::ProgramFault;
 use report_json::{frame_fault_told, program_fault_told};
@@ -30,21 +31,21 @@ pub fn done(text: Text) -> Answer
 }
 
 /// The answer to a frame file with a fault, as JSON where that is asked for.
-pub fn refusal(alloc: Global, json: bool, fault: &FrameFault) -> Result<Answer, NoMemory>
-    ensures { IfOk result (λ answer. answer ≡ refusal json fault.now) }
+pub fn refusal(alloc: Global, form: Form, fault: &FrameFault) -> Result<Answer, NoMemory>
+    ensures { IfOk result (λ answer. answer ≡ refusal form fault.now) }
 {
     Ok(Answer {
         status: AnswerStatus::Refused,
-        text: frame_fault_told(alloc, json, fault)?,
+        text: frame_fault_told(alloc, form, fault)?,
     })
 }
 
 /// The answer to a submission with a fault, as JSON where that is asked for.
-pub fn program_refusal(alloc: Global, json: bool, fault: &ProgramFault) -> Result<Answer, NoMemory>
-    ensures { IfOk result (λ answer. answer ≡ program_refusal json fault.now) }
+pub fn program_refusal(alloc: Global, form: Form, fault: &ProgramFault) -> Result<Answer, NoMemory>
+    ensures { IfOk result (λ answer. answer ≡ program_refusal form fault.now) }
 {
     Ok(Answer {
         status: AnswerStatus::Refused,
-        text: program_fault_told(alloc, json, fault)?,
+        text: program_fault_told(alloc, form, fault)?,
     })
 }

@@ -7,6 +7,7 @@ ghost use Rattle.report_json.specs.Told.{cost_told};
 use crate::answer::{Answer, done};
 use base::{NoMemory, Text};
 use base_text::Lines;
+use cli::Form;
 use compile_queues::{Choice, choose};
 use file_frame::write_frame;
 use frame::ValidFrame;
@@ -24,16 +25,16 @@ pub fn auto_frame(alloc: Global, good: &ValidFrame) -> Result<Answer, NoMemory>
 }
 
 // What the frame costs as given and as chosen.
-fn cost_line(alloc: Global, json: bool, choice: &Choice) -> Result<Text, NoMemory>
-    ensures { IfOk result (λ text. text ≡ cost_told json choice.now.given choice.now.found) }
+fn cost_line(alloc: Global, form: Form, choice: &Choice) -> Result<Text, NoMemory>
+    ensures { IfOk result (λ text. text ≡ cost_told form choice.now.given choice.now.found) }
 {
-    cost_told(alloc, json, choice.given, choice.found)
+    cost_told(alloc, form, choice.given, choice.found)
 }
 
 /// The answer to the command with `--cost`.
-pub fn cost_frame(alloc: Global, json: bool, good: &ValidFrame) -> Result<Answer, NoMemory>
-    ensures frame { IfOk result (CostsFrame json good.now) }
+pub fn cost_frame(alloc: Global, form: Form, good: &ValidFrame) -> Result<Answer, NoMemory>
+    ensures frame { IfOk result (CostsFrame form good.now) }
 {
     let choice = choose(alloc, good)?;
-    Ok(done(cost_line(alloc, json, &choice)?))
+    Ok(done(cost_line(alloc, form, &choice)?))
 }

@@ -10,6 +10,7 @@ ghost use Rattle.answer.specs.Internal.Stages.{AreBoundLines, AreGrouped, IsHeap
 use crate::answer::{Answer, done};
 use crate::groups::kept_groups;
 use base::{NoMemory, Text};
+use cli::Form;
 use compile_bound::bound_of;
 use compile_groups::Groups;
 use compile_heap::{Pairs, place};
@@ -30,7 +31,7 @@ fn heap_of(alloc: Global, groups: &Groups, ordered: &Pairs) -> Result<u32, NoMem
 #[tactic(auto, using(crate::proofs::BoundLemmas::chosen_placed, crate::proofs::PlaceLemmas::known_units))]
 fn bound_lines(
     alloc: Global,
-    json: bool,
+    form: Form,
     good: &ValidFrame,
     groups: &Groups,
     ordered: &Pairs,
@@ -38,31 +39,31 @@ fn bound_lines(
 ) -> Result<Text, NoMemory>
     requires groups { AreGrouped (numbered good.now) groups.now }
     requires count { ordered.now.count ≡ length (sizes groups.now) }
-    ensures { IfOk result (AreBoundLines json good.now groups.now (has ordered.now) heap) }
+    ensures { IfOk result (AreBoundLines form good.now groups.now (has ordered.now) heap) }
 {
     let bound = bound_of(alloc, groups.sizes(), ordered)?;
-    bound_told(alloc, json, good, groups, bound.least, heap, &bound.chosen)
+    bound_told(alloc, form, good, groups, bound.least, heap, &bound.chosen)
 }
 
 #[tactic(auto, using(report::proofs::Places::as_many))]
 fn bound_answer(
     alloc: Global,
-    json: bool,
+    form: Form,
     good: &ValidFrame,
     groups: &Groups,
 ) -> Result<Answer, NoMemory>
     requires { AreGrouped (numbered good.now) groups.now }
-    ensures frame { IfOk result (BoundsFrame json good.now) }
+    ensures frame { IfOk result (BoundsFrame form good.now) }
 {
     let ordered = ordered(alloc, groups)?;
     let heap = heap_of(alloc, groups, &ordered)?;
-    Ok(done(bound_lines(alloc, json, good, groups, &ordered, heap)?))
+    Ok(done(bound_lines(alloc, form, good, groups, &ordered, heap)?))
 }
 
 /// The answer to the command on a valid frame.
-pub fn bound_frame(alloc: Global, json: bool, good: &ValidFrame) -> Result<Answer, NoMemory>
-    ensures frame { IfOk result (BoundsFrame json good.now) }
+pub fn bound_frame(alloc: Global, form: Form, good: &ValidFrame) -> Result<Answer, NoMemory>
+    ensures frame { IfOk result (BoundsFrame form good.now) }
 {
     let groups = kept_groups(alloc, good)?;
-    bound_answer(alloc, json, good, &groups)
+    bound_answer(alloc, form, good, &groups)
 }

@@ -6,8 +6,8 @@ ghost use Rattle.answer.specs.AtRest.{needs_device};
 ghost use Rattle.cli.specs.Commands.{IsBounded};
 
 use crate::answer::Answer;
-use crate::as_json::asks_json;
 use crate::files::{file_of, limit_of, over_input};
+use crate::form::form_of;
 use crate::frames::answer_frame_file;
 use crate::generating::generate_frame;
 use crate::programs::answer_program_file;
@@ -43,7 +43,7 @@ pub fn answer_to(alloc: Global, command: &Command, bytes: &[u8]) -> Result<Answe
     match file_of(command) {
         Some(file) => {
             if bytes.len() > limit_of(file) {
-                over_input(alloc, asks_json(command), file)
+                over_input(alloc, form_of(command), file)
             } else {
                 answer_bytes(alloc, command, bytes)
             }

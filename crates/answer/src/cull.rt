@@ -7,6 +7,7 @@ ghost use Rattle.frame_cull.specs.Culled.{AreKept};
 
 use crate::answer::{Answer, done};
 use base::NoMemory;
+use cli::Form;
 use frame::ValidFrame;
 use frame_cull::{Kept, cull, versions_of};
 use report_json::cull_told;
@@ -22,10 +23,10 @@ pub fn kept_of(alloc: Global, good: &ValidFrame) -> Result<Kept, NoMemory>
 
 /// The answer to the command on a valid frame.
 #[tactic(auto, using(crate::proofs::KeptLemmas::one_each))]
-pub fn cull_frame(alloc: Global, json: bool, good: &ValidFrame) -> Result<Answer, NoMemory>
-    ensures frame { IfOk result (CullsFrame json good.now) }
+pub fn cull_frame(alloc: Global, form: Form, good: &ValidFrame) -> Result<Answer, NoMemory>
+    ensures frame { IfOk result (CullsFrame form good.now) }
 {
     let kept = kept_of(alloc, good)?;
-    let text = cull_told(alloc, json, good, &kept)?;
+    let text = cull_told(alloc, form, good, &kept)?;
     Ok(done(text))
 }

@@ -6,7 +6,7 @@ ghost use Rattle.answer.specs.Inputs.{file_of, limit_of};
 
 use crate::answer::{Answer, program_refusal, refusal};
 use base::{Limit, List, NoMemory};
-use cli::Command;
+use cli::{Command, Form};
 use frame::FrameFault;
 use program::ProgramFault;
 use std::alloc::Global;
@@ -43,14 +43,14 @@ pub fn limit_of(file: File) -> usize
 }
 
 /// The answer to more bytes than the limit, as JSON where that is asked for.
-pub fn over_input(alloc: Global, json: bool, file: File) -> Result<Answer, NoMemory>
-    ensures over { IfOk result (λ answer. answer ≡ over_input json file) }
+pub fn over_input(alloc: Global, form: Form, file: File) -> Result<Answer, NoMemory>
+    ensures over { IfOk result (λ answer. answer ≡ over_input form file) }
 {
     let place = List::new(alloc);
     match file {
-        File::Frame => refusal(alloc, json, &FrameFault::over_limit(Limit::Input, place)),
+        File::Frame => refusal(alloc, form, &FrameFault::over_limit(Limit::Input, place)),
         File::Submission => {
-            program_refusal(alloc, json, &ProgramFault::over_limit(Limit::Input, place))
+            program_refusal(alloc, form, &ProgramFault::over_limit(Limit::Input, place))
         }
     }
 }

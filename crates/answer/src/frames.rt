@@ -5,11 +5,11 @@ ghost use Rattle.answer.specs.Answers.{AnswersFrame, AnswersFrameFile};
 ghost use Rattle.compile_file.specs.Files.{frame_file};
 
 use crate::answer::{Answer, refusal};
-use crate::as_json::frame_json;
 use crate::auto::{auto_frame, cost_frame};
 use crate::bound::bound_frame;
 use crate::compiling::compile_frame;
 use crate::cull::cull_frame;
+use crate::form::frame_form;
 use crate::meaning::mean_frame;
 use crate::migrate::migrate_frame;
 use crate::place::place_frame;
@@ -30,7 +30,7 @@ pub fn answer_frame_file(
 {
     match valid_frame(alloc, bytes) {
         Ok(good) => answer_frame(alloc, asked, &good),
-        Err(FrameReadError::Refused(fault)) => refusal(alloc, frame_json(asked), &fault),
+        Err(FrameReadError::Refused(fault)) => refusal(alloc, frame_form(asked), &fault),
         Err(FrameReadError::NoMemory) => Err(NoMemory),
     }
 }
@@ -39,12 +39,12 @@ fn answer_frame(alloc: Global, asked: FrameCommand, good: &ValidFrame) -> Result
     ensures frame { IfOk result (AnswersFrame asked good.now) }
 {
     match asked {
-        FrameCommand::Cull { json } => cull_frame(alloc, json, good),
-        FrameCommand::Place { json } => place_frame(alloc, json, good),
-        FrameCommand::Bound { json } => bound_frame(alloc, json, good),
+        FrameCommand::Cull { form } => cull_frame(alloc, form, good),
+        FrameCommand::Place { form } => place_frame(alloc, form, good),
+        FrameCommand::Bound { form } => bound_frame(alloc, form, good),
         FrameCommand::Compile { tight } => compile_frame(alloc, good, tight),
         FrameCommand::Auto => auto_frame(alloc, good),
-        FrameCommand::Cost { json } => cost_frame(alloc, json, good),
+        FrameCommand::Cost { form } => cost_frame(alloc, form, good),
         FrameCommand::Meaning => mean_frame(alloc, good),
         FrameCommand::Migrate => migrate_frame(alloc, good),
     }

@@ -2,13 +2,13 @@
 #![tactic(auto)]
 
 mod answer;
-mod as_json;
 mod auto;
 mod bound;
 mod bytes;
 mod compiling;
 mod cull;
 mod files;
+mod form;
 mod frames;
 mod generating;
 mod groups;
@@ -19,8 +19,8 @@ mod programs;
 mod status;
 
 pub use answer::{Answer, done, program_refusal, refusal};
-pub use as_json::asks_json;
 pub use bytes::{answer_bytes, answer_to};
 pub use files::{File, file_of, limit_of, over_input};
+pub use form::form_of;
 pub use programs::checked;
 pub use status::{AnswerStatus, Status};

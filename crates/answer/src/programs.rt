@@ -8,10 +8,10 @@ ghost use Rattle.answer.specs.Plain.{Rejects, rejection};
 
 use crate::AnswerStatus;
 use crate::answer::{Answer, done, program_refusal};
-use crate::as_json::submission_json;
+use crate::form::submission_form;
 use base::NoMemory;
 use check_program::{CheckError, Checked, Hazard, check};
-use cli::SubmissionCommand;
+use cli::{Form, SubmissionCommand};
 use compile_file::valid_program;
 use file_program::ProgramReadError;
 use program::ValidProgram;
@@ -30,7 +30,7 @@ pub fn answer_program_file(
         Ok(program) => answer_program(alloc, asked, program),
         Err(ProgramReadError::Refused(fault)) => program_refusal(
             alloc,
-            submission_json(asked),
+            submission_form(asked),
             &fault,
         ),
         Err(ProgramReadError::NoMemory) => Err(NoMemory),
@@ -45,17 +45,17 @@ fn answer_program(
     ensures program { IfOk result (AnswersProgram asked program) }
 {
     match asked {
-        SubmissionCommand::Check { json } => check_program(alloc, json, program),
+        SubmissionCommand::Check { form } => check_program(alloc, form, program),
     }
 }
 
 // Sound or not.
-fn check_program(alloc: Global, json: bool, program: ValidProgram) -> Result<Answer, NoMemory>
-    ensures checked { IfOk result (λ answer. Accepts json program answer ⊎ Rejects json program answer) }
+fn check_program(alloc: Global, form: Form, program: ValidProgram) -> Result<Answer, NoMemory>
+    ensures checked { IfOk result (λ answer. Accepts form program answer ⊎ Rejects form program answer) }
 {
     let nodes = program.node_count();
-    match checked(alloc, json, program) {
-        Ok(_) => Ok(done(check_told(alloc, json, nodes)?)),
+    match checked(alloc, form, program) {
+        Ok(_) => Ok(done(check_told(alloc, form, nodes)?)),
         Err(answer) => answer,
     }
 }
@@ -63,25 +63,25 @@ fn check_program(alloc: Global, json: bool, program: ValidProgram) -> Result<Ans
 /// The program, where it is sound, or else the answer to it, as JSON where that is asked for.
 pub fn checked(
     alloc: Global,
-    json: bool,
+    form: Form,
     program: ValidProgram,
 ) -> Result<Checked, Result<Answer, NoMemory>>
     ensures ok { IfOk result (λ checked. (checked.program ≡ program) × IsSound program) }
-    ensures err { IfErr result (λ end. IfOk end (Rejects json program)) }
+    ensures err { IfErr result (λ end. IfOk end (Rejects form program)) }
 {
     match check(alloc, program) {
         Ok(checked) => Ok(checked),
-        Err(CheckError::Refused(hazard, _)) => Err(rejection(alloc, json, &hazard)),
+        Err(CheckError::Refused(hazard, _)) => Err(rejection(alloc, form, &hazard)),
         Err(CheckError::NoMemory) => Err(Err(NoMemory)),
     }
 }
 
 // The answer to a program that is not sound.
-fn rejection(alloc: Global, json: bool, hazard: &Hazard) -> Result<Answer, NoMemory>
-    ensures { IfOk result (λ answer. answer ≡ rejection json hazard.now) }
+fn rejection(alloc: Global, form: Form, hazard: &Hazard) -> Result<Answer, NoMemory>
+    ensures { IfOk result (λ answer. answer ≡ rejection form hazard.now) }
 {
     Ok(Answer {
         status: AnswerStatus::Rejected,
-        text: hazard_told(alloc, json, hazard)?,
+        text: hazard_told(alloc, form, hazard)?,
     })
 }

@@ -7,6 +7,7 @@ use Rattle.std.proofs.lemmas.Bool.{and_parts, false≢true, leb-true}
 use Rattle.clap.specs.Words.{Kinds, Row, Text, fault_of, first_of, matches_of}
 use Rattle.frame.specs.Repeats.{first_repeat}
 use Rattle.cli.specs.CommandWords.{word_of}
+use Rattle.cli.specs.Forms.{form_of}
 use Rattle.cli.specs.Commands.{HasDepth, HasNames, HasPasses, HasWorkers, IsBounded, command_in, command_of_word, command_with, choosing, flying, generating, unless_more, without_json, without_options}
 use Rattle.cli.specs.Files.{files_in, line_in, takes_files, with_files}
 use Rattle.cli.specs.LineOptions.{line_options_in, is_none, number_in, word_in}
@@ -89,8 +90,8 @@ unless rest command is = by (is_none rest)
 chosen : (given : LineOptions) → IfSome (choosing given) IsBounded
 chosen given = by given.cost
   where
-    by : (cost : Bool) → IfSome (if cost then unless_more (record (without_json given) { cost = false }) (commands.Frame (frames.Cost given.json)) else unless_more given (commands.Frame frames.Auto)) IsBounded
-    by true = unless (record (without_json given) { cost = false }) (commands.Frame (frames.Cost given.json)) tt
+    by : (cost : Bool) → IfSome (if cost then unless_more (record (without_json given) { cost = false }) (commands.Frame (frames.Cost (form_of given.json))) else unless_more given (commands.Frame frames.Auto)) IsBounded
+    by true = unless (record (without_json given) { cost = false }) (commands.Frame (frames.Cost (form_of given.json))) tt
     by false = unless given (commands.Frame frames.Auto) tt
 
 generated : (given : LineOptions) (number : ℕ) → AreWithin given → IfSome (generating given number) IsBounded
@@ -135,14 +136,14 @@ flying_is given persist is names =
     next HasNames IsBounded persist _ names (λ found are. unless (record (without_options given) { depth = None; persist = false }) (commands.Flight (options_in given) found (unwrap_or given.depth 2)) (has_workers given is, are, has_depth given is))
 
 word_is : (word : Word) (given : LineOptions) (persist : Option (List (List ℕ))) → AreWithin given → IfSome persist HasNames → IfSome (command_of_word word given persist) IsBounded
-word_is Cull given persist is are = unless (without_json given) (commands.Frame (frames.Cull given.json)) tt
-word_is Place given persist is are = unless (without_json given) (commands.Frame (frames.Place given.json)) tt
-word_is Bound given persist is are = unless (without_json given) (commands.Frame (frames.Bound given.json)) tt
+word_is Cull given persist is are = unless (without_json given) (commands.Frame (frames.Cull (form_of given.json))) tt
+word_is Place given persist is are = unless (without_json given) (commands.Frame (frames.Place (form_of given.json))) tt
+word_is Bound given persist is are = unless (without_json given) (commands.Frame (frames.Bound (form_of given.json))) tt
 word_is Compile given persist is are = unless (record given { tight = false }) (commands.Frame (frames.Compile given.tight)) tt
 word_is Auto given persist is are = chosen given
 word_is Meaning given persist is are = unless given (commands.Frame frames.Meaning) tt
 word_is Migrate given persist is are = unless given (commands.Frame frames.Migrate) tt
-word_is Check given persist is are = unless (without_json given) (commands.Submission (submissions.Check given.json)) tt
+word_is Check given persist is are = unless (without_json given) (commands.Submission (submissions.Check (form_of given.json))) tt
 word_is Gen given persist is are = next_any IsBounded given.number (generating given) (λ number. generated given number is)
 word_is Run given persist is are = unless (record (without_options given) { trace = false; tight = false }) (commands.Run (options_in given) given.trace given.tight) (has_workers given is)
 word_is Exec given persist is are = unless (record (without_options given) { trace = false }) (commands.Exec (options_in given) given.trace) (has_workers given is)

@@ -3,6 +3,7 @@ use Rattle.std.specs.Prelude.{◌≡◌, ℕ, ◌≤◌, List, length, false, Op
 use Rattle.clap.specs.Words.{Row, first_of}
 use Rattle.frame.specs.Repeats.{first_repeat}
 use Rattle.cli.specs.CommandWords.{word_of}
+use Rattle.cli.specs.Forms.{form_of}
 use Rattle.cli.specs.LineOptions.{line_options_in, is_none, word_in}
 use Rattle.cli.specs.Options.{options_in}
 use Rattle.cli.specs.Persist.{persist_in}
@@ -28,7 +29,7 @@ without_json given = record given { json = false }
 
 -- a frame with other queues, or what that saves
 abbrev pub choosing : LineOptions → Option Command
-choosing given = if given.cost then unless_more (record (without_json given) { cost = false }) (commands.Frame (frames.Cost given.json)) else unless_more given (commands.Frame frames.Auto)
+choosing given = if given.cost then unless_more (record (without_json given) { cost = false }) (commands.Frame (frames.Cost (form_of given.json))) else unless_more given (commands.Frame frames.Auto)
 
 -- the frame of a number, or its summary; 64 passes where none are asked for
 abbrev pub generating : LineOptions → ℕ → Option Command
@@ -44,14 +45,14 @@ flying given persist =
     option_and_then (λ names. unless_more rest (commands.Flight (options_in given) names (unwrap_or given.depth 2))) persist
 
 abbrev pub command_of_word : Word → LineOptions → Option (List (List ℕ)) → Option Command
-command_of_word Cull given persist = unless_more (without_json given) (commands.Frame (frames.Cull given.json))
-command_of_word Place given persist = unless_more (without_json given) (commands.Frame (frames.Place given.json))
-command_of_word Bound given persist = unless_more (without_json given) (commands.Frame (frames.Bound given.json))
+command_of_word Cull given persist = unless_more (without_json given) (commands.Frame (frames.Cull (form_of given.json)))
+command_of_word Place given persist = unless_more (without_json given) (commands.Frame (frames.Place (form_of given.json)))
+command_of_word Bound given persist = unless_more (without_json given) (commands.Frame (frames.Bound (form_of given.json)))
 command_of_word Compile given persist = unless_more (record given { tight = false }) (commands.Frame (frames.Compile given.tight))
 command_of_word Auto given persist = choosing given
 command_of_word Meaning given persist = unless_more given (commands.Frame frames.Meaning)
 command_of_word Migrate given persist = unless_more given (commands.Frame frames.Migrate)
-command_of_word Check given persist = unless_more (without_json given) (commands.Submission (submissions.Check given.json))
+command_of_word Check given persist = unless_more (without_json given) (commands.Submission (submissions.Check (form_of given.json)))
 command_of_word Gen given persist = option_and_then (generating given) given.number
 command_of_word Run given persist = unless_more (record (without_options given) { trace = false; tight = false }) (commands.Run (options_in given) given.trace given.tight)
 command_of_word Exec given persist = unless_more (record (without_options given) { trace = false }) (commands.Exec (options_in given) given.trace)

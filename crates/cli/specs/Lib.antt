@@ -1,6 +1,7 @@
 pub mod CommandWords
 pub mod Commands
 pub mod Files
+pub mod Forms
 pub mod LineOptions
 pub mod Lines
 pub mod Numbers

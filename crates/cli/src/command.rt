@@ -1,5 +1,6 @@
 //! The commands.
 
+use crate::form::Form;
 use base::{List, Name, RunOptions};
 
 /// A command that the program has, by what it reads and what it needs.
@@ -51,18 +52,15 @@ pub enum Command {
 pub enum FrameCommand {
     /// Prints which of its passes are culled.
     Cull {
-        /// As a JSON object.
-        json: bool,
+        form: Form,
     },
     /// Prints where its transient resources lie in shared memory.
     Place {
-        /// As a JSON object.
-        json: bool,
+        form: Form,
     },
     /// Prints how many bytes the memory that its transient resources share has at least, and what shows it.
     Bound {
-        /// As a JSON object.
-        json: bool,
+        form: Form,
     },
     /// Prints the submissions that it needs.
     Compile {
@@ -73,8 +71,7 @@ pub enum FrameCommand {
     Auto,
     /// Prints what its longest chain of work costs as given, and as `Auto` chooses.
     Cost {
-        /// As a JSON object.
-        json: bool,
+        form: Form,
     },
     /// Prints its exports from its sequential meaning.
     Meaning,
@@ -86,8 +83,5 @@ pub enum FrameCommand {
 #[derive(Clone, Copy, Debug, PartialEq, Eq)]
 pub enum SubmissionCommand {
     /// Prints whether it is sound, or its first hazard.
-    Check {
-        /// As a JSON object.
-        json: bool,
-    },
+    Check { form: Form },
 }

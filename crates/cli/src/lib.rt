@@ -4,6 +4,7 @@
 mod command;
 mod file_name;
 mod files;
+mod form;
 mod line;
 mod line_options;
 mod matching;
@@ -15,4 +16,5 @@ mod word;
 
 pub use command::{Command, FrameCommand, SubmissionCommand};
 pub use file_name::FileName;
+pub use form::Form;
 pub use line::{Line, line_of};

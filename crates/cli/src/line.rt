@@ -10,6 +10,7 @@ ghost use Rattle.cli.specs.Persist.{persist_in};
 ghost use Rattle.cli.specs.declared.command.Command.TheVariants as commands;
 
 use crate::files::{files_in, takes_files};
+use crate::form::form_of;
 use crate::line_options::{LineOptions, line_options_in, text_in, word_in};
 use crate::matching::{COMMAND, Unmatched, matches};
 use crate::option_name::OptionName;
@@ -145,7 +146,12 @@ fn choosing(given: LineOptions) -> Option<Command>
             cost: false,
             ..without_json(given)
         };
-        of_frame(rest, FrameCommand::Cost { json: given.json })
+        of_frame(
+            rest,
+            FrameCommand::Cost {
+                form: form_of(given.json),
+            },
+        )
     } else {
         of_frame(given, FrameCommand::Auto)
     }
@@ -208,18 +214,18 @@ fn command_of_word(word: Word, given: LineOptions, persist: Option<List<Name>>) 
     let options = run_options(given);
     let trace = given.trace;
     let tight = given.tight;
-    let json = given.json;
+    let form = form_of(given.json);
     match word {
-        Word::Cull => of_frame(without_json(given), FrameCommand::Cull { json }),
-        Word::Place => of_frame(without_json(given), FrameCommand::Place { json }),
-        Word::Bound => of_frame(without_json(given), FrameCommand::Bound { json }),
+        Word::Cull => of_frame(without_json(given), FrameCommand::Cull { form }),
+        Word::Place => of_frame(without_json(given), FrameCommand::Place { form }),
+        Word::Bound => of_frame(without_json(given), FrameCommand::Bound { form }),
         Word::Compile => of_frame(without_tight(given), FrameCommand::Compile { tight }),
         Word::Auto => choosing(given),
         Word::Meaning => of_frame(given, FrameCommand::Meaning),
         Word::Migrate => of_frame(given, FrameCommand::Migrate),
         Word::Check => unless_more(
             without_json(given),
-            Command::Submission(SubmissionCommand::Check { json }),
+            Command::Submission(SubmissionCommand::Check { form }),
         ),
         Word::Gen => generating(given, given.number?),
         Word::Run => unless_more(

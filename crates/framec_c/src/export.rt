@@ -3,7 +3,7 @@
 ghost use Rattle.std.specs.Prelude.{◌≡◌};
 ghost use Rattle.framec_c.specs.Exports.{command_of};
 
-use cli::{Command, FrameCommand, SubmissionCommand};
+use cli::{Command, Form, FrameCommand, SubmissionCommand};
 
 /// A command that C can call.
 #[derive(Clone, Copy, Debug, PartialEq, Eq)]
@@ -23,10 +23,10 @@ pub fn command_of(export: Export) -> Command
     ensures { result ≡ command_of export }
 {
     match export {
-        Export::Check => Command::Submission(SubmissionCommand::Check { json: false }),
-        Export::Cull => Command::Frame(FrameCommand::Cull { json: false }),
-        Export::Place => Command::Frame(FrameCommand::Place { json: false }),
-        Export::Bound => Command::Frame(FrameCommand::Bound { json: false }),
+        Export::Check => Command::Submission(SubmissionCommand::Check { form: Form::Line }),
+        Export::Cull => Command::Frame(FrameCommand::Cull { form: Form::Line }),
+        Export::Place => Command::Frame(FrameCommand::Place { form: Form::Line }),
+        Export::Bound => Command::Frame(FrameCommand::Bound { form: Form::Line }),
         Export::Compile => Command::Frame(FrameCommand::Compile { tight: false }),
         Export::Auto => Command::Frame(FrameCommand::Auto),
         Export::Meaning => Command::Frame(FrameCommand::Meaning),

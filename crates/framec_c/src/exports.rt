@@ -5,6 +5,7 @@ ghost use Rattle.std.specs.Prelude.{false};
 ghost use Rattle.cli.specs.declared.command.Command.{Command};
 ghost use Rattle.cli.specs.declared.command.FrameCommand.{FrameCommand};
 ghost use Rattle.cli.specs.declared.command.SubmissionCommand.{SubmissionCommand};
+ghost use Rattle.cli.specs.declared.form.Form.{Form};
 ghost use Rattle.framec_c.specs.Calls.{Gives};
 
 use crate::call::call;
@@ -19,7 +20,7 @@ pub extern "C" fn framec_check(
     output: &mut [u8],
     wanted: &mut u64,
 ) -> i32
-    ensures gives { Gives (Command.Submission (SubmissionCommand.Check false)) input.now output.old output.new wanted.new result }
+    ensures gives { Gives (Command.Submission (SubmissionCommand.Check Form.Line)) input.now output.old output.new wanted.new result }
 {
     call(alloc, Export::Check, input, output, wanted)
 }
@@ -32,7 +33,7 @@ pub extern "C" fn framec_cull(
     output: &mut [u8],
     wanted: &mut u64,
 ) -> i32
-    ensures gives { Gives (Command.Frame (FrameCommand.Cull false)) input.now output.old output.new wanted.new result }
+    ensures gives { Gives (Command.Frame (FrameCommand.Cull Form.Line)) input.now output.old output.new wanted.new result }
 {
     call(alloc, Export::Cull, input, output, wanted)
 }
@@ -45,7 +46,7 @@ pub extern "C" fn framec_place(
     output: &mut [u8],
     wanted: &mut u64,
 ) -> i32
-    ensures gives { Gives (Command.Frame (FrameCommand.Place false)) input.now output.old output.new wanted.new result }
+    ensures gives { Gives (Command.Frame (FrameCommand.Place Form.Line)) input.now output.old output.new wanted.new result }
 {
     call(alloc, Export::Place, input, output, wanted)
 }
@@ -58,7 +59,7 @@ pub extern "C" fn framec_bound(
     output: &mut [u8],
     wanted: &mut u64,
 ) -> i32
-    ensures gives { Gives (Command.Frame (FrameCommand.Bound false)) input.now output.old output.new wanted.new result }
+    ensures gives { Gives (Command.Frame (FrameCommand.Bound Form.Line)) input.now output.old output.new wanted.new result }
 {
     call(alloc, Export::Bound, input, output, wanted)
 }

@@ -1,9 +1,9 @@
 //! What is printed of several files, from what is printed of each.
 #![tactic(auto)]
 
-mod json;
-mod report;
+mod file_report;
+mod object;
 mod text;
 
-pub use report::FileReport;
+pub use file_report::FileReport;
 pub use text::files_text;

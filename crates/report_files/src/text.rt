@@ -5,9 +5,10 @@ ghost use Rattle.std.specs.List.{flat_map};
 ghost use Rattle.report_files.specs.Files.{file_line, files_text};
 
 use crate::FileReport;
-use crate::json::add_object_of_files;
+use crate::object::add_object_of_files;
 use base::{List, NoMemory, Text};
 use base_text::Lines;
+use cli::Form;
 use std::alloc::Global;
 
 // The answer with the name before it. An answer is one line.
@@ -34,14 +35,13 @@ fn add_lines(text: &mut Text, files: &[FileReport]) -> Result<(), NoMemory>
 }
 
 /// What is printed of these files: a line of each that was read, or one JSON object with all.
-pub fn files_text(alloc: Global, json: bool, files: &[FileReport]) -> Result<Text, NoMemory>
-    ensures { IfOk result (λ text. text ≡ files_text json files.now) }
+pub fn files_text(alloc: Global, form: Form, files: &[FileReport]) -> Result<Text, NoMemory>
+    ensures { IfOk result (λ text. text ≡ files_text form files.now) }
 {
     let mut text = List::new(alloc);
-    if json {
-        add_object_of_files(&mut text, files)?;
-    } else {
-        add_lines(&mut text, files)?;
+    match form {
+        Form::Line => add_lines(&mut text, files)?,
+        Form::Json => add_object_of_files(&mut text, files)?,
     }
     Ok(text)
 }

@@ -1,5 +1,5 @@
 -- Faults of files, as JSON.
-use Rattle.std.specs.Prelude.{ℕ, List, [], ◌∷◌, ◌++◌, ◌==◌, ◌||◌, Option, Some, None, codes, if◌then◌else◌}
+use Rattle.std.specs.Prelude.{ℕ, List, [], ◌∷◌, ◌++◌, Option, Some, None, codes}
 use Rattle.std.specs.List.{flat_map}
 use Rattle.base.specs.Limits.{limit_name}
 use Rattle.base.specs.declared.limit.Limit.{Limit}
@@ -8,16 +8,16 @@ use Rattle.base.specs.declared.path.Leg.TheVariants.{Member, Position}
 use Rattle.frame.specs.declared.fault.FrameFault.{FrameFault}
 use Rattle.program.specs.declared.fault.ProgramFault.{ProgramFault}
 use Rattle.report.specs.Paths.{printed}
-use Rattle.report_json.specs.Json.{number, string, member, array, answer}
+use Rattle.report_json.specs.Json.{number, string, escaped, member, array, answer}
 use Rattle.report_json.specs.Verdicts.{verdict}
 
--- a byte of a key as it is printed, behind a backslash where it is a quotation mark or a backslash
-abbrev pub escaped : ℕ → List ℕ
-escaped byte = if byte == 34 || byte == 92 then 92 ∷ byte ∷ [] else printed byte ∷ []
+-- a byte of a key as it is printed
+abbrev pub escaped_key : ℕ → List ℕ
+escaped_key byte = escaped (printed byte)
 
 -- a step of a path: the key of a member, or a position in a list
 abbrev pub leg_json : Leg → List ℕ
-leg_json (Member key) = string (flat_map escaped key)
+leg_json (Member key) = string (flat_map escaped_key key)
 leg_json (Position at) = number at
 
 abbrev pub leg_at : ℕ → Leg → List ℕ

@@ -1,6 +1,7 @@
 -- JSON as it is printed: without spaces, members in the order told, numbers in decimal.
-use Rattle.std.specs.Prelude.{ℕ, suc, Bool, true, false, List, [], ◌∷◌, ◌++◌, ◌==◌, codes, if◌then◌else◌}
+use Rattle.std.specs.Prelude.{ℕ, suc, Bool, true, false, List, [], ◌∷◌, ◌++◌, ◌==◌, ◌||◌, nat_lt, codes, if◌then◌else◌}
 use Rattle.std.specs.Fmt.{decimal}
+use Rattle.hex.specs.Hex.{encode_lower}
 
 abbrev pub number : ℕ → List ℕ
 number n = decimal n
@@ -8,6 +9,10 @@ number n = decimal n
 -- a string whose bytes need no escape
 unfoldable pub string : List ℕ → List ℕ
 string bytes = codes "\"" ++ bytes ++ codes "\""
+
+-- of any bytes: a quotation mark and a backslash stand behind a backslash, and a control character is told by its number
+abbrev pub escaped : ℕ → List ℕ
+escaped byte = if byte == 34 || byte == 92 then 92 ∷ byte ∷ [] else if nat_lt byte 32 then codes "\\u00" ++ encode_lower (byte ∷ []) else byte ∷ []
 
 abbrev pub truth : Bool → List ℕ
 truth true = codes "true"

@@ -3,10 +3,10 @@
 ghost use Rattle.std.specs.Prelude.{◌≡◌, ◌++◌, OnOk};
 ghost use Rattle.std.specs.List.{flat_map};
 ghost use Rattle.report.specs.Paths.{printed};
-ghost use Rattle.report_json.specs.Faults.{escaped, leg_at, leg_json, path_json};
+ghost use Rattle.report_json.specs.Faults.{escaped_key, leg_at, leg_json, path_json};
 ghost use Rattle.report_json.specs.Json.{entries};
 
-use crate::object::add_comma;
+use crate::object::{add_comma, add_escaped};
 use base::{Leg, NoMemory, Text};
 use base_text::Lines;
 
@@ -20,22 +20,12 @@ fn printed(byte: u8) -> u8
     }
 }
 
-fn add_byte(text: &mut Text, byte: u8) -> Result<(), NoMemory>
-    ensures { OnOk result (text.new ≡ text.old ++ escaped byte) }
-{
-    if byte == b'"' || byte == b'\\' {
-        text.push(b'\\')?;
-        return text.push(byte);
-    }
-    text.push(printed(byte))
-}
-
 // A key may have any bytes, and a string is to be ASCII.
 fn add_key(text: &mut Text, key: &[u8]) -> Result<(), NoMemory>
-    ensures { OnOk result (text.new ≡ text.old ++ flat_map escaped key.now) }
+    ensures { OnOk result (text.new ≡ text.old ++ flat_map escaped_key key.now) }
 {
     for byte in key {
-        add_byte(text, *byte)?;
+        add_escaped(text, printed(*byte))?;
     }
     Ok(())
 }

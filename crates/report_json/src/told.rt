@@ -14,6 +14,7 @@ use crate::hazard::{check_json, hazard_json};
 use crate::place::place_json;
 use base::{NoMemory, Text};
 use check_program::Hazard;
+use cli::Form;
 use compile_groups::Groups;
 use compile_heap::Placement;
 use frame::{FrameFault, ValidFrame};
@@ -25,46 +26,44 @@ use report::{
 };
 use std::alloc::Global;
 
-/// What `cull` prints, as JSON where that is asked for.
+/// What `cull` prints, in this form.
 pub fn cull_told(
     alloc: Global,
-    json: bool,
+    form: Form,
     frame: &ValidFrame,
     kept: &Kept,
 ) -> Result<Text, NoMemory>
     requires { length kept.now ≡ length frame.now.passes }
-    ensures { IfOk result (λ text. text ≡ cull_told json frame.now kept.now) }
+    ensures { IfOk result (λ text. text ≡ cull_told form frame.now kept.now) }
 {
-    if json {
-        cull_json(alloc, frame, kept)
-    } else {
-        cull_text(alloc, frame, kept)
+    match form {
+        Form::Line => cull_text(alloc, frame, kept),
+        Form::Json => cull_json(alloc, frame, kept),
     }
 }
 
-/// What `place` prints, as JSON where that is asked for.
+/// What `place` prints, in this form.
 pub fn place_told(
     alloc: Global,
-    json: bool,
+    form: Form,
     frame: &ValidFrame,
     groups: &Groups,
     placement: &Placement,
 ) -> Result<Text, NoMemory>
     requires units { length groups.now.imports ≤ length (numbered frame.now).units }
     requires places { length placement.now.offsets ≡ length (placed groups.now) }
-    ensures { IfOk result (λ text. text ≡ place_told json frame.now groups.now placement.now) }
+    ensures { IfOk result (λ text. text ≡ place_told form frame.now groups.now placement.now) }
 {
-    if json {
-        place_json(alloc, frame, groups, placement)
-    } else {
-        place_text(alloc, frame, groups, placement)
+    match form {
+        Form::Line => place_text(alloc, frame, groups, placement),
+        Form::Json => place_json(alloc, frame, groups, placement),
     }
 }
 
-/// What `bound` prints, as JSON where that is asked for.
+/// What `bound` prints, in this form.
 pub fn bound_told(
     alloc: Global,
-    json: bool,
+    form: Form,
     frame: &ValidFrame,
     groups: &Groups,
     least: u64,
@@ -73,66 +72,60 @@ pub fn bound_told(
 ) -> Result<Text, NoMemory>
     requires units { length groups.now.imports ≤ length (numbered frame.now).units }
     requires chosen { All (λ k. k < length (placed groups.now)) chosen.now }
-    ensures { IfOk result (λ text. text ≡ bound_told json frame.now groups.now least heap chosen.now) }
+    ensures { IfOk result (λ text. text ≡ bound_told form frame.now groups.now least heap chosen.now) }
 {
-    if json {
-        bound_json(alloc, frame, groups, least, heap, chosen)
-    } else {
-        bound_text(alloc, frame, groups, least, heap, chosen)
+    match form {
+        Form::Line => bound_text(alloc, frame, groups, least, heap, chosen),
+        Form::Json => bound_json(alloc, frame, groups, least, heap, chosen),
     }
 }
 
-/// What `auto --cost` prints, as JSON where that is asked for.
-pub fn cost_told(alloc: Global, json: bool, given: u64, found: u64) -> Result<Text, NoMemory>
-    ensures { IfOk result (λ text. text ≡ cost_told json given found) }
+/// What `auto --cost` prints, in this form.
+pub fn cost_told(alloc: Global, form: Form, given: u64, found: u64) -> Result<Text, NoMemory>
+    ensures { IfOk result (λ text. text ≡ cost_told form given found) }
 {
-    if json {
-        cost_json(alloc, given, found)
-    } else {
-        cost_text(alloc, given, found)
+    match form {
+        Form::Line => cost_text(alloc, given, found),
+        Form::Json => cost_json(alloc, given, found),
     }
 }
 
-/// What `check` prints of a program without a hazard, as JSON where that is asked for.
-pub fn check_told(alloc: Global, json: bool, nodes: u32) -> Result<Text, NoMemory>
-    ensures { IfOk result (λ text. text ≡ check_told json nodes) }
+/// What `check` prints of a program without a hazard, in this form.
+pub fn check_told(alloc: Global, form: Form, nodes: u32) -> Result<Text, NoMemory>
+    ensures { IfOk result (λ text. text ≡ check_told form nodes) }
 {
-    if json {
-        check_json(alloc, nodes)
-    } else {
-        check_text(alloc, nodes)
+    match form {
+        Form::Line => check_text(alloc, nodes),
+        Form::Json => check_json(alloc, nodes),
     }
 }
 
-/// What `check` prints of a program with a hazard, as JSON where that is asked for.
-pub fn hazard_told(alloc: Global, json: bool, hazard: &Hazard) -> Result<Text, NoMemory>
-    ensures { IfOk result (λ text. text ≡ hazard_told json hazard.now) }
+/// What `check` prints of a program with a hazard, in this form.
+pub fn hazard_told(alloc: Global, form: Form, hazard: &Hazard) -> Result<Text, NoMemory>
+    ensures { IfOk result (λ text. text ≡ hazard_told form hazard.now) }
 {
-    if json {
-        hazard_json(alloc, hazard)
-    } else {
-        hazard_text(alloc, hazard)
+    match form {
+        Form::Line => hazard_text(alloc, hazard),
+        Form::Json => hazard_json(alloc, hazard),
     }
 }
 
-/// What is printed of a frame file with a fault, as JSON where that is asked for.
-pub fn frame_fault_told(alloc: Global, json: bool, fault: &FrameFault) -> Result<Text, NoMemory>
-    ensures { IfOk result (λ text. text ≡ frame_fault_told json fault.now) }
+/// What is printed of a frame file with a fault, in this form.
+pub fn frame_fault_told(alloc: Global, form: Form, fault: &FrameFault) -> Result<Text, NoMemory>
+    ensures { IfOk result (λ text. text ≡ frame_fault_told form fault.now) }
 {
-    if json {
-        frame_fault_json(alloc, fault)
-    } else {
-        frame_fault_text(alloc, fault)
+    match form {
+        Form::Line => frame_fault_text(alloc, fault),
+        Form::Json => frame_fault_json(alloc, fault),
     }
 }
 
-/// What is printed of a submission file with a fault, as JSON where that is asked for.
-pub fn program_fault_told(alloc: Global, json: bool, fault: &ProgramFault) -> Result<Text, NoMemory>
-    ensures { IfOk result (λ text. text ≡ program_fault_told json fault.now) }
+/// What is printed of a submission file with a fault, in this form.
+pub fn program_fault_told(alloc: Global, form: Form, fault: &ProgramFault) -> Result<Text, NoMemory>
+    ensures { IfOk result (λ text. text ≡ program_fault_told form fault.now) }
 {
-    if json {
-        program_fault_json(alloc, fault)
-    } else {
-        program_fault_text(alloc, fault)
+    match form {
+        Form::Line => program_fault_text(alloc, fault),
+        Form::Json => program_fault_json(alloc, fault),
     }
 }

@@ -4,6 +4,7 @@ use base::{Family, Leg, Limit, List, NoMemory, Text};
 use check_program::Hazard;
 use check_state::{LoadHazard, StateHazard};
 use check_sync::{Flaw, SyncHazard};
+use cli::Form;
 use frame::FrameFault;
 use program::ProgramFault;
 use report_json::{check_told, cost_told, frame_fault_told, hazard_told, program_fault_told};
@@ -99,7 +100,7 @@ const HAZARDS: [(Hazard, &str); 10] = [
 fn hazards(rt: HostRuntime) -> Result<(), Fail> {
     let alloc = rt.alloc();
     for (hazard, object) in &HAZARDS {
-        is_object(&rt, alloc, hazard_told(alloc, true, hazard)?, object)?;
+        is_object(&rt, alloc, hazard_told(alloc, Form::Json, hazard)?, object)?;
     }
     Ok(())
 }
@@ -149,9 +150,14 @@ fn faults(rt: HostRuntime) -> Result<(), Fail> {
     let alloc = rt.alloc();
     for (number, limit, key, object) in &FAULTS {
         let fault = fault(alloc, *number, *limit, key)?;
-        is_object(&rt, alloc, frame_fault_told(alloc, true, &fault)?, object)?;
+        is_object(
+            &rt,
+            alloc,
+            frame_fault_told(alloc, Form::Json, &fault)?,
+            object,
+        )?;
     }
-    let root = program_fault_told(alloc, true, &ProgramFault::not_json(alloc))?;
+    let root = program_fault_told(alloc, Form::Json, &ProgramFault::not_json(alloc))?;
     is_object(
         &rt,
         alloc,
@@ -164,9 +170,9 @@ fn faults(rt: HostRuntime) -> Result<(), Fail> {
 #[test]
 fn numbers(rt: HostRuntime) -> Result<(), Fail> {
     let alloc = rt.alloc();
-    let sound = check_told(alloc, true, 20000)?;
+    let sound = check_told(alloc, Form::Json, 20000)?;
     is_object(&rt, alloc, sound, r#"{"verdict":"sound","nodes":20000}"#)?;
-    let cost = cost_told(alloc, true, 4, 2)?;
+    let cost = cost_told(alloc, Form::Json, 4, 2)?;
     is_object(&rt, alloc, cost, r#"{"given":4,"chosen":2}"#)?;
     Ok(())
 }
@@ -175,16 +181,16 @@ fn numbers(rt: HostRuntime) -> Result<(), Fail> {
 #[test]
 fn lines(rt: HostRuntime) -> Result<(), Fail> {
     let alloc = rt.alloc();
-    let sound = check_told(alloc, false, 6)?;
+    let sound = check_told(alloc, Form::Line, 6)?;
     is_object(&rt, alloc, sound, "accepted 6 nodes")?;
     let hazard = Hazard::State(StateHazard::Unmatched { node: 2 });
     is_object(
         &rt,
         alloc,
-        hazard_told(alloc, false, &hazard)?,
+        hazard_told(alloc, Form::Line, &hazard)?,
         "hazard H7 2",
     )?;
-    let cost = cost_told(alloc, false, 4, 2)?;
+    let cost = cost_told(alloc, Form::Line, 4, 2)?;
     is_object(&rt, alloc, cost, "cost 4 2")?;
     Ok(())
 }

@@ -15,25 +15,25 @@ fn words_of(alloc: Global, line: &str) -> Result<Vec<String>, AllocError> {
 
 // Lines, and how their commands are shown.
 const COMMANDS: [(&str, &str); 23] = [
-    ("-- cull", "Frame(Cull { json: false })"),
-    ("--json cull", "Frame(Cull { json: true })"),
-    ("place", "Frame(Place { json: false })"),
-    ("place --json", "Frame(Place { json: true })"),
-    ("bound", "Frame(Bound { json: false })"),
-    ("bound --json", "Frame(Bound { json: true })"),
+    ("-- cull", "Frame(Cull { form: Line })"),
+    ("--json cull", "Frame(Cull { form: Json })"),
+    ("place", "Frame(Place { form: Line })"),
+    ("place --json", "Frame(Place { form: Json })"),
+    ("bound", "Frame(Bound { form: Line })"),
+    ("bound --json", "Frame(Bound { form: Json })"),
     ("compile", "Frame(Compile { tight: false })"),
     ("--tight compile", "Frame(Compile { tight: true })"),
     ("auto", "Frame(Auto)"),
-    ("auto --cost", "Frame(Cost { json: false })"),
-    ("auto --json --cost", "Frame(Cost { json: true })"),
+    ("auto --cost", "Frame(Cost { form: Line })"),
+    ("auto --json --cost", "Frame(Cost { form: Json })"),
     (
         "run --trace --tight --workers 3",
         "Run { options: RunOptions { workers: 3, tend: None }, trace: true, tight: true }",
     ),
     ("meaning", "Frame(Meaning)"),
     ("migrate", "Frame(Migrate)"),
-    ("check", "Submission(Check { json: false })"),
-    ("check --json", "Submission(Check { json: true })"),
+    ("check", "Submission(Check { form: Line })"),
+    ("check --json", "Submission(Check { form: Json })"),
     ("audit", "Audit"),
     ("gen --number 0", "Gen { number: 0, passes: 64 }"),
     (
@@ -60,16 +60,16 @@ const COMMANDS: [(&str, &str); 23] = [
 
 // Lines with files, how their commands are shown, and the files with a line feed behind each.
 const FILES: [(&str, &str, &str); 12] = [
-    ("cull a", "Frame(Cull { json: false })", "a\n"),
-    ("cull - --json", "Frame(Cull { json: true })", "-\n"),
-    ("cull cull", "Frame(Cull { json: false })", "cull\n"),
+    ("cull a", "Frame(Cull { form: Line })", "a\n"),
+    ("cull - --json", "Frame(Cull { form: Json })", "-\n"),
+    ("cull cull", "Frame(Cull { form: Line })", "cull\n"),
     ("auto auto", "Frame(Auto)", "auto\n"),
     ("-- migrate --cost", "Frame(Migrate)", "--cost\n"),
     ("audit ../a.json", "Audit", "../a.json\n"),
-    ("check --json a", "Submission(Check { json: true })", "a\n"),
+    ("check --json a", "Submission(Check { form: Json })", "a\n"),
     (
         "check a - b a --",
-        "Submission(Check { json: false })",
+        "Submission(Check { form: Line })",
         "a\n-\nb\na\n",
     ),
     (

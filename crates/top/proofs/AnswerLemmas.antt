@@ -6,7 +6,7 @@ use Rattle.std.specs.declared.option.Option.{Option}
 use Rattle.answer.proofs.AnswerLemmas.{no_file, whole_file, without_file}
 use Rattle.answer.specs.Answers as rest
 use Rattle.answer.specs.Answers.{over_input}
-use Rattle.answer.specs.AsJson.{asks_json}
+use Rattle.answer.specs.Forms.{form_of}
 use Rattle.answer.specs.Inputs.{file_of}
 use Rattle.answer.specs.Statuses.{status_of}
 use Rattle.answer.specs.declared.answer.Answer.{Answer}
@@ -66,7 +66,7 @@ any_bytes reads.Audit bytes other reply none is = absurd (no_file files.Submissi
 
 module _ (command : Command) (left : Option (List ℕ)) (reply : Reply) where
   abbrev Over : File → Type 0
-  Over file = reply ≡ still (over_input (asks_json command) file)
+  Over file = reply ≡ still (over_input (form_of command) file)
 
   unread : (told : Option (List ℕ)) (bytes : List ℕ) → file_of command ≡ None → AnswersBytes command bytes reply → AnswersLeft command told reply
   unread None bytes none is = record { bytes = bytes; told = tt; answers = without_file command bytes Over (AnswersBytes command bytes reply) none is }

@@ -5,7 +5,7 @@ use Rattle.std.specs.List.{AllByRecursion}
 use Rattle.answer.specs.declared.answer.Answer.{Answer}
 use Rattle.base.proofs.Lists.{all_append}
 use Rattle.cli.specs.declared.command.Command.{Command}
-use Rattle.report_files.specs.declared.report.FileReport.{FileReport}
+use Rattle.report_files.specs.declared.file_report.FileReport.{FileReport}
 use Rattle.top.specs.Files.{AreAnswered, IsAnswered}
 
 abbrev name_of : FileReport → List ℕ

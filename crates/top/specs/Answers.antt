@@ -1,9 +1,9 @@
 -- What a command answers to the bytes of its input.
-use Rattle.std.specs.Prelude.{◌≡◌, ◌⊎◌, ℕ, Bool, false, List, Option, None, Result, Ok, Err}
+use Rattle.std.specs.Prelude.{◌≡◌, ◌⊎◌, ℕ, Bool, List, Option, None, Result, Ok, Err}
 use Rattle.std.specs.Io.KnownBytes.{Keeps}
 use Rattle.answer.specs.Answers as rest
 use Rattle.answer.specs.Answers.{over_input}
-use Rattle.answer.specs.AsJson.{asks_json}
+use Rattle.answer.specs.Forms.{form_of}
 use Rattle.compile_file.specs.Files.{frame_file, program_file}
 use Rattle.answer.specs.Inputs.{ByLimit}
 use Rattle.answer.specs.Plain.{Rejects, refusal, program_refusal}
@@ -22,16 +22,17 @@ use Rattle.top.specs.Outcomes.{Tells, EndsAs}
 use Rattle.top.specs.Replies.{IsStill, still}
 use Rattle.top.specs.declared.reply.Reply.{Reply}
 use Rattle.cli.specs.declared.command.Command.{Command}
+use Rattle.cli.specs.declared.form.Form.TheVariants.{Line}
 use Rattle.cli.specs.declared.command.Command.TheVariants as reads
 use Rattle.base.specs.declared.run_options.RunOptions.{RunOptions}
 
 abbrev pub RunsFile : RunOptions → Bool → Bool → Result Frame FrameFault → Reply → Type 0
 RunsFile options trace tight (Ok frame) reply = RunsFrame options trace tight frame reply
-RunsFile options trace tight (Err fault) reply = reply ≡ still (refusal false fault)
+RunsFile options trace tight (Err fault) reply = reply ≡ still (refusal Line fault)
 
 abbrev pub ExecutesFile : RunOptions → Bool → Result Program ProgramFault → Reply → Type 0
-ExecutesFile options trace (Ok program) reply = Executes options trace program reply ⊎ IsStill (Rejects false program) reply
-ExecutesFile options trace (Err fault) reply = reply ≡ still (program_refusal false fault)
+ExecutesFile options trace (Ok program) reply = Executes options trace program reply ⊎ IsStill (Rejects Line program) reply
+ExecutesFile options trace (Err fault) reply = reply ≡ still (program_refusal Line fault)
 
 -- what is made of bytes within the limit; a command that needs no device answers what it answers at rest
 abbrev pub AnswersBytes : Command → List ℕ → Reply → Type 0
@@ -46,7 +47,7 @@ AnswersBytes reads.Audit bytes reply = IsStill (AuditsFile bytes) reply
 
 -- more bytes than the limit are refused before anything else
 abbrev pub Answers : Command → List ℕ → Reply → Type 0
-Answers command bytes reply = ByLimit command bytes (λ file. reply ≡ still (over_input (asks_json command) file)) (AnswersBytes command bytes reply)
+Answers command bytes reply = ByLimit command bytes (λ file. reply ≡ still (over_input (form_of command) file)) (AnswersBytes command bytes reply)
 
 -- the answer to the bytes that were left
 pub record AnswersLeft (command : Command) (left : Option (List ℕ)) (reply : Reply) : Type 0 where

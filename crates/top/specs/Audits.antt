@@ -1,5 +1,6 @@
 -- What `audit` answers: whether a trace is a run of a submission.
-use Rattle.std.specs.Prelude.{◌≡◌, ◌⊎◌, ◌↔◌, ℕ, List, ◌++◌, length, false, Result, Ok, Err}
+use Rattle.cli.specs.declared.form.Form.TheVariants.{Line}
+use Rattle.std.specs.Prelude.{◌≡◌, ◌⊎◌, ◌↔◌, ℕ, List, ◌++◌, length, Result, Ok, Err}
 use Rattle.device_audit.specs.Recordings.{submission_in, trace_in}
 use Rattle.device_audit.specs.Runs.{IsRun}
 use Rattle.device_audit.specs.Trace.{trace_of}
@@ -51,9 +52,9 @@ pub record Judges (program : Program) (events : List Event) (answer : Answer) : 
 
 -- a fault of the submission comes before one of the trace, and that before a hazard
 abbrev pub AuditsTrace : Result Program ProgramFault → Result (List Event) TraceError → Answer → Type 0
-AuditsTrace (Err fault) trace answer = answer ≡ program_refusal false fault
+AuditsTrace (Err fault) trace answer = answer ≡ program_refusal Line fault
 AuditsTrace (Ok program) (Err end) answer = RefusesTrace end answer
-AuditsTrace (Ok program) (Ok events) answer = Judges program events answer ⊎ Rejects false program answer
+AuditsTrace (Ok program) (Ok events) answer = Judges program events answer ⊎ Rejects Line program answer
 
 -- a submission in one line, and a trace behind it
 abbrev pub AuditsFile : List ℕ → Answer → Type 0

@@ -2,13 +2,14 @@
 use Rattle.std.specs.Prelude.{◌≡◌, ◌⊎◌, ℕ, nat_lt, Bool, List, map, fold, Option, Some, None, if◌then◌else◌}
 use Rattle.std.specs.Io.KnownBytes.{Appends, Keeps}
 use Rattle.std.specs.List.{AllByRecursion}
-use Rattle.answer.specs.AsJson.{asks_json}
+use Rattle.answer.specs.Forms.{form_of}
 use Rattle.answer.specs.Statuses.{number_of, status_of}
 use Rattle.answer.specs.declared.answer.Answer.{Answer}
 use Rattle.answer.specs.declared.status.Status.TheVariants.{ReadFault, WriteFault, NoMemory}
+use Rattle.cli.specs.declared.form.Form.{Form}
 use Rattle.cli.specs.declared.command.Command.{Command}
 use Rattle.report_files.specs.Files.{files_text}
-use Rattle.report_files.specs.declared.report.FileReport.{FileReport}
+use Rattle.report_files.specs.declared.file_report.FileReport.{FileReport}
 use Rattle.top.specs.Answers.{Answers}
 use Rattle.top.specs.Outcomes.{TakesFront}
 use Rattle.top.specs.Replies.{still}
@@ -42,13 +43,13 @@ abbrev pub greatest : List FileReport → ℕ
 greatest files = fold greater 0 files
 
 -- what is printed of them was written whole, and the status is the greatest; or a write failed behind a front of it
-abbrev pub AreWritten : Bool → List FileReport → Option (List ℕ) → Option (List ℕ) → ℕ → Type 0
-AreWritten json files old new status =
-    ((status ≡ greatest files) × Appends old new (files_text json files))
-    ⊎ ((status ≡ number_of WriteFault) × TakesFront (files_text json files) old new)
+abbrev pub AreWritten : Form → List FileReport → Option (List ℕ) → Option (List ℕ) → ℕ → Type 0
+AreWritten form files old new status =
+    ((status ≡ greatest files) × Appends old new (files_text form files))
+    ⊎ ((status ≡ number_of WriteFault) × TakesFront (files_text form files) old new)
 
 -- all were answered; or memory ran out, and nothing was written
 abbrev pub EndsFiles : Command → List (List ℕ) → Option (List ℕ) → Option (List ℕ) → ℕ → Type 0
 EndsFiles command names old new status =
-    ((files : List FileReport) × AreAnswered command names files × AreWritten (asks_json command) files old new status)
+    ((files : List FileReport) × AreAnswered command names files × AreWritten (form_of command) files old new status)
     ⊎ ((status ≡ number_of NoMemory) × Keeps old new)

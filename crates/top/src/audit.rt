@@ -1,6 +1,6 @@
 //! The command `audit`.
 
-ghost use Rattle.std.specs.Prelude.{◌≡◌, ◌⊎◌, ◌≤◌, ◌++◌, length, false, IfOk, Ok};
+ghost use Rattle.std.specs.Prelude.{◌≡◌, ◌⊎◌, ◌≤◌, ◌++◌, length, IfOk, Ok};
 ghost use Rattle.device_audit.specs.Trace.{trace_of};
 ghost use Rattle.device_audit.specs.Verdicts.{IfRun};
 ghost use Rattle.check_program.specs.Sound.{IsSound};
@@ -9,6 +9,7 @@ ghost use Rattle.report.specs.declared.audit.AuditLine.TheVariants as lines;
 ghost use Rattle.device_model.specs.Devices.{IsComplete};
 ghost use Rattle.top.specs.Audits.{AuditsFile, AuditsTrace, Judges, line_answer, verdict_answer};
 ghost use Rattle.answer.specs.Plain.{Rejects, done};
+ghost use Rattle.cli.specs.declared.form.Form.TheVariants.{Line};
 ghost use Rattle.device_run.specs.Runs.{read_by};
 ghost use Rattle.top.specs.Texts.{readbacks_text};
 
@@ -16,6 +17,7 @@ use crate::readbacks::add_readbacks;
 use answer::{Answer, AnswerStatus, checked, done, program_refusal};
 use base::{Event, NoMemory};
 use check_program::Checked;
+use cli::Form;
 use compile_file::valid_program;
 use device::Device;
 use device_audit::{TraceError, Verdict, audit, read_trace, recording_in};
@@ -92,9 +94,9 @@ fn audit_events<R: Threads + Sync>(
     events: &[Event],
 ) -> Result<Answer, NoMemory>
     requires { length events.now ≤ 65536 }
-    ensures program { IfOk result (λ answer. Judges program events.now answer ⊎ Rejects false program answer) }
+    ensures program { IfOk result (λ answer. Judges program events.now answer ⊎ Rejects Line program answer) }
 {
-    match checked(alloc, false, program) {
+    match checked(alloc, Form::Line, program) {
         Ok(checked) => judge(rt, alloc, &checked, events),
         Err(answer) => answer,
     }
@@ -131,7 +133,7 @@ pub fn audit_file<R: Threads + Sync>(
     let recording = recording_in(bytes);
     match valid_program(alloc, recording.submission) {
         Ok(program) => audit_trace(rt, alloc, program, recording.trace),
-        Err(ProgramReadError::Refused(fault)) => program_refusal(alloc, false, &fault),
+        Err(ProgramReadError::Refused(fault)) => program_refusal(alloc, Form::Line, &fault),
         Err(ProgramReadError::NoMemory) => Err(NoMemory),
     }
 }

@@ -23,7 +23,7 @@ use crate::run::run_file;
 use crate::summary::summarize;
 use crate::telling::{deliver, reserved, untold};
 use crate::{Ended, Status};
-use answer::{asks_json, file_of, over_input};
+use answer::{file_of, form_of, over_input};
 use base::NoMemory;
 use base_io::{Gate, Sink, Source, Tap};
 use cli::Command;
@@ -89,7 +89,7 @@ fn answer_input<R: Threads + Wait + Sync, G: Gate + Sync, I: Source>(
 {
     match input_of(alloc, file_of(command), input)? {
         Input::Bytes(bytes) => Ok(answer_bytes(rt, alloc, command, bytes.as_slice(), gate)?),
-        Input::Over(file) => Ok(still(over_input(alloc, asks_json(command), file)?)),
+        Input::Over(file) => Ok(still(over_input(alloc, form_of(command), file)?)),
     }
 }
 

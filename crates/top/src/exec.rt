@@ -1,12 +1,13 @@
 //! The command `exec`.
 
-ghost use Rattle.std.specs.Prelude.{◌⊎◌, false, IfOk};
+ghost use Rattle.std.specs.Prelude.{◌⊎◌, IfOk};
 ghost use Rattle.check_program.specs.Sound.{IsSound};
 ghost use Rattle.top.specs.Answers.{ExecutesFile};
 ghost use Rattle.compile_file.specs.Files.{program_file};
 ghost use Rattle.top.specs.Headline.{Executes};
 ghost use Rattle.top.specs.Replies.{IsStill};
 ghost use Rattle.answer.specs.Plain.{Rejects};
+ghost use Rattle.cli.specs.declared.form.Form.TheVariants.{Line};
 
 use crate::readbacks::exec_text;
 use crate::reply::{Reply, ran, still};
@@ -14,6 +15,7 @@ use answer::{checked, program_refusal};
 use base::{NoMemory, RunOptions};
 use base_io::Gate;
 use check_program::Checked;
+use cli::Form;
 use compile_file::valid_program;
 use device_run::run_program;
 use file_program::ProgramReadError;
@@ -47,9 +49,9 @@ fn execute_program<R: Threads + Wait + Sync, G: Gate + Sync>(
     program: ValidProgram,
     gate: &G,
 ) -> Result<Reply, NoMemory>
-    ensures program { IfOk result (λ reply. Executes options trace program reply ⊎ IsStill (Rejects false program) reply) }
+    ensures program { IfOk result (λ reply. Executes options trace program reply ⊎ IsStill (Rejects Line program) reply) }
 {
-    match checked(alloc, false, program) {
+    match checked(alloc, Form::Line, program) {
         Ok(checked) => execute_checked(rt, alloc, options, trace, &checked, gate),
         Err(answer) => Ok(still(answer?)),
     }
@@ -68,7 +70,11 @@ pub fn execute_file<R: Threads + Wait + Sync, G: Gate + Sync>(
 {
     match valid_program(alloc, bytes) {
         Ok(program) => execute_program(rt, alloc, options, trace, program, gate),
-        Err(ProgramReadError::Refused(fault)) => Ok(still(program_refusal(alloc, false, &fault)?)),
+        Err(ProgramReadError::Refused(fault)) => Ok(still(program_refusal(
+            alloc,
+            Form::Line,
+            &fault,
+        )?)),
         Err(ProgramReadError::NoMemory) => Err(NoMemory),
     }
 }

@@ -10,7 +10,7 @@ use crate::Status;
 use crate::opener::Opener;
 use crate::output::write_text;
 use crate::rest::answer_input;
-use answer::{Answer, asks_json};
+use answer::{Answer, form_of};
 use base::{List, NoMemory};
 use base_io::{Sink, Source};
 use cli::{Command, FileName};
@@ -95,7 +95,7 @@ pub fn framec_files<P: Opener, O: Sink>(
     let Ok(files) = answer_files(alloc, command, names, opener) else {
         return Status::NoMemory.number();
     };
-    let Ok(text) = files_text(alloc, asks_json(command), &files) else {
+    let Ok(text) = files_text(alloc, form_of(command), &files) else {
         return Status::NoMemory.number();
     };
     if write_text(output, &text) {

@@ -17,7 +17,7 @@ ghost use Rattle.cli.specs.Commands.{IsBounded};
 use crate::Status;
 use crate::input::{Input, input_of};
 use crate::output::put;
-use answer::{Answer, AnswerStatus, answer_bytes, asks_json, file_of, over_input};
+use answer::{Answer, AnswerStatus, answer_bytes, file_of, form_of, over_input};
 use base_io::{Sink, Source};
 use cli::Command;
 use std::alloc::Global;
@@ -51,7 +51,7 @@ pub(crate) fn answer_input<I: Source>(
 {
     match input_of(alloc, file_of(command), input)? {
         Input::Bytes(bytes) => Ok(answer_bytes(alloc, command, bytes.as_slice())?),
-        Input::Over(file) => Ok(over_input(alloc, asks_json(command), file)?),
+        Input::Over(file) => Ok(over_input(alloc, form_of(command), file)?),
     }
 }
 

@@ -16,6 +16,7 @@ use answer::refusal;
 use base::{NoMemory, RunOptions};
 use base_io::Gate;
 use check_program::Checked;
+use cli::Form;
 use compile_file::{compiled, valid_frame};
 use compile_record::Compiled;
 use device_run::run_program;
@@ -74,7 +75,7 @@ pub fn run_file<R: Threads + Wait + Sync, G: Gate + Sync>(
 {
     match valid_frame(alloc, bytes) {
         Ok(good) => run_frame(rt, alloc, options, trace, tight, &good, gate),
-        Err(FrameReadError::Refused(fault)) => Ok(still(refusal(alloc, false, &fault)?)),
+        Err(FrameReadError::Refused(fault)) => Ok(still(refusal(alloc, Form::Line, &fault)?)),
         Err(FrameReadError::NoMemory) => Err(NoMemory),
     }
 }

@@ -1,5 +1,6 @@
 -- What the stages of a command on a valid frame come to, one after another.
 use Rattle.std.specs.Prelude.{◌≡◌, ℕ, List, Bool, get_or}
+use Rattle.cli.specs.declared.form.Form.{Form}
 use Rattle.base.specs.Applied.{bytes_at}
 use Rattle.compile_bound.specs.Bounds.{Holds, IsBound, IsShown}
 use Rattle.compile_bound.specs.declared.bound.Bound.{Bound as Certified}
@@ -30,10 +31,10 @@ abbrev pub bytes_in : Frame → List (List ℕ) → ℕ → List ℕ
 bytes_in frame units k = bytes_at units (get_or (numbered frame).exports k 0)
 
 -- the lines of such places
-pub record ArePlaceLines (json : Bool) (frame : Frame) (G : Grouping) (text : List ℕ) : Type 0 where
+pub record ArePlaceLines (form : Form) (frame : Frame) (G : Grouping) (text : List ℕ) : Type 0 where
   pub places : Places
   pub are_placed : ArePlaced G places
-  pub lines : text ≡ place_told json frame G places
+  pub lines : text ≡ place_told form frame G places
 
 -- the heap of the least places
 pub record IsHeap (G : Grouping) (ordered : ℕ → ℕ → Bool) (heap : ℕ) : Type 0 where
@@ -42,9 +43,9 @@ pub record IsHeap (G : Grouping) (ordered : ℕ → ℕ → Bool) (heap : ℕ) :
   pub is : heap ≡ places.heap
 
 -- the lines of a bound beside this heap
-pub record AreBoundLines (json : Bool) (frame : Frame) (G : Grouping) (ordered : ℕ → ℕ → Bool) (heap : ℕ) (text : List ℕ) : Type 0 where
+pub record AreBoundLines (form : Form) (frame : Frame) (G : Grouping) (ordered : ℕ → ℕ → Bool) (heap : ℕ) (text : List ℕ) : Type 0 where
   pub bound : Certified
   pub is_bound : IsBound (sizes G) ordered bound
   pub shown : IsShown (sizes G) ordered bound
   pub holds : Holds (sizes G) ordered bound.least
-  pub lines : text ≡ bound_told json frame G bound.least heap bound.chosen
+  pub lines : text ≡ bound_told form frame G bound.least heap bound.chosen
