@@ -134,8 +134,9 @@ def print_row(outcome):
     hazards = {name.removeprefix("SYNC-HAZARD-") for answer in outcome.answers for name, _ in answer.hazards()}
     others = {name for answer in outcome.core for name, _ in answer.others()}
     if hazards or others or not outcome.verdict.startswith("accepted"):
-        verdict = "accepted" if outcome.verdict.startswith("accepted") else outcome.verdict
-        print(f"| {outcome.name} | `{verdict}` | {', '.join(sorted(hazards | others))} |")
+        # `accepted`, or a hazard's letter
+        verdict = outcome.verdict.removeprefix("hazard ").split()[0]
+        print(f"| {outcome.name} | {verdict} | {', '.join(sorted(hazards | others))} |")
 
 
 class Trial:
@@ -218,7 +219,7 @@ class Trial:
             text, verdict = unsound(rng, self.narrow, lambda: self.narrow.compiled(rng, 8))
             return self.outcome(f"unsound {k}", text, verdict)
 
-        self.each("random programs that are unsound", make, self.options.unsound)
+        self.each("unsound programs", make, self.options.unsound)
 
     def takes_actions(self):
         empty = {"format": 3, "memories": [], "pieces": [], "queues": [{"family": "graphics", "batches": []}], "readbacks": []}
@@ -240,8 +241,8 @@ class Trial:
             text, verdict = unsound(rng, self.wide, lambda: program(rng))
             return self.outcome(f"unsound action {k}", text, verdict)
 
-        self.each("programs with actions", as_written, self.options.actions)
-        self.each("programs with actions that are unsound", make_unsound, self.options.actions)
+        self.each("actions", as_written, self.options.actions)
+        self.each("unsound actions", make_unsound, self.options.actions)
 
 
 def is_json(file):
@@ -254,27 +255,28 @@ def is_json(file):
 
 # What is counted of a group, as the head of its column. One without any count is not printed.
 COLUMNS = {
-    "programs": "how many",
+    "programs": "files",
     "accepted": "accepted",
-    "no message": "no message in either order",
-    "bytes": "bytes of `exec` in both",
+    "no message": "without message",
+    "bytes": "bytes of `exec`",
     "unordered": "H2 to H4",
     "flagged": "flagged by both",
     "other hazards": "H5 to H9",
-    "other checks": "of these named by the layer's other checks",
-    "stuck": "stuck for both",
+    "other checks": "by other checks",
+    "stuck": "stuck",
     "not together": "uses that Vulkan cannot make together",
 }
 
 
 def print_tables(tables):
     shown = [key for key in COLUMNS if any(counts[key] for counts in tables.groups.values())]
-    print(f"\n| files | {' | '.join(COLUMNS[key] for key in shown)} |\n|{'---|' * (1 + len(shown))}")
+    print(f"\n| | {' | '.join(COLUMNS[key] for key in shown)} |\n|{'---|' * (1 + len(shown))}")
     for group, counts in tables.groups.items():
-        print(f"| {group} | {' | '.join(str(counts[key]) for key in shown)} |")
-    print("\n| `check`, and the layer | cause | where the standard says it | right | programs |\n|---|---|---|---|---|")
+        print(f"| {group} | {' | '.join(str(counts[key] or '') for key in shown)} |")
+    print("\n| `check` | cause | where the standard says it | right | programs |\n|---|---|---|---|---|")
     for (cause, layer), counts in sorted(tables.causes.items(), key=lambda one: -one[1].total()):
-        print(f"| {', '.join(sorted(counts))}; {layer} | {cause.name}: {cause.text} | {cause.where} | {cause.right} | {counts.total()} |")
+        said = ", ".join(sorted(counts)) + ("" if layer == "silent" else f"; {layer}")
+        print(f"| {said} | {cause.name}: {cause.text} | {cause.where} | {cause.right} | {counts.total()} |")
     for name, count in sorted(tables.vuids.items()):
         print(f"| accepted, other message | {causes.ASKED.get(name, '')} | {name} | layer | {count} |")
 

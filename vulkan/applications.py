@@ -9,12 +9,13 @@ the tree. Each program runs on Mesa's software device, with Xvfb or without a wi
 that finds a hazard its cause is looked up in the file; a hazard without a known cause is told, and the script ends with status 1. Where the
 file is accepted each of its dependencies is left out of a copy in turn; one that matters is then left out by the capture layer
 itself (FRAMEC_CAPTURE_LEAVE_OUT), which `check` has to find. Khronos' validation layer runs below the capture layer with
-synchronization validation alone, and its distinct messages between the first and the last captured frame are told; each file is
-replayed under that layer too. Frame rates are medians of runs that alternate: without the layer, with the layer and nothing asked for,
-with every frame recorded.
+synchronization validation alone, and its distinct messages are told, each with how often it comes between the first and the last
+captured frame and in the whole run. Each file is replayed under that layer, which has to give a message where `check` names a hazard,
+and none elsewhere. Frame rates are medians of runs that alternate: without the layer, with the layer and nothing asked for, with every
+frame recorded.
 
-Ends with status 0 where all is as told, 1 where something was not captured, not explained or not found, or where a program that is
-recorded has less than half its rate, 2 where something is missing.
+Ends with status 0 where all is as told, 1 where something was not captured, not explained or not found, where `check` and the replay
+part, or where a program that is recorded has less than half its rate, 2 where something is missing.
 """
 
 import argparse
@@ -25,6 +26,7 @@ import shutil
 import subprocess
 import sys
 import time
+from collections import Counter
 from dataclasses import dataclass, field
 from pathlib import Path
 
@@ -125,9 +127,8 @@ class Result:
     # What `check` says of a copy that shows what else is wrong, and what is taken otherwise there.
     behind: str = ""
     taken: str = ""
-    # What the validation layer says in the captured frames, in the whole run, and where the file is replayed.
+    # What the validation layer says in the captured frames and in the whole run, and where the file is replayed.
     messages: str = ""
-    whole_run: str = ""
     replayed: str = ""
     # Numbers of dependencies; those without which `check` finds a hazard, with its verdict; and what it says where the layer
     # leaves the first of those out.
@@ -205,9 +206,9 @@ class Trial:
             self.wrong.append(f"{result.application.name}: did not run under the validation layer")
             return
         inside = re.search(r"framec capture: begins.*?framec capture: ends", printed, re.DOTALL)
-        own = re.findall(r"(?:SYNC-HAZARD|VUID)[\w-]+", inside.group(0)) if inside else []
-        every = re.findall(r"\[ ((?:SYNC-HAZARD|VUID)[\w-]+) \]", printed)
-        result.messages, result.whole_run = counted(own), counted(every)
+        own = names_of_messages(inside.group(0)) if inside else []
+        every = names_of_messages(printed)
+        result.messages = counted(every, own)
 
     def replay(self, result):
         """What the validation layer says where the file itself is replayed."""
@@ -217,9 +218,11 @@ class Trial:
         done = subprocess.run(words, capture_output=True, text=True)
         if done.returncode not in (0, 1):
             last = (done.stderr.strip().splitlines() or [""])[-1]
-            result.replayed = f"status {done.returncode}: {last}"
+            self.wrong.append(f"{result.application.name}: the replay ended with status {done.returncode}: {last}")
             return
         result.replayed = counted(re.findall(r"^message \d+ (\S+)", done.stdout, re.MULTILINE))
+        if bool(result.replayed) == result.accepted:
+            self.wrong.append(f"{result.application.name}: {result.verdict}, but replayed it gives: {result.replayed or 'no message'}")
 
     def leave_out(self, result):
         """Finds which dependencies matter, and has the layer leave out the first of them."""
@@ -237,26 +240,53 @@ class Trial:
             self.wrong.append(f"{result.application.name}: number {number} left out gives {result.left_out}, not {wanted}")
 
 
-def counted(messages):
-    """Distinct messages with their numbers."""
-    if not messages:
-        return "silent"
-    return ", ".join(f"{name.removeprefix('SYNC-HAZARD-')} ({messages.count(name)})" for name in sorted(set(messages)))
+def names_of_messages(printed):
+    return re.findall(r"\[ ((?:SYNC-HAZARD|VUID)[\w-]+) \]", printed)
+
+
+def counted(messages, some=None):
+    """Distinct messages with their numbers, and how many of them are some that are told apart; nothing where there is none."""
+
+    def number(name):
+        return messages.count(name) if some is None else f"{some.count(name)} of {messages.count(name)}"
+
+    return ", ".join(f"{name.removeprefix('SYNC-HAZARD-')} ({number(name)})" for name in sorted(set(messages)))
+
+
+def short(verdict):
+    """What `check` says, in a cell: `accepted`, or a hazard's letter; all of another answer."""
+    return verdict.removeprefix("hazard ").split()[0] if verdict.startswith(("accepted", "hazard ")) else verdict
+
+
+def left_out(result):
+    """How many dependencies matter, of how many; and what `check` says without the first of them."""
+    if not result.numbers:
+        return ""
+    found = f"{len(result.mattering)} of {len(result.numbers)}"
+    return f"{found}; {result.mattering[0][0]}: {short(result.left_out)}" if result.mattering else found
 
 
 def print_verdicts(results):
-    print("| program | taken | queues, pieces, nodes | bytes | check s | `check` | the validation layer, in these frames | in the whole run | "
-          "the file replayed |")
-    print("|---|---|---|---|---|---|---|---|---|")
+    print("| program | frames | queues/pieces/nodes | bytes | check s | `check` | the layer, in these frames of the whole run | "
+          "dependencies that matter; one left out |")
+    print("|---|---|---|---|---|---|---|---|")
     for result in results:
         if result.program is None:
-            print(f"| {result.application.name} | {result.application.taken()} | | | | not captured | | | |")
+            print(f"| {result.application.name} | {result.application.taken()} | | | | not captured | | |")
             continue
         size = result.file.stat().st_size
-        parts = f"{len(result.program['queues'])}, {len(result.program['pieces'])}, {len(captured.nodes_of(result.program))}"
-        verdict = "accepted" if result.accepted else result.verdict
-        print(f"| {result.application.name} | {result.application.taken()} | {parts} | {size:,} | {result.seconds:.3f} | {verdict} | "
-              f"{result.messages} | {result.whole_run} | {result.replayed} |")
+        parts = f"{len(result.program['queues'])}/{len(result.program['pieces'])}/{len(captured.nodes_of(result.program))}"
+        print(f"| {result.application.name} | {result.application.taken()} | {parts} | {size:,} | {result.seconds:.3f} | "
+              f"{short(result.verdict)} | {result.messages} | {left_out(result)} |")
+
+
+def print_replays(results):
+    """Of how many files the layer says something where they are replayed, and what."""
+    for words, accepted in (("accepted", True), ("with a hazard", False)):
+        replayed = [result.replayed for result in results if result.program and result.accepted == accepted]
+        told = Counter(name for text in replayed for name in re.findall(r"[\w-]+(?= \()", text))
+        names = ", ".join(f"{name} of {count}" for name, count in sorted(told.items()))
+        print(f"\nReplayed, {sum(map(bool, replayed))} of {len(replayed)} files {words} give a message" + (f": {names}." if names else "."))
 
 
 def print_hazards(results):
@@ -265,25 +295,19 @@ def print_hazards(results):
     for result in results:
         if result.explanation:
             rows.setdefault((result.explanation.cause, result.explanation.text), []).append(result.application.name)
-    print("\n| program | cause | whose | the two nodes |\n|---|---|---|---|")
+    print("\n| program | cause | the two nodes |\n|---|---|---|")
     for (cause, text), names in rows.items():
-        print(f"| {'; '.join(names)} | {cause} | {CAUSES.get(cause, 'not known')} | {text} |")
+        print(f"| {'; '.join(names)} | {cause} | {text} |")
     for result in results:
         if result.behind:
-            print(f"| {result.application.name}, {result.taken} | {result.behind} | | |")
-
-
-def print_left_out(results):
-    print("\n| program | dependencies that matter | number left out | `check` |\n|---|---|---|---|")
-    for result in results:
-        if result.numbers:
-            number = result.mattering[0][0] if result.mattering else ""
-            print(f"| {result.application.name} | {len(result.mattering)} of {len(result.numbers)} | {number} | {result.left_out} |")
+            print(f"| {result.application.name}, {result.taken} | {result.behind} | |")
+    whose = Counter(CAUSES.get(result.explanation.cause, "nobody's that is known") for result in results if result.explanation)
+    print("\nHazards: " + (", ".join(f"{count} {owner}" for owner, count in whose.items()) or "none") + ".")
 
 
 def print_told(results):
-    rows = [f"| {result.application.name} | {line} |" for result in results for line in result.told]
-    print("\n" + "\n".join(["| program | what the file cannot say |", "|---|---|", *rows] if rows else ["No program used what the file cannot say."]))
+    lines = [f"- {result.application.name}: {line}" for result in results for line in result.told]
+    print("\n" + "\n".join(["What the file cannot say:", "", *lines] if lines else ["No program used what the file cannot say."]))
 
 
 def measure(trial, application, runs):
@@ -326,7 +350,7 @@ def main():
         if server is not None:
             server.terminate()
             server.wait()
-    for show in (print_verdicts, print_hazards, print_left_out, print_told):
+    for show in (print_verdicts, print_replays, print_hazards, print_told):
         show(results)
     print_rates(rates)
     for line in trial.wrong:

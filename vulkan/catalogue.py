@@ -33,8 +33,8 @@ class Application:
         return self.rate is not None or self.rate_frames is not None
 
     def taken(self):
-        last = self.first + self.count - 1
-        return f"{self.unit} {self.first} to {last}" if self.count > 1 else f"{self.unit[:-1]} {self.first}"
+        frames = f"{self.first}-{self.first + self.count - 1}"
+        return frames if self.unit == "frames" else f"{frames} ({self.unit})"
 
 
 def vkmark(scene, system="xcb", seconds=RATE_SECONDS):
@@ -70,20 +70,20 @@ BLUR = ("-filter_hw_device", "v", "-vf", "format=yuv420p,hwupload,avgblur_vulkan
 
 APPLICATIONS = [
     Application("vkcube", ["vkcube", "--c", "60"], 20, 4, rate_command=["vkcube", "--c", "600"], rate_frames=600),
-    # The second family alone presents, so it hands its images over.
+    # The second family alone presents, so it hands its images over. (Without --gpu_number it asks the first family alone, and ends.)
     Application("vkcube, two families", ["vkcube", "--c", "60", "--gpu_number", "0"], 20, 4, environment={"FRAMEC_FAMILIES_PRESENT": "1"},
                 layers=FAMILIES),
     Application("vkmark texture", vkmark("texture"), 5, 2, rate=FPS),
     Application("vkmark shading", vkmark("shading"), 5, 2, rate=FPS),
     Application("vkmark desktop", vkmark("desktop"), 5, 2, rate=FPS),
-    Application("vkmark texture, headless", vkmark("texture", "headless"), 5, 2, rate=FPS),
+    Application("vkmark headless", vkmark("texture", "headless"), 5, 2, rate=FPS),
     Application("mpv", mpv(60), 20, 4, rate_command=mpv(60), rate_frames=60),
-    Application("mpv, its first frames", mpv(20), 1, 3),
+    Application("mpv, first frames", mpv(20), 1, 3),
     Application("mpv, three families", mpv(20), 10, 3, layers=FAMILIES),
-    Application("SDL GPU, spinning cube", [SPINNING_CUBE], 20, 4, environment={"SDL_GPU_DRIVER": "vulkan"}, ends=False, rate=SDL_FPS),
-    Application("Qt Quick, shader effects", [SHADER_EFFECTS], 20, 4, environment=QT, ends=False),
+    Application("SDL GPU", [SPINNING_CUBE], 20, 4, environment={"SDL_GPU_DRIVER": "vulkan"}, ends=False, rate=SDL_FPS),
+    Application("Qt Quick", [SHADER_EFFECTS], 20, 4, environment=QT, ends=False),
     Application("GTK fishbowl", ["gtk4-demo", "--run=fishbowl"], 20, 2, environment=GTK, ends=False),
-    Application("GTK widget factory", ["gtk4-widget-factory"], 1, 3, environment=GTK, ends=False),
+    Application("GTK widgets", ["gtk4-widget-factory"], 1, 3, environment=GTK, ends=False),
     Application("vkd3d-gears", ["vkd3d-gears"], 20, 2, ends=False),
     Application("GStreamer vulkansink", gstreamer("vulkansink"), 20, 2),
     Application("GStreamer to memory", gstreamer("video/x-raw(memory:VulkanImage),format=BGRA", "!", "vulkandownload", "!", "fakesink"), 20, 20,
@@ -92,9 +92,9 @@ APPLICATIONS = [
                 rate_command=ffmpeg(60, "-vf", "libplacebo=w=320:h=180"), rate_frames=60),
     Application("FFmpeg libplacebo, three families", ffmpeg(12, "-vf", "libplacebo=w=320:h=180"), 40, 20, unit="submissions", layers=FAMILIES),
     Application("FFmpeg blur", ffmpeg(12, *BLUR), 20, 20, unit="submissions", rate_command=ffmpeg(60, *BLUR), rate_frames=60),
-    Application("OpenGL by zink, shadow", glmark2("shadow", 3), 5, 3, environment=ZINK, rate=FPS, rate_command=glmark2("shadow", RATE_SECONDS)),
-    Application("OpenGL by zink, its first frames", glmark2("shadow", 3), 0, 2, environment=ZINK),
-    Application("OpenGL by zink, terrain", glmark2("terrain", 4), 1, 2, environment=ZINK),
+    Application("zink shadow", glmark2("shadow", 3), 5, 3, environment=ZINK, rate=FPS, rate_command=glmark2("shadow", RATE_SECONDS)),
+    Application("zink, first frames", glmark2("shadow", 3), 0, 2, environment=ZINK),
+    Application("zink terrain", glmark2("terrain", 4), 1, 2, environment=ZINK),
 ]
 
 # Whose a hazard is, by its cause. The file shows the calls of the program itself, so these are the program's.

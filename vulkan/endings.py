@@ -57,6 +57,7 @@ def cases():
         ((), changed(host, '"dst": 0', '"dst": 9'), 2, ".dst: there is no piece 9"),
         ((), action([{"piece": 0, "as": "uniform", "stage": "VERTEX_SHADER"}], [texture]), 2, "piece 0 is an image, which has no such use"),
         ((), action([{"piece": 0, "as": "color"}], [buffer]), 2, "piece 0 is a buffer, which has no such use"),
+        (("--help",), b"", 0, "usage: framec-replay"),
         (("--sync",), example(host), 3, "usage: framec-replay"),
         (("--core",), example(host), 3, "usage: framec-replay"),
         (("/nowhere/file.json",), b"", 4, "/nowhere/file.json: cannot be read"),

@@ -76,17 +76,18 @@ class Rates:
     def row(self):
         cells = [f"{self.middle('without', 'frames'):.1f}"]
         for kind in ("not asked", "recorded"):
-            cells += [f"{self.middle(kind, 'frames'):.1f}", f"{self.share(kind):.2f}", f"{self.share(kind, 'of_processor'):.2f}"]
-        return f"| {self.name} | {len(self.found['without'])} | {' | '.join(cells)} |"
+            cells += [f"{self.share(kind):.2f}", f"{self.share(kind, 'of_processor'):.2f}"]
+        return f"| {self.name} | {' | '.join(cells)} |"
 
 
 def print_rates(rates):
     if not rates:
         return
+    runs = len(rates[0].found["without"])
     load = f"load {min(one.load for one in rates):.0f} to {max(one.load for one in rates):.0f}"
-    print(f"\nFrames a second, medians of runs that alternate, on {len(os.sched_getaffinity(0))} processors, {load}.\n")
-    print("| program | runs | without the layer | not asked | of that without | by processor time | recorded | of that without | "
+    print(f"\nMedians of {runs} runs of each kind that alternate, on {len(os.sched_getaffinity(0))} processors, {load}.\n")
+    print("| program | frames a second without the layer | not asked, as a share | by processor time | recorded, as a share | "
           "by processor time |")
-    print("|---|---|---|---|---|---|---|---|---|")
+    print("|---|---|---|---|---|---|")
     for one in rates:
         print(one.row())

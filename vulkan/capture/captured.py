@@ -137,12 +137,12 @@ def last_barrier(nodes, action, piece):
 
 
 def text_of(node, piece):
-    """A node in a few words."""
+    """A node in a few words: of an action its roles, of a barrier its layouts and its stages."""
     if node.action:
         return f"{node.entry['name']} ({uses_text(node, piece)})"
     entry = node.entry
-    change = f", {entry['from']} to {entry['to']}" if "from" in entry else ""
-    return f"{entry['name']}{change}, from {entry['src_stage'] or 'NONE'} to {entry['dst_stage'] or 'NONE'}"
+    layouts = f", {entry['from']}->{entry['to']}" if "from" in entry else ""
+    return f"{entry['name']}{layouts}, {entry['src_stage'] or 'NONE'}->{entry['dst_stage'] or 'NONE'}"
 
 
 @dataclass

@@ -43,7 +43,17 @@ std::string readbacks(const Program &program, const Resources &resources) {
     return text;
 }
 
+void print(const std::string &text) {
+    std::cout << text << std::flush;
+    if (!std::cout)
+        throw Ended(Ending::write_failed, "standard output: cannot be written");
+}
+
 Ending run(const Options &options) {
+    if (options.help) {
+        print(std::string(usage) + "\n");
+        return Ending::replayed;
+    }
     const Program program = read_program(input(options));
     const auto runs = drain(program, options.reverse ? Direction::highest_first : Direction::lowest_first);
     Messages messages;
@@ -57,9 +67,7 @@ Ending run(const Options &options) {
         Submission(context, options.execution).go(runs);
         text = readbacks(program, resources);
     }
-    std::cout << text << (options.syncval ? messages.text() : "") << std::flush;
-    if (!std::cout)
-        throw Ended(Ending::write_failed, "standard output: cannot be written");
+    print(text + (options.syncval ? messages.text() : ""));
     return messages.empty() ? Ending::replayed : Ending::messages;
 }
 

@@ -8,23 +8,32 @@
 
 namespace replay {
 
-namespace {
-
-constexpr const char *usage = R"(usage: framec-replay [OPTION]... [FILE]
+const char *const usage = R"(usage: framec-replay [OPTION]... [FILE]
 
 Replays a submission file on a Vulkan device, and prints what the host reads. Without FILE standard input is read.
 
-  --families     load the layer that shows three families of several queues
-  --layers DIR   where that layer's manifest stands; else beside this program
-  --syncval      run under Khronos' synchronization validation and print its distinct messages
+  --families     load the layer that shows three families of eight queues
+  --layers DIR   where that layer's manifest stands; else in the build folder
+  --syncval      run under Khronos' synchronization validation; print "messages N", and each
+                 distinct message with its count, name and text
   --core         with --syncval: its other checks too
   --reverse      take the highest queue that can go on first, not the lowest
-  --execution    give each barrier a global one with the same stages and no accesses
+  --execution    put a global barrier with the same stages and no accesses beside each barrier
   --shaders DIR  where compiled shaders are kept; else in the user's cache
   --describe     tell on standard error where each piece is bound
+  --help         print this
 
-status: 0 replayed, 1 the layer gave messages, 2 the file cannot be replayed, 3 these words, 4 a read failed,
-        5 a write failed, 6 the queues are stuck, 7 Vulkan failed, 8 uses that Vulkan cannot make together)";
+status: 0  replayed
+        1  replayed, and the validation layer gave a message
+        2  the file has a fault, or this device cannot take it; the message says what and where
+        3  these words are no command line
+        4  a read failed
+        5  a write failed
+        6  the queues are stuck; nothing was submitted
+        7  Vulkan failed, or the device or a layer is missing
+        8  uses of an action, or of one image, that Vulkan cannot make together)";
+
+namespace {
 
 std::string beside_the_program() { return std::filesystem::read_symlink("/proc/self/exe").parent_path().parent_path() / "families"; }
 
@@ -49,6 +58,8 @@ bool *flag_of(Options &options, std::string_view word) {
         return &options.execution;
     if (word == "--describe")
         return &options.describe;
+    if (word == "--help")
+        return &options.help;
     return nullptr;
 }
 

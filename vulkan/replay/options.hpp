@@ -15,7 +15,10 @@ struct Options {
     bool reverse = false;    // the highest queue first
     bool execution = false;  // each barrier orders more than its resource
     bool describe = false;   // tell where pieces are bound
+    bool help = false;       // print the usage, and do nothing else
 };
+
+extern const char *const usage;
 
 Options read_options(int count, char **words);
 
