@@ -12,9 +12,9 @@ Looked at are README.md, HACKING.md, docs/ and the README.md of each crate, outs
   that a crate of the product hands out has to be named there. In the page's text a clause, or a field of one, has to be there.
 - A sentence of README.md that says "proved" has to name a clause of docs/PROMISES.md.
 - The tables of docs/ARCHITECTURE.md have to have one row for each crate of crates.txt: the crate, and what it does.
-- docs/MODEL.md has to name each file of definitions but those in a folder Internal; files of its reading lists have to be there, with as
-  many lines as it says, without imports. The sum of each list, in tens, stands in its table of lists, and that of all in README.md. --count
-  writes the lines, and prints the sums.
+- The files of docs/MODEL.md's reading lists have to be there, with as many lines as it says, without imports. The sum of each list, in
+  tens, stands in its list of these, and that of all in README.md. --count writes the lines, and prints the sums. (tools/definitions.py
+  lists all files of definitions.)
 """
 
 import re
@@ -194,22 +194,8 @@ def look_at_architecture():
             problem(path, 1, f"crates/{crate} has no README.md")
 
 
-def look_at_model():
-    path = TOP / "docs/MODEL.md"
-    named, last = set(), set()
-    for _, line in lines_of(path):
-        last = set() if line.startswith("#") else last
-        for word in re.findall(r"`(?:crates/)?\w+(?=`|/|::)|[\w.]+", line):
-            last = set(crates_in(f"{word}`")) or last
-            named |= {(crate, word) for crate in last if word.endswith(".antt")}
-    for source in SOURCES:
-        if source.parent.name == "specs" and source.suffix == ".antt" and source.stem not in ("Lib", "Internal"):
-            defines = re.search(r"^(?:pub )?(?:abbrev|record|data)\b", TEXTS[source], re.M)
-            if defines and (crate_of(source), source.name) not in named:
-                problem(path, 1, f"{source.relative_to(TOP)} is not named")
-
-
-READING = re.compile(r"^\| `(\w+/specs/[\w/]+\.antt)` \| (\d+) \|")
+# A file of a reading list, with its lines.
+READING = re.compile(r"`(\w+/specs/[\w/]+\.antt)` \((\d+)\)")
 
 
 def length(name):
@@ -223,14 +209,14 @@ def look_at_reading():
     totals, heading = {}, ""
     for number, line in lines_of(path):
         heading = line if line.startswith("#") else heading
-        found = READING.match(line)
-        if found and (TOP / "crates" / found.group(1)).exists():
-            lines = length(found.group(1))
+        for name, told in READING.findall(line):
+            # (one that is not there is told already)
+            lines = length(name) if (TOP / "crates" / name).exists() else 0
             totals[heading] = totals.get(heading, 0) + lines
-            if lines != int(found.group(2)):
-                problem(path, number, f"{found.group(1)} has {lines} lines")
-    tens = [f"{heading.removeprefix('### For ')} | {(total + 5) // 10 * 10}" for heading, total in totals.items()]
-    if re.findall(r"^\| (.*? \| \d+) \|", path.read_text(encoding="utf-8").split("| list | lines |", 1)[-1].split("\n\n", 1)[0], re.M) != tens:
+            if lines and lines != int(told):
+                problem(path, number, f"{name} has {lines} lines")
+    tens = [f"{heading.removeprefix('### For ')} ({(total + 5) // 10 * 10})" for heading, total in totals.items()]
+    if re.findall(r"^- (.+? \(\d+\))", path.read_text(encoding="utf-8").split("## An afternoon's reading\n", 1)[-1].split("\n## ", 1)[0], re.M) != tens:
         problem(path, 1, f"the reading lists have these lines: {'; '.join(tens)}")
     whole = f"{(sum(totals.values()) + 5) // 10 * 10:,}"
     if f"some {whole} lines" not in (TOP / "README.md").read_text(encoding="utf-8"):
@@ -242,13 +228,15 @@ def count():
     path = TOP / "docs/MODEL.md"
     totals, lines = {}, []
     heading = ""
+
+    def counted(found):
+        lines = length(found[1])
+        totals[heading] = totals.get(heading, 0) + lines
+        return f"`{found[1]}` ({lines})"
+
     for line in path.read_text(encoding="utf-8").splitlines():
         heading = line if line.startswith("#") else heading
-        found = READING.match(line)
-        if found and (TOP / "crates" / found.group(1)).exists():
-            totals[heading] = totals.get(heading, 0) + length(found.group(1))
-            line = line.replace(f"| {found.group(2)} |", f"| {length(found.group(1))} |", 1)
-        lines.append(line)
+        lines.append(READING.sub(counted, line))
     path.write_text("\n".join(lines) + "\n", encoding="utf-8")
     for heading, total in totals.items():
         print(f"{heading.strip('# ')}: {total} lines")
@@ -266,7 +254,6 @@ def main():
         look_at_readme(look_at_promises())
         look_at_calls()
         look_at_architecture()
-        look_at_model()
         look_at_reading()
 
 
