@@ -142,11 +142,10 @@ class Words(Tally):
             for path in (empty, large):
                 self.is_so([*line.split(), str(path)], b"", *answer(self.program, line, path.read_bytes()))
 
-    def shown(self, words, text=b"", shows=True):
-        """Whether a terminal as standard error is shown how far a command is, and it is wiped; the text is as on a pipe."""
+    def shown(self, words, on_terminal, text=b"", shows=True):
+        """Whether the terminal was shown how far a command is, and it is wiped; the text is as on a pipe."""
         self.look()
         status, printed, told = ran(self.program, words, text)
-        on_terminal = terminal(self.program, words, text)
         lines = SHOWN.sub(b"", on_terminal[2])
         if told or on_terminal[:2] != (status, printed):
             self.tell(f"{words}: {(status, printed[:80], told)!r} on a pipe, {on_terminal!r} on a terminal"[:900])
@@ -154,21 +153,20 @@ class Words(Tally):
             self.tell(f"{words}: a terminal is sent {on_terminal[2]!r}"[:900])
 
     def progress(self):
-        long = self.made("long", self.long_frame())
-        for line in (f"run --workers 1 {long}", f"flight --workers 1 {long}"):
-            self.shown(line)
-        self.shown("cull", FRAME.read_bytes(), shows=False)
-        self.shown(f"check {SOUND} {SOUND}", shows=False)
+        for line in ("run --workers 1", "flight --workers 1"):
+            self.shows_at_last(line)
+        for words, text in (("cull", FRAME.read_bytes()), (f"check {SOUND} {SOUND}", b"")):
+            self.shown(words, terminal(self.program, words, text), text, shows=False)
         self.waits()
 
-    def long_frame(self):
-        """The text of a frame that takes a device some seconds."""
+    def shows_at_last(self, line):
+        """Frames that take a device longer and longer, until something is shown: how fast the machine is, is not looked at."""
         for blurs in (4, 16, 64, 250):
-            text, begun = packed(blurred(blurs)) + b"\n", time.monotonic()
-            answer(self.program, "run --workers 1", text)
-            if time.monotonic() - begun > 2.5:
+            words = f"{line} {self.made('long', packed(blurred(blurs)) + bytes([10]))}"
+            on_terminal = terminal(self.program, words)
+            if on_terminal[2]:
                 break
-        return text
+        self.shown(words, on_terminal)
 
     def waits(self):
         """Nothing is shown while standard input is waited for."""
