@@ -5,7 +5,7 @@ use Rattle.check_access.specs.Views.{View}
 use Rattle.check_access_order.specs.Edges.{is_command}
 use Rattle.check_access_order.specs.Order as alone
 use Rattle.check_access_order.specs.Rows.{IsStage}
-use Rattle.check_table.specs.Joined.{Joined, joined, Before, InOrder}
+use Rattle.check_table.specs.Joined.{Joined, joined, Before, EnteredFrom, InOrder}
 
 -- order goes on through what a command does in a stage
 abbrev pub GoesThrough : Joined → Type 0
@@ -14,4 +14,5 @@ GoesThrough W = (n k m stage : ℕ) (a b : Option ℕ) → IsStage stage → is_
 -- of nodes that stand alone it is the order of accesses
 pub record IsSame (V : View) : Type 0 where
   pub before : (x y : ℕ) → Before (joined V.nodes []) x y ↔ alone.Before V x y
+  pub entered : (x m : ℕ) (b : Option ℕ) → EnteredFrom (joined V.nodes []) x m b ↔ ((y : ℕ) × alone.UpTo V x y × alone.EntersIn V.nodes b y m)
   pub in_order : (n m : ℕ) (a b : Option ℕ) → InOrder (joined V.nodes []) n a m b ↔ ((x : ℕ) × (y : ℕ) × alone.LeavesIn V.nodes a n x × alone.UpTo V x y × alone.EntersIn V.nodes b y m)

@@ -8,6 +8,7 @@ mod join;
 mod laws;
 mod laying;
 mod point;
+mod program;
 mod table;
 mod words;
 
@@ -15,4 +16,5 @@ pub use channel::{Channel, Way};
 pub use join::{Join, Role};
 pub use laws::table_laws;
 pub use laying::Seat;
+pub use program::program_table;
 pub use table::{OrderTable, table_of};
