@@ -3,18 +3,19 @@
 ghost use Rattle.std.specs.Prelude.{◌≡◌, IfOk};
 ghost use Rattle.check_program.specs.Internal.Decided.{Decides, Judges};
 ghost use Rattle.check_order.specs.Orders.{IsLeast};
-ghost use Rattle.check_access_order.specs.Rows.{OrderRows};
 ghost use Rattle.check_access_order.specs.Ways.{HasWays};
 ghost use Rattle.check_access.specs.ValidView.{Listed, ValidView};
 ghost use Rattle.check_access.specs.Views.{view_of};
+ghost use Rattle.check_table.specs.Programs.{TableOf};
 
 use crate::Hazard;
 use base::NoMemory;
 use check_access::{NodeAccess, View, node_accesses_of, view_of};
 use check_access_order::order_laws;
-use check_order::{Before, Drain, before_of, drain_of};
+use check_order::{Drain, drain_of};
 use check_state::{first_load_hazard, first_state_hazard};
 use check_sync::first_flaw;
+use check_table::{OrderTable, program_table};
 use program::ValidProgram;
 use std::alloc::Global;
 
@@ -22,16 +23,16 @@ use std::alloc::Global;
 fn first_in_accesses(
     alloc: Global,
     view: &View,
-    before: &Before,
+    table: &OrderTable,
     accesses: &[NodeAccess],
 ) -> Result<Option<Hazard>, NoMemory>
     requires shaped { ValidView view.now }
     requires ways { HasWays view.now }
-    requires rows { OrderRows view.now before.now }
+    requires table { TableOf view.now table.now }
     requires listed { Listed view.now accesses.now }
     ensures { IfOk result (λ found. Decides view.now accesses.now found) }
 {
-    if let Some(sync_hazard) = first_flaw(alloc, view, before, accesses)? {
+    if let Some(sync_hazard) = first_flaw(alloc, view, table, accesses)? {
         return Ok(Some(Hazard::Sync(sync_hazard)));
     }
     if let Some(state_hazard) = first_state_hazard(alloc, view, accesses)? {
@@ -56,9 +57,9 @@ fn first_in_order(
     ensures { IfOk result (Judges program.now) }
 {
     order_laws();
-    let before = before_of(alloc, program, view.edges(), order)?;
+    let table = program_table(alloc, program, view.edges(), order)?;
     let accesses = node_accesses_of(alloc, view, order)?;
-    first_in_accesses(alloc, view, &before, accesses.as_slice())
+    first_in_accesses(alloc, view, &table, accesses.as_slice())
 }
 
 /// The first hazard of a program, or none where it is sound.

@@ -28,7 +28,7 @@ here : (accesses : List NodeAccess) (i : ℕ) → i < length accesses → NodeAc
 here accesses i h = slice_get-get_or accesses i no_node_access h
 
 pub known_at : (V : View) (accesses : List NodeAccess) (i : ℕ) → ValidView V → Listed V accesses → i < length accesses → Known V (node_access_at accesses i)
-known_at V accesses i S L h = let has = L.has i (node_access_at accesses i) (here accesses i h) in record { node = L.node i (node_access_at accesses i) (here accesses i h); piece = S.known (node_access_at accesses i).node has.0 (node_access_at accesses i).access has.1 }
+known_at V accesses i S L h = let has = L.has i (node_access_at accesses i) (here accesses i h) in record { has = has; node = L.node i (node_access_at accesses i) (here accesses i h); piece = S.known (node_access_at accesses i).node has.0 (node_access_at accesses i).access has.1 }
 
 clash_cases : (V : View) (a b : Access) → views.clash V a b ≡ true → ((overlap V a.piece b.piece ≡ true) × ((changes a.kind || changes b.kind) ≡ true)) ⊎ ((a.piece ≡ b.piece) × ((transfers a.kind || transfers b.kind) ≡ true))
 clash_cases V a b h = ⊎_elim

@@ -1,17 +1,11 @@
 -- A program whose pairs are synchronized is synchronized, and one with a flaw is not.
-use Rattle.std.proofs.Common.{◌≡◌, ◌⊎◌, ◌↔◌, inl, inr, ℕ, ◌<◌, true, List, length, slice_get, Option, Some, None, Result, Ok, Err, IfOk, sym, ap, subst, ◌∙◌, ⊎_elim, arith}
+use Rattle.std.proofs.Common.{◌≡◌, ◌⊎◌, inl, inr, ℕ, ◌<◌, true, List, length, slice_get, Option, Some, None, Result, Ok, Err, IfOk, sym, ap, subst, ◌∙◌, ⊎_elim, arith}
 use Rattle.std.proofs.lemmas.Bool.{cases_eq, cases_lt}
 use Rattle.std.proofs.lemmas.Option.{slice_get_within}
 use Rattle.std.specs.Option.{option_map_or}
-use Rattle.check_order.specs.Before.{Reached, happens}
-use Rattle.check_order.specs.Edges.{sync_edge}
-use Rattle.check_order.specs.Nodes.{program_nodes}
 use Rattle.check_order.specs.Orders.{Order}
-use Rattle.base_reach.specs.Paths.{Path}
-use Rattle.program.specs.declared.program.Program.{Program}
-use Rattle.check_access_order.specs.Rows.{OrderRows}
 use Rattle.check_access.specs.ValidView.{ValidView, Has, NodeAccessAt}
-use Rattle.check_access.specs.Views.{View, view_of, node_access, node_accesses_of}
+use Rattle.check_access.specs.Views.{View, node_access, node_accesses_of}
 use Rattle.check_access.specs.declared.access.Access.{Access}
 use Rattle.check_access.specs.declared.node_access.NodeAccess.{NodeAccess}
 use Rattle.check_sync.specs.First.{DecidesSynchronized, FindsFirst, FirstSyncHazard}
@@ -54,7 +48,7 @@ synchronized_all V order S O T = record {
 
 module _ (V : View) (order : List ℕ) (S : ValidView V) (O : Order V.nodes order) where
   known : (j : ℕ) (b : NodeAccess) → NodeAccessAt (node_accesses_of V order) j b → Known V b
-  known j b h = let p = (listed_of V order j b h).1 in record { node = has_within V b.node b.access S p; piece = S.known b.node p.0 b.access p.1 }
+  known j b h = let p = (listed_of V order j b h).1 in record { has = p; node = has_within V b.node b.access S p; piece = S.known b.node p.0 b.access p.1 }
 
   -- a flaw of any two listed accesses
   flaw_against : (flaw : Flaw) (i j : ℕ) (a b : NodeAccess) → NodeAccessAt (node_accesses_of V order) i a → NodeAccessAt (node_accesses_of V order) j b → i < j → Clashing V a.node a.access b.node b.access → Flawed flaw V a b → Synchronized V → ⊥
@@ -79,7 +73,3 @@ decides V accesses (Some sync_hazard) S F order O is = let first = subst (λ l. 
 pub all_decided : {E : Type 0} (V : View) (accesses : List NodeAccess) (result : Result (Option SyncHazard) E) → ValidView V → IfOk result (FindsFirst V accesses) → IfOk result (DecidesSynchronized V accesses)
 all_decided V accesses (Ok found) S F = decides V accesses found S F
 all_decided V accesses (Err n) S F = tt
-
--- rows of a program's synchronizing nodes, by what `before_of` says
-pub rows_of : (P : Program) (V : View) (reached : Reached) → V ≡ view_of P → length reached.places ≡ length (program_nodes P) → ((x y : ℕ) → x < length (program_nodes P) → y < length (program_nodes P) → (happens reached x y ≡ true) ↔ Path (sync_edge (program_nodes P)) x y) → OrderRows V reached
-rows_of P V reached same size paths = subst (λ W. OrderRows W reached) (sym same) (record { size = size; paths = paths })

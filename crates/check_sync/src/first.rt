@@ -7,15 +7,15 @@ ghost use Rattle.check_access.specs.Views.{overlap};
 ghost use Rattle.check_sync.specs.Internal.Chains.{IsIn, Links, BothLinks};
 ghost use Rattle.check_sync.specs.Internal.Places.{node_access_at, piece_of, HasFlaw, IsFirstWith, PlacesSynchronizedBelow, SynchronizedAt};
 ghost use Rattle.check_sync.specs.First.{DecidesSynchronized, FindsFirst};
-ghost use Rattle.check_access_order.specs.Rows.{OrderRows};
 ghost use Rattle.check_access_order.specs.Ways.{HasWays};
+ghost use Rattle.check_table.specs.Programs.{TableOf};
 
 use crate::chain::{Chain, Chains, clashes_with_loads};
 use crate::listing::Listing;
 use crate::{Flaw, SyncHazard};
 use base::NoMemory;
 use check_access::{NodeAccess, View};
-use check_order::Before;
+use check_table::OrderTable;
 use std::alloc::Global;
 
 impl<'a> Listing<'a> {
@@ -142,15 +142,15 @@ impl<'a> Listing<'a> {
 pub fn first_flaw(
     alloc: Global,
     view: &View,
-    before: &Before,
+    table: &OrderTable,
     accesses: &[NodeAccess],
 ) -> Result<Option<SyncHazard>, NoMemory>
     requires shaped { ValidView view.now }
     requires ways { HasWays view.now }
-    requires rows { OrderRows view.now before.now }
+    requires table { TableOf view.now table.now }
     requires listed { Listed view.now accesses.now }
     ensures first { IfOk result (FindsFirst view.now accesses.now) }
     ensures synchronized { IfOk result (DecidesSynchronized view.now accesses.now) }
 {
-    Listing::new(view, before, accesses).first(alloc)
+    Listing::new(view, table, accesses).first(alloc)
 }

@@ -1,9 +1,12 @@
-ghost use Rattle.std.specs.Prelude.{◌≡◌, length, IfOk};
+ghost use Rattle.std.specs.Prelude.{[], IfOk};
 ghost use Rattle.check_order.specs.Nodes.{program_nodes};
+ghost use Rattle.check_table.specs.Joined.{joined};
+ghost use Rattle.check_table.specs.Tables.{IsFilled, IsOrderTable};
 
 use crate::sketched::shaped;
 use base::{List, NoMemory};
 use check_order::*;
+use check_table::{OrderTable, program_table};
 use program::ValidProgram;
 use std::alloc::Global;
 use std::test::Fail;
@@ -22,26 +25,28 @@ fn stuck(alloc: Global, shaped: &ValidProgram) -> Result<(u32, u32), NoMemory> {
     }
 }
 
-// The order of all nodes, and what comes before what.
-fn settled(alloc: Global, shaped: &ValidProgram) -> Result<(List<u32>, Before), NoMemory>
-    ensures { IfOk result (λ found. length found.1.places ≡ length (program_nodes shaped.now)) }
+// The order of all nodes, and the table of what comes before what.
+fn settled(alloc: Global, shaped: &ValidProgram) -> Result<(List<u32>, OrderTable), NoMemory>
+    ensures filled { IfOk result (λ found. IsFilled found.1) }
+    ensures table { IfOk result (λ found. IsOrderTable (joined (program_nodes shaped.now) []) found.1) }
 {
     let edges = direct(alloc, shaped)?;
     match drain_of(alloc, shaped, &edges)? {
         Drain::Stuck { .. } => Err(NoMemory),
         Drain::Whole(order) => {
-            let before = before_of(alloc, shaped, &edges, &order)?;
-            Ok((order, before))
+            let table = program_table(alloc, shaped, &edges, &order)?;
+            Ok((order, table))
         }
     }
 }
 
 // Whether a node comes before another, where both are there.
-fn comes(shaped: &ValidProgram, before: &Before, x: u32, y: u32) -> bool
-    requires { length before.now.places ≡ length (program_nodes shaped.now) }
+fn comes(shaped: &ValidProgram, table: &OrderTable, x: u32, y: u32) -> bool
+    requires filled { IsFilled table.now }
+    requires table { IsOrderTable (joined (program_nodes shaped.now) []) table.now }
 {
     let count = shaped.node_count();
-    x < count && y < count && before.has(x, y)
+    x < count && y < count && table.happens_before(x, y)
 }
 
 // The ring's nodes are, queue by queue, signal, wait, signal; and on the others wait, signal.
@@ -52,8 +57,8 @@ fn drains(rt: HostRuntime) -> Result<(), Fail> {
     let alloc = rt.alloc();
     assert!(&rt; stuck(alloc, &shaped(alloc, CROSSED_WAITS)?)? == (0, 0));
     let ring = shaped(alloc, RING)?;
-    let (order, before) = settled(alloc, &ring)?;
+    let (order, table) = settled(alloc, &ring)?;
     assert!(&rt; order.as_slice() == RING_ORDER.as_slice());
-    assert!(&rt; comes(&ring, &before, 4, 8) && !comes(&ring, &before, 1, 8));
+    assert!(&rt; comes(&ring, &table, 4, 8) && !comes(&ring, &table, 1, 8));
     Ok(())
 }

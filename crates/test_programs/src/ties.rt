@@ -2,8 +2,9 @@ use crate::sketched::shaped;
 use base::NoMemory;
 use check_access::{node_accesses_of, view_of};
 use check_access_order::order_laws;
-use check_order::{Drain, before_of, drain_of};
+use check_order::{Drain, drain_of};
 use check_sync::*;
+use check_table::program_table;
 use program::ValidProgram;
 use std::alloc::Global;
 use std::test::Fail;
@@ -38,9 +39,9 @@ fn sync_hazard(alloc: Global, shaped: &ValidProgram) -> Result<Option<SyncHazard
         Drain::Stuck { .. } => Err(NoMemory),
         Drain::Whole(order) => {
             order_laws();
-            let before = before_of(alloc, shaped, view.edges(), &order)?;
+            let table = program_table(alloc, shaped, view.edges(), &order)?;
             let accesses = node_accesses_of(alloc, &view, &order)?;
-            first_flaw(alloc, &view, &before, &accesses)
+            first_flaw(alloc, &view, &table, &accesses)
         }
     }
 }

@@ -1,6 +1,7 @@
 -- Accesses by their places in an order.
 use Rattle.std.specs.Prelude.{◌≡◌, ℕ, ◌<◌, ◌||◌, Bool, List, get_or, length, None}
 use Rattle.check_access.specs.AccessKinds.{changes, transfers}
+use Rattle.check_access.specs.ValidView.{Has}
 use Rattle.check_access.specs.Views.{View}
 use Rattle.check_access.specs.declared.access.Agent.TheVariants.{Of}
 use Rattle.check_access.specs.declared.access.AccessKind.{AccessKind}
@@ -28,8 +29,9 @@ kind_of accesses i = (node_access_at accesses i).access.kind
 abbrev pub clashes_with_loads : AccessKind → Bool
 clashes_with_loads kind = changes kind || transfers kind
 
--- a node and a piece that are there
+-- an access of its node, and a node and a piece that are there
 pub record Known (V : View) (a : NodeAccess) : Type 0 where
+  pub has : Has V a.node a.access
   pub node : a.node < length V.nodes
   pub piece : a.access.piece < length V.pieces
 

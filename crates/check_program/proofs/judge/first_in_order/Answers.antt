@@ -1,7 +1,7 @@
 use Rattle.std.proofs.Common.{◌≡◌, ◌<◌, ◌∙◌, sym, subst}
 use Rattle.check_program.proofs.Verdicts.{all_judged}
 use Rattle.check_access_order.specs.Ways.{HasWays}
-use Rattle.check_sync.proofs.Whole.{rows_of}
+use Rattle.check_sync.proofs.Tables.{table_in}
 use Rattle.check_access.specs.ValidView.{Listed, ValidView}
 use Rattle.check_access.specs.Views.{view_of, node_accesses_of}
 use Rattle.check_program.proofs.judge.first_in_order.Goals as goal
@@ -14,8 +14,8 @@ first_in_accesses-requires-clause-ways c =
     subst (λ V. HasWays V) (sym c.requires.view)
     (c.order_laws.ensures.ways (view_of c.args.program.now) (subst (λ V. ValidView V) c.requires.view c.requires.shaped) (c.order_laws.ensures.single c.args.program.now))
 
-pub first_in_accesses-requires-clause-rows : goal.first_in_accesses-requires-clause-rows
-first_in_accesses-requires-clause-rows c = rows_of c.args.program.now c.args.view.now c.in_ok-before.before c.requires.view c.in_ok-before.ensures.count c.in_ok-before.ensures.happens
+pub first_in_accesses-requires-clause-table : goal.first_in_accesses-requires-clause-table
+first_in_accesses-requires-clause-table c = table_in c.args.program.now c.args.view.now c.in_ok-table.table c.requires.view c.in_ok-table.ensures.filled c.in_ok-table.ensures.table
 
 pub first_in_accesses-requires-clause-listed : goal.first_in_accesses-requires-clause-listed
 first_in_accesses-requires-clause-listed c =
