@@ -7,8 +7,9 @@ mod channels;
 mod join;
 mod laws;
 mod laying;
+mod of_program;
 mod point;
-mod program;
+mod queues;
 mod table;
 mod words;
 
@@ -16,5 +17,5 @@ pub use channel::{Channel, Way};
 pub use join::{Join, Role};
 pub use laws::table_laws;
 pub use laying::Seat;
-pub use program::program_table;
+pub use of_program::program_table;
 pub use table::{OrderTable, table_of};
