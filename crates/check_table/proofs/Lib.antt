@@ -4,8 +4,10 @@ pub mod Lays
 pub mod Marks
 pub mod Nodes
 pub mod Onto
+pub mod Programs
 pub mod Ready
 pub mod Same
 pub mod Signals
+pub mod Stages
 pub mod Told
 pub mod Turns

@@ -65,6 +65,7 @@ module _ (V : View) where
   pub same : IsSame V
   same = record {
     before = λ x y. (λ p. path_on (edge W) (sync_edge V.nodes) edge_same x y p, λ p. path_on (sync_edge V.nodes) (edge W) (λ x y. sym (edge_same x y)) x y p);
+    entered = λ x m b. (λ h. (h.0, up_same x h.0 h.1, enters_same b h.0 m h.2), λ h. (h.0, same_up x h.0 h.1, same_enters b h.0 m h.2));
     in_order = λ n m a b. (
       λ h. (h.0, h.2.0, leaves_same a n h.0 h.1, up_same h.0 h.2.0 h.2.1, enters_same b h.2.0 m h.2.2),
       λ h. (h.0, same_leaves a n h.0 h.2, (h.1, same_up h.0 h.1 h.3, same_enters b h.1 m h.4)),

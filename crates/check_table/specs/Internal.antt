@@ -2,3 +2,4 @@
 pub mod Asked
 pub mod Channels
 pub mod Laying
+pub mod Queues

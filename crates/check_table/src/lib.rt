@@ -9,6 +9,7 @@ mod laws;
 mod laying;
 mod point;
 mod program;
+mod queues;
 mod table;
 mod words;
 

@@ -10,6 +10,7 @@ ghost use Rattle.check_table.specs.Tables.{HasQueues, IsFilled, IsOrderTable, Is
 
 use crate::channels::{Channels, channels_of};
 use crate::laying::{Line, Seat, lay_all};
+use crate::queues::queues_in_use;
 use crate::{Channel, Join};
 use base::NoMemory;
 use base_first::{Firsts, Point, firsts_of};
@@ -18,7 +19,8 @@ use std::alloc::Global;
 use vk::Stages;
 
 /// The order of accesses, as a table: of each barrier, wait and signal, and of each run of commands in each stage, the first one
-/// reached on each queue in each channel. Its size is that of nodes times queues times channels in use.
+/// reached on each queue in each channel. Its size is that of nodes times queues times channels in use; queues after the last one that
+/// has a node take nothing.
 #[derive(Debug, Drop)]
 pub struct OrderTable {
     pub(crate) points: Vec<Point>,
@@ -80,5 +82,5 @@ pub fn table_of(
 {
     let channels = channels_of(alloc, edges, joins, stages)?;
     let line = lay_all(alloc, edges, joins, &channels.all, channels.stages, order)?;
-    filled(alloc, channels, line, queues)
+    filled(alloc, channels, line, queues_in_use(edges, queues))
 }

@@ -17,7 +17,7 @@ filled-requires-clause-lined c =
     let L : IsLaying W c.args.order.now c.in_ok-channels.channels.all.items c.in_ok-channels.channels.stages (length c.args.order.now) c.in_ok-line.line =
     subst (λ l. IsLaying W c.args.order.now l c.in_ok-channels.channels.stages (length c.args.order.now) c.in_ok-line.line) c.deref.ensures.value c.in_ok-line.ensures in
     let T : Laid = laid_by c.in_ok-line.line c.in_ok-channels.channels.all.items c.in_ok-channels.channels.stages in
-    lined W T c.requires.dependencies c.in_ok-channels.ensures.covers (at_end W c.args.order.now c.requires.order T L.laid) L.size c.args.queues c.requires.queues
+    lined W T c.requires.dependencies c.in_ok-channels.ensures.covers (at_end W c.args.order.now c.requires.order T L.laid) L.size c.queues_in_use.result c.queues_in_use.ensures.queues
 
 pub filled-requires-clause-ready : goal.filled-requires-clause-ready
 filled-requires-clause-ready c =
