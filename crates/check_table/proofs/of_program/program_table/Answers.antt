@@ -6,7 +6,7 @@ use Rattle.check_table.specs.Joined.{joined}
 use Rattle.check_table.specs.Tables.{HasQueues}
 use Rattle.check_table.proofs.Programs.{as_many, made_of, has_queues}
 use Rattle.check_table.proofs.Stages.{five}
-use Rattle.check_table.proofs.program.program_table.Goals as goal
+use Rattle.check_table.proofs.of_program.program_table.Goals as goal
 
 pub table_of-requires-clause-nodes : goal.table_of-requires-clause-nodes
 table_of-requires-clause-nodes c =
