@@ -1,7 +1,4 @@
-pub mod Ends
-pub mod Firsts
 pub mod Forward
-pub mod Joined
 pub mod NodeKinds
 pub mod Singles
 pub mod Sites

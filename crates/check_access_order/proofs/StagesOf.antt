@@ -3,8 +3,7 @@ use Rattle.std.proofs.Common.{inl, inr, ℕ, ◌==◌, Bool, true, false, Option
 use Rattle.check_access.specs.declared.access.Agent.TheVariants as agent
 use Rattle.check_access.specs.declared.access.AccessKind.{AccessKind}
 use Rattle.check_access.specs.declared.access.AccessKind.TheVariants.{Load, Store, Transition, Discard, Release, Acquire}
-use Rattle.check_access_order.specs.Rows.{IsStage}
-use Rattle.check_access_order.specs.Stages.{bit_stage, stage_of}
+use Rattle.check_access_order.specs.Stages.{bit_stage, stage_of, IsStage}
 
 step : (b : Bool) (s t : ℕ) → IsStage s → IsStage t → IsStage (if b then s else t)
 step true s t h g = h

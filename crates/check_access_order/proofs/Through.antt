@@ -10,8 +10,7 @@ use Rattle.check_access_order.proofs.Ways.{at, held_new, waits, lets, up_to_on}
 use Rattle.check_access_order.specs.Laws.{GoesThrough, CutsOff}
 use Rattle.check_access_order.specs.Order.{UpTo, LeavesIn, EntersIn}
 use Rattle.check_access_order.proofs.StagesOf.{IsSome, stage_one}
-use Rattle.check_access_order.specs.Rows.{IsStage}
-use Rattle.check_access_order.specs.Stages.{stage_of}
+use Rattle.check_access_order.specs.Stages.{stage_of, IsStage}
 
 module _ (V : View) where
   none : (a : ℕ) → meets a 0 ≡ true → ⊥

@@ -1,10 +1,7 @@
-pub mod Dependencies
 pub mod Edges
-pub mod Firsts
 pub mod Laws
 pub mod Order
 pub mod Passing
-pub mod Rows
 pub mod Single
 pub mod Stages
 pub mod Ways

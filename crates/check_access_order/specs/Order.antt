@@ -5,6 +5,7 @@ use Rattle.check_order.specs.declared.node.Node.{Node}
 use Rattle.base_reach.specs.Paths.{Path}
 use Rattle.check_access.specs.Views.{View}
 use Rattle.check_access.specs.declared.access.Access.{Access}
+use Rattle.check_access.specs.declared.node_access.NodeAccess.{NodeAccess}
 use Rattle.check_access_order.specs.Edges.{waits_for, lets_in}
 use Rattle.check_access_order.specs.Stages.{stage_of}
 
@@ -33,6 +34,10 @@ Leaves V n a x = LeavesIn V.nodes (stage_of a.kind) n x
 -- node y enters access b of node m
 abbrev pub Enters : View → ℕ → ℕ → Access → Type 0
 Enters V y m b = EntersIn V.nodes (stage_of b.kind) y m
+
+-- from node x on, the access is entered
+abbrev pub EnteredFrom : View → ℕ → NodeAccess → Type 0
+EnteredFrom V x b = (y : ℕ) × UpTo V x y × Enters V y b.node b.access
 
 -- access a of node n is before access b of node m
 abbrev pub InOrder : View → ℕ → Access → ℕ → Access → Type 0

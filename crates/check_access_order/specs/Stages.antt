@@ -1,5 +1,5 @@
 -- In which stage an access is made: that of its agent.
-use Rattle.std.specs.Prelude.{ℕ, ◌*◌, ◌==◌, List, [], ◌∷◌, Option, Some, None, if◌then◌else◌}
+use Rattle.std.specs.Prelude.{◌≡◌, ◌⊎◌, ℕ, ◌*◌, ◌^◌, ◌==◌, List, [], ◌∷◌, Option, Some, None, if◌then◌else◌}
 use Rattle.vk.specs.Agents.{Agent, agent_table}
 use Rattle.check_access.specs.declared.access.Agent as by
 use Rattle.check_access.specs.declared.access.Agent.TheVariants as agent
@@ -28,3 +28,7 @@ stage_of (Transition layouts) = None
 stage_of (Discard layout) = None
 stage_of (Release handover) = None
 stage_of (Acquire handover) = None
+
+-- one stage, or none
+abbrev pub IsStage : ℕ → Type 0
+IsStage s = (s ≡ 0) ⊎ ((bit : ℕ) × (s ≡ 2 ^ bit))

@@ -1,8 +1,7 @@
 //! In which stage an access is made.
 
 ghost use Rattle.std.specs.Prelude.{◌≡◌, option_map, IfSome};
-ghost use Rattle.check_access_order.specs.Rows.{IsStage};
-ghost use Rattle.check_access_order.specs.Stages.{bit_stage, stage_by, stage_of};
+ghost use Rattle.check_access_order.specs.Stages.{bit_stage, stage_by, stage_of, IsStage};
 
 use bitflags::Flags;
 use check_access::{AccessKind, Agent};

@@ -4,7 +4,7 @@ use Rattle.std.proofs.lemmas.Bool.{cases_eq}
 use Rattle.check_order.specs.Edges.{edge, sync_edge}
 use Rattle.check_order.specs.Orders.{Among, before_in, Earlier, Order}
 use Rattle.check_order.specs.declared.node.Node.{Node}
-use Rattle.check_order.proofs.Filling.{edge_within, sync_is_edge}
+use Rattle.check_order.proofs.Within.{edge_within, sync_is_edge}
 use Rattle.base_reach.specs.Paths.{Path, one, then_on}
 
 pub up_to : (u n : ℕ) (list : List ℕ) → u ≡ n → before_in (u ∷ list) n ≡ []

@@ -1,5 +1,4 @@
 pub mod Answers
-pub mod Before
 pub mod Internal
 pub mod Edges
 pub mod Laws

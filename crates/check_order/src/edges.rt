@@ -2,7 +2,7 @@
 
 ghost use Rattle.std.specs.Prelude.{◌≡◌, ◌<◌, ◌≤◌, length, true, IfOk};
 ghost use Rattle.base.specs.Maxima.{max_nodes};
-ghost use Rattle.check_order.specs.Edges.{node_at, is_signal, next_signal, meeting};
+ghost use Rattle.check_order.specs.Edges.{node_at, meeting};
 ghost use Rattle.check_order.specs.Internal.Tables.{link_of};
 ghost use Rattle.check_order.specs.Nodes.{program_nodes};
 
@@ -14,12 +14,12 @@ use program::ValidProgram;
 use std::alloc::Global;
 use std::marker::Model;
 
-/// The direct edges of a program: its nodes, and what signals and waits are joined to. They are not listed, since there can be as
+/// The direct edges of a program: its nodes, and the signals that waits are joined to. They are not listed, since there can be as
 /// many as half the square of the number of nodes.
 #[derive(Debug, Drop)]
 pub struct Edges {
     nodes: List<Node>,
-    // Of a signal the next one of its queue, of a wait the signal that meets it.
+    // Of a wait the signal that meets it.
     links: List<Option<usize>>,
 }
 
@@ -66,15 +66,6 @@ impl Edges {
         ensures { result ≡ link_of self.now n (node_at self.now n).kind }
     {
         self.links[n]
-    }
-
-    /// The next signal of a signal's queue.
-    pub(crate) fn next(&self, n: usize) -> Option<usize>
-        requires n { n < length self.now }
-        requires signal { is_signal (node_at self.now n).kind ≡ true }
-        ensures { result ≡ next_signal self.now n }
-    {
-        self.link(n)
     }
 
     /// The signal that meets a wait.

@@ -1,7 +1,6 @@
 //! What is ordered before what in a program, and the order in which its nodes are taken.
 #![tactic(auto)]
 
-mod before;
 mod drain;
 mod edges;
 mod kind;
@@ -9,7 +8,6 @@ mod laws;
 mod node;
 mod signals;
 
-pub use before::{Before, before_of};
 pub use drain::{Drain, drain_of};
 pub use edges::{Edges, direct};
 pub use kind::Kind;

@@ -2,8 +2,7 @@
 
 ghost use Rattle.std.specs.Prelude.{◌≡◌, ◌≤◌, IfOk, length};
 ghost use Rattle.base.specs.Maxima.{max_nodes};
-ghost use Rattle.check_order.specs.Internal.Filling.{takes_over};
-ghost use Rattle.check_order.specs.Edges.{signals, reaches, sync_holds_back};
+ghost use Rattle.check_order.specs.Edges.{reaches};
 ghost use Rattle.vk.specs.Roles.{op_stage};
 ghost use Rattle.check_order.specs.Nodes.{node, wait_node, barrier_node, item_node, signal_node, host_node, entry_node, program_nodes};
 ghost use Rattle.program.specs.Entries.{seen};
@@ -29,34 +28,11 @@ pub struct Node {
 }
 
 impl Node {
-    /// Whether it is a signal of the queue.
-    pub(crate) fn signals(&self, queue: u32) -> bool
-        ensures { result ≡ signals queue self.now }
-    {
-        self.queue == queue && self.kind.is_signal()
-    }
-
     /// Whether it is a signal of the queue with at least that value.
     pub(crate) fn reaches(&self, queue: u32, value: u64) -> bool
         ensures { result ≡ reaches queue value self.now }
     {
         self.queue == queue && self.kind.has_value(value)
-    }
-
-    /// Whether it holds the other back, where it stands before it on its queue. No command holds back or is held back.
-    pub(crate) fn holds_back(&self, other: &Node) -> bool
-        ensures { result ≡ sync_holds_back self.now other.now }
-    {
-        self.queue == other.queue
-            && (self.kind.is_sync() && other.kind.is_sync())
-            && self.dst_stages.intersects(other.src_stages)
-    }
-
-    /// Whether it is a barrier, wait or signal that holds back all that the other does.
-    pub(crate) fn takes_over(&self, other: &Node) -> bool
-        ensures { result ≡ takes_over self.now other.now }
-    {
-        self.kind.is_sync() && self.dst_stages.contains(other.dst_stages)
     }
 }
 

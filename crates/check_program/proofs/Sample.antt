@@ -17,7 +17,7 @@ use Rattle.check_program.specs.Sound.{IsSound}
 use Rattle.base.specs.Texels.{band, low_bytes}
 use Rattle.check_order.specs.Edges.{edge, is_wait, node_at}
 use Rattle.check_order.specs.Orders.{Among, Order, IsLeast}
-use Rattle.check_order.proofs.Filling.{edge_within}
+use Rattle.check_order.proofs.Within.{edge_within}
 use Rattle.base_reach.specs.Paths.{one, then_on}
 use Rattle.check_state.specs.Initialized.{Initialized, InitializedAt}
 use Rattle.check_state.specs.StateValid.{StateValid, StateValidAt}

@@ -1,11 +1,10 @@
 -- Where nodes that make memory available and visible can be.
 use Rattle.std.proofs.Common.{◌≡◌, inl, inr, ℕ, ◌+◌, ◌<◌, length, Option, Some, None, IfSome, refl, sym, subst, below_more}
 use Rattle.base_reach.specs.Paths.{one, then_on}
-use Rattle.check_order.proofs.Filling.{edge_within, sync_is_edge}
+use Rattle.check_order.proofs.Within.{edge_within, sync_is_edge}
 use Rattle.check_access_order.proofs.Forward.{sync_within}
 use Rattle.check_access_order.proofs.Ways.{waits, lets, up_to_on}
-use Rattle.check_access_order.specs.Order.{LeavesIn, EntersIn}
-use Rattle.check_access_order.specs.Rows.{EnteredFrom}
+use Rattle.check_access_order.specs.Order.{LeavesIn, EntersIn, EnteredFrom}
 use Rattle.check_access_order.specs.Stages.{stage_by, stage_of}
 use Rattle.check_access.specs.declared.access.Agent.TheVariants as agent
 use Rattle.check_access.specs.Views.{View}

@@ -13,8 +13,8 @@ use Rattle.check_access_order.proofs.NodeKinds.{no_command}
 use Rattle.check_access_order.proofs.Sites.{barrier_stage}
 use Rattle.check_access_order.specs.Edges.{is_command}
 use Rattle.check_access_order.specs.Order as alone
-use Rattle.check_access_order.specs.Rows.{IsStage, EnteredFrom}
-use Rattle.check_access_order.specs.Stages.{stage_of}
+use Rattle.check_access_order.specs.Order.{EnteredFrom}
+use Rattle.check_access_order.specs.Stages.{stage_of, IsStage}
 use Rattle.check_sync.specs.Synchronized.{Ordered}
 use Rattle.check_table.specs.Joined.{Joined, joined, Before}
 use Rattle.check_table.specs.Laws.{IsSame}

@@ -4,8 +4,7 @@ ghost use Rattle.std.specs.Prelude.{◌≡◌, ◌↔◌, ◌<◌, length, true}
 ghost use Rattle.check_access.specs.ValidView.{ValidView, Listed};
 ghost use Rattle.check_sync.specs.Internal.Listings.{IsListing};
 ghost use Rattle.check_sync.specs.Internal.Places.{node_access_at, Known};
-ghost use Rattle.check_access_order.specs.Order.{Before as IsBefore};
-ghost use Rattle.check_access_order.specs.Rows.{EnteredFrom};
+ghost use Rattle.check_access_order.specs.Order.{Before as IsBefore, EnteredFrom};
 ghost use Rattle.check_sync.specs.Synchronized.{Ordered};
 ghost use Rattle.check_access_order.specs.Ways.{HasWays};
 ghost use Rattle.check_table.specs.Programs.{TableOf};

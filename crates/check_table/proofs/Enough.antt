@@ -11,7 +11,7 @@ use Rattle.base.proofs.Booleans.{clash}
 use Rattle.vk.specs.Sets.{meets}
 use Rattle.vk.specs.declared.stages.Stages.{Stages}
 use Rattle.check_order.specs.Edges.{is_sync, is_signal, is_wait}
-use Rattle.check_access_order.specs.Rows.{IsStage}
+use Rattle.check_access_order.specs.Stages.{IsStage}
 use Rattle.check_table.specs.Channels.{outs, ins, channel_at, stage_at, MadeOf, Covers}
 use Rattle.check_table.specs.Internal.Channels.{IsUnused, WithUsed}
 use Rattle.check_table.specs.Joined.{Joined, Dependencies, gives, takes, is_release, is_acquire, fits, holds_back}

@@ -12,7 +12,7 @@ use Rattle.base_reach.specs.Paths.{one, then_on}
 use Rattle.check_access_order.proofs.NodeKinds.{meets_by, link_alone}
 use Rattle.check_access_order.specs.Edges as alone
 use Rattle.check_access_order.specs.Edges.{is_command}
-use Rattle.check_access_order.specs.Rows.{IsStage}
+use Rattle.check_access_order.specs.Stages.{IsStage}
 use Rattle.check_table.specs.Laws.{GoesThrough}
 use Rattle.check_table.specs.Joined.{Joined, gives, takes, fits, holds_back, edge, waits_for, lets_in, UpTo, Before, Dependencies, is_barrier}
 

@@ -16,7 +16,7 @@ use Rattle.base_first.specs.Points.{point_at, here, on}
 use Rattle.base_first.proofs.Lasts.{up_on}
 use Rattle.base_reach.specs.Paths.{one, then_on}
 use Rattle.check_access_order.specs.Edges.{is_command}
-use Rattle.check_access_order.specs.Rows.{IsStage}
+use Rattle.check_access_order.specs.Stages.{IsStage}
 use Rattle.check_table.specs.Channels.{outs, ins, outs_by, ins_by, left_way, channel_at, Covers}
 use Rattle.check_table.specs.Joined.{Joined, gives, takes, is_release, is_acquire, holds_back, edge, waits_for, lets_in, UpTo, Before, Dependencies, EnteredFrom, InOrder}
 use Rattle.check_table.specs.Laid.{Laid, IsLaid, IsNode, IsSite, IsRun, WaitsFor, place}

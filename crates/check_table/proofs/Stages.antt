@@ -8,7 +8,7 @@ use Rattle.base.proofs.Booleans.{clash}
 use Rattle.vk.specs.Sets.{has, meets, union_from}
 use Rattle.vk.specs.Stages.{color_attachment_output, compute_shader, host, copy, clear, Stage, stages, stage_part, expand}
 use Rattle.vk.specs.declared.stages.Stages.{Stages}
-use Rattle.check_access_order.specs.Rows.{IsStage}
+use Rattle.check_access_order.specs.Stages.{IsStage}
 use Rattle.check_table.specs.Channels.{stage_at}
 
 abbrev pub five : List Stages

@@ -4,7 +4,7 @@ use Rattle.vk.specs.Sets.{meets}
 use Rattle.vk.specs.declared.stages.Stages.{Stages}
 use Rattle.check_order.specs.Edges.{is_sync, is_signal, is_wait, node_at}
 use Rattle.check_order.specs.declared.node.Node.{Node}
-use Rattle.check_access_order.specs.Rows.{IsStage}
+use Rattle.check_access_order.specs.Stages.{IsStage}
 use Rattle.check_table.specs.Joined.{Joined, gives, takes, is_release, is_acquire, holds_back}
 use Rattle.check_table.specs.declared.channel.Channel.{Channel}
 use Rattle.check_table.specs.declared.channel.Way.{Way}

@@ -4,7 +4,7 @@ use Rattle.check_order.specs.Edges.{node_at}
 use Rattle.check_access.specs.Views.{View}
 use Rattle.check_access_order.specs.Edges.{is_command}
 use Rattle.check_access_order.specs.Order as alone
-use Rattle.check_access_order.specs.Rows.{IsStage}
+use Rattle.check_access_order.specs.Stages.{IsStage}
 use Rattle.check_table.specs.Joined.{Joined, joined, Before, EnteredFrom, InOrder}
 
 -- order goes on through what a command does in a stage

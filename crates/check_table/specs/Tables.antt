@@ -8,7 +8,7 @@ use Rattle.base_first.specs.declared.point.Point.{Point}
 use Rattle.check_order.specs.Edges.{is_host, node_at}
 use Rattle.check_order.specs.declared.node.Node.{Node}
 use Rattle.check_access_order.specs.Edges.{is_command}
-use Rattle.check_access_order.specs.Rows.{IsStage}
+use Rattle.check_access_order.specs.Stages.{IsStage}
 use Rattle.check_table.specs.Channels.{Covers}
 use Rattle.check_table.specs.Joined.{Joined, Dependencies, EnteredFrom, InOrder}
 use Rattle.check_table.specs.Laid.{Laid, IsLaid, seat_at}

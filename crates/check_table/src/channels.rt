@@ -1,7 +1,7 @@
 //! The channels that are in use.
 
 ghost use Rattle.std.specs.Prelude.{◌≡◌, ◌<◌, ◌≤◌, ◌+◌, ◌++◌, ◌∷◌, [], ℕ, List, false, length, IfOk};
-ghost use Rattle.check_access_order.specs.Rows.{IsStage};
+ghost use Rattle.check_access_order.specs.Stages.{IsStage};
 ghost use Rattle.check_table.specs.Channels.{MadeOf, Covers, stage_at, outs, ins};
 ghost use Rattle.check_table.specs.Internal.Channels.{IsUnused, WithUsed};
 ghost use Rattle.check_table.specs.Joined.{joined, Dependencies};

@@ -8,7 +8,7 @@ use Rattle.device_model.specs.States.{is_idle, is_begun, is_done, State, put}
 use Rattle.device_model.specs.declared.phase.Phase.{Phase}
 use Rattle.device_model.specs.declared.phase.Phase.TheVariants.{Idle, Begun, Done}
 use Rattle.device_model.proofs.Formed.{At, at_first, at_rest}
-use Rattle.check_order.proofs.Filling.{edge_within}
+use Rattle.check_order.proofs.Within.{edge_within}
 use Rattle.check_order.specs.Edges.{edge}
 use Rattle.check_order.specs.Orders.{Among}
 use Rattle.check_access.specs.Views.{View}

@@ -9,7 +9,7 @@ use Rattle.base.specs.declared.event.Event.TheVariants.{Begin, End, Sync, Move, 
 use Rattle.device_cache.specs.Lines.{Bytes}
 use Rattle.check_program.specs.Sound.{IsSound}
 use Rattle.check_order.proofs.Bridge.{meets_edge}
-use Rattle.check_order.proofs.Filling.{edge_within}
+use Rattle.check_order.proofs.Within.{edge_within}
 use Rattle.check_order.specs.Edges.{edge, is_sync, is_host, is_wait, has_value, reaches, meeting, node_at}
 use Rattle.check_order.specs.Nodes.{no_node}
 use Rattle.check_order.specs.Orders.{Order}

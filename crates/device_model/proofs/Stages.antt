@@ -16,7 +16,7 @@ use Rattle.std.proofs.lemmas.List.Quantifiers.{position-Some}
 use Rattle.device_model.proofs.SystemOf.{command_at}
 use Rattle.device_model.specs.Ready.{is_command}
 use Rattle.vk.specs.Sets.{meets}
-use Rattle.check_order.proofs.Filling.{edge_within}
+use Rattle.check_order.proofs.Within.{edge_within}
 use Rattle.check_order.specs.Edges.{edge, is_signal, is_host, is_sync, has_value, signals, reaches, node_at, next_signal, meeting, is_at, holds_back, goes_to, signalled}
 use Rattle.check_order.specs.Nodes.{no_node}
 use Rattle.check_order.specs.declared.kind.Kind.{Kind}

@@ -21,7 +21,7 @@ use Rattle.device_model.proofs.SystemOf.{command_at, doing_of, lays_of, hands_of
 use Rattle.std.specs.List.{list_any}
 use Rattle.base.specs.Shapes.{bytes_of}
 use Rattle.vk.specs.declared.layout.Layout.{Layout}
-use Rattle.check_order.proofs.Filling.{edge_within}
+use Rattle.check_order.proofs.Within.{edge_within}
 use Rattle.check_order.specs.Orders as hb
 use Rattle.check_order.specs.Edges.{edge, is_host, is_sync, node_at}
 use Rattle.check_order.specs.declared.kind.Kind.{Kind}

@@ -25,7 +25,7 @@ use Rattle.device_model.specs.Laws.{HoldsImports}
 use Rattle.device_model.specs.States.{is_begun, is_done, State, opened}
 use Rattle.device_model.specs.declared.phase.Phase.TheVariants.{Idle}
 use Rattle.device_model.specs.Steps.{Told, after}
-use Rattle.check_order.proofs.Filling.{edge_within}
+use Rattle.check_order.proofs.Within.{edge_within}
 use Rattle.check_order.specs.Edges.{edge, is_wait, node_at}
 use Rattle.check_order.specs.Orders.{Order}
 use Rattle.check_order.specs.declared.node.Node.{Node}

@@ -5,7 +5,7 @@ use Rattle.std.proofs.lemmas.Bool.{and_parts, and_from, or_cases, or_left, or_ri
 use Rattle.base.proofs.Booleans.{clash}
 use Rattle.base_reach.specs.Paths.{one, then_on}
 use Rattle.vk.specs.Sets.{meets}
-use Rattle.check_order.proofs.Filling.{edge_within}
+use Rattle.check_order.proofs.Within.{edge_within}
 use Rattle.check_order.proofs.InOrder.{sync_is_path}
 use Rattle.check_order.specs.Edges.{is_sync, holds_back, sync_holds_back, edge}
 use Rattle.check_access.specs.Views.{View}

@@ -3,7 +3,7 @@ use Rattle.std.proofs.Common.{◌≡◌, ◌⊎◌, inl, inr, ℕ, zero, suc, �
 use Rattle.std.proofs.lemmas.Bool.{cases_lt, cases_Bool, false≢true, and_parts, and_from, or_cases, or_left, or_right, lt-ltb, ltb-true}
 use Rattle.law_plan.specs.Laws.{OrderGivesLeast}
 use Rattle.check_order.proofs.Bridge.{meets_edge, to_walk, never_false}
-use Rattle.check_order.proofs.Places.{among_before}
+use Rattle.check_order.proofs.Listed.{among_before}
 use Rattle.check_order.proofs.Steps.{Needs, Available, Greedy, WholeWalk, LeastWalk, Whole, add, nothing, placed-in, placed-split, greedy-whole, stuck-walk, walk-earlier, walk-met, walk-once, walk-small}
 use Rattle.check_order.specs.Edges.{edge, is_wait, meeting, node_at}
 use Rattle.check_order.specs.Orders.{Among, Earlier, Order, is_queued}

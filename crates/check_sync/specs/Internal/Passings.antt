@@ -3,8 +3,7 @@ use Rattle.std.specs.Prelude.{ℕ, ◌<◌, length, Option, Some, None}
 use Rattle.check_access.specs.Views.{View}
 use Rattle.check_access.specs.declared.node_access.NodeAccess.{NodeAccess}
 use Rattle.check_sync.specs.Internal.Around.{up_from}
-use Rattle.check_access_order.specs.Order.{UpTo}
-use Rattle.check_access_order.specs.Rows.{EnteredFrom}
+use Rattle.check_access_order.specs.Order.{UpTo, EnteredFrom}
 use Rattle.check_access_order.specs.Passing.{MadeAvailableBy, MadeVisibleBy, Available, Passed}
 use Rattle.check_sync.specs.declared.sync_hazard.Flaw.{Flaw}
 use Rattle.check_sync.specs.declared.sync_hazard.Flaw.TheVariants.{Unordered, NotAvailable, NotVisible}

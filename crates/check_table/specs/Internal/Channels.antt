@@ -1,7 +1,7 @@
 -- Channels that are in use are put into a list.
 use Rattle.std.specs.Prelude.{◌≡◌, ◌⊎◌, ℕ, ◌+◌, ◌<◌, ◌≤◌, true, List, length}
 use Rattle.vk.specs.declared.stages.Stages.{Stages}
-use Rattle.check_access_order.specs.Rows.{IsStage}
+use Rattle.check_access_order.specs.Stages.{IsStage}
 use Rattle.check_table.specs.Channels.{outs, ins, channel_at, stage_at}
 use Rattle.check_table.specs.Joined.{Joined}
 use Rattle.check_table.specs.declared.channel.Channel.{Channel}

@@ -1,5 +1,3 @@
-use Rattle.check_access_order.proofs.Joined.{meets_around, cuts_off_behind, nothing_joined}
-use Rattle.check_access_order.proofs.Firsts.{first_decides}
 use Rattle.check_access_order.proofs.Forward.{order_forward, ways}
 use Rattle.check_access_order.proofs.Singles.{single}
 use Rattle.check_access_order.proofs.Through.{goes_through, cuts_off}
@@ -19,15 +17,3 @@ returns-clause-ways c = ways
 
 pub returns-clause-earlier : goal.returns-clause-earlier
 returns-clause-earlier c = λ V A order O n m a b hb apart h. order_forward V A order O n m a b hb apart h
-
-pub returns-clause-first_reached : goal.returns-clause-first_reached
-returns-clause-first_reached c = first_decides
-
-pub returns-clause-around : goal.returns-clause-around
-returns-clause-around c = meets_around
-
-pub returns-clause-behind : goal.returns-clause-behind
-returns-clause-behind c = cuts_off_behind
-
-pub returns-clause-joined : goal.returns-clause-joined
-returns-clause-joined c = nothing_joined

@@ -1,6 +1,6 @@
 use Rattle.std.proofs.Common.{sym, subst}
 use Rattle.check_access_order.proofs.StagesOf.{bit_one}
-use Rattle.check_access_order.specs.Rows.{IsStage}
+use Rattle.check_access_order.specs.Stages.{IsStage}
 use Rattle.check_access_order.proofs.stages.stage_by.Goals as goal
 
 pub returns-in-Of-clause-one : goal.returns-in-Of-clause-one

@@ -1,5 +1,5 @@
 use Rattle.std.proofs.Common.{[], length, refl, ap, ◌∙◌, sym, subst, arith}
-use Rattle.check_order.proofs.Places.{order_few}
+use Rattle.check_order.proofs.Listed.{order_few}
 use Rattle.check_order.specs.Nodes.{program_nodes}
 use Rattle.check_table.specs.Channels.{MadeOf}
 use Rattle.check_table.specs.Joined.{joined}

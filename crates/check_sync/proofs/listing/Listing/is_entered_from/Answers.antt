@@ -1,5 +1,5 @@
 use Rattle.std.proofs.Common.{◌≡◌, ◌↔◌, ◌<◌, true, length, sym, subst}
-use Rattle.check_access_order.specs.Rows.{EnteredFrom}
+use Rattle.check_access_order.specs.Order.{EnteredFrom}
 use Rattle.check_sync.specs.Internal.Places.{Known}
 use Rattle.check_sync.proofs.Tables.{entered}
 use Rattle.check_sync.proofs.listing.Listing.is_entered_from.Goals as goal
