@@ -1,5 +1,6 @@
 pub mod Bits
 pub mod Orders
+mod Rows
 pub mod Same
 pub mod Sound
 pub mod States
