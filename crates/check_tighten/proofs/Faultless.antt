@@ -1,9 +1,9 @@
 -- A program with another wait at a place breaks the same rules, if the two waits do.
-use Rattle.std.proofs.Common.{◌≡◌, ◌∙◌, ◌+◌, ℕ, zero, suc, Bool, not, nat_lt, nat_le, List, [], ◌∷◌, length, take, slice_get, slice_set, Option, Some, None, Result, max, cond, refl, subst, sym, ap, ap₂, arith, if◌then◌else◌}
+use Rattle.std.proofs.Common.{◌≡◌, ◌∙◌, ◌+◌, ℕ, zero, suc, Bool, not, nat_lt, nat_le, List, [], ◌∷◌, length, take, slice_get, slice_set, Option, Some, None, Result, max, cond, refl, subst, sym, ap, arith, if◌then◌else◌}
 use Rattle.std.proofs.Math.Path.{fun_ext}
 use Rattle.std.specs.List.{position, position_or_len}
 use Rattle.std.specs.Option.{option_or, option_map}
-use Rattle.base.proofs.Absence.{some_same, none_some}
+use Rattle.base.proofs.Absence.{some_same}
 use Rattle.base.specs.Bounds.{is_between}
 use Rattle.base.specs.Broken.{of_rule}
 use Rattle.base.specs.Maxima.{max_queues, max_memories, max_pieces, max_nodes, max_rects, max_readbacks}
@@ -13,10 +13,10 @@ use Rattle.base.specs.declared.broken.Broken.{Broken}
 use Rattle.base.specs.declared.limit.Limit.TheVariants as limits
 use Rattle.base.specs.declared.shape.Shape.{Shape}
 use Rattle.program.specs.Entries.{entries_of}
-use Rattle.program.specs.FirstFault.{rule_broken, rules_broken, first_broken, first_fault}
-use Rattle.program.specs.Limits.{over, spend_batch, spend_queue, rects_over, count_broken, size_broken, limit_broken}
+use Rattle.program.specs.FirstFault.{rule_broken, rules_broken, first_fault}
+use Rattle.program.specs.Limits.{over, spend_batch, spend_queue, rects_over, size_broken, limit_broken}
 use Rattle.program.specs.Paths.{fault_of}
-use Rattle.program.specs.Rules.{piece_obeys, wait_obeys, item_obeys, readback_obeys, signal_place, batch_place, next_place, queue_place, shapes_of, broken_at}
+use Rattle.program.specs.Rules.{piece_obeys, wait_obeys, item_obeys, readback_obeys, signal_place, batch_place, next_place, queue_place, shapes_of}
 use Rattle.program.specs.Timelines.{value_of, highest}
 use Rattle.program.specs.declared.location.Location.{Location}
 use Rattle.program.specs.declared.location.Location.TheVariants as places

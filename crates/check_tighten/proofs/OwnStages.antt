@@ -66,8 +66,8 @@ module _ (program : Program) (q b k : ℕ) (queue : Queue) (batch : Batch) (wait
     sound = (
       passes.sound.0,
       sound_on (view_of program) (view_of edited)
-      (seen_alike_wholly program q b k queue batch wait at valid (entries_obey program rules.OnQueue (obeyed rules.OnQueue)) (entries_obey program rules.Runs (obeyed rules.Runs)) on)
-      passes.sound.0 passes.sound.1,
+          (seen_alike_wholly program q b k queue batch wait at valid (entries_obey program rules.OnQueue (obeyed rules.OnQueue)) (entries_obey program rules.Runs (obeyed rules.Runs)) on)
+          passes.sound.0 passes.sound.1,
     );
   }
 

@@ -1,5 +1,5 @@
 -- A program is seen alike with a wait's own stages alone.
-use Rattle.std.proofs.Common.{◌≡◌, ◌⊎◌, ◌↔◌, inl, inr, ◌∙◌, ◌<◌, ◌≤◌, ◌==◌, ◌&&◌, ◌||◌, ◌^◌, ℕ, zero, suc, Bool, true, false, not, nat_lt, List, [], ◌∷◌, length, map, get_or, slice_get, slice_set, Some, None, bit_or, refl, subst, sym, ap, ⊎_elim, eqb-true, arith, if◌then◌else◌}
+use Rattle.std.proofs.Common.{◌≡◌, ◌⊎◌, ◌↔◌, inl, inr, ◌∙◌, ◌<◌, ◌≤◌, ◌==◌, ◌&&◌, ◌||◌, ◌^◌, ℕ, zero, suc, Bool, true, false, not, nat_lt, List, [], ◌∷◌, length, map, get_or, slice_get, slice_set, Some, refl, subst, sym, ap, ⊎_elim, eqb-true, arith}
 use Rattle.std.proofs.lemmas.Bool.{and_parts, cases_lt}
 use Rattle.std.proofs.lemmas.List.{get_or-map, get_or_past, length-map}
 use Rattle.std.proofs.lemmas.Nat.{pow_pos}
@@ -8,13 +8,12 @@ use Rattle.std.specs.List.{All}
 use Rattle.base.proofs.Absence.{some_same, none_some}
 use Rattle.base.specs.declared.shape.Family.{Family}
 use Rattle.base.specs.declared.shape.Shape.{Shape}
-use Rattle.vk.specs.Agents.{host_agent}
 use Rattle.vk.specs.Families.{family_number, on_family}
 use Rattle.vk.specs.Roles.{op_stage}
 use Rattle.vk.specs.Sets.{meets}
 use Rattle.vk.specs.Stages.{expand, host}
 use Rattle.vk.specs.declared.masks.Masks.{Masks}
-use Rattle.program.specs.Barriers.{both_on_family, masks_are, on_queue}
+use Rattle.program.specs.Barriers.{both_on_family, masks_are}
 use Rattle.program.specs.Entries.{Entry, OfWait, OfItem, OfSignal, OfHost, entries_of}
 use Rattle.program.specs.Obeys.{EntryObeys}
 use Rattle.program.specs.Rules.{item_runs, shapes_of}
@@ -26,7 +25,7 @@ use Rattle.program.specs.declared.program.Queue.{Queue}
 use Rattle.program.specs.declared.program.WaitFor.{WaitFor}
 use Rattle.program.specs.declared.rule.Rule.TheVariants as rules
 use Rattle.check_order.specs.Edges.{is_sync, node_at, signalled, meeting, is_at, holds_back, sync_holds_back, edge, sync_edge}
-use Rattle.check_order.specs.Nodes.{entry_node, no_node, wait_node, program_nodes}
+use Rattle.check_order.specs.Nodes.{entry_node, no_node, wait_node}
 use Rattle.check_order.specs.declared.kind.Kind.TheVariants as kinds
 use Rattle.check_order.specs.declared.node.Node.{Node}
 use Rattle.check_access.specs.Effects.{all_agents, wait_effect, entry_effect, no_effect}
@@ -41,14 +40,13 @@ use Rattle.check_access.specs.declared.access.Agent.TheVariants as agents
 use Rattle.check_access.specs.declared.effect.Effect.{Effect}
 use Rattle.check_access_order.proofs.NodeKinds.{is_the_command}
 use Rattle.check_access_order.proofs.Singles.{single}
-use Rattle.check_access_order.proofs.Sites.{ByCommand, Site, site, barrier_stage, has_within}
+use Rattle.check_access_order.proofs.Sites.{Site, site, barrier_stage, has_within}
 use Rattle.check_access_order.specs.Edges.{waits_for, lets_in}
 use Rattle.check_access_order.specs.Passing.{FlushedBy, ShownBy}
-use Rattle.check_access_order.specs.Stages.{bit_stage, stage_by, stage_of}
+use Rattle.check_access_order.specs.Stages.{bit_stage, stage_of}
 use Rattle.law_alike.proofs.Bits.{AgentBit, known_bit}
 use Rattle.law_alike.proofs.Same.{Like, Likes, node_like, link_same, meeting_of, length_same}
-use Rattle.law_alike.specs.Alike.{Alike}
-use Rattle.law_alike.specs.Wholly.{NodesAlike, WhollyAlike}
+use Rattle.law_alike.specs.Wholly.{WhollyAlike}
 use Rattle.check_tighten.specs.Edits.{queue_with, program_with}
 use Rattle.check_tighten.specs.Own.{own_stages, fitted}
 use Rattle.check_tighten.specs.Standing.{Pairwise}
@@ -162,7 +160,7 @@ agent_listed (suc (suc (suc (suc (suc zero))))) lt = refl
 agent_listed (suc (suc (suc (suc (suc (suc zero)))))) lt = refl
 agent_listed (suc (suc (suc (suc (suc (suc (suc zero))))))) lt = refl
 agent_listed (suc (suc (suc (suc (suc (suc (suc (suc zero)))))))) lt = refl
-agent_listed (suc (suc (suc (suc (suc (suc (suc (suc (suc k)))))))) ) lt = absurd (omega (arith, lt))
+agent_listed (suc (suc (suc (suc (suc (suc (suc (suc (suc k))))))))) lt = absurd (omega (arith, lt))
 
 module _ (program : Program) (q b k : ℕ) (queue : Queue) (batch : Batch) (wait : WaitFor) (at : WaitAt program q b k queue batch wait)
     (A : ValidView (view_of program)) (obeys : All (EntryObeys rules.OnQueue program) (entries_of program)) (runs : All (EntryObeys rules.Runs program) (entries_of program))

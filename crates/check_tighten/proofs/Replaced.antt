@@ -1,5 +1,5 @@
 -- A program with another wait at a place: its entries but for one are the same.
-use Rattle.std.proofs.Common.{◌≡◌, ◌⊎◌, inl, inr, ◌∙◌, ◌+◌, ℕ, zero, suc, List, [], ◌∷◌, ◌++◌, length, map, slice_get, slice_set, get_or, Some, None, option_to_list, refl, subst, sym, ap, ap₂, arith}
+use Rattle.std.proofs.Common.{◌≡◌, ◌⊎◌, inl, inr, ◌+◌, ℕ, zero, suc, List, [], ◌∷◌, ◌++◌, length, map, slice_get, slice_set, Some, option_to_list, refl, subst, sym, ap, arith}
 use Rattle.std.specs.List.{flat_map}
 use Rattle.base.proofs.Absence.{some_same, none_some}
 use Rattle.program.specs.Entries.{Entry, OfWait, OfItem, OfSignal, OfHost, batch_entries, queue_entries, entries_of}

@@ -1,5 +1,5 @@
 -- Worked rows.
-use Rattle.std.proofs.Common.{◌≡◌, ℕ, true, false, [], ◌∷◌, refl, sym}
+use Rattle.std.proofs.Common.{ℕ, [], ◌∷◌, refl, sym}
 use Rattle.base.proofs.Booleans.{clash}
 use Rattle.vk.specs.Stages.{copy, clear}
 use Rattle.check_access.specs.Views.{View}

@@ -1,5 +1,5 @@
 -- Views that are wholly alike are sound alike.
-use Rattle.std.proofs.Common.{◌↔◌, ℕ, List, sym, subst}
+use Rattle.std.proofs.Common.{ℕ, List, sym, subst}
 use Rattle.check_access.specs.Views.{View, node_accesses_of}
 use Rattle.check_program.specs.Sound.{Sound}
 use Rattle.check_state.specs.Initialized.{Initialized}

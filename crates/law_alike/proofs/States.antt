@@ -4,11 +4,10 @@ use Rattle.std.proofs.Math.Path.{fun_ext}
 use Rattle.std.specs.List.{find, flat_map, list_any}
 use Rattle.std.specs.Option.{option_map_or}
 use Rattle.std.specs.Prelude.{map}
-use Rattle.base.specs.declared.shape.Family.{Family}
 use Rattle.vk.specs.Sharings.{is_shared}
 use Rattle.check_order.specs.Edges.{is_host, node_at}
 use Rattle.check_access.specs.AccessKinds.{changes, sets_owner, is_discard, is_acquire}
-use Rattle.check_access.specs.Views.{View, accesses_of, queue_at, family_at, no_piece, pieces_overlap, node_access, node_accesses_of}
+use Rattle.check_access.specs.Views.{View, queue_at, family_at, no_piece, pieces_overlap, node_access, node_accesses_of}
 use Rattle.check_access.specs.declared.node_access.NodeAccess.{NodeAccess}
 use Rattle.check_state.specs.Initialized.{Initializes, Initialized}
 use Rattle.check_state.specs.PieceStates.{last_that, last_on, owner_after, on_queue, first_owner, found_owner, last_change}
