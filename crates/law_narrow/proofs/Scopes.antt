@@ -13,7 +13,7 @@ use Rattle.vk.specs.Agents.{host_agent}
 use Rattle.vk.specs.Accesses.{accesses as access_rows, Access as AccessRow}
 use Rattle.base.specs.declared.shape.Shape.{Shape}
 use Rattle.check_access.specs.ValidView.{ValidView, Has}
-use Rattle.std.proofs.Common.{◌≡◌, ◌⊎◌, ◌↔◌, inl, inr, ℕ, ◌<◌, ◌≤◌, Bool, true, false, ◌||◌, ◌&&◌, ◌==◌, nat_lt, not, length, get_or, Some, bit_or, if◌then◌else◌, refl, sym, ap, ◌∙◌, subst, ⊎_elim, List, [], ◌∷◌, None, ◌^◌, eqb-true, arith}
+use Rattle.std.proofs.Common.{◌≡◌, ◌⊎◌, ◌↔◌, inl, inr, ℕ, ◌<◌, ◌≤◌, Bool, true, false, ◌||◌, ◌&&◌, ◌==◌, nat_lt, not, length, get_or, Some, bit_or, if◌then◌else◌, refl, sym, ap, ◌∙◌, subst, ⊎_elim, List, [], ◌∷◌, None, ◌^◌, arith}
 use Rattle.std.proofs.lemmas.Bool.{and_parts, cases_lt}
 use Rattle.std.proofs.lemmas.List.{get_or-map, get_or_past, length-map}
 use Rattle.std.specs.List.{All, list_all}
