@@ -45,14 +45,14 @@ whole_mask needed = let e = needed.others in absurd cc
 strange_stage : NeededAt empty 0 0 0 (record { family = Compute; batches = [] }) (record { waits = []; items = []; signal = None }) (wait 1 3 (color_attachment_output + compute_shader)) → ⊥
 strange_stage needed = let e = needed.others in absurd cc
 
--- what is left holds back the same of each queue: two masks of all commands meet by what the family has, or by none
+-- own stages meet alike what another mask of the family stands for
 all_alike : meets (expand all_commands) (expand all_commands) ≡ meets (own_stages Transfer all_commands) (expand all_commands)
 all_alike = meets_mask Transfer all_commands all_commands refl refl
 
 shader_alike : meets (expand all_commands) compute_shader ≡ true
 shader_alike = refl
 
--- which a shader on a queue of transfers would not be, if it could run there
+-- a shader they would not meet, but none runs on that queue
 shader_lost : meets (own_stages Transfer all_commands) compute_shader ≡ false
 shader_lost = refl
 
