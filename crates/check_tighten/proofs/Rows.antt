@@ -1,5 +1,6 @@
 -- Worked rows.
-use Rattle.std.proofs.Common.{◌≡◌, ◌+◌, inl, inr, ℕ, true, false, [], ◌∷◌, None, refl}
+use Rattle.std.proofs.Common.{◌≡◌, ◌+◌, ◌==◌, inl, inr, ℕ, true, false, [], ◌∷◌, None, refl, sym, ap}
+use Rattle.base.proofs.Booleans.{clash}
 use Rattle.base.specs.declared.shape.Family.TheVariants.{Graphics, Compute, Transfer}
 use Rattle.vk.specs.Sets.{meets}
 use Rattle.vk.specs.Stages.{expand, all_commands, all_transfer, color_attachment_output, compute_shader, copy, clear}
@@ -40,10 +41,10 @@ last_less = refl
 
 -- so a mask of all commands is not left, nor one with a stage that its queue lacks
 whole_mask : NeededAt empty 0 0 0 (record { family = Transfer; batches = [] }) (record { waits = []; items = []; signal = None }) (wait 1 3 all_commands) → ⊥
-whole_mask needed = let e = needed.others in absurd cc
+whole_mask needed = clash (sym (ap (λ set. set == all_commands) needed.others))
 
 strange_stage : NeededAt empty 0 0 0 (record { family = Compute; batches = [] }) (record { waits = []; items = []; signal = None }) (wait 1 3 (color_attachment_output + compute_shader)) → ⊥
-strange_stage needed = let e = needed.others in absurd cc
+strange_stage needed = clash (sym (ap (λ set. set == color_attachment_output + compute_shader) needed.others))
 
 -- own stages meet alike what another mask of the family stands for
 all_alike : meets (expand all_commands) (expand all_commands) ≡ meets (own_stages Transfer all_commands) (expand all_commands)
