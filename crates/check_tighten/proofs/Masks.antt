@@ -28,43 +28,50 @@ has_then a b c ab bc =
 -- EVERY MASK
 
 -- for both truth values
-abbrev every : (Bool → Bool) → Bool
+abbrev pub every : (Bool → Bool) → Bool
 every f = f true && f false
 
 each : (f : Bool → Bool) (b : Bool) → every f ≡ true → f b ≡ true
 each f true e = (both (f true) (f false) e).0
 each f false e = (both (f true) (f false) e).1
 
-abbrev part : Bool → ℕ → ℕ
+abbrev pub part : Bool → ℕ → ℕ
 part there stands_for = if there then stands_for else 0
 
 -- what a mask stands for, by which of the seven stages it has
-abbrev stands : Bool → Bool → Bool → Bool → Bool → Bool → Bool → ℕ
+abbrev pub stands : Bool → Bool → Bool → Bool → Bool → Bool → Bool → ℕ
 stands a b c d e f g =
     bit_or (bit_or (bit_or (bit_or (bit_or (bit_or (bit_or 0 (part a color_attachment_output)) (part b compute_shader)) (part c (bit_or copy clear))) (part d host))
     (part e (bit_or (bit_or (bit_or color_attachment_output compute_shader) copy) clear))) (part f copy)) (part g clear)
 
 -- the union of single stages
-abbrev five : Bool → Bool → Bool → Bool → Bool → ℕ
+abbrev pub five : Bool → Bool → Bool → Bool → Bool → ℕ
 five a b c d e = bit_or (bit_or (bit_or (bit_or (bit_or 0 (part a color_attachment_output)) (part b compute_shader)) (part c host)) (part d copy)) (part e clear)
 
 abbrev is_union : ℕ → Bool
 is_union set = set == five (has set color_attachment_output) (has set compute_shader) (has set host) (has set copy) (has set clear)
 
-all_unions : every (λ a. every (λ b. every (λ c. every (λ d. every (λ e. every (λ f. every (λ g. is_union (stands a b c d e f g)))))))) ≡ true
+-- a test of every choice of the seven stages
+abbrev pub for_all_seven : (Bool → Bool → Bool → Bool → Bool → Bool → Bool → Bool) → Bool
+for_all_seven test = every (λ a. every (λ b. every (λ c. every (λ d. every (λ e. every (λ f. every (λ g. test a b c d e f g)))))))
+
+pub all_seven : (test : Bool → Bool → Bool → Bool → Bool → Bool → Bool → Bool) → for_all_seven test ≡ true → (a b c d e f g : Bool) → test a b c d e f g ≡ true
+all_seven test all a b c d e f g =
+    each (λ g. test a b c d e f g) g
+    (each (λ f. every (λ g. test a b c d e f g)) f
+    (each (λ e. every (λ f. every (λ g. test a b c d e f g))) e
+    (each (λ d. every (λ e. every (λ f. every (λ g. test a b c d e f g)))) d
+    (each (λ c. every (λ d. every (λ e. every (λ f. every (λ g. test a b c d e f g))))) c
+    (each (λ b. every (λ c. every (λ d. every (λ e. every (λ f. every (λ g. test a b c d e f g)))))) b
+    (each (λ a. every (λ b. every (λ c. every (λ d. every (λ e. every (λ f. every (λ g. test a b c d e f g))))))) a all))))))
+
+all_unions : for_all_seven (λ a b c d e f g. is_union (stands a b c d e f g)) ≡ true
 all_unions = refl
 
 union_for : (a b c d e f g : Bool) → is_union (stands a b c d e f g) ≡ true
-union_for a b c d e f g =
-    each (λ g. is_union (stands a b c d e f g)) g
-    (each (λ f. every (λ g. is_union (stands a b c d e f g))) f
-    (each (λ e. every (λ f. every (λ g. is_union (stands a b c d e f g)))) e
-    (each (λ d. every (λ e. every (λ f. every (λ g. is_union (stands a b c d e f g))))) d
-    (each (λ c. every (λ d. every (λ e. every (λ f. every (λ g. is_union (stands a b c d e f g)))))) c
-    (each (λ b. every (λ c. every (λ d. every (λ e. every (λ f. every (λ g. is_union (stands a b c d e f g))))))) b
-    (each (λ a. every (λ b. every (λ c. every (λ d. every (λ e. every (λ f. every (λ g. is_union (stands a b c d e f g)))))))) a all_unions))))))
+union_for = all_seven (λ a b c d e f g. is_union (stands a b c d e f g)) all_unions
 
-as_stands : (set : ℕ) → expand set ≡ stands (has set color_attachment_output) (has set compute_shader) (has set all_transfer) (has set host) (has set all_commands) (has set copy) (has set clear)
+pub as_stands : (set : ℕ) → expand set ≡ stands (has set color_attachment_output) (has set compute_shader) (has set all_transfer) (has set host) (has set all_commands) (has set copy) (has set clear)
 as_stands set = refl
 
 expand_is : (set : ℕ) → expand set ≡ five (has (expand set) color_attachment_output) (has (expand set) compute_shader) (has (expand set) host) (has (expand set) copy) (has (expand set) clear)
@@ -73,7 +80,7 @@ expand_is set =
     (subst (λ s. is_union s ≡ true) (sym (as_stands set)) (union_for (has set color_attachment_output) (has set compute_shader) (has set all_transfer) (has set host) (has set all_commands) (has set copy) (has set clear)))
 
 -- a test of every union of single stages
-abbrev for_all : (ℕ → Bool) → Bool
+abbrev pub for_all : (ℕ → Bool) → Bool
 for_all test = every (λ a. every (λ b. every (λ c. every (λ d. every (λ e. test (five a b c d e))))))
 
 all_five : (test : ℕ → Bool) → for_all test ≡ true → (a b c d e : Bool) → test (five a b c d e) ≡ true
@@ -85,13 +92,13 @@ all_five test all a b c d e =
     (each (λ a. every (λ b. every (λ c. every (λ d. every (λ e. test (five a b c d e)))))) a all))))
 
 -- holds of what a mask stands for
-at_mask : (test : ℕ → Bool) → for_all test ≡ true → (set : ℕ) → test (expand set) ≡ true
+pub at_mask : (test : ℕ → Bool) → for_all test ≡ true → (set : ℕ) → test (expand set) ≡ true
 at_mask test all set = subst (λ s. test s ≡ true) (sym (expand_is set)) (all_five test all (has (expand set) color_attachment_output) (has (expand set) compute_shader) (has (expand set) host) (has (expand set) copy) (has (expand set) clear))
 
 -- OWN STAGES
 
 -- of the stages that a mask stands for
-abbrev owned : Family → ℕ → ℕ
+abbrev pub owned : Family → ℕ → ℕ
 owned family stages = union_over (λ stage. if has stages stage && on_family stage (family_number family) then stage else 0) single_stages
 
 abbrev inside : ℕ → ℕ → Bool
@@ -117,7 +124,7 @@ all_fall Graphics = refl
 all_fall Compute = refl
 all_fall Transfer = refl
 
-in_list : (test : ℕ → Bool) (list : List ℕ) (i x : ℕ) → list_all test list ≡ true → slice_get list i ≡ Some x → test x ≡ true
+pub in_list : (test : ℕ → Bool) (list : List ℕ) (i x : ℕ) → list_all test list ≡ true → slice_get list i ≡ Some x → test x ≡ true
 in_list test [] i x all at = absurd cc
 in_list test (y ∷ list) zero x all at = let e : y ≡ x = cc in subst (λ z. test z ≡ true) e (both (test y) (list_all test list) all).0
 in_list test (y ∷ list) (suc i) x all at = in_list test list i x (both (test y) (list_all test list) all).1 at
@@ -139,7 +146,7 @@ without_inside family set i stage at = (both (inside (expand set) (without 64 (o
 
 -- MASKS WEIGH LESS
 
-there : (a b : Bool) → (not a || b) ≡ true → a ≡ true → b ≡ true
+pub there : (a b : Bool) → (not a || b) ≡ true → a ≡ true → b ≡ true
 there true b e f = e
 there false b e f = absurd cc
 

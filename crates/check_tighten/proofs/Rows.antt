@@ -1,13 +1,20 @@
 -- Worked rows.
-use Rattle.std.proofs.Common.{◌≡◌, ◌+◌, inl, inr, ℕ, [], ◌∷◌, refl}
+use Rattle.std.proofs.Common.{◌≡◌, ◌+◌, ◌==◌, inl, inr, ℕ, true, false, [], ◌∷◌, None, refl, sym, ap}
+use Rattle.base.proofs.Booleans.{clash}
 use Rattle.base.specs.declared.shape.Family.TheVariants.{Graphics, Compute, Transfer}
-use Rattle.vk.specs.Stages.{all_commands, all_transfer, color_attachment_output, compute_shader, copy, clear}
+use Rattle.vk.specs.Sets.{meets}
+use Rattle.vk.specs.Stages.{expand, all_commands, all_transfer, color_attachment_output, compute_shader, copy, clear}
 use Rattle.program.specs.declared.program.Program.{Program}
 use Rattle.program.specs.declared.program.WaitFor.{WaitFor}
 use Rattle.check_tighten.specs.Edits.{without_at}
 use Rattle.check_tighten.specs.Own.{own_stages, without_stage}
 use Rattle.check_tighten.specs.Standing.{WaitsStand}
+use Rattle.check_tighten.specs.Tight.{NeededAt}
 use Rattle.check_tighten.specs.Tightened.{InTurn, IsTightened}
+use Rattle.check_tighten.proofs.Fitting.{meets_mask}
+
+abbrev empty : Program
+empty = record { memories = []; pieces = []; queues = []; readbacks = [] }
 
 abbrev wait : ℕ → ℕ → ℕ → WaitFor
 wait queue value set = record { queue = queue; value = value; stages = record { 0 = set } }
@@ -32,6 +39,24 @@ one_less = refl
 last_less : without_stage Graphics copy (wait 1 3 copy) ≡ wait 1 3 0
 last_less = refl
 
+-- so a mask of all commands is not left, nor one with a stage that its queue lacks
+whole_mask : NeededAt empty 0 0 0 (record { family = Transfer; batches = [] }) (record { waits = []; items = []; signal = None }) (wait 1 3 all_commands) → ⊥
+whole_mask needed = clash (sym (ap (λ set. set == all_commands) needed.others))
+
+strange_stage : NeededAt empty 0 0 0 (record { family = Compute; batches = [] }) (record { waits = []; items = []; signal = None }) (wait 1 3 (color_attachment_output + compute_shader)) → ⊥
+strange_stage needed = clash (sym (ap (λ set. set == color_attachment_output + compute_shader) needed.others))
+
+-- own stages meet alike what another mask of the family stands for
+all_alike : meets (expand all_commands) (expand all_commands) ≡ meets (own_stages Transfer all_commands) (expand all_commands)
+all_alike = meets_mask Transfer all_commands all_commands refl refl
+
+shader_alike : meets (expand all_commands) compute_shader ≡ true
+shader_alike = refl
+
+-- a shader they would not meet, but none runs on that queue
+shader_lost : meets (own_stages Transfer all_commands) compute_shader ≡ false
+shader_lost = refl
+
 -- entries are left out
 second : without_at {X = ℕ} 1 (5 ∷ 6 ∷ 7 ∷ []) ≡ 5 ∷ 7 ∷ []
 second = refl
@@ -48,9 +73,6 @@ invented : WaitsStand [] (wait 1 1 copy ∷ []) → ⊥
 invented s = s
 
 -- where there is no queue, one round changes nothing
-abbrev empty : Program
-empty = record { memories = []; pieces = []; queues = []; readbacks = [] }
-
 nothing_left_out : IsTightened empty empty
 nothing_left_out = (0, (refl, refl))
 

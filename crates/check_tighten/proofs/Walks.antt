@@ -1,5 +1,5 @@
 -- What several parts of a round come to, one after another.
-use Rattle.std.proofs.Common.{◌≡◌, ◌∙◌, ◌<◌, ◌≤◌, ◌+◌, ◌||◌, ℕ, Bool, true, false, not, length, slice_get, Some, refl, subst, sym, below_more, arith}
+use Rattle.std.proofs.Common.{◌≡◌, ◌∙◌, ◌<◌, ◌≤◌, ◌+◌, ◌||◌, ◌==◌, ℕ, Bool, true, false, not, length, slice_get, Some, refl, subst, sym, eqb-true, eq-eqb, below_more, arith}
 use Rattle.std.proofs.lemmas.Option.{slice_get_within}
 use Rattle.std.proofs.lemmas.Bool.{or_parts}
 use Rattle.base.proofs.Booleans.{clash}
@@ -7,10 +7,12 @@ use Rattle.program.specs.Obeys.{BatchAt}
 use Rattle.program.specs.declared.program.Batch.{Batch}
 use Rattle.program.specs.declared.program.Program.{Program}
 use Rattle.program.specs.declared.program.Queue.{Queue}
-use Rattle.check_tighten.specs.Internal.Rounds.{Came, Walked, WaitTried, StageNumberTried, FitTried, WaitDone, BatchDone, QueueDone}
+use Rattle.program.specs.declared.program.WaitFor.{WaitFor}
+use Rattle.check_tighten.specs.Internal.Rounds.{Came, Walked, WaitTried, StageNumberTried, FitTried, TriedAt, WaitDone, BatchDone, QueueDone}
 use Rattle.check_tighten.specs.Internal.Weights.{weight}
-use Rattle.check_tighten.specs.Own.{single_stages}
-use Rattle.check_tighten.specs.Tight.{Passes, Tight}
+use Rattle.check_tighten.specs.Own.{single_stages, own_stages}
+use Rattle.check_tighten.specs.Tight.{Passes, WaitAt, NeededAt, Tight}
+use Rattle.check_tighten.proofs.OwnStages.{own_stages_do}
 use Rattle.check_tighten.proofs.Trials.{came_same}
 
 not_heavier : (x : Bool) (a b : Program) → Came a b x → weight b ≤ weight a
@@ -84,6 +86,19 @@ pub all_done : (program : Program) (count : ℕ) → count ≡ length program.qu
 all_done program count is all q b k queue batch wait at =
     all q (subst (λ n. q < n) (sym is) (slice_get_within program.queues q queue at.batch_at.queue_is)) b k queue batch wait at
 
+-- what was tried in vain at a wait of a program that passes is needed: its own stages alone always do
+module _ (program : Program) (passes : Passes program) (q b k : ℕ) (queue : Queue) (batch : Batch) (wait : WaitFor) (at : WaitAt program q b k queue batch wait) (tried : TriedAt program q b k queue batch wait) where
+  abbrev own : ℕ
+  own = own_stages queue.family wait.stages.0
+
+  fitted_already : (same : Bool) → (wait.stages.0 == own) ≡ same → wait.stages.0 ≡ own
+  fitted_already true e = eqb-true wait.stages.0 own e
+  fitted_already false e = absurd (tried.others (λ is. clash (sym e ∙ eq-eqb wait.stages.0 own is)) (own_stages_do program q b k queue batch wait passes at))
+
+  needed_at : NeededAt program q b k queue batch wait
+  needed_at = record { whole = tried.whole; stages = tried.stages; others = fitted_already (wait.stages.0 == own) refl }
+
 -- a program that passes, and in which all waits were tried in vain
 pub tight_as : (program to : Program) → to ≡ program → Passes program → ((q : ℕ) → QueueDone program q) → Tight to
-tight_as program to same passes done = subst Tight (sym same) (record { passes = passes; needed = λ q b k. done q b k })
+tight_as program to same passes done =
+    subst Tight (sym same) (record { passes = passes; needed = λ q b k queue batch wait at. needed_at program passes q b k queue batch wait at (done q b k queue batch wait at) })

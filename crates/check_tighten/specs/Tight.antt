@@ -29,12 +29,22 @@ WaitNeeded program q b k batch = Passes (program_with q b (without_at k batch.wa
 abbrev pub NotAlso : Program → ℕ → ℕ → ℕ → Batch → WaitFor → Type 0
 NotAlso program q b k batch other = Passes (program_with q b (slice_set batch.waits k other) program) → ⊥
 
+-- THE LAW OF OWN STAGES
+
+-- a program that passes does so with the own stages of any of its waits alone
+abbrev pub OwnStagesDo : Type 0
+OwnStagesDo =
+    (program : Program) (q b k : ℕ) (queue : Queue) (batch : Batch) (wait : WaitFor)
+    → Passes program → WaitAt program q b k queue batch wait → Passes (program_with q b (slice_set batch.waits k (fitted queue.family wait)) program)
+
+-- WHAT IS NEEDED
+
 -- the wait is needed, and each of its own stages, of which there is one at least: a wait of none breaks a rule. It has no
--- other stages, if the program passes without them
+-- other stages
 pub record NeededAt (program : Program) (q b k : ℕ) (queue : Queue) (batch : Batch) (wait : WaitFor) : Type 0 where
   pub whole : WaitNeeded program q b k batch
   pub stages : (i stage : ℕ) → slice_get single_stages i ≡ Some stage → has (own_stages queue.family wait.stages.0) stage ≡ true → NotAlso program q b k batch (without_stage queue.family stage wait)
-  pub others : (wait.stages.0 ≡ own_stages queue.family wait.stages.0 → ⊥) → NotAlso program q b k batch (fitted queue.family wait)
+  pub others : wait.stages.0 ≡ own_stages queue.family wait.stages.0
 
 -- the program passes, and each of its waits is needed, stage by stage
 pub record Tight (program : Program) : Type 0 where

@@ -29,7 +29,7 @@ pub record LessStage (q b k stage : ℕ) (program candidate : Program) : Type 0 
   pub own : has (own_stages queue.family wait.stages.0) stage ≡ true
   pub is : candidate ≡ program_with q b (slice_set batch.waits k (without_stage queue.family stage wait)) program
 
--- with the wait's own stages alone, where it has others
+-- with the wait's own stages alone, where it has others: a program that passes does so then too (`OwnStagesDo`)
 pub record OwnAlone (q b k : ℕ) (program candidate : Program) : Type 0 where
   pub queue : Queue
   pub batch : Batch
@@ -63,7 +63,7 @@ InTurn Part (suc count) program now = (last : Program) × InTurn Part count prog
 abbrev pub StageTurn : ℕ → ℕ → ℕ → ℕ → Program → Program → Type 0
 StageTurn q b k i program now = (stage : ℕ) × (slice_get single_stages i ≡ Some stage) × Tries (LessStage q b k stage) program now
 
--- its stages in the order of their bits, and then all that are not its own
+-- its stages in the order of their bits, and then all that are not its own, which always go
 abbrev pub StagesTurn : ℕ → ℕ → ℕ → Program → Program → Type 0
 StagesTurn q b k program now = (left : Program) × InTurn (StageTurn q b k) 5 program left × Tries (OwnAlone q b k) left now
 

@@ -2,9 +2,9 @@
 use Rattle.std.proofs.Common.{◌↔◌, ℕ, List}
 use Rattle.law_narrow.specs.Scoped.{scoped_view}
 use Rattle.check_access_order.proofs.Singles.{single}
-use Rattle.law_narrow.proofs.Transport.{turned, has_on, alike_synchronized, first_on}
+use Rattle.law_alike.proofs.Transport.{turned, has_on, alike_synchronized, first_on}
 use Rattle.law_nodes.proofs.Whole.{same_synchronized, same_first}
-use Rattle.law_narrow.specs.Alike.{Alike}
+use Rattle.law_alike.specs.Alike.{Alike}
 use Rattle.check_sync.specs.Synchronized.{Synchronized, FirstFlaw}
 use Rattle.program.specs.declared.program.Program.{Program}
 use Rattle.law_nodes.specs.Synchronized as by_nodes

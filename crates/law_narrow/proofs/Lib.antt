@@ -1,4 +1,2 @@
 pub mod Both
-pub mod Same
 pub mod Scopes
-pub mod Transport

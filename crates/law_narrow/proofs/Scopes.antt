@@ -13,7 +13,7 @@ use Rattle.vk.specs.Agents.{host_agent}
 use Rattle.vk.specs.Accesses.{accesses as access_rows, Access as AccessRow}
 use Rattle.base.specs.declared.shape.Shape.{Shape}
 use Rattle.check_access.specs.ValidView.{ValidView, Has}
-use Rattle.std.proofs.Common.{◌≡◌, ◌⊎◌, ◌↔◌, inl, inr, ℕ, ◌<◌, ◌≤◌, Bool, true, false, ◌||◌, ◌&&◌, ◌==◌, nat_lt, not, length, get_or, Some, bit_or, if◌then◌else◌, refl, sym, ap, ◌∙◌, subst, ⊎_elim, List, [], ◌∷◌, None, ◌^◌, eqb-true, arith}
+use Rattle.std.proofs.Common.{◌≡◌, ◌⊎◌, ◌↔◌, inl, inr, ℕ, ◌<◌, ◌≤◌, Bool, true, false, ◌||◌, ◌&&◌, ◌==◌, nat_lt, not, length, get_or, Some, bit_or, if◌then◌else◌, refl, sym, ap, ◌∙◌, subst, ⊎_elim, List, [], ◌∷◌, None, ◌^◌, arith}
 use Rattle.std.proofs.lemmas.Bool.{and_parts, cases_lt}
 use Rattle.std.proofs.lemmas.List.{get_or-map, get_or_past, length-map}
 use Rattle.std.specs.List.{All, list_all}
@@ -27,9 +27,10 @@ use Rattle.vk.specs.declared.masks.Masks.{Masks}
 use Rattle.check_order.specs.Edges.{is_sync, node_at, signalled, meeting, is_at, sync_holds_back, sync_edge}
 use Rattle.check_order.specs.Nodes.{barrier_node, item_node, entry_node, no_node}
 use Rattle.check_order.specs.declared.node.Node.{Node}
-use Rattle.law_narrow.proofs.Same.{Like, Likes, mapped, node_like, link_same}
+use Rattle.law_alike.proofs.Bits.{AgentBit, known_bit}
+use Rattle.law_alike.proofs.Same.{Like, Likes, mapped, node_like, link_same}
 use Rattle.law_narrow.specs.Scoped.{barrier_scopes, item_scopes, entry_scopes, scoped_view, barrier_effects, item_effects, entry_effects, all_memory}
-use Rattle.law_narrow.specs.Alike.{Alike}
+use Rattle.law_alike.specs.Alike.{Alike}
 use Rattle.check_access_order.specs.Edges.{waits_for, lets_in}
 use Rattle.check_access_order.specs.Passing.{FlushedBy, ShownBy}
 use Rattle.check_access_order.specs.Stages.{bit_stage, stage_by, stage_of}
@@ -193,25 +194,6 @@ stage_old (access_kinds.Acquire handover) stage e = absurd cc
 
 -- EFFECTS
 
-abbrev OldBit : ℕ → Type 0
-OldBit bit = (k : ℕ) × (k < 9) × (bit ≡ 2 ^ k)
-
-known_step : (t : Bool) (bit value stage rest k : ℕ) → (bit == value) ≡ t → value ≡ 2 ^ k → k < 9 → (rest ≡ 0) ⊎ OldBit bit → ((if t then stage else rest) ≡ 0) ⊎ OldBit bit
-known_step true bit value stage rest k e v lt h = inr (k, lt, eqb-true bit value e ∙ v)
-known_step false bit value stage rest k e v lt h = h
-
-known_bit : (bit : ℕ) → (bit_stage bit ≡ 0) ⊎ OldBit bit
-known_bit bit =
-    known_step (bit == 1) bit 1 _ _ 0 refl refl (omega arith)
-    (known_step (bit == 2) bit 2 _ _ 1 refl refl (omega arith)
-    (known_step (bit == 4) bit 4 _ _ 2 refl refl (omega arith)
-    (known_step (bit == 8) bit 8 _ _ 3 refl refl (omega arith)
-    (known_step (bit == 16) bit 16 _ _ 4 refl refl (omega arith)
-    (known_step (bit == 32) bit 32 _ _ 5 refl refl (omega arith)
-    (known_step (bit == 64) bit 64 _ _ 6 refl refl (omega arith)
-    (known_step (bit == 128) bit 128 _ _ 7 refl refl (omega arith)
-    (known_step (bit == 256) bit 256 _ _ 8 refl refl (omega arith) (inl refl)))))))))
-
 -- the same accesses in the same place, and the same old agents
 record SameEffect (a b : Effect) : Type 0 where
   pub accesses : a.accesses ≡ b.accesses
@@ -366,26 +348,26 @@ module _ (program : Program) (A : ValidView (view_of program)) (supported_all : 
       (cases_lt n (length (entries_of program)))
 
   -- the agent of an access by a command is one of the old ones
-  bit_of : (n q bit : ℕ) (a : Access) → Has V n a → stage_of a.kind ≡ Some (bit_stage bit) → OldBit bit
+  bit_of : (n q bit : ℕ) (a : Access) → Has V n a → stage_of a.kind ≡ Some (bit_stage bit) → AgentBit bit
   bit_of n q bit a h e = go (site V A (single program) n a h)
     where
       none : {P : Type 0} (s : ℕ) → None ≡ Some s → P
       none s z = absurd cc
 
-      one : ByCommand V n a.kind → OldBit bit
+      one : ByCommand V n a.kind → AgentBit bit
       one c =
           let C = (single program).command n (has_within V n a A h) (is_the_command (node_at V.nodes n).kind c.node) in
           let same : bit_stage bit ≡ 2 ^ C.bit = some_same (sym e ∙ c.stage) ∙ C.one in
           ⊎_elim (λ z. let pos = pow_pos C.bit in absurd (omega (arith, pos, same, z))) (λ k. k) (known_bit bit)
 
-      go : Site V n a.kind → OldBit bit
+      go : Site V n a.kind → AgentBit bit
       go (inl c) = one c
       go (inr (inl b)) = none (bit_stage bit) (sym (barrier_stage a.kind b.barrier) ∙ e)
       go (inr (inr r)) = none (bit_stage bit) (sym (ap (λ k. stage_of k) r.read) ∙ e)
 
   -- an agent that the sets have alike
   abbrev OldAgent : Agent → Type 0
-  OldAgent (agents.Of q bit) = OldBit bit
+  OldAgent (agents.Of q bit) = AgentBit bit
   OldAgent agents.Host = Unit {0}
 
   available : (x p : ℕ) (by : Agent) → OldAgent by → makes_available V x by p ≡ makes_available W x by p

@@ -1,6 +1,6 @@
 -- Programs of today's files: scopes change nothing.
 use Rattle.std.specs.Prelude.{◌≡◌, ◌↔◌, ℕ, List, None}
-use Rattle.law_narrow.specs.Alike.{Alike}
+use Rattle.law_alike.specs.Alike.{Alike}
 use Rattle.check_sync.specs.Synchronized.{Synchronized, FirstFlaw}
 use Rattle.program.specs.FirstFault.{first_fault}
 use Rattle.program.specs.declared.program.Program.{Program}

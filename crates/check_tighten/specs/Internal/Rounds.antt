@@ -9,7 +9,7 @@ use Rattle.program.specs.declared.program.WaitFor.{WaitFor}
 use Rattle.check_tighten.specs.Internal.Weights.{weight}
 use Rattle.check_tighten.specs.Own.{single_stages, own_stages, fitted, without_stage}
 use Rattle.check_tighten.specs.Standing.{StandsTo}
-use Rattle.check_tighten.specs.Tight.{Passes, WaitAt, WaitNeeded, NotAlso, NeededAt}
+use Rattle.check_tighten.specs.Tight.{Passes, WaitAt, WaitNeeded, NotAlso}
 
 -- the candidate, where it passes; else what was there
 pub record Tried (program candidate now : Program) (changed : Bool) : Type 0 where
@@ -38,8 +38,14 @@ StageNumberTried q b k program i = (stage : ℕ) → slice_get single_stages i �
 abbrev pub FitTried : Program → ℕ → ℕ → ℕ → Type 0
 FitTried program q b k = (queue : Queue) (batch : Batch) (wait : WaitFor) → WaitAt program q b k queue batch wait → (wait.stages.0 ≡ own_stages queue.family wait.stages.0 → ⊥) → NotAlso program q b k batch (fitted queue.family wait)
 
+-- all that was tried at a wait
+pub record TriedAt (program : Program) (q b k : ℕ) (queue : Queue) (batch : Batch) (wait : WaitFor) : Type 0 where
+  pub whole : WaitNeeded program q b k batch
+  pub stages : (i stage : ℕ) → slice_get single_stages i ≡ Some stage → has (own_stages queue.family wait.stages.0) stage ≡ true → NotAlso program q b k batch (without_stage queue.family stage wait)
+  pub others : (wait.stages.0 ≡ own_stages queue.family wait.stages.0 → ⊥) → NotAlso program q b k batch (fitted queue.family wait)
+
 abbrev pub WaitDone : ℕ → ℕ → Program → ℕ → Type 0
-WaitDone q b program k = (queue : Queue) (batch : Batch) (wait : WaitFor) → WaitAt program q b k queue batch wait → NeededAt program q b k queue batch wait
+WaitDone q b program k = (queue : Queue) (batch : Batch) (wait : WaitFor) → WaitAt program q b k queue batch wait → TriedAt program q b k queue batch wait
 
 abbrev pub BatchDone : ℕ → Program → ℕ → Type 0
 BatchDone q program b = (k : ℕ) → WaitDone q b program k

@@ -1,4 +1,4 @@
--- Two views of one program, whose nodes have other stages but order the same accesses.
+-- Two views that order the same accesses, and pass on the same: their nodes may have other stages.
 use Rattle.std.specs.Prelude.{◌≡◌, ◌↔◌, ℕ, Some}
 use Rattle.check_access.specs.ValidView.{Has}
 use Rattle.check_access.specs.Views.{View, accesses_of, clash}

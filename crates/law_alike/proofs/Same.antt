@@ -28,11 +28,11 @@ node_like (a ∷ xs) [] n h = absurd h
 node_like (a ∷ xs) (b ∷ ys) zero h = h.0
 node_like (a ∷ xs) (b ∷ ys) (suc n) h = node_like xs ys n h.1
 
-as_many : (xs ys : List Node) → Likes xs ys → length xs ≡ length ys
-as_many [] [] h = refl
-as_many [] (b ∷ ys) h = absurd h
-as_many (a ∷ xs) [] h = absurd h
-as_many (a ∷ xs) (b ∷ ys) h = ap (λ n. suc n) (as_many xs ys h.1)
+pub length_same : (xs ys : List Node) → Likes xs ys → length xs ≡ length ys
+length_same [] [] h = refl
+length_same [] (b ∷ ys) h = absurd h
+length_same (a ∷ xs) [] h = absurd h
+length_same (a ∷ xs) (b ∷ ys) h = ap (λ n. suc n) (length_same xs ys h.1)
 
 dropped : (xs ys : List Node) (n : ℕ) → Likes xs ys → Likes (drop n xs) (drop n ys)
 dropped xs ys zero h = h
@@ -54,7 +54,7 @@ place p (a ∷ xs) (b ∷ ys) f h = ap (λ t. cond (not t) (1 + position_or_len 
 same_position : (p : Node → Bool) (xs ys : List Node) → Fair p → Likes xs ys → position p xs ≡ position p ys
 same_position p xs ys f h =
     ap (λ n. cond (nat_lt n (length xs)) (Some n) None) (place p xs ys f h)
-    ∙ ap (λ m. cond (nat_lt (position_or_len p ys) m) (Some (position_or_len p ys)) None) (as_many xs ys h)
+    ∙ ap (λ m. cond (nat_lt (position_or_len p ys) m) (Some (position_or_len p ys)) None) (length_same xs ys h)
 
 fair_signals : (q : ℕ) → Fair (signals q)
 fair_signals q a b h = ap (λ z. (z == q) && is_signal a.kind) h.queue ∙ ap (λ k. (b.queue == q) && is_signal k) h.kind
@@ -68,7 +68,7 @@ module _ (xs ys : List Node) (h : Likes xs ys) where
       ap (λ q. option_map (λ k. n + 1 + k) (position (signals q) (drop (n + 1) xs))) (node_like xs ys n h).queue
       ∙ ap (λ o. option_map (λ k. n + 1 + k) o) (same_position (signals (node_at ys n).queue) (drop (n + 1) xs) (drop (n + 1) ys) (fair_signals (node_at ys n).queue) (dropped xs ys (n + 1) h))
 
-  meeting_of : (kind : Kind) → meeting xs kind ≡ meeting ys kind
+  pub meeting_of : (kind : Kind) → meeting xs kind ≡ meeting ys kind
   meeting_of (Wait queue value) = same_position (reaches queue value) xs ys (fair_reaches queue value) h
   meeting_of Command = refl
   meeting_of Barrier = refl

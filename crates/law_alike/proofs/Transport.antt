@@ -11,7 +11,7 @@ use Rattle.check_access.specs.declared.access.Agent.TheVariants as agent
 use Rattle.check_access.specs.declared.access.AccessKind.{AccessKind}
 use Rattle.check_access.specs.declared.access.AccessKind.TheVariants.{Load, Store, Transition, Discard, Release, Acquire}
 use Rattle.check_access.specs.declared.node_access.NodeAccess.{NodeAccess}
-use Rattle.law_narrow.specs.Alike.{Alike}
+use Rattle.law_alike.specs.Alike.{Alike}
 use Rattle.check_access_order.specs.Order.{Before, UpTo, LeavesIn, EntersIn, Leaves, Enters, InOrder}
 use Rattle.check_access_order.specs.Passing.{Reaches, MadeAvailableBy, MadeVisibleBy, Available, Passed}
 use Rattle.check_access_order.specs.Stages.{stage_of}

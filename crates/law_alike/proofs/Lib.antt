@@ -1,0 +1,7 @@
+pub mod Bits
+pub mod Orders
+mod Rows
+pub mod Same
+pub mod Sound
+pub mod States
+pub mod Transport
