@@ -2,6 +2,7 @@ pub mod AnswerLemmas
 pub mod AuditLemmas
 pub mod CallLemmas
 pub mod FileLemmas
+pub mod KeptLemmas
 pub mod Known
 pub mod RunLemmas
 pub mod SummaryLemmas
