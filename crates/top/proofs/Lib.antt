@@ -8,4 +8,5 @@ pub mod RunLemmas
 pub mod SummaryLemmas
 pub mod Sums
 pub mod ToldLemmas
+pub mod WorkerLemmas
 mod Rows
