@@ -1,6 +1,7 @@
 -- Which commands need workers, beside which need a device.
 use Rattle.std.proofs.Common.{◌≡◌, ◌∙◌, Some, None, true, refl, sym, ap, arith}
 use Rattle.std.proofs.lemmas.Bool.{false≢true}
+use Rattle.std.specs.Prelude.{IfNone}
 use Rattle.std.specs.declared.option.Option.{Option}
 use Rattle.answer.specs.AtRest.{needs_device}
 use Rattle.answer.specs.Statuses.{number_of}
@@ -33,6 +34,10 @@ workers_too (Some (Exec options trace)) other is = refl
 workers_too (Some (Summary number passes options)) other is = refl
 workers_too (Some (Flight options persist depth)) other is = refl
 workers_too (Some Audit) other is = absurd (other refl)
+
+pub none_too : (line : Option Command) (o : Option Status) → (line ≡ Some Audit → ⊥) → IfNone o (needs_device line ≡ true) → IfNone o (needs_workers line ≡ true)
+none_too line None other is = workers_too line other is
+none_too line (Some status) other is = tt
 
 -- `audit` needs none
 pub no_audit : (line : Option Command) → line ≡ Some Audit → needs_workers line ≡ true → ⊥
