@@ -1,2 +1,4 @@
+pub mod EveryRun
 pub mod FrameRuns
+pub mod Keepers
 pub mod Runs

@@ -1,10 +1,13 @@
 //! A sound program runs on a device.
 
-ghost use Rattle.std.specs.Prelude.{◌≡◌, IfOk, IsTrue};
-ghost use Rattle.device_model.specs.Devices.{Device};
+ghost use Rattle.std.specs.Prelude.{◌≡◌, ◌↔◌, IfOk, IsTrue};
+ghost use Rattle.check_program.specs.Sound.{IsSound};
+ghost use Rattle.device_model.specs.Devices.{Device, IsComplete};
 ghost use Rattle.device_model.specs.Runs.{Runs};
-ghost use Rattle.device_run.specs.Runs.{HasRun};
+ghost use Rattle.device_run.specs.EveryRun.{InEveryRun};
+ghost use Rattle.device_run.specs.Runs.{HasRun, read_by};
 
+use crate::ran::RanDevice;
 use base::{NoMemory, RunOptions};
 use base_io::Gate;
 use check_program::Checked;
@@ -18,7 +21,8 @@ use std::thread::Threads;
 
 // The laws of devices that run the program.
 fn run_laws(program: &Checked)
-    ensures { (d : Device) → d.program ≡ program.now.program → Runs d }
+    ensures runs { (d : Device) → d.program ≡ program.now.program → Runs d }
+    ensures every { (d : Device) → d.program ≡ program.now.program → IsComplete d → IsSound program.now.program → InEveryRun program.now.program (read_by d) }
 {
     device_laws();
     let _faultless = program.shaped().program();
@@ -31,7 +35,7 @@ fn has_run(
     device: &Device,
     tend: Option<u64>,
 ) -> Result<bool, NoMemory>
-    ensures { IfOk result (λ has. IsTrue has → HasRun program.now.program tend device.now) }
+    ensures { IfOk result (λ has. IsTrue has ↔ HasRun program.now.program tend device.now) }
 {
     if !device.belongs(program, 0) {
         return Ok(false);
@@ -50,7 +54,7 @@ fn driven<R: Threads + Sync>(
     alloc: Global,
     program: &Checked,
     tend: Option<u64>,
-) -> Result<Device, NoMemory>
+) -> Result<RanDevice, NoMemory>
     ensures { IfOk result (HasRun program.now.program tend) }
 {
     run_laws(program);
@@ -58,22 +62,38 @@ fn driven<R: Threads + Sync>(
     let mut device = Device::new(alloc, program, 0, moves_of(tend))?;
     drive(rt, alloc, &mut device, tend)?;
     let _came = device.history();
-    Ok(device)
+    Ok(RanDevice::new(device))
 }
 
-/// A device that has run the program: that of the workers where it is one, which is looked at, or else another one.
+/// A device that has run the program, with the cache moves of the seed: this one where it has, which is looked at, or else another
+/// one, which is driven.
+pub fn chosen<R: Threads + Sync>(
+    rt: &R,
+    alloc: Global,
+    program: &Checked,
+    device: Device,
+    tend: Option<u64>,
+) -> Result<RanDevice, NoMemory>
+    ensures run { IfOk result (HasRun program.now.program tend) }
+    ensures same { HasRun program.now.program tend device → IfOk result (λ ran. ran ≡ device) }
+{
+    if has_run(alloc, program, &device, tend)? {
+        return Ok(RanDevice::new(device));
+    }
+    driven(rt, alloc, program, tend)
+}
+
+/// A device that has run the program: that of the workers where it has, or else another one (`chosen`). Where there is a worker,
+/// theirs always has.
 pub fn run_program<R: Threads + Wait + Sync, G: Gate + Sync>(
     rt: &R,
     alloc: Global,
     program: &Checked,
     options: RunOptions,
     gate: &G,
-) -> Result<Device, NoMemory>
+) -> Result<RanDevice, NoMemory>
     ensures { IfOk result (HasRun program.now.program options.tend) }
 {
     let device = run_workers(rt, alloc, program, options.workers, options.tend, gate)?;
-    if has_run(alloc, program, &device, options.tend)? {
-        return Ok(device);
-    }
-    driven(rt, alloc, program, options.tend)
+    chosen(rt, alloc, program, device, options.tend)
 }

@@ -5,10 +5,10 @@ ghost use Rattle.frame.specs.Numbered.{numbered};
 ghost use Rattle.device_run.specs.FrameRuns.{RunsOn};
 
 use crate::programs::run_program;
+use crate::ran::RanDevice;
 use base::{NoMemory, RunOptions};
 use base_io::Gate;
 use compile_file::compiled;
-use device::Device;
 use frame::ValidFrame;
 use std::alloc::Global;
 use std::sync::Wait;
@@ -22,7 +22,7 @@ pub fn run_good<R: Threads + Wait + Sync, G: Gate + Sync>(
     tight: bool,
     good: &ValidFrame,
     gate: &G,
-) -> Result<Device, NoMemory>
+) -> Result<RanDevice, NoMemory>
     ensures { IfOk result (RunsOn options.tend tight (numbered good.now)) }
 {
     let made = compiled(alloc, good, tight)?;

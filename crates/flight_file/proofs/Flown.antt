@@ -10,7 +10,7 @@ use Rattle.flight.specs.Flight.{Flight}
 use Rattle.flight.specs.Flights.{ArePersisted, window_at, window_count}
 use Rattle.flight_file.proofs.Texts.{text_all}
 use Rattle.flight_file.proofs.Windows.{all_windows}
-use Rattle.flight_file.specs.Internal.Flying.{CanRead, IsFlown, IsKept, Prints, text_before}
+use Rattle.flight_file.specs.Internal.Flying.{CanRead, FliesOn, IsFlown, IsGathered, Prints, text_before}
 use Rattle.flight_file.specs.Flights.{Flies, WindowRun}
 use Rattle.flight_file.specs.Texts.{bytes_alone}
 use Rattle.flight_file.specs.declared.flying.Flying.{Flying}
@@ -18,7 +18,9 @@ use Rattle.flight_file.specs.declared.outcome.Outcome.TheVariants.{Flown}
 use Rattle.frame.specs.Numbered.{NumberedFrame, numbered}
 use Rattle.frame.specs.declared.frame.Frame.{Frame}
 use Rattle.frame_meaning.specs.Meaning.{AreMeant, meaning}
+use Rattle.device_run.proofs.Keeping.{kept_more}
 use Rattle.device_run.specs.FrameRuns.{RunsOn}
+use Rattle.device_run.specs.Keepers.{Kept, KeptDevices}
 use Rattle.device_run.specs.Runs.{read_by}
 use Rattle.device_model.specs.Devices.{Device}
 use Rattle.program.specs.declared.program.Program.{Program}
@@ -96,41 +98,47 @@ history_more : (devices : List Device) (device : Device) → flat_map (λ (d : D
 history_more [] device = append-nil device.history
 history_more (d ∷ devices) device = ap (λ (h : List Event). d.history ++ h) (history_more devices device) ∙ sym (append_assoc d.history (flat_map (λ (e : Device). e.history) devices) device.history)
 
-flown_more : (tend : Option ℕ) (F : Flight) (w : ℕ) (device : Device) (old new : Flying) → IsFlown tend F w old → WindowRun tend F.frames F.persist F.depth w device → IsPersisted F.frames F.persist (suc w * F.depth) new.persisted → IsKept F w device old new → IsFlown tend F (w + 1) new
-flown_more tend F w device old new was run persisted kept = rw add-one (record {
-  devices = was.devices ++ device ∷ [];
-  windows = one_longer was.devices device ∙ ap suc was.windows;
+flown_more : (tend : Option ℕ) (F : Flight) (w : ℕ) (device : Device) (old new : Flying) (devices : List Device) → IsFlown tend F w devices old → WindowRun tend F.frames F.persist F.depth w device → IsPersisted F.frames F.persist (suc w * F.depth) new.persisted → IsGathered F w device old new → IsFlown tend F (w + 1) (devices ++ device ∷ []) new
+flown_more tend F w device old new devices was run persisted gathered = rw add-one (record {
+  windows = one_longer devices device ∙ ap suc was.windows;
   runs = runs;
   persisted = persisted;
-  text = rw add-one at kept.text;
-  history = kept.history ∙ ap (λ (h : List Event). h ++ device.history) was.history ∙ sym (history_more was.devices device);
+  text = rw add-one at gathered.text;
+  history = gathered.history ∙ ap (λ (h : List Event). h ++ device.history) was.history ∙ sym (history_more devices device);
 })
   where
-    runs : (v : ℕ) (d : Device) → slice_get (was.devices ++ device ∷ []) v ≡ Some d → WindowRun tend F.frames F.persist F.depth v d
-    runs v d at = by (last_or_before was.devices device d v at)
+    runs : (v : ℕ) (d : Device) → slice_get (devices ++ device ∷ []) v ≡ Some d → WindowRun tend F.frames F.persist F.depth v d
+    runs v d at = by (last_or_before devices device d v at)
       where
-        by : (slice_get was.devices v ≡ Some d) ⊎ ((v ≡ length was.devices) × (device ≡ d)) → WindowRun tend F.frames F.persist F.depth v d
+        by : (slice_get devices v ≡ Some d) ⊎ ((v ≡ length devices) × (device ≡ d)) → WindowRun tend F.frames F.persist F.depth v d
         by (inl found) = was.runs v d found
         by (inr last) = subst (λ (e : Device). WindowRun tend F.frames F.persist F.depth v e) last.1 (subst (λ u. WindowRun tend F.frames F.persist F.depth u device) (sym (last.0 ∙ was.windows)) run)
 
 -- a window is compiled from what is persisted, and has run
-module _ (tend : Option ℕ) (F : Flight) (w : ℕ) (device : Device) (old : Flying) (was : IsFlown tend F w old) (ran : RunsOn tend false (numbered (window_at F.frames F.persist F.depth old.persisted w)) device) where
+module _ (tend : Option ℕ) (F : Flight) (w : ℕ) (device : Device) (old : Flying) (before : IsPersisted F.frames F.persist (w * F.depth) old.persisted) (ran : RunsOn tend false (numbered (window_at F.frames F.persist F.depth old.persisted w)) device) where
   pub ran_reads : CanRead F w old.persisted device
-  ran_reads = window_read tend F w device old.persisted was.persisted.sized ran
+  ran_reads = window_read tend F w device old.persisted before.sized ran
 
   pub ran_prints : ExportsAlone F → (i : ℕ) → i / F.depth ≡ w → Prints F i device
-  ran_prints exports = window_prints tend F w device (window_run tend F w device exports old.persisted was.persisted ran)
+  ran_prints exports = window_prints tend F w device (window_run tend F w device exports old.persisted before ran)
 
-  pub ran_flown : ExportsAlone F → HoldsNext F → w < window_count F.depth F.frames → (new : Flying) → IsKept F w device old new → IsFlown tend F (w + 1) new
-  ran_flown exports holds there new kept =
-      let run : WindowRun tend F.frames F.persist F.depth w device = window_run tend F w device exports old.persisted was.persisted ran in
-      let next : IsPersisted F.frames F.persist (suc w * F.depth) (persisted_next (persisted_export F.frames F.persist F.depth w) (read_by device) 0 old.persisted) = holds w there old.persisted was.persisted (read_by device) ran.meant in
-      flown_more tend F w device old new was run (subst (λ (h : List (Option (List ℕ))). IsPersisted F.frames F.persist (suc w * F.depth) h) (sym kept.persisted) next) kept
+  pub ran_flown : ExportsAlone F → HoldsNext F → w < window_count F.depth F.frames → (new : Flying) → IsGathered F w device old new → FliesOn tend F w device old new
+  ran_flown exports holds there new gathered devices was =
+      let run : WindowRun tend F.frames F.persist F.depth w device = window_run tend F w device exports old.persisted before ran in
+      let next : IsPersisted F.frames F.persist (suc w * F.depth) (persisted_next (persisted_export F.frames F.persist F.depth w) (read_by device) 0 old.persisted) = holds w there old.persisted before (read_by device) ran.meant in
+      flown_more tend F w device old new devices was run (subst (λ (h : List (Option (List ℕ))). IsPersisted F.frames F.persist (suc w * F.depth) h) (sym gathered.persisted) next) gathered
+
+-- its device is handed over
+pub kept_flown : (tend : Option ℕ) (F : Flight) (w : ℕ) (device : Device) (old new : Flying) (first middle last : Option (List Device)) → Kept first middle (λ devices. IsFlown tend F w devices old) → FliesOn tend F w device old new → KeptDevices middle last (device ∷ []) → Kept first last (λ devices. IsFlown tend F (w + 1) devices new)
+kept_flown tend F w device old new first middle last so_far flies handed = record {
+  devices = so_far.devices ++ device ∷ [];
+  kept = kept_more first middle last so_far.devices (device ∷ []) so_far.kept handed;
+  meets = flies so_far.devices so_far.meets;
+}
 
 -- nothing has flown
-pub none_flown : (tend : Option ℕ) (F : Flight) (flying : Flying) → IsPersisted F.frames F.persist 0 flying.persisted → flying.text ≡ [] → flying.history ≡ [] → IsFlown tend F 0 flying
+pub none_flown : (tend : Option ℕ) (F : Flight) (flying : Flying) → IsPersisted F.frames F.persist 0 flying.persisted → flying.text ≡ [] → flying.history ≡ [] → IsFlown tend F 0 [] flying
 none_flown tend F flying persisted text history = record {
-  devices = [];
   windows = refl;
   runs = none;
   persisted = subst (λ i. IsPersisted F.frames F.persist i flying.persisted) (sym nothing) persisted;
@@ -145,12 +153,11 @@ none_flown tend F flying persisted text history = record {
     none v d at = absurd cc
 
 -- all windows
-pub all_flown : (tend : Option ℕ) (F : Flight) (count w : ℕ) (flying : Flying) → 1 ≤ F.depth → count ≡ window_count F.depth F.frames → count ≤ w → w ≤ count → IsFlown tend F w flying → Flies tend F.persist F.depth F.frames (Flown flying.text flying.history)
-all_flown tend F count w flying deep counted far near was =
+pub all_flown : (tend : Option ℕ) (F : Flight) (count w : ℕ) (flying : Flying) → 1 ≤ F.depth → count ≡ window_count F.depth F.frames → count ≤ w → w ≤ count → (devices : List Device) → IsFlown tend F w devices flying → Flies tend F.persist F.depth F.frames devices (Flown flying.text flying.history)
+all_flown tend F count w flying deep counted far near devices was =
     let last : w ≡ count = omega (arith, far, near) in
     let end : w ≡ window_count F.depth F.frames = last ∙ counted in
     record {
-      devices = was.devices;
       windows = was.windows ∙ end;
       runs = was.runs;
       whole = ap₂ (λ t h. Flown t h) (text_all F (w * F.depth) flying.text (all_windows (length F.frames) F.depth w deep end) was.text) was.history;

@@ -1,11 +1,13 @@
 //! Windows fly one after another.
 
-ghost use Rattle.std.specs.Prelude.{◌≡◌, ◌<◌, ◌+◌, ◌*◌, ◌/◌, ℕ, Option, IfOk, OnOk, false};
+ghost use Rattle.std.specs.Prelude.{◌≡◌, ◌<◌, ◌+◌, ◌*◌, ◌/◌, ℕ, [], Option, IfOk, OnOk, false};
+ghost use Rattle.flight.specs.Alone.{IsPersisted};
 ghost use Rattle.flight.specs.Flights.{ArePersisted, window_at, window_count};
-ghost use Rattle.flight_file.specs.Internal.Flying.{AreWindows, CanRead, IsFlown, IsKept, Prints, text_before};
+ghost use Rattle.flight_file.specs.Internal.Flying.{AreWindows, CanRead, FliesOn, IsFlown, IsGathered, Prints, text_before};
 ghost use Rattle.flight_file.specs.Flights.{Flies};
 ghost use Rattle.frame.specs.Numbered.{numbered};
 ghost use Rattle.device_run.specs.FrameRuns.{RunsOn};
+ghost use Rattle.device_run.specs.Keepers.{Kept};
 
 use crate::outcome::Outcome;
 use crate::persisted::hold;
@@ -14,7 +16,7 @@ use crate::print::add_window;
 use base::{Event, List, NoMemory, RunOptions, Text};
 use base_io::Gate;
 use device::Device;
-use device_run::run_good;
+use device_run::{Keep, RanDevice, run_good};
 use flight::{Windows, flight_laws};
 use frame::ValidFrame;
 use std::alloc::Global;
@@ -32,7 +34,7 @@ pub(crate) struct Flying {
 
 #[tactic(auto, using(crate::proofs::Flown::none_flown))]
 fn begun(alloc: Global, windows: &Windows<'_>) -> Result<Flying, NoMemory>
-    ensures { (tend : Option ℕ) → IfOk result (IsFlown tend windows.now 0) }
+    ensures { (tend : Option ℕ) → IfOk result (IsFlown tend windows.now 0 []) }
 {
     Ok(Flying {
         persisted: windows.first_persisted(alloc)?,
@@ -51,7 +53,7 @@ fn run_window<R: Threads + Wait + Sync, G: Gate + Sync>(
     w: u32,
     persisted: &List<Option<List<u8>>>,
     gate: &G,
-) -> Result<Device, NoMemory>
+) -> Result<RanDevice, NoMemory>
     requires there { w < window_count windows.now.depth windows.now.frames }
     requires persisted { ArePersisted windows.now.frames windows.now.persist persisted.now }
     ensures { IfOk result (RunsOn options.tend false (numbered (window_at windows.now.frames windows.now.persist windows.now.depth persisted.now w))) }
@@ -60,9 +62,9 @@ fn run_window<R: Threads + Wait + Sync, G: Gate + Sync>(
     run_good(rt, alloc, options, false, &good, gate)
 }
 
-// Takes what window `w` has left on its device.
+// Gathers what window `w` has left on its device.
 #[tactic(none)]
-fn keep(
+fn gather(
     alloc: Global,
     windows: &Windows<'_>,
     frames: &[ValidFrame],
@@ -76,14 +78,14 @@ fn keep(
     requires read { CanRead windows.now w flying.old.persisted device.now }
     requires prints { (i : ℕ) → i / windows.now.depth ≡ w → Prints windows.now i device.now }
     requires text { flying.old.text ≡ text_before windows.now (w * windows.now.depth) }
-    ensures { OnOk result (IsKept windows.now w device.now flying.old flying.new) }
+    ensures { OnOk result (IsGathered windows.now w device.now flying.old flying.new) }
 {
     add_window(&mut flying.text, windows, frames, depth, w, device)?;
     flying.history.extend_from_slice(device.history())?;
     hold(alloc, windows, w, device, &mut flying.persisted)
 }
 
-// Window `w` is compiled and runs on a device of its own.
+// Window `w` is compiled and runs on a device of its own, of which is gathered what it has left there.
 #[tactic(none)]
 fn fly_window<R: Threads + Wait + Sync, G: Gate + Sync>(
     rt: &R,
@@ -94,33 +96,37 @@ fn fly_window<R: Threads + Wait + Sync, G: Gate + Sync>(
     w: u32,
     flying: &mut Flying,
     gate: &G,
-) -> Result<(), NoMemory>
+) -> Result<RanDevice, NoMemory>
     requires windows { AreWindows frames.now plan.now.depth windows.now }
     requires there { w < window_count windows.now.depth windows.now.frames }
-    requires flown { IsFlown plan.now.options.tend windows.now w flying.old }
-    ensures { OnOk result (IsFlown plan.now.options.tend windows.now (w + 1) flying.new) }
+    requires persisted { IsPersisted windows.now.frames windows.now.persist (w * windows.now.depth) flying.old.persisted }
+    requires text { flying.old.text ≡ text_before windows.now (w * windows.now.depth) }
+    ensures { IfOk result (λ device. FliesOn plan.now.options.tend windows.now w device flying.old flying.new) }
 {
     flight_laws();
     let _count = windows.count();
-    let device = run_window(rt, alloc, plan.options, windows, w, &flying.persisted, gate)?;
-    keep(alloc, windows, frames, plan.depth, w, &device, flying)
+    let ran = run_window(rt, alloc, plan.options, windows, w, &flying.persisted, gate)?;
+    gather(alloc, windows, frames, plan.depth, w, ran.device(), flying)?;
+    Ok(ran)
 }
 
-/// Flies all windows.
-pub(crate) fn fly_windows<R: Threads + Wait + Sync, G: Gate + Sync>(
+/// Flies all windows, and hands the device of each to the keeper.
+pub(crate) fn fly_windows<R: Threads + Wait + Sync, G: Gate + Sync, K: Keep>(
     rt: &R,
     alloc: Global,
     plan: &FlightPlan<'_>,
     windows: &Windows<'_>,
     frames: &[ValidFrame],
     gate: &G,
+    keeper: &mut K,
 ) -> Result<Outcome, NoMemory>
     requires windows { AreWindows frames.now plan.now.depth windows.now }
-    ensures { IfOk result (Flies plan.now.options.tend windows.now.persist windows.now.depth windows.now.frames) }
+    ensures { IfOk result (λ outcome. Kept (K.kept keeper.old) (K.kept keeper.new) (λ devices. Flies plan.now.options.tend windows.now.persist windows.now.depth windows.now.frames devices outcome)) }
 {
     let mut flying = begun(alloc, windows)?;
     for w in 0..windows.count() {
-        fly_window(rt, alloc, plan, windows, frames, w, &mut flying, gate)?;
+        let ran = fly_window(rt, alloc, plan, windows, frames, w, &mut flying, gate)?;
+        keeper.keep(ran)?;
     }
     let Flying {
         persisted: _,

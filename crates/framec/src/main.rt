@@ -19,7 +19,7 @@ use std::sync::Wait;
 use std::thread::Threads;
 use std::time::Clock;
 use std::{env, io, thread};
-use top::{Ended, Opener, Status, framec, framec_files};
+use top::{Ended, KeepNone, Opener, Status, framec, framec_files};
 
 // The words after the program's name. Where one of them is no text there are none, which is no command line.
 fn words_of<R: Env + AllocGlobal>(rt: &R) -> Result<Vec<String>, NoMemory> {
@@ -39,7 +39,7 @@ fn words_of<R: Env + AllocGlobal>(rt: &R) -> Result<Vec<String>, NoMemory> {
     Ok(words)
 }
 
-// The top call over one source, with one tap that counts events.
+// The top call over one source, with one tap that counts events, and devices let go once they have run.
 fn answer_source<R: Threads + Wait + Sync + AllocGlobal, I: Source, O: Sink>(
     rt: &R,
     meter: &Meter,
@@ -61,7 +61,16 @@ fn answer_source<R: Threads + Wait + Sync + AllocGlobal, I: Source, O: Sink>(
         status,
         spent: _,
         places: _,
-    } = framec(rt, rt.alloc(), command, input, output, &gate, &mut taps);
+    } = framec(
+        rt,
+        rt.alloc(),
+        command,
+        input,
+        output,
+        &gate,
+        &mut taps,
+        &mut KeepNone,
+    );
     status
 }
 

@@ -6,7 +6,7 @@ use base_io::{Gate, IdleGate, MemorySink, Source, SteadySource};
 use std::alloc::Global;
 use std::sync::Wait;
 use std::thread::Threads;
-use top::Status;
+use top::{Keep, KeepNone, Status};
 
 // A file is read seven bytes at a time, and a text written thirteen at a time.
 const READ: u32 = 7;
@@ -32,6 +32,19 @@ impl Answer {
     }
 }
 
+fn answered<R: Threads + Wait + Sync, I: Source, G: Gate + Sync, K: Keep>(
+    rt: &R,
+    alloc: Global,
+    line: &str,
+    source: &mut I,
+    gate: &G,
+    keeper: &mut K,
+) -> Result<Answer, NoMemory> {
+    let mut sink = MemorySink::new(alloc, ROOM, WRITTEN, List::new(alloc))?;
+    let status = status_of(rt, alloc, line, source, &mut sink, gate, keeper)?;
+    Ok(Answer { status, sink })
+}
+
 /// What a command line gives for what a source has, with this gate round its commands.
 pub fn answer_from<R: Threads + Wait + Sync, I: Source, G: Gate + Sync>(
     rt: &R,
@@ -40,9 +53,19 @@ pub fn answer_from<R: Threads + Wait + Sync, I: Source, G: Gate + Sync>(
     source: &mut I,
     gate: &G,
 ) -> Result<Answer, NoMemory> {
-    let mut sink = MemorySink::new(alloc, ROOM, WRITTEN, List::new(alloc))?;
-    let status = status_of(rt, alloc, line, source, &mut sink, gate)?;
-    Ok(Answer { status, sink })
+    answered(rt, alloc, line, source, gate, &mut KeepNone)
+}
+
+/// What a command line gives for a file, whose devices this keeper is handed.
+pub fn answer_kept<R: Threads + Wait + Sync, K: Keep>(
+    rt: &R,
+    alloc: Global,
+    line: &str,
+    file: &[u8],
+    keeper: &mut K,
+) -> Result<Answer, NoMemory> {
+    let mut source = SteadySource::new(List::from_slice(alloc, file)?, READ);
+    answered(rt, alloc, line, &mut source, &IdleGate, keeper)
 }
 
 /// What a command line gives for a file, with this gate round its commands.

@@ -9,7 +9,7 @@ use cli::{Command, line_of};
 use std::alloc::Global;
 use std::sync::Wait;
 use std::thread::Threads;
-use top::{Ended, Status, framec};
+use top::{Ended, Keep, Status, framec};
 
 fn words_of(alloc: Global, line: &str) -> Result<Vec<String>, NoMemory> {
     let mut words = Vec::new(alloc);
@@ -39,29 +39,31 @@ fn unspent(ended: Ended) -> Option<Status> {
     }
 }
 
-fn called<R: Threads + Wait + Sync, I: Source, O: Sink, G: Gate + Sync>(
+fn called<R: Threads + Wait + Sync, I: Source, O: Sink, G: Gate + Sync, K: Keep>(
     rt: &R,
     alloc: Global,
     command: &Option<Command>,
     input: &mut I,
     output: &mut O,
     gate: &G,
+    keeper: &mut K,
 ) -> Option<Status>
     requires { IfSome command.now IsBounded }
 {
     let mut taps: Vec<Box<dyn Tap>> = Vec::new(alloc);
-    unspent(framec(rt, alloc, command, input, output, gate, &mut taps))
+    unspent(framec(rt, alloc, command, input, output, gate, &mut taps, keeper))
 }
 
-/// The status of a command line without taps; none if one is finished all the same.
-pub fn status_of<R: Threads + Wait + Sync, I: Source, O: Sink, G: Gate + Sync>(
+/// The status of a command line without taps, with this keeper; none if a tap is finished all the same.
+pub fn status_of<R: Threads + Wait + Sync, I: Source, O: Sink, G: Gate + Sync, K: Keep>(
     rt: &R,
     alloc: Global,
     line: &str,
     input: &mut I,
     output: &mut O,
     gate: &G,
+    keeper: &mut K,
 ) -> Result<Option<Status>, NoMemory> {
     let command = command_of(alloc, line)?;
-    Ok(called(rt, alloc, &command, input, output, gate))
+    Ok(called(rt, alloc, &command, input, output, gate, keeper))
 }

@@ -3,7 +3,9 @@
 
 mod answers;
 mod call;
+mod keeper;
 
-pub use answers::{Answer, answer_from, answer_of, is_given};
+pub use answers::{Answer, answer_from, answer_kept, answer_of, is_given};
 pub use call::{command_of, status_of};
-pub use top::{Ended, Status, at_rest, framec};
+pub use keeper::KeepAll;
+pub use top::{Ended, KeepNone, RanDevice, Status, at_rest, framec, without_workers};

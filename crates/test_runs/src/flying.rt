@@ -6,7 +6,7 @@ use std::test::Fail;
 use test_calls::Status;
 
 // A frame that adds one to what `b` holds, and exports it.
-const COUNTS: &str =
+pub(crate) const COUNTS: &str =
     r#"{"format":1,"queues":[{"name":"g","family":"graphics"}],"resources":[{"name":"b","buffer":4,"import":"01000000"},{"name":"c","buffer":4}],"passes":[{"name":"p","queue":"g","reads":[],"writes":[{"new":"c"},{"change":"b"}],"ops":[{"op":"map","src":"b","dst":"c","fun":"add","value":1},{"op":"copy_buffer","src":"c","dst":"b","src_offset":0,"dst_offset":0,"size":4}]}],"exports":["c"]}"#;
 
 const COUNTED: &str =
@@ -16,7 +16,7 @@ const ALONE: &str =
     "frame 0\nexport c 4\n02000000\nframe 1\nexport c 4\n02000000\nframe 2\nexport c 4\n02000000\n";
 
 // So many of these lines, with a line feed behind each but the last.
-fn lines_of(alloc: Global, line: &str, count: u32) -> Result<String, AllocError> {
+pub(crate) fn lines_of(alloc: Global, line: &str, count: u32) -> Result<String, AllocError> {
     let mut text = String::from_str(alloc, line)?;
     for _ in 1..count {
         text.push_str("\n")?;

@@ -17,6 +17,8 @@ mod generating;
 #[cfg(test)]
 mod given;
 #[cfg(test)]
+mod keeping;
+#[cfg(test)]
 mod meeting;
 #[cfg(test)]
 mod operations;

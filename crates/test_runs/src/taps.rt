@@ -13,7 +13,7 @@ use std::rc::Rc;
 use std::sync::Wait;
 use std::test::Fail;
 use std::thread::Threads;
-use test_calls::{Ended, command_of, framec};
+use test_calls::{Ended, KeepNone, command_of, framec};
 
 // Is finished at an event with this number, from 1. What it heard before is counted outside.
 #[derive(Drop)]
@@ -136,7 +136,16 @@ fn called<R: Threads + Wait + Sync>(
 {
     let mut source = SteadySource::new(List::from_slice(alloc, file.as_bytes())?, 900);
     let sink = &mut SteadySink::new();
-    Ok(framec(rt, alloc, command, &mut source, sink, &IdleGate, taps))
+    Ok(framec(
+        rt,
+        alloc,
+        command,
+        &mut source,
+        sink,
+        &IdleGate,
+        taps,
+        &mut KeepNone,
+    ))
 }
 
 fn is_left(ended: &Ended, row: &Row) -> bool {

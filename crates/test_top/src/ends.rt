@@ -11,7 +11,7 @@ use std::alloc::Global;
 use std::sync::Wait;
 use std::test::Fail;
 use std::thread::Threads;
-use test_calls::{Status, status_of};
+use test_calls::{KeepNone, Status, status_of};
 
 // How many bytes a read or write moves, and which one fails.
 type Calls = (u32, u32);
@@ -37,7 +37,15 @@ fn ends<R: Threads + Wait + Sync>(
 {
     let failing = List::from_slice(alloc, &[write.1])?;
     let mut sink = MemorySink::new(alloc, 1000, write.0, failing)?;
-    let status = status_of(rt, alloc, "run", source, &mut sink, &IdleGate)?;
+    let status = status_of(
+        rt,
+        alloc,
+        "run",
+        source,
+        &mut sink,
+        &IdleGate,
+        &mut KeepNone,
+    )?;
     Ok(status == Some(wanted) && sink.bytes() == text.as_bytes())
 }
 
@@ -158,7 +166,7 @@ fn ends_on<R: Threads + Wait + Sync, O: Sink>(
     wanted: Status,
 ) -> Result<bool, NoMemory> {
     let mut source = SteadySource::new(List::from_slice(alloc, FILL.as_bytes())?, 1);
-    let status = status_of(rt, alloc, line, &mut source, sink, &IdleGate)?;
+    let status = status_of(rt, alloc, line, &mut source, sink, &IdleGate, &mut KeepNone)?;
     Ok(status == Some(wanted))
 }
 

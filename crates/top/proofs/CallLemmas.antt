@@ -8,6 +8,7 @@ use Rattle.std.specs.Prelude.{◌⊎◌}
 use Rattle.std.specs.declared.option.Option.{Option}
 use Rattle.base_io.specs.Counts.{Rose}
 use Rattle.base.specs.declared.event.Event.{Event}
+use Rattle.device_model.specs.Devices.{Device}
 use Rattle.top.specs.Answers.{IsAnswered}
 use Rattle.top.specs.Calls.{Call}
 use Rattle.top.specs.Causes.{ReadCause, WriteCause}
@@ -22,45 +23,46 @@ use Rattle.answer.specs.declared.status.Status.TheVariants.{Done, Rejected, Refu
 use Rattle.answer.specs.declared.files.File.{File}
 use Rattle.cli.specs.declared.command.Command.{Command}
 
-answered_still : (command : Command) (left old new : Option (List ℕ)) (told : Option (List Event) → Type 0) (status : Status) → told None → IsAnswered command left old new (λ history. history ≡ None) status → IsAnswered command left old new told status
-answered_still command left old new told Done none is = (is.0, is.1, is.2, subst told (sym is.3) none)
-answered_still command left old new told Rejected none is = (is.0, is.1, is.2, subst told (sym is.3) none)
-answered_still command left old new told Refused none is = (is.0, is.1, is.2, subst told (sym is.3) none)
-answered_still command left old new told Words none is = (is.0, is.1, is.2, subst told (sym is.3) none)
-answered_still command left old new told ReadFault none is = (is.0, none)
-answered_still command left old new told WriteFault none is = (is.0, is.1, is.2, subst told (sym is.3) none)
-answered_still command left old new told NoMemory none is = (is.0, none)
+module _ (told : Option (List Event) → Type 0) (kept : List Device → Type 0) (none : told None) (keeps : kept []) where
+  answered_still : (command : Command) (left old new : Option (List ℕ)) (status : Status) → IsAnswered command left old new (λ history. history ≡ None) (λ devices. devices ≡ []) status → IsAnswered command left old new told kept status
+  answered_still command left old new Done is = (is.0, is.1, is.2, is.3, subst told (sym is.4) none, subst kept (sym is.5) keeps)
+  answered_still command left old new Rejected is = (is.0, is.1, is.2, is.3, subst told (sym is.4) none, subst kept (sym is.5) keeps)
+  answered_still command left old new Refused is = (is.0, is.1, is.2, is.3, subst told (sym is.4) none, subst kept (sym is.5) keeps)
+  answered_still command left old new Words is = (is.0, is.1, is.2, is.3, subst told (sym is.4) none, subst kept (sym is.5) keeps)
+  answered_still command left old new ReadFault is = (is.0, none, keeps)
+  answered_still command left old new WriteFault is = (is.0, is.1, is.2, is.3, subst told (sym is.4) none, subst kept (sym is.5) keeps)
+  answered_still command left old new NoMemory is = (is.0, none)
 
--- a call in which no device ran, where taps were told nothing
-pub still : (line : Option Command) (before after : Ends) (told : Option (List Event) → Type 0) (status : Status) → told None → Call line before after (λ history. history ≡ None) status → Call line before after told status
-still line before after told status none call = record {
-  words = λ e. ((call.words e).0, none);
-  answered = λ command e. answered_still command before.left before.written after.written told status none (call.answered command e);
-  taken = call.taken;
-  whole = call.whole;
-  read = call.read;
-  write = call.write;
-  complete = call.complete;
-}
+  -- a call in which no device ran, where taps were told nothing
+  pub still : (line : Option Command) (before after : Ends) (status : Status) → Call line before after (λ history. history ≡ None) (λ devices. devices ≡ []) status → Call line before after told kept status
+  still line before after status call = record {
+    words = λ e. ((call.words e).0, none, keeps);
+    answered = λ command e. answered_still command before.left before.written after.written status (call.answered command e);
+    taken = call.taken;
+    whole = call.whole;
+    read = call.read;
+    write = call.write;
+    complete = call.complete;
+  }
 
 -- the same of the status that was handed on
-pub still_as : (line : Option Command) (before after : Ends) (told : Option (List Event) → Type 0) (status given : Status) → given ≡ status → told None → Call line before after (λ history. history ≡ None) status → Call line before after told given
-still_as line before after told status given is none call = subst (λ (s : Status). Call line before after told s) (sym is) (still line before after told status none call)
+pub still_as : (line : Option Command) (before after : Ends) (told : Option (List Event) → Type 0) (kept : List Device → Type 0) (status given : Status) → given ≡ status → told None → kept [] → Call line before after (λ history. history ≡ None) (λ devices. devices ≡ []) status → Call line before after told kept given
+still_as line before after told kept status given is none keeps call = subst (λ (s : Status). Call line before after told kept s) (sym is) (still told kept none keeps line before after status call)
 
 -- a call over ends that were left as they were
-pub from_ends : {I O : Type 0} (tell : I → O → Ends) (line : Option Command) (input input' : I) (output output' : O) (after : Ends) (told : Option (List Event) → Type 0) (status : Status) → input' ≡ input → output' ≡ output → Call line (tell input' output') after told status → Call line (tell input output) after told status
-from_ends tell line input input' output output' after told status same_input same_output call =
-    subst (λ i. Call line (tell i output) after told status) same_input (subst (λ o. Call line (tell input' o) after told status) same_output call)
+pub from_ends : {I O : Type 0} (tell : I → O → Ends) (line : Option Command) (input input' : I) (output output' : O) (after : Ends) (told : Option (List Event) → Type 0) (kept : List Device → Type 0) (status : Status) → input' ≡ input → output' ≡ output → Call line (tell input' output') after told kept status → Call line (tell input output) after told kept status
+from_ends tell line input input' output output' after told kept status same_input same_output call =
+    subst (λ i. Call line (tell i output) after told kept status) same_input (subst (λ o. Call line (tell input' o) after told kept status) same_output call)
 
 -- an answer that was found is written whole where no read and no write failed
-pub completes : (command : Command) (left old new : Option (List ℕ)) (told : Option (List Event) → Type 0) (status : Status) (reads reads' writes writes' : ℕ) → IsAnswered command left old new told status → ReadCause reads reads' status → WriteCause writes writes' status → ¬ Rose reads reads' → ¬ Rose writes writes' → (status ≡ NoMemory) ⊎ Completes command left old new status
-completes command left old new told Done reads reads' writes writes' is read write steady_read steady_write = inr (record { reply = is.0; answers = is.1; given = is.2.0; written = is.2.1 })
-completes command left old new told Rejected reads reads' writes writes' is read write steady_read steady_write = inr (record { reply = is.0; answers = is.1; given = is.2.0; written = is.2.1 })
-completes command left old new told Refused reads reads' writes writes' is read write steady_read steady_write = inr (record { reply = is.0; answers = is.1; given = is.2.0; written = is.2.1 })
-completes command left old new told Words reads reads' writes writes' is read write steady_read steady_write = inr (record { reply = is.0; answers = is.1; given = is.2.0; written = is.2.1 })
-completes command left old new told ReadFault reads reads' writes writes' is read write steady_read steady_write = absurd (steady_read read)
-completes command left old new told WriteFault reads reads' writes writes' is read write steady_read steady_write = absurd (steady_write write)
-completes command left old new told NoMemory reads reads' writes writes' is read write steady_read steady_write = inl refl
+pub completes : (command : Command) (left old new : Option (List ℕ)) (told : Option (List Event) → Type 0) (kept : List Device → Type 0) (status : Status) (reads reads' writes writes' : ℕ) → IsAnswered command left old new told kept status → ReadCause reads reads' status → WriteCause writes writes' status → ¬ Rose reads reads' → ¬ Rose writes writes' → (status ≡ NoMemory) ⊎ Completes command left old new status
+completes command left old new told kept Done reads reads' writes writes' is read write steady_read steady_write = inr (record { reply = is.0; devices = is.1; answers = is.2; given = is.3.0; written = is.3.1 })
+completes command left old new told kept Rejected reads reads' writes writes' is read write steady_read steady_write = inr (record { reply = is.0; devices = is.1; answers = is.2; given = is.3.0; written = is.3.1 })
+completes command left old new told kept Refused reads reads' writes writes' is read write steady_read steady_write = inr (record { reply = is.0; devices = is.1; answers = is.2; given = is.3.0; written = is.3.1 })
+completes command left old new told kept Words reads reads' writes writes' is read write steady_read steady_write = inr (record { reply = is.0; devices = is.1; answers = is.2; given = is.3.0; written = is.3.1 })
+completes command left old new told kept ReadFault reads reads' writes writes' is read write steady_read steady_write = absurd (steady_read read)
+completes command left old new told kept WriteFault reads reads' writes writes' is read write steady_read steady_write = absurd (steady_write write)
+completes command left old new told kept NoMemory reads reads' writes writes' is read write steady_read steady_write = inl refl
 
 few_none : (file : Option File) (left : Option (List ℕ)) → TakesFew file left left
 few_none None left = Keeps-refl left
@@ -71,9 +73,9 @@ few_none (Some file) left = ([], none_taken left, omega arith)
     none_taken (Some all) = refl
 
 -- nothing was read, written or told
-pub nothing : (line : Option Command) (ends : Ends) (told : Option (List Event) → Type 0) → told None → Call line ends ends told NoMemory
-nothing line ends told none = record {
-  words = λ e. (Keeps-refl ends.written, none);
+pub nothing : (line : Option Command) (ends : Ends) (told : Option (List Event) → Type 0) (kept : List Device → Type 0) → told None → kept [] → Call line ends ends told kept NoMemory
+nothing line ends told kept none keeps = record {
+  words = λ e. (Keeps-refl ends.written, none, keeps);
   answered = λ command e. (Keeps-refl ends.written, none);
   taken = few_none (file_in line) ends.left;
   whole = λ some. absurd (some tt);
@@ -83,25 +85,25 @@ nothing line ends told none = record {
 }
 
 -- the same of a status that was handed on
-pub nothing_as : (line : Option Command) (ends : Ends) (told : Option (List Event) → Type 0) (status : Status) → status ≡ NoMemory → told None → Call line ends ends told status
-nothing_as line ends told status is none = subst (λ (s : Status). Call line ends ends told s) (sym is) (nothing line ends told none)
+pub nothing_as : (line : Option Command) (ends : Ends) (told : Option (List Event) → Type 0) (kept : List Device → Type 0) (status : Status) → status ≡ NoMemory → told None → kept [] → Call line ends ends told kept status
+nothing_as line ends told kept status is none keeps = subst (λ (s : Status). Call line ends ends told kept s) (sym is) (nothing line ends told kept none keeps)
 
 -- a command was answered
-pub called : (line : Option Command) (command : Command) (before after : Ends) (told : Option (List Event) → Type 0) (status : Status) → line ≡ Some command → IsAnswered command before.left before.written after.written told status → ReadCause before.read_faults after.read_faults status → WriteCause before.write_faults after.write_faults status → TakesFew (file_of command) before.left after.left → (¬ IsUnanswered status → TakesAll (file_of command) before.left after.left) → Call line before after told status
-called line command before after told status is answered read write taken whole = subst (λ (l : Option Command). Call l before after told status) (sym is) (record {
+pub called : (line : Option Command) (command : Command) (before after : Ends) (told : Option (List Event) → Type 0) (kept : List Device → Type 0) (status : Status) → line ≡ Some command → IsAnswered command before.left before.written after.written told kept status → ReadCause before.read_faults after.read_faults status → WriteCause before.write_faults after.write_faults status → TakesFew (file_of command) before.left after.left → (¬ IsUnanswered status → TakesAll (file_of command) before.left after.left) → Call line before after told kept status
+called line command before after told kept status is answered read write taken whole = subst (λ (l : Option Command). Call l before after told kept status) (sym is) (record {
   words = λ e. absurd (true≢false (ap is_some e));
-  answered = λ other e. subst (λ (c : Command). IsAnswered c before.left before.written after.written told status) (same_Some command other e) answered;
+  answered = λ other e. subst (λ (c : Command). IsAnswered c before.left before.written after.written told kept status) (same_Some command other e) answered;
   taken = taken;
   whole = whole;
   read = read;
   write = write;
-  complete = completes command before.left before.written after.written told status before.read_faults after.read_faults before.write_faults after.write_faults answered read write;
+  complete = completes command before.left before.written after.written told kept status before.read_faults after.read_faults before.write_faults after.write_faults answered read write;
 })
 
 -- words that are no command line: nothing is read
-pub worded : (line : Option Command) (before after : Ends) (told : Option (List Event) → Type 0) (status : Status) → line ≡ None → told None → after.left ≡ before.left → after.read_faults ≡ before.read_faults → EndsAs answers.Words (codes "words\n") before.written after.written status → WriteCause before.write_faults after.write_faults status → (status ≡ Words) ⊎ (status ≡ WriteFault) → Call line before after told status
-worded line before after told status is none left faults ends write either = subst (λ (l : Option Command). Call l before after told status) (sym is) (record {
-  words = λ e. (ends, none);
+pub worded : (line : Option Command) (before after : Ends) (told : Option (List Event) → Type 0) (kept : List Device → Type 0) (status : Status) → line ≡ None → told None → kept [] → after.left ≡ before.left → after.read_faults ≡ before.read_faults → EndsAs answers.Words (codes "words\n") before.written after.written status → WriteCause before.write_faults after.write_faults status → (status ≡ Words) ⊎ (status ≡ WriteFault) → Call line before after told kept status
+worded line before after told kept status is none keeps left faults ends write either = subst (λ (l : Option Command). Call l before after told kept status) (sym is) (record {
+  words = λ e. (ends, none, keeps);
   answered = λ command e. absurd (true≢false (sym (ap is_some e)));
   taken = subst (λ (o : Option (List ℕ)). TakesFew None before.left o) (sym left) (Keeps-refl before.left);
   whole = λ some. subst (λ (o : Option (List ℕ)). TakesAll None before.left o) (sym left) (Keeps-refl before.left);

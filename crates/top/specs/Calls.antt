@@ -1,6 +1,7 @@
 -- What a call of the program comes to.
-use Rattle.std.specs.Prelude.{◌≡◌, ◌⊎◌, List, Option, Some, None, codes}
+use Rattle.std.specs.Prelude.{◌≡◌, ◌⊎◌, List, [], Option, Some, None, codes}
 use Rattle.base_io.specs.Counts.{Rose}
+use Rattle.device_model.specs.Devices.{Device}
 use Rattle.top.specs.Answers.{IsAnswered}
 use Rattle.top.specs.Causes.{ReadCause, WriteCause}
 use Rattle.top.specs.Complete.{IsComplete}
@@ -13,12 +14,13 @@ use Rattle.answer.specs.declared.status.Status.{Status}
 use Rattle.answer.specs.declared.status.Status.TheVariants.{NoMemory}
 use Rattle.cli.specs.declared.command.Command.{Command}
 
--- the command of the words, the ends before the call and after it, what taps were told of devices, and the status
-pub record Call (line : Option Command) (before after : Ends) (told : Option (List Event) → Type 0) (status : Status) : Type 0 where
+-- the command of the words, the ends before the call and after it, what taps were told of devices, which devices were kept, and
+-- the status
+pub record Call (line : Option Command) (before after : Ends) (told : Option (List Event) → Type 0) (kept : List Device → Type 0) (status : Status) : Type 0 where
   -- words that are no command line
-  pub words : line ≡ None → EndsAs answers.Words (codes "words\n") before.written after.written status × told None
+  pub words : line ≡ None → EndsAs answers.Words (codes "words\n") before.written after.written status × told None × kept []
   -- a command: its answer to the bytes that were left is written
-  pub answered : (command : Command) → line ≡ Some command → IsAnswered command before.left before.written after.written told status
+  pub answered : (command : Command) → line ≡ Some command → IsAnswered command before.left before.written after.written told kept status
   -- no more of its file is read than one byte over the limit, and where there is an answer all of it is, or that one byte more
   pub taken : TakesFew (file_in line) before.left after.left
   pub whole : ¬ IsUnanswered status → TakesAll (file_in line) before.left after.left

@@ -1,6 +1,7 @@
 -- What a call comes to where no read and no write failed, and memory was there.
 use Rattle.std.specs.Prelude.{◌≡◌, ℕ, List, Option, Some, None, codes}
 use Rattle.std.specs.Io.KnownBytes.{Appends}
+use Rattle.device_model.specs.Devices.{Device}
 use Rattle.top.specs.Answers.{AnswersLeft}
 use Rattle.answer.specs.Statuses.{status_of}
 use Rattle.answer.specs.declared.status.Status.{Status}
@@ -11,7 +12,8 @@ use Rattle.cli.specs.declared.command.Command.{Command}
 -- the status is that of the answer to the bytes that were left, and its whole text was written
 pub record Completes (command : Command) (left old new : Option (List ℕ)) (status : Status) : Type 0 where
   pub reply : Reply
-  pub answers : AnswersLeft command left reply
+  pub devices : List Device
+  pub answers : AnswersLeft command left devices reply
   pub given : status ≡ status_of reply.answer.status
   pub written : Appends old new reply.answer.text
 

@@ -1,5 +1,5 @@
 -- What several files come to.
-use Rattle.std.specs.Prelude.{◌≡◌, ◌⊎◌, ℕ, nat_lt, Bool, List, map, fold, Option, Some, None, if◌then◌else◌}
+use Rattle.std.specs.Prelude.{◌≡◌, ◌⊎◌, ℕ, nat_lt, Bool, List, [], map, fold, Option, Some, None, if◌then◌else◌}
 use Rattle.std.specs.Io.KnownBytes.{Appends, Keeps}
 use Rattle.std.specs.List.{AllByRecursion}
 use Rattle.answer.specs.Forms.{form_of}
@@ -18,7 +18,7 @@ use Rattle.top.specs.Replies.{still}
 pub record IsRead (command : Command) (file : FileReport) : Type 0 where
   pub bytes : List ℕ
   pub answer : Answer
-  pub answers : Answers command bytes (still answer)
+  pub answers : Answers command bytes [] (still answer)
   pub status : file.status ≡ number_of (status_of answer.status)
   pub text : file.answer ≡ Some answer.text
 

@@ -14,3 +14,4 @@ pub mod Summaries
 pub mod Takes
 pub mod Texts
 pub mod Told
+pub mod Workers

@@ -1,5 +1,5 @@
 -- Answers, with what devices did for them.
-use Rattle.std.specs.Prelude.{◌≡◌, ℕ, List, Some, None}
+use Rattle.std.specs.Prelude.{◌≡◌, ℕ, List, [], Some, None}
 use Rattle.answer.specs.Plain.{done}
 use Rattle.answer.specs.declared.answer.Answer.{Answer}
 use Rattle.device_model.specs.Devices.{Device}
@@ -13,7 +13,8 @@ still answer = record { answer = answer; history = None }
 abbrev pub ran : Device → List ℕ → Reply
 ran device text = record { answer = done text; history = Some device.history }
 
--- an answer of which this holds, and of which taps are told nothing
-pub record IsStill (Holds : Answer → Type 0) (reply : Reply) : Type 0 where
+-- an answer of which this holds: taps are told nothing, and no device has run
+pub record IsStill (Holds : Answer → Type 0) (devices : List Device) (reply : Reply) : Type 0 where
   pub answer : Holds reply.answer
   pub untold : reply.history ≡ None
+  pub none : devices ≡ []

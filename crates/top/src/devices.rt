@@ -1,20 +1,20 @@
-//! The commands that run a program on a device.
+//! The commands that need workers, which run a program on a device.
 
 ghost use Rattle.std.specs.Prelude.{◌≡◌, ◌≤◌, ◌⊎◌, [], vec_len, vec_capacity, None, true, IfOk, IfErr, IfSome};
 ghost use Rattle.top.specs.Answers.{AnswersBytes, AnswersLeft, IsAnswered};
-ghost use Rattle.answer.specs.AtRest.{needs_device};
 ghost use Rattle.top.specs.Calls.{Call};
 ghost use Rattle.top.specs.Causes.{ReadCause, WriteCause};
-ghost use Rattle.top.specs.Internal.Served.{RunsOnDevice};
+ghost use Rattle.device_run.specs.Keepers.{Kept, KeptDevices};
+ghost use Rattle.top.specs.Internal.Served.{NeedsWorkers};
 ghost use Rattle.top.specs.Internal.Steps.{ReadsAnswer};
 ghost use Rattle.top.specs.Ends.{ends};
 ghost use Rattle.answer.specs.Inputs.{file_of};
 ghost use Rattle.top.specs.Takes.{TakesAll, TakesFew, file_in};
 ghost use Rattle.top.specs.Outcomes.{IsUnanswered};
 ghost use Rattle.top.specs.Told.{AreTold};
+ghost use Rattle.top.specs.Workers.{needs_workers};
 ghost use Rattle.cli.specs.Commands.{IsBounded};
 
-use crate::audit::audit_file;
 use crate::exec::execute_file;
 use crate::flights::flight_file;
 use crate::input::{Input, input_of};
@@ -27,33 +27,37 @@ use answer::{file_of, form_of, over_input};
 use base::NoMemory;
 use base_io::{Gate, Sink, Source, Tap};
 use cli::Command;
+use device_run::Keep;
 use flight_file::FlightPlan;
 use std::alloc::Global;
 use std::sync::Wait;
 use std::thread::Threads;
 
-fn answer_bytes<R: Threads + Wait + Sync, G: Gate + Sync>(
+fn answer_bytes<R: Threads + Wait + Sync, G: Gate + Sync, K: Keep>(
     rt: &R,
     alloc: Global,
     command: &Command,
     bytes: &[u8],
     gate: &G,
+    keeper: &mut K,
 ) -> Result<Reply, NoMemory>
-    requires { RunsOnDevice command.now }
-    ensures answer { IfOk result (AnswersBytes command.now bytes.now) }
+    requires { NeedsWorkers command.now }
+    ensures answer { IfOk result (λ reply. Kept (K.kept keeper.old) (K.kept keeper.new) (λ devices. AnswersBytes command.now bytes.now devices reply)) }
 {
     match command {
         Command::Run {
             options,
             trace,
             tight,
-        } => run_file(rt, alloc, *options, *trace, *tight, bytes, gate),
-        Command::Exec { options, trace } => execute_file(rt, alloc, *options, *trace, bytes, gate),
+        } => run_file(rt, alloc, *options, *trace, *tight, bytes, gate, keeper),
+        Command::Exec { options, trace } => {
+            execute_file(rt, alloc, *options, *trace, bytes, gate, keeper)
+        },
         Command::Summary {
             number,
             passes,
             options,
-        } => summarize(rt, alloc, *number, *passes, *options, gate),
+        } => summarize(rt, alloc, *number, *passes, *options, gate, keeper),
         Command::Flight {
             options,
             persist,
@@ -64,37 +68,42 @@ fn answer_bytes<R: Threads + Wait + Sync, G: Gate + Sync>(
                 persist,
                 depth: *depth,
             };
-            flight_file(rt, alloc, &plan, bytes, gate)
+            flight_file(rt, alloc, &plan, bytes, gate, keeper)
         }
-        Command::Audit => Ok(still(audit_file(rt, alloc, bytes)?)),
-        Command::Frame(_) | Command::Submission(_) | Command::Gen { .. } => unreachable!(),
+        Command::Frame(_) | Command::Submission(_) | Command::Gen { .. } | Command::Audit => {
+            unreachable!()
+        }
     }
 }
 
 // The answer to the input that is read, or the status where there is none.
-fn answer_input<R: Threads + Wait + Sync, G: Gate + Sync, I: Source>(
+fn answer_input<R: Threads + Wait + Sync, G: Gate + Sync, I: Source, K: Keep>(
     rt: &R,
     alloc: Global,
     command: &Command,
     input: &mut I,
     gate: &G,
+    keeper: &mut K,
 ) -> Result<Reply, Status>
-    requires { RunsOnDevice command.now }
-    ensures answer { IfOk result (AnswersLeft command.now (I.left input.old)) }
+    requires { NeedsWorkers command.now }
+    ensures answer { IfOk result (λ reply. Kept (K.kept keeper.old) (K.kept keeper.new) (λ devices. AnswersLeft command.now (I.left input.old) devices reply)) }
     ensures none { IfErr result (λ status. (status ≡ Status.ReadFault) ⊎ (status ≡ Status.NoMemory)) }
     ensures read { ReadsAnswer (I.faults input.old) (I.faults input.new) result }
     ensures taken { TakesFew (file_of command.now) (I.left input.old) (I.left input.new) }
     ensures whole { IfOk result (λ _. TakesAll (file_of command.now) (I.left input.old) (I.left input.new)) }
     ensures unread { file_of command.now ≡ None → input.new ≡ input.old }
+    ensures unkept { IfErr result (λ status. status ≡ Status.ReadFault → keeper.new ≡ keeper.old) }
 {
     match input_of(alloc, file_of(command), input)? {
-        Input::Bytes(bytes) => Ok(answer_bytes(rt, alloc, command, bytes.as_slice(), gate)?),
+        Input::Bytes(bytes) => {
+            Ok(answer_bytes(rt, alloc, command, bytes.as_slice(), gate, keeper)?)
+        },
         Input::Over(file) => Ok(still(over_input(alloc, form_of(command), file)?)),
     }
 }
 
 // With room for all taps.
-fn answer<R: Threads + Wait + Sync, I: Source, O: Sink, G: Gate + Sync>(
+fn answer<R: Threads + Wait + Sync, I: Source, O: Sink, G: Gate + Sync, K: Keep>(
     rt: &R,
     alloc: Global,
     command: &Command,
@@ -102,12 +111,13 @@ fn answer<R: Threads + Wait + Sync, I: Source, O: Sink, G: Gate + Sync>(
     output: &mut O,
     gate: &G,
     taps: &mut Vec<Box<dyn Tap>>,
+    keeper: &mut K,
     room: Ended,
 ) -> Ended
-    requires served { RunsOnDevice command.now }
+    requires served { NeedsWorkers command.now }
     requires spent { (room.spent.items ≡ []) × (vec_len taps.old ≤ vec_capacity room.spent) }
     requires places { (room.places.items ≡ []) × (vec_len taps.old ≤ vec_capacity room.places) }
-    ensures answered { IsAnswered command.now (I.left input.old) (O.taken output.old) (O.taken output.new) (AreTold (λ b. heard b) (λ b. finished b) taps.old.items taps.new.items result.spent.items result.places.items) result.status }
+    ensures answered { IsAnswered command.now (I.left input.old) (O.taken output.old) (O.taken output.new) (AreTold (λ b. heard b) (λ b. finished b) taps.old.items taps.new.items result.spent.items result.places.items) (KeptDevices (K.kept keeper.old) (K.kept keeper.new)) result.status }
     ensures read { ReadCause (I.faults input.old) (I.faults input.new) result.status }
     ensures write { WriteCause (O.faults output.old) (O.faults output.new) result.status }
     ensures taken { TakesFew (file_of command.now) (I.left input.old) (I.left input.new) }
@@ -115,15 +125,15 @@ fn answer<R: Threads + Wait + Sync, I: Source, O: Sink, G: Gate + Sync>(
     ensures unread { file_of command.now ≡ None → input.new ≡ input.old }
     ensures unwritten { IsUnanswered result.status → output.new ≡ output.old }
 {
-    match answer_input(rt, alloc, command, input, gate) {
+    match answer_input(rt, alloc, command, input, gate, keeper) {
         Ok(reply) => deliver(&reply, output, taps, room),
         Err(status) => untold(alloc, status),
     }
 }
 
-/// Does the work of a command that needs a device: room for all taps is taken before anything is read.
+/// Does the work of a command that needs workers: room for all taps is taken before anything is read.
 #[tactic(auto, using(crate::proofs::CallLemmas::called, crate::proofs::CallLemmas::nothing))]
-pub fn on_device<R: Threads + Wait + Sync, I: Source, O: Sink, G: Gate + Sync>(
+pub fn on_device<R: Threads + Wait + Sync, I: Source, O: Sink, G: Gate + Sync, K: Keep>(
     rt: &R,
     alloc: Global,
     command: &Option<Command>,
@@ -131,11 +141,12 @@ pub fn on_device<R: Threads + Wait + Sync, I: Source, O: Sink, G: Gate + Sync>(
     output: &mut O,
     gate: &G,
     taps: &mut Vec<Box<dyn Tap>>,
+    keeper: &mut K,
 ) -> Ended
-    requires needed { needs_device command.now ≡ true }
+    requires needed { needs_workers command.now ≡ true }
     requires bounded { IfSome command.now IsBounded }
     ensures call { let seen = ends I.left I.faults O.taken O.faults in
-        Call command.now (seen input.old output.old) (seen input.new output.new) (AreTold (λ b. heard b) (λ b. finished b) taps.old.items taps.new.items result.spent.items result.places.items) result.status }
+        Call command.now (seen input.old output.old) (seen input.new output.new) (AreTold (λ b. heard b) (λ b. finished b) taps.old.items taps.new.items result.spent.items result.places.items) (KeptDevices (K.kept keeper.old) (K.kept keeper.new)) result.status }
     ensures unread { file_in command.now ≡ None → input.new ≡ input.old }
     ensures unwritten { IsUnanswered result.status → output.new ≡ output.old }
 {
@@ -145,5 +156,5 @@ pub fn on_device<R: Threads + Wait + Sync, I: Source, O: Sink, G: Gate + Sync>(
     let Ok(room) = reserved(alloc, taps.len()) else {
         return untold(alloc, Status::NoMemory);
     };
-    answer(rt, alloc, command, input, output, gate, taps, room)
+    answer(rt, alloc, command, input, output, gate, taps, keeper, room)
 }

@@ -4,6 +4,7 @@ ghost use Rattle.std.specs.Prelude.{◌⊎◌, IfOk};
 ghost use Rattle.check_program.specs.Sound.{IsSound};
 ghost use Rattle.top.specs.Answers.{ExecutesFile};
 ghost use Rattle.compile_file.specs.Files.{program_file};
+ghost use Rattle.device_run.specs.Keepers.{Kept};
 ghost use Rattle.top.specs.Headline.{Executes};
 ghost use Rattle.top.specs.Replies.{IsStill};
 ghost use Rattle.answer.specs.Plain.{Rejects};
@@ -17,7 +18,7 @@ use base_io::Gate;
 use check_program::Checked;
 use cli::Form;
 use compile_file::valid_program;
-use device_run::run_program;
+use device_run::{Keep, run_program};
 use file_program::ProgramReadError;
 use program::ValidProgram;
 use std::alloc::Global;
@@ -25,51 +26,54 @@ use std::sync::Wait;
 use std::thread::Threads;
 
 // A sound program runs on a device.
-fn execute_checked<R: Threads + Wait + Sync, G: Gate + Sync>(
+fn execute_checked<R: Threads + Wait + Sync, G: Gate + Sync, K: Keep>(
     rt: &R,
     alloc: Global,
     options: RunOptions,
     trace: bool,
     program: &Checked,
     gate: &G,
+    keeper: &mut K,
 ) -> Result<Reply, NoMemory>
     requires sound { IsSound program.now.program }
-    ensures program { IfOk result (Executes options trace program.now.program) }
+    ensures program { IfOk result (λ reply. Kept (K.kept keeper.old) (K.kept keeper.new) (λ devices. Executes options trace program.now.program devices reply)) }
 {
     let device = run_program(rt, alloc, program, options, gate)?;
-    let text = exec_text(alloc, &device, trace)?;
-    ran(alloc, &device, text)
+    let text = exec_text(alloc, device.device(), trace)?;
+    ran(alloc, keeper, device, text)
 }
 
-fn execute_program<R: Threads + Wait + Sync, G: Gate + Sync>(
+fn execute_program<R: Threads + Wait + Sync, G: Gate + Sync, K: Keep>(
     rt: &R,
     alloc: Global,
     options: RunOptions,
     trace: bool,
     program: ValidProgram,
     gate: &G,
+    keeper: &mut K,
 ) -> Result<Reply, NoMemory>
-    ensures program { IfOk result (λ reply. Executes options trace program reply ⊎ IsStill (Rejects Line program) reply) }
+    ensures program { IfOk result (λ reply. Kept (K.kept keeper.old) (K.kept keeper.new) (λ devices. Executes options trace program devices reply ⊎ IsStill (Rejects Line program) devices reply)) }
 {
     match checked(alloc, Form::Line, program) {
-        Ok(checked) => execute_checked(rt, alloc, options, trace, &checked, gate),
+        Ok(checked) => execute_checked(rt, alloc, options, trace, &checked, gate, keeper),
         Err(answer) => Ok(still(answer?)),
     }
 }
 
 /// The answer to the bytes of a submission.
-pub fn execute_file<R: Threads + Wait + Sync, G: Gate + Sync>(
+pub fn execute_file<R: Threads + Wait + Sync, G: Gate + Sync, K: Keep>(
     rt: &R,
     alloc: Global,
     options: RunOptions,
     trace: bool,
     bytes: &[u8],
     gate: &G,
+    keeper: &mut K,
 ) -> Result<Reply, NoMemory>
-    ensures file { IfOk result (ExecutesFile options trace (program_file bytes.now)) }
+    ensures file { IfOk result (λ reply. Kept (K.kept keeper.old) (K.kept keeper.new) (λ devices. ExecutesFile options trace (program_file bytes.now) devices reply)) }
 {
     match valid_program(alloc, bytes) {
-        Ok(program) => execute_program(rt, alloc, options, trace, program, gate),
+        Ok(program) => execute_program(rt, alloc, options, trace, program, gate, keeper),
         Err(ProgramReadError::Refused(fault)) => Ok(still(program_refusal(
             alloc,
             Form::Line,

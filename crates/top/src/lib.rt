@@ -19,11 +19,14 @@ mod summary;
 mod telling;
 mod top;
 mod totals;
+mod workers;
 
 pub use answer::Status;
+pub use device_run::{Keep, KeepNone, RanDevice};
 pub use ended::Ended;
 pub use files::framec_files;
 pub use opener::Opener;
 pub use reply::Reply;
 pub use rest::at_rest;
 pub use top::framec;
+pub use workers::without_workers;

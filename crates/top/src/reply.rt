@@ -1,11 +1,12 @@
 //! An answer, with what devices did for it.
 
-ghost use Rattle.std.specs.Prelude.{◌≡◌, IfOk};
+ghost use Rattle.std.specs.Prelude.{◌≡◌, [], ◌∷◌, IfOk};
+ghost use Rattle.device_run.specs.Keepers.{KeptDevices};
 ghost use Rattle.top.specs.Replies.{ran, still};
 
 use answer::{Answer, done};
 use base::{Event, List, NoMemory, Text};
-use device::Device;
+use device_run::{Keep, RanDevice};
 use std::alloc::Global;
 
 /// An answer, and what devices did for it, which taps are told.
@@ -26,12 +27,20 @@ pub fn still(answer: Answer) -> Reply
     }
 }
 
-/// The whole text of a command that ran this device.
-pub fn ran(alloc: Global, device: &Device, text: Text) -> Result<Reply, NoMemory>
-    ensures reply { IfOk result (λ reply. reply ≡ ran device.now text) }
+/// The whole text of a command that ran this device, which the keeper is handed.
+pub fn ran<K: Keep>(
+    alloc: Global,
+    keeper: &mut K,
+    device: RanDevice,
+    text: Text,
+) -> Result<Reply, NoMemory>
+    ensures reply { IfOk result (λ reply. reply ≡ ran device text) }
+    ensures kept { IfOk result (λ _. KeptDevices (K.kept keeper.old) (K.kept keeper.new) (device ∷ [])) }
 {
+    let history = List::from_slice(alloc, device.device().history())?;
+    keeper.keep(device)?;
     Ok(Reply {
         answer: done(text),
-        history: Some(List::from_slice(alloc, device.history())?),
+        history: Some(history),
     })
 }

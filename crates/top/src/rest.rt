@@ -1,6 +1,6 @@
 //! The part of the top call that needs no device.
 
-ghost use Rattle.std.specs.Prelude.{◌≡◌, ◌⊎◌, IfOk, IfErr, Some, None, IfSome, IfNone, true};
+ghost use Rattle.std.specs.Prelude.{◌≡◌, ◌⊎◌, [], IfOk, IfErr, Some, None, IfSome, IfNone, true};
 ghost use Rattle.top.specs.Answers.{AnswersLeft, IsAnswered};
 ghost use Rattle.answer.specs.AtRest.{needs_device};
 ghost use Rattle.top.specs.Calls.{Call};
@@ -42,7 +42,7 @@ pub(crate) fn answer_input<I: Source>(
     input: &mut I,
 ) -> Result<Answer, Status>
     requires { IsAtRest command.now }
-    ensures answer { IfOk result (λ answer. AnswersLeft command.now (I.left input.old) (still answer)) }
+    ensures answer { IfOk result (λ answer. AnswersLeft command.now (I.left input.old) [] (still answer)) }
     ensures none { IfErr result (λ status. (status ≡ Status.ReadFault) ⊎ (status ≡ Status.NoMemory)) }
     ensures read { ReadsAnswer (I.faults input.old) (I.faults input.new) result }
     ensures taken { TakesFew (file_of command.now) (I.left input.old) (I.left input.new) }
@@ -63,7 +63,7 @@ fn answer<I: Source, O: Sink>(
     output: &mut O,
 ) -> Status
     requires { IsAtRest command.now }
-    ensures answered { IsAnswered command.now (I.left input.old) (O.taken output.old) (O.taken output.new) (λ history. history ≡ None) result }
+    ensures answered { IsAnswered command.now (I.left input.old) (O.taken output.old) (O.taken output.new) (λ history. history ≡ None) (λ devices. devices ≡ []) result }
     ensures read { ReadCause (I.faults input.old) (I.faults input.new) result }
     ensures write { WriteCause (O.faults output.old) (O.faults output.new) result }
     ensures taken { TakesFew (file_of command.now) (I.left input.old) (I.left input.new) }
@@ -94,7 +94,7 @@ pub fn at_rest<I: Source, O: Sink>(
 
     // All others.
     ensures call { let seen = ends I.left I.faults O.taken O.faults in
-        IfSome result (Call command.now (seen input.old output.old) (seen input.new output.new) (λ history. history ≡ None)) }
+        IfSome result (Call command.now (seen input.old output.old) (seen input.new output.new) (λ history. history ≡ None) (λ devices. devices ≡ [])) }
     ensures unread { file_in command.now ≡ None → input.new ≡ input.old }
     ensures unwritten { IfSome result (λ status. IsUnanswered status → output.new ≡ output.old) }
 {

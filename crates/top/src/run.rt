@@ -7,6 +7,7 @@ ghost use Rattle.frame.specs.Numbered.{numbered};
 ghost use Rattle.top.specs.Answers.{RunsFile};
 ghost use Rattle.compile_file.specs.Files.{frame_file};
 ghost use Rattle.compile_file.specs.Compiles.{Compiles};
+ghost use Rattle.device_run.specs.Keepers.{Kept};
 ghost use Rattle.top.specs.Headline.{RunsFrame};
 ghost use Rattle.frame_cull.specs.Culled.{AreKept};
 
@@ -19,7 +20,7 @@ use check_program::Checked;
 use cli::Form;
 use compile_file::{compiled, valid_frame};
 use compile_record::Compiled;
-use device_run::run_program;
+use device_run::{Keep, run_program};
 use file_frame::FrameReadError;
 use frame::ValidFrame;
 use std::alloc::Global;
@@ -27,7 +28,7 @@ use std::sync::Wait;
 use std::thread::Threads;
 
 #[tactic(auto, using(answer::proofs::KeptLemmas::one_each))]
-fn run_compiled<R: Threads + Wait + Sync, G: Gate + Sync>(
+fn run_compiled<R: Threads + Wait + Sync, G: Gate + Sync, K: Keep>(
     rt: &R,
     alloc: Global,
     options: RunOptions,
@@ -35,18 +36,19 @@ fn run_compiled<R: Threads + Wait + Sync, G: Gate + Sync>(
     good: &ValidFrame,
     made: &Compiled<Checked>,
     gate: &G,
+    keeper: &mut K,
 ) -> Result<Reply, NoMemory>
     requires kept { AreKept (numbered good.now) made.now.kept }
     requires right { IsRightFor (numbered good.now) made.now.program.program }
     ensures frame { (tight : Bool) → Compiles tight (numbered good.now) (submitted made.now) →
-        IfOk result (RunsFrame options trace tight good.now) }
+        IfOk result (λ reply. Kept (K.kept keeper.old) (K.kept keeper.new) (λ devices. RunsFrame options trace tight good.now devices reply)) }
 {
     let device = run_program(rt, alloc, &made.program, options, gate)?;
-    let text = frame_text(alloc, good, &made.kept, &device, trace)?;
-    ran(alloc, &device, text)
+    let text = frame_text(alloc, good, &made.kept, device.device(), trace)?;
+    ran(alloc, keeper, device, text)
 }
 
-fn run_frame<R: Threads + Wait + Sync, G: Gate + Sync>(
+fn run_frame<R: Threads + Wait + Sync, G: Gate + Sync, K: Keep>(
     rt: &R,
     alloc: Global,
     options: RunOptions,
@@ -54,15 +56,16 @@ fn run_frame<R: Threads + Wait + Sync, G: Gate + Sync>(
     tight: bool,
     good: &ValidFrame,
     gate: &G,
+    keeper: &mut K,
 ) -> Result<Reply, NoMemory>
-    ensures frame { IfOk result (RunsFrame options trace tight good.now) }
+    ensures frame { IfOk result (λ reply. Kept (K.kept keeper.old) (K.kept keeper.new) (λ devices. RunsFrame options trace tight good.now devices reply)) }
 {
     let made = compiled(alloc, good, tight)?;
-    run_compiled(rt, alloc, options, trace, good, &made, gate)
+    run_compiled(rt, alloc, options, trace, good, &made, gate, keeper)
 }
 
 /// The answer to the bytes of a frame file.
-pub fn run_file<R: Threads + Wait + Sync, G: Gate + Sync>(
+pub fn run_file<R: Threads + Wait + Sync, G: Gate + Sync, K: Keep>(
     rt: &R,
     alloc: Global,
     options: RunOptions,
@@ -70,11 +73,12 @@ pub fn run_file<R: Threads + Wait + Sync, G: Gate + Sync>(
     tight: bool,
     bytes: &[u8],
     gate: &G,
+    keeper: &mut K,
 ) -> Result<Reply, NoMemory>
-    ensures file { IfOk result (RunsFile options trace tight (frame_file bytes.now)) }
+    ensures file { IfOk result (λ reply. Kept (K.kept keeper.old) (K.kept keeper.new) (λ devices. RunsFile options trace tight (frame_file bytes.now) devices reply)) }
 {
     match valid_frame(alloc, bytes) {
-        Ok(good) => run_frame(rt, alloc, options, trace, tight, &good, gate),
+        Ok(good) => run_frame(rt, alloc, options, trace, tight, &good, gate, keeper),
         Err(FrameReadError::Refused(fault)) => Ok(still(refusal(alloc, Form::Line, &fault)?)),
         Err(FrameReadError::NoMemory) => Err(NoMemory),
     }

@@ -10,6 +10,7 @@ ghost use Rattle.top.specs.Internal.Totals.{IsTotal};
 ghost use Rattle.compile.specs.Submitted.{submitted};
 ghost use Rattle.compile_file.specs.Compiles.{Compiles};
 ghost use Rattle.top.specs.Headline.{SummarizesFrame};
+ghost use Rattle.device_run.specs.Keepers.{Kept as KeptBy};
 ghost use Rattle.device_run.specs.Runs.{HasRun, read_by};
 ghost use Rattle.top.specs.Summaries.{summary_with};
 ghost use Rattle.frame_cull.specs.Culled.{AreKept};
@@ -23,7 +24,7 @@ use compile_file::compiled;
 use compile_groups::groups_of;
 use compile_record::Compiled;
 use device::Device;
-use device_run::run_program;
+use device_run::{Keep, run_program};
 use frame::ValidFrame;
 use frame_cull::{Kept, versions_of};
 use frame_gen::generate;
@@ -93,49 +94,52 @@ fn text_of(
     )
 }
 
-fn summarize_compiled<R: Threads + Wait + Sync, G: Gate + Sync>(
+fn summarize_compiled<R: Threads + Wait + Sync, G: Gate + Sync, K: Keep>(
     rt: &R,
     alloc: Global,
     options: RunOptions,
     good: &ValidFrame,
     made: &Compiled<Checked>,
     gate: &G,
+    keeper: &mut K,
 ) -> Result<Reply, NoMemory>
     requires compiles { Compiles false (numbered good.now) (submitted made.now) }
-    ensures frame { IfOk result (SummarizesFrame options good.now) }
+    ensures frame { IfOk result (λ reply. KeptBy (K.kept keeper.old) (K.kept keeper.new) (λ devices. SummarizesFrame options good.now devices reply)) }
 {
     let device = run_program(rt, alloc, &made.program, options, gate)?;
-    let total = exported(good, made, &device, options);
+    let total = exported(good, made, device.device(), options);
     let text = text_of(alloc, good, made, total)?;
-    ran(alloc, &device, text)
+    ran(alloc, keeper, device, text)
 }
 
-fn summarize_frame<R: Threads + Wait + Sync, G: Gate + Sync>(
+fn summarize_frame<R: Threads + Wait + Sync, G: Gate + Sync, K: Keep>(
     rt: &R,
     alloc: Global,
     options: RunOptions,
     good: &ValidFrame,
     gate: &G,
+    keeper: &mut K,
 ) -> Result<Reply, NoMemory>
-    ensures frame { IfOk result (SummarizesFrame options good.now) }
+    ensures frame { IfOk result (λ reply. KeptBy (K.kept keeper.old) (K.kept keeper.new) (λ devices. SummarizesFrame options good.now devices reply)) }
 {
     let made = compiled(alloc, good, false)?;
-    summarize_compiled(rt, alloc, options, good, &made, gate)
+    summarize_compiled(rt, alloc, options, good, &made, gate, keeper)
 }
 
 /// The answer to the command with this number and so many passes.
-pub fn summarize<R: Threads + Wait + Sync, G: Gate + Sync>(
+pub fn summarize<R: Threads + Wait + Sync, G: Gate + Sync, K: Keep>(
     rt: &R,
     alloc: Global,
     number: u32,
     passes: u32,
     options: RunOptions,
     gate: &G,
+    keeper: &mut K,
 ) -> Result<Reply, NoMemory>
     requires some { 1 ≤ passes }
     requires few { passes ≤ 256 }
-    ensures frame { IfOk result (SummarizesFrame options (generated number passes)) }
+    ensures frame { IfOk result (λ reply. KeptBy (K.kept keeper.old) (K.kept keeper.new) (λ devices. SummarizesFrame options (generated number passes) devices reply)) }
 {
     let good = generate(alloc, number, passes)?;
-    summarize_frame(rt, alloc, options, &good, gate)
+    summarize_frame(rt, alloc, options, &good, gate, keeper)
 }

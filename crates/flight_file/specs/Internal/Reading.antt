@@ -1,5 +1,6 @@
 -- What the stages of reading come to.
 use Rattle.std.specs.Prelude.{◌≡◌, ◌++◌, ℕ, List, Option, Result, Ok, Err}
+use Rattle.device_model.specs.Devices.{Device}
 use Rattle.flight_file.specs.Files.{frames_of, if_frames}
 use Rattle.flight_file.specs.Flights.{FliesFrames}
 use Rattle.flight_file.specs.declared.frames.FlightFileError.{FlightFileError}
@@ -26,5 +27,5 @@ abbrev pub after_frames : List Declared → Result (List Declared) Refusal → R
 after_frames frames (Ok more) = Ok (frames ++ more)
 after_frames frames (Err refusal) = Err refusal
 
-abbrev pub FliesLines : Option ℕ → List (List ℕ) → ℕ → List (List ℕ) → Outcome → Type 0
-FliesLines tend persist depth lines outcome = FliesFrames tend persist depth (if_frames persist depth (frames_of 0 lines)) outcome
+abbrev pub FliesLines : Option ℕ → List (List ℕ) → ℕ → List (List ℕ) → List Device → Outcome → Type 0
+FliesLines tend persist depth lines devices outcome = FliesFrames tend persist depth (if_frames persist depth (frames_of 0 lines)) devices outcome

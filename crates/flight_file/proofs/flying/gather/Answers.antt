@@ -1,7 +1,7 @@
 use Rattle.std.proofs.Common.{◌∙◌, ◌++◌, List, ap}
 use Rattle.base.specs.declared.event.Event.{Event}
 use Rattle.flight_file.proofs.Flown.{gave_up, on_ok}
-use Rattle.flight_file.proofs.flying.keep.Goals as goal
+use Rattle.flight_file.proofs.flying.gather.Goals as goal
 
 pub add_window-requires-clause-windows : goal.add_window-requires-clause-windows
 add_window-requires-clause-windows c = c.requires.windows
