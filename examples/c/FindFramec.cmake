@@ -17,7 +17,7 @@ get_filename_component(_framec_rt "${Framec_RT}" REALPATH)
 get_filename_component(_framec_kit "${_framec_rt}/../.." ABSOLUTE)
 
 find_path(Framec_INCLUDE_DIR framec.h HINTS "${Framec_ROOT}/include" "${_framec_top}/include")
-find_library(Framec_LIBRARY framec_c HINTS "${Framec_ROOT}/crates/framec_c/out" "${_framec_top}/crates/framec_c/out" "${_framec_top}/out/unproved")
+find_library(Framec_LIBRARY framec_c HINTS "${Framec_ROOT}/crates/framec_c/out" "${Framec_ROOT}/out/unproved" "${_framec_top}/crates/framec_c/out" "${_framec_top}/out/unproved")
 find_library(Framec_HEAP_LIBRARY libc_c HINTS "${_framec_kit}/c")
 if(Framec_INCLUDE_DIR)
   file(STRINGS "${Framec_INCLUDE_DIR}/framec.h" _framec_version REGEX "^#define FRAMEC_VERSION ")
