@@ -8,7 +8,7 @@ program makes it, by its word `gen`; with a program that has no such word it is 
 COMMAND FILE COUNT` prints the seconds of processor time that so many calls take. For each case one line: microseconds of processor time of a
 call of ours, of a process, and of a call of the other's, medians of several runs in turn; the ratio of the two calls; and that ratio without
 what it takes to read the file's JSON, which the same file with 3 as its format tells, since its examination ends right behind the
-reading.
+reading. Behind our time stand the kB that a call holds at most at a time.
 """
 
 import json
@@ -32,7 +32,12 @@ DEFERRED = FRAMES / "deferred.json"
 
 def in_process(program, word, path, count):
     """Microseconds of a call."""
-    return float(well([str(program), word, path, str(count)]).text) / count * 1e6
+    return float(well([str(program), word, path, str(count)]).text.split()[0]) / count * 1e6
+
+
+def kilobytes(program, word, path):
+    """The most that a call holds at a time."""
+    return int(well([str(program), word, path, "1"]).text.split()[1]) / 1000
 
 
 def as_process(program, word, path, count):
@@ -75,7 +80,7 @@ def main():
     lacking = c_library.missing(library)
     if lacking:
         sys.exit(lacking)
-    print(f"{'case':20} {'µs':>9} {'process':>9} {'other':>9} {'ratio':>6} {'reading aside':>13}")
+    print(f"{'case':20} {'µs':>9} {'kB':>7} {'process':>9} {'other':>9} {'ratio':>6} {'reading aside':>13}")
     with tempfile.TemporaryDirectory() as folder:
         ours = c_library.calls(folder, library)
         for name, word, path, count in cases(folder, options.program):
@@ -88,7 +93,7 @@ def main():
             measures = [lambda: [as_process(options.program, word, path, max(count // 10, 5))]]
             measures += [lambda program=program, path=path: [in_process(program, word, path, count)] for program, path in calls]
             process, call, *rest = (median for median, in medians(options.runs, measures))
-            line = f"{name:20} {call:9.1f} {process:9.1f}"
+            line = f"{name:20} {call:9.1f} {kilobytes(ours, word, path):7.0f} {process:9.1f}"
             if rest:
                 other, own_reading, other_reading = rest
                 line += f" {other:9.1f} {call / other:6.2f} {(call - own_reading) / (other - other_reading):13.2f}"

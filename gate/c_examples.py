@@ -4,12 +4,12 @@
     gate/c_examples.py [--program PROGRAM] [--library LIBRARY] [--files 500] [--seed 1] [--calls 1000]
 
 include/framec.h has to declare just the functions that crates/framec_c exports, as C and, where there is a compiler, as C++. examples/c is
-built by its CMakeLists.txt: check_submission has to print the text of `check` for each submission of examples/, with a line behind it at
+built by its CMakeLists.txt, and examples/cpp by its own: check_submission has to print the text of `check` for each submission of examples/, with a line behind it at
 a hazard; compile_frame has to print as many barriers as `compile` has for each frame (it is left out where cJSON is not there). Then so
-many random files, most of them wrong somewhere, go to each function: status and text have to be the program's, whatever the room. Four threads
-that make so many calls at one time have to get the text of the first call each time, and where there is valgrind, it must find no invalid
-access and no lost memory in so many calls. A tool that is not there is told; the status is 1 at a difference, or where the library is not
-built.
+many random files, most of them wrong somewhere, go to each function: status and text have to be the program's, whatever the room, and each call
+has to free all that it takes. Eight threads that make so many calls at one time have to get the text of the first call each time; where there is
+valgrind, its memcheck must find no invalid access and no lost memory in so many calls of eight threads together, and its helgrind no race. A tool
+that is not there is told; the status is 1 at a difference, or where the library is not built.
 """
 
 import json
@@ -60,20 +60,30 @@ def declared(runs, folder):
         runs.expect("framec.h in C++", runs.ran("c++", "-Wall", "-Wextra", "-Werror", "-fsyntax-only", f"-I{TOP / 'include'}", source)[0], 0)
 
 
+def built(name, folder, library):
+    """The folder in which cmake builds a folder of examples/, and what it prints."""
+    # Those of the repository are the ones that the README speaks of.
+    made = TOP / "out" / name if library in (c_library.LIBRARY, c_library.UNPROVED) else Path(folder) / name
+    said = ""
+    for words in (["cmake", "-S", TOP / "examples" / name, "-B", made, f"-DFramec_LIBRARY={library}"], ["cmake", "--build", made]):
+        done = subprocess.run([str(word) for word in words], capture_output=True, text=True)
+        said += done.stdout + done.stderr
+        if done.returncode != 0:
+            sys.exit(f"examples/{name} is not built\n{said}")
+    return made, said
+
+
 def examples(runs, folder, library):
-    """The programs of examples/c, by cmake."""
+    """The programs of examples/c and examples/cpp, by cmake."""
     if not shutil.which("cmake"):
         left_out("cmake (the examples in C)")
         return
-    # Those of the repository are the ones that the README speaks of.
-    made = TOP / "out/c" if library in (c_library.LIBRARY, c_library.UNPROVED) else Path(folder) / "examples"
-    for words in (["cmake", "-S", TOP / "examples/c", "-B", made, f"-DFramec_LIBRARY={library}"], ["cmake", "--build", made]):
-        done = subprocess.run([str(word) for word in words], capture_output=True, text=True)
-        if done.returncode != 0:
-            sys.exit(f"examples/c is not built\n{done.stdout}{done.stderr}")
-        for line in done.stdout.splitlines():
-            if "left out" in line:
-                left_out("libcjson-dev (compile_frame of the examples in C)")
+    if shutil.which("c++"):
+        at_once = built("cpp", folder, library)[0] / "ask_at_once"
+        runs.expect("ask_at_once", runs.ran(at_once, SUBMISSIONS / "wrong_owner.json", FRAMES / "one_fill.json")[0], 0)
+    made, said = built("c", folder, library)
+    if "left out" in said:
+        left_out("libcjson-dev (compile_frame of the examples in C)")
     for path in sorted([*SUBMISSIONS.glob("*.json"), *PROFILE.glob("*.json")]):
         status, text = runs.asked("check", path.read_bytes())
         got = runs.ran(made / "check_submission", path)
@@ -111,15 +121,17 @@ def answers(runs, folder, calls, files, seed):
 
 
 def many_calls(runs, calls, count):
-    """Many calls, on four threads, and under valgrind."""
-    grind = ["valgrind", "-q", "--error-exitcode=97", "--leak-check=full", "--show-leak-kinds=all", "--errors-for-leak-kinds=all"]
-    if not shutil.which("valgrind"):
+    """Many calls of eight threads, and of eight under valgrind together."""
+    memory = ["--leak-check=full", "--show-leak-kinds=all", "--errors-for-leak-kinds=all"]
+    grinds = {"memcheck": (memory, count // 8 + 1), "helgrind": ([], 2)} if shutil.which("valgrind") else {}
+    if not grinds:
         left_out("valgrind (calls from C)")
     frame, program = FRAMES / "ramp_and_map.json", SUBMISSIONS / "wrong_owner.json"
     for word, path in [("check", program), *((word, frame) for word in WORDS)]:
-        runs.expect(f"{count} calls of framec_{word} on each of four threads", runs.ran(calls, word, path, count, 4)[0], 0)
-        if shutil.which("valgrind"):
-            runs.expect(f"{count} calls of framec_{word} under valgrind", runs.ran(*grind, calls, word, path, count)[0], 0)
+        runs.expect(f"{count} calls of framec_{word} on each of eight threads", runs.ran(calls, word, path, count, 8)[0], 0)
+        for tool, (words, few) in grinds.items():
+            grind = ["valgrind", "-q", f"--tool={tool}", "--error-exitcode=97", *words]
+            runs.expect(f"calls of framec_{word} on eight threads under {tool}", runs.ran(*grind, calls, word, path, few, 8)[0], 0)
 
 
 def main():

@@ -2,10 +2,14 @@
  * of one, of one too few, of exactly enough and of one too many are left as framec.h says; if not, the status is 99.
  *
  * calls COMMAND FILE COUNT [THREADS]: makes so many calls with room for the text, on each of so many threads, and prints the seconds of
- * processor time that they took. Each has to give the text of the first one, or the status is 99. */
+ * processor time that they took, and the most bytes that one call held at a time. Each has to give the text of the first one, or the status
+ * is 99.
+ *
+ * It is 99, too, where a call has not freed all that it took when it returns. */
 #define _POSIX_C_SOURCE 200112L
 #include <framec.h>
 
+#include <malloc.h>
 #include <pthread.h>
 #include <stdbool.h>
 #include <stdio.h>
@@ -24,6 +28,38 @@ static const struct {
 };
 
 enum { MISUSED = 98, WRONG = 99, UNTOUCHED = 0xa5, MOST_THREADS = 64 };
+
+/* What this thread holds, by the sizes of malloc, and the most that it held at a time. The linker puts these functions in the place of malloc,
+ * realloc and free (--wrap). */
+static __thread size_t held, most_held;
+
+void *__real_malloc(size_t size);
+void *__real_realloc(void *block, size_t size);
+void __real_free(void *block);
+
+static void *counted(void *block, size_t before)
+{
+    held += block ? malloc_usable_size(block) - before : 0;
+    most_held = held > most_held ? held : most_held;
+    return block;
+}
+
+void *__wrap_malloc(size_t size)
+{
+    return counted(__real_malloc(size), 0);
+}
+
+void *__wrap_realloc(void *block, size_t size)
+{
+    size_t before = malloc_usable_size(block);
+    return counted(__real_realloc(block, size), before);
+}
+
+void __wrap_free(void *block)
+{
+    held -= malloc_usable_size(block);
+    __real_free(block);
+}
 
 static framec_call *call_of(const char *word)
 {
@@ -66,16 +102,24 @@ static bool is_untouched(const uint8_t *from, const uint8_t *end)
     return true;
 }
 
+/* Whether a call with this room gives the same status and length, and holds nothing when it returns. */
+static bool is_answered(const struct answer *answer, uint8_t *room, size_t size)
+{
+    uint64_t wanted = UINT64_MAX;
+    size_t before = held;
+    int32_t status = answer->call(answer->bytes, answer->length, room, size, &wanted);
+    return status == answer->status && wanted == answer->text_len && held == before;
+}
+
 /* Whether a call with this room gives the same status, length and text, in a block of its own that ends 16 bytes behind the room. */
 static bool keeps_room(const struct answer *answer, size_t room)
 {
     size_t size = room + 16, front = answer->text_len <= room ? answer->text_len : 0;
-    uint64_t wanted = UINT64_MAX;
     uint8_t *block = malloc(size);
     if (!block)
         return false;
     memset(block, UNTOUCHED, size);
-    bool same = answer->call(answer->bytes, answer->length, block, room, &wanted) == answer->status && wanted == answer->text_len;
+    bool same = is_answered(answer, block, room);
     bool kept = memcmp(block, answer->text, front) == 0 && is_untouched(block + front, block + size);
     free(block);
     return same && kept;
@@ -94,11 +138,10 @@ static bool keeps_rooms(const struct answer *answer)
 static void *repeated(void *given)
 {
     struct answer *answer = given;
-    uint64_t wanted = 0;
     uint8_t *text = malloc(answer->text_len + 1);
     bool same = text != NULL;
     for (long k = 0; same && k < answer->count; k++)
-        same = answer->call(answer->bytes, answer->length, text, answer->text_len, &wanted) == answer->status && wanted == answer->text_len;
+        same = is_answered(answer, text, answer->text_len);
     same = same && memcmp(text, answer->text, answer->count > 0 ? answer->text_len : 0) == 0;
     free(text);
     return same ? NULL : given;
@@ -140,12 +183,14 @@ int main(int argc, char **argv)
     if (!text)
         return MISUSED;
     answer.text = text;
+    size_t before = most_held = held;
     answer.status = answer.call(bytes, answer.length, text, answer.text_len, &wanted);
+    size_t taken = most_held - before;
     int status = wanted == answer.text_len ? answer.status : WRONG;
     if (argc >= 4) {
         double start = seconds();
         status = repeated_on(&answer, argc >= 5 ? atoi(argv[4]) : 1) ? 0 : WRONG;
-        printf("%.9f\n", seconds() - start);
+        printf("%.9f %zu\n", seconds() - start, taken);
     } else if (keeps_rooms(&answer)) {
         fwrite(text, 1, answer.text_len, stdout);
     } else {

@@ -15,10 +15,15 @@
  * text of unknown length calls again with `*wanted` bytes. The same file gives the same text; but memory may run out in one of two calls
  * and not in the other (status 6). A text is ASCII, and each of its lines ends with a line feed. No zero byte is put behind it.
  *
+ * Memory. A call takes what it needs by malloc, and has freed all of that when it returns: nothing is kept for the next call, and nothing
+ * is left to the caller to free. `input`, `output` and `*wanted` are the caller's, before and after.
+ *
+ * Threads. Calls may be made from several threads at once. None waits for another: the library has no state, so they share malloc alone.
+ * No thread is started, and nothing is to be called first.
+ *
  * What is proved of each call, for any bytes: it returns, touches no memory but what its parameters lend it and what it takes by malloc,
  * and answers as above. That the same file gives the same text, and that a text is lines of ASCII, follows from the definitions of the
- * answers; no clause says it. The library has no state, so calls on several threads share malloc alone. That they may run at one time is
- * tested, not proved.
+ * answers; no clause says it. That calls may run at one time, and that all memory is freed, is tested, not proved.
  *
  * What nothing checks, and a caller has to keep:
  *   - no pointer is null, even where a length is 0, and no length is over PTRDIFF_MAX;
@@ -28,14 +33,29 @@
  *     answers null where memory runs out (the call then ends with status 6);
  *   - no call from a signal handler, nor from the forked child of a process with threads.
  *
- * To link: libframec_c.a (of crates/framec_c/out) and liblibc_c.a (folder `c` of the toolchain, beside `bin`), its object over malloc,
- * realloc and free. No other library, no thread, nothing to be called first. FindFramec.cmake in examples/c is a target for both.
+ * Version. FRAMEC_VERSION is that of this header, and of the archive that is installed with it. As long as its first two numbers stay, a
+ * later version keeps
+ *   - each function with its name and its parameters, each status with its number and its meaning, and all that is said here of room,
+ *     memory and threads;
+ *   - what a caller has to keep: nothing is added;
+ *   - the formats 1 and 2: what a file of them means, and that one without a fault has none;
+ *   - the form of each text, as docs/FORMATS.md has it.
+ * It may add functions, and among several right answers give another one (what framec_compile, framec_place, framec_bound and framec_auto
+ * choose). Where a verdict of framec_check was wrong by its definition, it is mended.
+ *
+ * To link: libframec.a. `./prove --install PREFIX` puts it, this header, and what CMake (the target Framec::framec) and pkg-config (the name
+ * framec) look for into one folder. It wants malloc, realloc, free, memcpy, memmove and memset, and no other library.
  */
 #ifndef FRAMEC_H
 #define FRAMEC_H
 
 #include <stddef.h>
 #include <stdint.h>
+
+#define FRAMEC_VERSION "0.1.0"
+#define FRAMEC_VERSION_MAJOR 0
+#define FRAMEC_VERSION_MINOR 1
+#define FRAMEC_VERSION_PATCH 0
 
 #ifdef __cplusplus
 extern "C" {

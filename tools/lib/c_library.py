@@ -42,7 +42,7 @@ def current():
 def calls(folder, library):
     """The program of gate/calls.c on this library."""
     program = Path(folder) / "calls"
-    words = ["cc", "-O2", *WARNINGS, f"-I{TOP / 'include'}", TOP / "gate/calls.c", library, heap(), "-pthread", "-o", program]
+    words = ["cc", "-O2", *WARNINGS, f"-I{TOP / 'include'}", TOP / "gate/calls.c", library, heap(), "-pthread", *(f"-Wl,--wrap={name}" for name in ("malloc", "realloc", "free")), "-o", program]
     if subprocess.run(words).returncode != 0:
         sys.exit("gate/calls.c is not built")
     return program
