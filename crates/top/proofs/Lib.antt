@@ -8,5 +8,4 @@ pub mod RunLemmas
 pub mod SummaryLemmas
 pub mod Sums
 pub mod ToldLemmas
-pub mod WorkerLemmas
 mod Rows

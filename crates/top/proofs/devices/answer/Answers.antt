@@ -1,5 +1,6 @@
-use Rattle.std.proofs.Common.{◌≡◌, ◌∙◌, ap, refl, sym, subst}
+use Rattle.std.proofs.Common.{[], ◌≡◌, ◌∙◌, ap, refl, sym, subst}
 use Rattle.std.specs.Prelude.{◌⊎◌}
+use Rattle.device_run.specs.Keepers.{KeptDevices}
 use Rattle.top.proofs.AnswerLemmas.{answered, unanswered, stands}
 use Rattle.top.proofs.KeptLemmas.{unkept}
 use Rattle.top.proofs.devices.answer.Goals as goal
@@ -13,5 +14,5 @@ returns-in-Ok-clause-answered g c =
 
 pub returns-in-Err-clause-answered : goal.returns-in-Err-clause-answered
 returns-in-Err-clause-answered g c =
-    let keeps = λ e. unkept (g.K.Keep.kept c.args.keeper.now) (g.K.Keep.kept c.answer_input.new.keeper) (ap g.K.Keep.kept (c.in-Err.ensures.unkept (sym c.untold.ensures.status ∙ e))) in
+    let keeps : c.untold.result.status ≡ ReadFault → KeptDevices (g.K.Keep.kept c.args.keeper.now) (g.K.Keep.kept c.answer_input.new.keeper) [] = λ e. unkept (g.K.Keep.kept c.args.keeper.now) (g.K.Keep.kept c.answer_input.new.keeper) (ap g.K.Keep.kept (c.in-Err.ensures.unkept (sym c.untold.ensures.status ∙ e))) in
     unanswered c.args.command.now (g.I.Source.left c.args.input.now) (g.O.Sink.taken c.args.output.now) _ _ c.untold.result.status (refl, c.untold.ensures.spent, c.untold.ensures.places) keeps (subst (λ (s : Status). (s ≡ ReadFault) ⊎ (s ≡ NoMemory)) (sym c.untold.ensures.status) c.in-Err.ensures.none)

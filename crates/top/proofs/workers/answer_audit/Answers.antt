@@ -10,14 +10,14 @@ use Rattle.top.specs.Answers.{AnswersLeft}
 use Rattle.top.specs.Audits.{AuditsFile}
 use Rattle.top.specs.Replies.{still}
 
-pub returns-in_ok-audit_file-in-Bytes-clause-answer : goal.returns-in_ok-audit_file-in-Bytes-clause-answer
-returns-in_ok-audit_file-in-Bytes-clause-answer g c =
+pub returns-in-Bytes-clause-answer : goal.returns-in-Bytes-clause-answer
+returns-in-Bytes-clause-answer g c =
     let read = c.as_slice.result.now in
     let answer = c.in_ok-audit_file-in-Bytes in
     answered_read Audit (g.I.Source.left c.args.input.now) [] (still answer.field-0) c.file_of.result _ c.in-Bytes.bytes read c.file_of.ensures c.in_ok-bytes.ensures.given c.in-Bytes.is c.as_slice.ensures.value (is_still (AuditsFile read) answer.field-0 answer.ensures.file)
 
-pub returns-in_ok-over_input-in-Over-clause-answer : goal.returns-in_ok-over_input-in-Over-clause-answer
-returns-in_ok-over_input-in-Over-clause-answer g c =
+pub returns-clause-answer : goal.returns-clause-answer
+returns-clause-answer g c =
     let left = g.I.Source.left c.args.input.now in
     let file = c.in-Over.file in
     let same = c.in_ok-over_input-in-Over.ensures.over ∙ ap (λ (form : Form). over_input form file) c.form_of.ensures in
