@@ -32,7 +32,7 @@ SOURCES = [path for end in ("rt", "antt", "edit") for path in sorted(TOP.glob(f"
 BUILT = re.compile(r"(?:^|/)out/")
 FILE = re.compile(r"[\w./*-]+\.(?:rt|antt|py|json|md|edit|svg|txt)|\b(?:docs|gate|bench|fuzz|tools|edits|examples|crates|specs|src|proofs)/[\w./*-]*")
 # Names of the toolchain, of its library and of other programs, which stand in no source of the repository.
-FOREIGN = set("rt ci cmake Framec FindFramec Framec_LIBRARY diff fmt plant tidy compile console RT_JOBS IntoIterator forget bufferImageGranularity minImageTransferGranularity maxTimelineSemaphoreValueDifference VkMemoryRequirements VK_PIPELINE_STAGE_2_NONE VkSubmitInfo2 _mended NAME PROGRAM OTHER CRATE COMMAND FILE UNIT BYTES LAYER K C N".split())
+FOREIGN = set("rt ci cmake diff fmt plant tidy compile console RT_JOBS IntoIterator forget bufferImageGranularity minImageTransferGranularity maxTimelineSemaphoreValueDifference VkMemoryRequirements VK_PIPELINE_STAGE_2_NONE VkSubmitInfo2 _mended NAME PROGRAM OTHER CRATE COMMAND FILE UNIT BYTES LAYER K C N".split())
 
 tally = Tally("names", "pages")
 
@@ -45,8 +45,8 @@ CRATES = set(crates())
 TEXTS = {path: path.read_text(encoding="utf-8") for path in SOURCES}
 WORDS = set(re.findall(r"\w+", "\n".join(TEXTS.values()))) | set(re.findall(r"\w+", (TOP / "crates.txt").read_text(encoding="utf-8"))) | FOREIGN
 WORDS |= {path.name for path in TOP.iterdir()}
-for source in (*TOP.glob("vulkan/**/*"), *TOP.glob("viewer/*")):
-    if source.suffix in (".cpp", ".hpp", ".py", ".sh", ".js", ".html"):
+for source in (*TOP.glob("vulkan/**/*"), *TOP.glob("viewer/*"), *TOP.glob("include/*"), *TOP.glob("examples/c*/*")):
+    if source.suffix in (".h", ".cpp", ".hpp", ".cmake", ".py", ".sh", ".js", ".html"):
         WORDS |= set(re.findall(r"\w+", source.read_text(encoding="utf-8")))
 for example in TOP.glob("examples/*/*.json"):
     WORDS |= set(re.findall(r"\w+", example.read_text(encoding="utf-8")))
